@@ -1,0 +1,9 @@
+pub mod Each
+pub mod Filters
+pub mod Members
+pub mod Newer
+pub mod Rising
+pub mod Runs
+pub mod Scan
+pub mod Sets
+pub mod Tree

@@ -1,0 +1,26 @@
+//! The words of a pad: stamps, operations, version vectors, refusals, and the trait of a sequence of characters.
+#![tactic(auto)]
+
+pub mod laws;
+mod limits;
+mod name;
+mod op;
+mod refusal;
+mod row;
+mod seen;
+mod stamp;
+mod text;
+mod who;
+
+pub use limits::{
+    MAX_CHARACTERS, MAX_COMMENT, MAX_COMMENTS, MAX_COUNTER, MAX_NAME, MAX_NUMBER, MAX_OPERATIONS,
+    MAX_PARTS, MAX_REPLICA, MAX_TEXT, OLD_COUNTER, OLD_REPLICA,
+};
+pub use name::Name;
+pub use op::{Op, OpName, Part, Run, Span};
+pub use refusal::Refusal;
+pub use row::Row;
+pub use seen::{Counted, Seen};
+pub use stamp::Stamp;
+pub use text::Text;
+pub use who::{Author, Version, Who};

@@ -1,0 +1,7 @@
+/// Why a request was refused, and what it left unchanged.
+#[derive(Clone, Copy, Debug, PartialEq, Eq)]
+pub enum Refusal {
+    TooLong,
+    BadStamp,
+    Memory,
+}

@@ -1,0 +1,42 @@
+-- Reads and edits of a list l ++ x ∷ r on either side of x.
+use Rattle.std.proofs.Common.{◌≡◌, ℕ, suc, ◌+◌, ◌-◌, ◌<◌, ◌≤◌, List, ◌∷◌, ◌++◌, length, take, sum_by, slice_get, Some, refl, ap, sym, ◌∙◌, arith, length-append}
+use Rattle.std.specs.Prelude.{insert}
+use Rattle.std.proofs.Math.ListN.{set}
+use Rattle.std.proofs.Math.Seq.{take-append-add, set-append_seam}
+use Rattle.std.proofs.lemmas.List.{length-set, set-append_left, set-append_right}
+use Rattle.std.proofs.lemmas.List.Edits.{insert-append_left, insert-append_right}
+use Rattle.std.proofs.lemmas.List.Sums.{sum_by-append, sum_by-cons}
+
+module _ {X : Type 0} where
+  pub length_around : (l : List X) (x : X) (r : List X) → length (l ++ x ∷ r) ≡ length l + length r + 1
+  length_around l x r = omega (arith, length-append l (x ∷ r))
+
+  pub sum_around : (f : X → ℕ) (l : List X) (x : X) (r : List X) → sum_by f (l ++ x ∷ r) ≡ sum_by f l + f x + sum_by f r
+  sum_around f l x r = omega (arith, sum_by-append f l (x ∷ r), sum_by-cons f x r)
+
+  pub take_after : (l : List X) (x : X) (r : List X) (i j : ℕ) → i ≡ length l + suc j → take i (l ++ x ∷ r) ≡ l ++ x ∷ take j r
+  take_after l x r i j e = rw e (take-append-add l (x ∷ r) (suc j))
+
+  pub insert_after : (l : List X) (x : X) (r : List X) (i j : ℕ) (y : X) → i ≡ length l + suc j → insert (l ++ x ∷ r) i y ≡ l ++ x ∷ insert r j y
+  insert_after l x r i j y e =
+    let past : length l ≤ i = omega arith in
+    let gap : i - length l ≡ suc j = omega arith in
+    insert-append_right l (x ∷ r) (length l) i y refl past ∙ ap (λ k. l ++ insert (x ∷ r) k y) gap
+
+  pub set_after : (l : List X) (x : X) (r : List X) (i j : ℕ) (y : X) → i ≡ length l + suc j → set (l ++ x ∷ r) i y ≡ l ++ x ∷ set r j y
+  set_after l x r i j y e =
+    let past : length l ≤ i = omega arith in
+    let gap : i - length l ≡ suc j = omega arith in
+    set-append_right l (x ∷ r) (length l) i y refl past ∙ ap (λ k. l ++ set (x ∷ r) k y) gap
+
+  pub set_left : (l : List X) (x : X) (r : List X) (i : ℕ) (y : X) → i < length l → set (l ++ x ∷ r) i y ≡ set l i y ++ x ∷ r
+  set_left l x r i y h = set-append_left l (x ∷ r) i y h
+
+  pub set_here : (l : List X) (x : X) (r : List X) (i : ℕ) (y : X) → i ≡ length l → set (l ++ x ∷ r) i y ≡ l ++ y ∷ r
+  set_here l x r i y e = rw e (set-append_seam l x r y)
+
+  pub set_right : (l : List X) (x : X) (r : List X) (i : ℕ) (y : X) → length l < i → set (l ++ x ∷ r) i y ≡ l ++ x ∷ set r (i - length l - 1) y
+  set_right l x r i y h = set_after l x r i (i - length l - 1) y (omega arith)
+
+-- what a list with one item replaced is, and what it sums to
+pub ruleset edits = (set_left, set_here, set_right, sum_around, length_around, sum_by-append, length-append, length-set)

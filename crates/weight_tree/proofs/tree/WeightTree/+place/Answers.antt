@@ -1,0 +1,29 @@
+use Rattle.std.proofs.Common.{◌≡◌, ◌+◌, true, false, length, ap, sym, ◌∙◌, subst, arith}
+use Rattle.std.specs.Ordering.{is_lt}
+use Rattle.weight_tree.specs.Rank.{IsRising, count_less}
+use Rattle.weight_tree.specs.Tree.{branch_items, items_and_height}
+use Rattle.weight_tree.proofs.Counts.{rising_left, rising_right, count_past, count_up_to}
+use Rattle.weight_tree.proofs.tree.WeightTree.+place.Goals as goal
+
+pub returns-then-is_lt-clause-rank : goal.returns-then-is_lt-clause-rank
+returns-then-is_lt-clause-rank g t c =
+    λ order by rising.
+    let b = c.in-Some.branch.value in
+    let is : c.args.self.now.items ≡ branch_items b = ap (λ d. d.items) (sym c.self.view_is ∙ ap items_and_height c.in-Some.is) in
+    let asked = c.ask.ensures.answer order by in
+    let less : is_lt (order b.item) ≡ true = grind (arith, asked.1) in
+    let spread = subst (IsRising order) is rising in
+    let below = (rw c.deref-then-is_lt.ensures at c.place-right.ensures.rank) order asked.0 (rising_right order b.left.items b.item b.right.items spread) in
+    let left : c.len.result ≡ length b.left.items = grind arith in
+    rw (is, left, below) (sym (count_past order b.left.items b.item b.right.items spread less))
+
+pub returns-else-is_lt-clause-rank : goal.returns-else-is_lt-clause-rank
+returns-else-is_lt-clause-rank g t c =
+    λ order by rising.
+    let b = c.in-Some.branch.value in
+    let is : c.args.self.now.items ≡ branch_items b = ap (λ d. d.items) (sym c.self.view_is ∙ ap items_and_height c.in-Some.is) in
+    let asked = c.ask.ensures.answer order by in
+    let not_less : is_lt (order b.item) ≡ false = grind (arith, asked.1) in
+    let spread = subst (IsRising order) is rising in
+    let below = (rw c.deref-else-is_lt.ensures at c.place-left.ensures.rank) order asked.0 (rising_left order b.left.items b.item b.right.items spread) in
+    rw (is, below) (sym (count_up_to order b.left.items b.item b.right.items spread not_less))

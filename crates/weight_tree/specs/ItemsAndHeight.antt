@@ -1,0 +1,7 @@
+-- What a caller sees of a tree.
+use Rattle.std.specs.Prelude.{ℕ, List}
+
+-- the items of a tree in order, and its height
+pub record ItemsAndHeight (T : Type 0) : Type 0 where
+  pub items : List T
+  pub height : ℕ

@@ -1,0 +1,5 @@
+pub mod Balance
+pub mod Find
+pub mod ItemsAndHeight
+pub mod Rank
+pub mod Tree

@@ -1,0 +1,53 @@
+// Which item a number falls in, where the weights lie end to end.
+ghost use Rattle.std.specs.Prelude.{◌↔◌, ◌≤◌, sum_by, length, IsNone, IfSome};
+ghost use Rattle.weight_tree.specs.Find.{FallsIn};
+
+use crate::tree::WeightTree;
+use crate::weigh::Weigh;
+
+/// What `find` has found.
+#[derive(Clone, Copy, Debug, PartialEq, Eq)]
+pub struct Found {
+    pub rank: usize,
+    pub offset: u64,
+    /// How many nodes were looked at on the way down.
+    pub visits: usize,
+}
+
+impl<T: Weigh> WeightTree<T> {
+    #[tactic(auto, using(crate::proofs::Around::sum_around))]
+    pub fn find(&self, number: u64) -> Option<Found>
+        ensures none { IsNone result ↔ (sum_by T.weight_of self.now.items ≤ number) }
+        ensures some { IfSome result (λ found. FallsIn T.weight_of self.now.items number found.rank found.offset) }
+        ensures visits { IfSome result (λ found. found.visits ≤ self.now.height) }
+    {
+        let Some(branch) = &self.root else {
+            return None;
+        };
+        let left_weight = branch.left.weight();
+        if number < left_weight {
+            let found = branch.left.find(number)?;
+            return Some(Found {
+                rank: found.rank,
+                offset: found.offset,
+                visits: found.visits + 1,
+            });
+        }
+        let offset = number - left_weight;
+        let item_weight = branch.item.weight();
+        let rank = branch.left.len();
+        if offset < item_weight {
+            return Some(Found {
+                rank,
+                offset,
+                visits: 1,
+            });
+        }
+        let found = branch.right.find(offset - item_weight)?;
+        Some(Found {
+            rank: rank + 1 + found.rank,
+            offset: found.offset,
+            visits: found.visits + 1,
+        })
+    }
+}

@@ -1,0 +1,15 @@
+// A list of weighed items as a balanced tree.
+#![tactic(auto)]
+
+mod balance;
+mod find;
+mod node;
+mod rank;
+mod tree;
+mod weigh;
+
+pub use find::Found;
+pub use node::Node;
+pub use rank::Placed;
+pub use tree::WeightTree;
+pub use weigh::Weigh;

@@ -1,0 +1,41 @@
+// The memory of one node, with its item.
+ghost use Rattle.std.specs.Prelude.{◌≡◌, MatchResult};
+
+use crate::tree::{Branch, WeightTree};
+use crate::weigh::Weigh;
+use std::alloc::{AllocFailed, Global};
+use std::marker::Model;
+
+/// One item in the memory that it takes in a tree.
+#[derive(Drop)]
+pub struct Node<T: Weigh> {
+    pub(crate) branch: Box<Branch<T>>,
+}
+
+impl<T: Weigh> Model for Node<T> {
+    ghost Value = { T };
+
+    ghost view = { λ a. a.branch.value.item };
+}
+
+impl<T: Weigh> Node<T> {
+    pub fn make(alloc: Global, item: T) -> Result<Node<T>, AllocFailed<T>>
+        ensures { MatchResult result (λ node. node ≡ item) (λ refused. refused.value ≡ item) }
+    {
+        let branch = Branch {
+            item,
+            size: 1,
+            weight: 0,
+            height: 1,
+            left: WeightTree::new(),
+            right: WeightTree::new(),
+        };
+        match Box::new(alloc, branch) {
+            Ok(branch) => Ok(Node { branch }),
+            Err(refused) => {
+                let branch = refused.value;
+                Err(AllocFailed { value: branch.item })
+            }
+        }
+    }
+}

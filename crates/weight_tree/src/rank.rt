@@ -1,0 +1,62 @@
+//! The rank that a closure's answers point to.
+ghost use Rattle.std.specs.Prelude.{◌≡◌, ◌≤◌, length};
+ghost use Rattle.std.specs.Fn.{ComputesKey};
+ghost use Rattle.std.specs.declared.cmp.Ordering.{Ordering};
+ghost use Rattle.weight_tree.specs.Rank.{IsRising, count_less};
+
+use crate::tree::WeightTree;
+use crate::weigh::Weigh;
+use std::cmp::Ordering;
+
+/// Where `rank_by` has ended.
+#[derive(Clone, Copy, Debug, PartialEq, Eq)]
+pub struct Placed {
+    pub rank: usize,
+    /// How many nodes were looked at on the way down.
+    pub visits: usize,
+}
+
+impl<T: Weigh> WeightTree<T> {
+    /// Goes down the tree by the answers of `f`, which it asks once about each node that it visits.
+    pub fn rank_by<F: FnMut(&T) -> Ordering>(&self, mut f: F) -> Placed
+        requires { F.IsAlwaysCallable f }
+        ensures rank { (order : T → Ordering) → ComputesKey F.FnMut order f → IsRising order self.now.items → result.rank ≡ count_less order self.now.items }
+        ensures in_range { result.rank ≤ length self.now.items }
+        ensures visits { result.visits ≤ self.now.height }
+    {
+        self.place(&mut f)
+    }
+
+    fn place<F: FnMut(&T) -> Ordering>(&self, f: &mut F) -> Placed
+        requires { F.IsAlwaysCallable f.old }
+        ensures rank { (order : T → Ordering) → ComputesKey F.FnMut order f.old → IsRising order self.now.items → result.rank ≡ count_less order self.now.items }
+        ensures in_range { result.rank ≤ length self.now.items }
+        ensures visits { result.visits ≤ self.now.height }
+    {
+        let Some(branch) = &self.root else {
+            return Placed { rank: 0, visits: 0 };
+        };
+        if ask(f, &branch.item).is_lt() {
+            let right = branch.right.place(f);
+            Placed {
+                rank: branch.left.len() + 1 + right.rank,
+                visits: right.visits + 1,
+            }
+        } else {
+            let left = branch.left.place(f);
+            Placed {
+                rank: left.rank,
+                visits: left.visits + 1,
+            }
+        }
+    }
+}
+
+// What `f` answers about one item.
+fn ask<T, F: FnMut(&T) -> Ordering>(f: &mut F, item: &T) -> Ordering
+    requires { F.IsAlwaysCallable f.old }
+    ensures callable { F.IsAlwaysCallable f.new }
+    ensures answer { (order : T → Ordering) → ComputesKey F.FnMut order f.old → ComputesKey F.FnMut order f.new × (result ≡ order item.now) }
+{
+    f(item)
+}

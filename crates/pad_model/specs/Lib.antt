@@ -1,8 +1,16 @@
+pub mod Answers
+pub mod Cell
 pub mod Character
+pub mod Checked
 pub mod Laws
 pub mod Legal
+pub mod Log
+pub mod OldWire
+pub mod Operation
 pub mod Order
+pub mod Refusals
 pub mod Scan
 pub mod Seen
 pub mod Stamp
 pub mod Subsequence
+pub mod Visible

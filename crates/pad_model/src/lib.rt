@@ -23,4 +23,4 @@ pub use row::Row;
 pub use seen::{Counted, Seen};
 pub use stamp::Stamp;
 pub use text::Text;
-pub use who::{Author, Version, Who};
+pub use who::{Author, AuthorRun, Version, Who};

@@ -1,7 +1,177 @@
-/// Why a request was refused, and what it left unchanged.
+//! Why a request is refused: each refusal has a name and a number.
+ghost use Rattle.std.specs.Prelude.{◌≡◌, codes};
+ghost use Rattle.pad_model.specs.Refusals.{code_of, name_of};
+
+use std::error::Error;
+use std::fmt;
+
+/// Why a request or a call was refused. What was refused has changed nothing, unless the call says so.
 #[derive(Clone, Copy, Debug, PartialEq, Eq)]
 pub enum Refusal {
+    /// 100: a line is longer than 8 MiB.
     TooLong,
+    /// 101: a line is not JSON.
+    NotJson,
+    /// 102: a line is JSON of another form than a request.
+    NotRequest,
+    /// 200: the request needs an author's session.
+    NoSession,
+    /// 201: the name or number is unknown, or its token is another.
+    BadToken,
+    /// 202: the session is somebody's already.
+    HaveSession,
+    /// 203: a scan or an end of the session is under way.
+    Busy,
+    /// 300: no pad has this name.
+    NoPad,
+    /// 301: a pad has this name already.
+    PadExists,
+    /// 302: the server has no room for one more pad.
+    NoSlot,
+    /// 303: the name is not 1 to 32 characters of a-z, 0-9 and -.
+    BadName,
+    /// 310: the session has not joined the pad.
+    NotJoined,
+    /// 311: the session has joined the pad already.
+    Joined,
+    /// 312: the author lacks the right.
+    Denied,
+    /// 313: 64 sessions are present on the pad.
+    Crowded,
+    /// 314: the pad has given all its visit numbers.
+    VisitsSpent,
+    /// 315: the creator's right does not change.
+    OwnerKept,
+    /// 316: the pad has 256 grants.
+    GrantsFull,
+    /// 317: a pad has made all its 64 seats.
+    SeatsGone,
+    /// 318: a seat is not the one that its pad knows, or is missing.
+    SeatsOut,
+    /// 319: the server has 1,024 actors.
+    ActorsFull,
+    /// 320: the pad has no such revision.
+    NoRevision,
+    /// 321: a place is behind the end of the revision.
+    OutOfRange,
+    /// 322: a text or a length is empty.
+    Empty,
+    /// 323: a text, a length or a count is too large.
+    TooMuch,
+    /// 324: the pad has 4,000,000 characters.
+    PadFull,
+    /// 325: no counter is left for a new character.
+    ClockFull,
+    /// 326: there is no such comment.
+    NoComment,
+    /// 327: the pad has 200,000 operations.
+    LogFull,
+    /// 328: the pad has 10,000 comments.
+    CommentsFull,
+    /// 400: the operation breaks a limit or has a faulty form.
+    BadOp,
+    /// 402: 256 operations are held back.
+    HoldFull,
+    /// 403: the operation does not fit the pad.
+    PeerFault,
+    /// 404: the request needs a peer's session.
+    NotPeer,
+    /// 405: the answer cannot be said in the first version of the wire.
+    OldPeer,
+    /// 410: a stamp is outside its limits.
     BadStamp,
+    /// 900: there was no memory.
     Memory,
+}
+
+impl Refusal {
+    /// The number that replies give.
+    pub fn code(self) -> u16
+        ensures { result ≡ code_of self }
+    {
+        match self {
+            Refusal::TooLong => 100,
+            Refusal::NotJson => 101,
+            Refusal::NotRequest => 102,
+            Refusal::NoSession => 200,
+            Refusal::BadToken => 201,
+            Refusal::HaveSession => 202,
+            Refusal::Busy => 203,
+            Refusal::NoPad => 300,
+            Refusal::PadExists => 301,
+            Refusal::NoSlot => 302,
+            Refusal::BadName => 303,
+            Refusal::NotJoined => 310,
+            Refusal::Joined => 311,
+            Refusal::Denied => 312,
+            Refusal::Crowded => 313,
+            Refusal::VisitsSpent => 314,
+            Refusal::OwnerKept => 315,
+            Refusal::GrantsFull => 316,
+            Refusal::SeatsGone => 317,
+            Refusal::SeatsOut => 318,
+            Refusal::ActorsFull => 319,
+            Refusal::NoRevision => 320,
+            Refusal::OutOfRange => 321,
+            Refusal::Empty => 322,
+            Refusal::TooMuch => 323,
+            Refusal::PadFull => 324,
+            Refusal::ClockFull => 325,
+            Refusal::NoComment => 326,
+            Refusal::LogFull => 327,
+            Refusal::CommentsFull => 328,
+            Refusal::BadOp => 400,
+            Refusal::HoldFull => 402,
+            Refusal::PeerFault => 403,
+            Refusal::NotPeer => 404,
+            Refusal::OldPeer => 405,
+            Refusal::BadStamp => 410,
+            Refusal::Memory => 900,
+        }
+    }
+
+    /// The name that replies give.
+    pub fn name(self) -> &'static str
+        ensures { result.now ≡ name_of self }
+    {
+        match self {
+            Refusal::TooLong => "TooLong",
+            Refusal::NotJson => "NotJson",
+            Refusal::NotRequest => "NotRequest",
+            Refusal::NoSession => "NoSession",
+            Refusal::BadToken => "BadToken",
+            Refusal::HaveSession => "HaveSession",
+            Refusal::Busy => "Busy",
+            Refusal::NoPad => "NoPad",
+            Refusal::PadExists => "PadExists",
+            Refusal::NoSlot => "NoSlot",
+            Refusal::BadName => "BadName",
+            Refusal::NotJoined => "NotJoined",
+            Refusal::Joined => "Joined",
+            Refusal::Denied => "Denied",
+            Refusal::Crowded => "Crowded",
+            Refusal::VisitsSpent => "VisitsSpent",
+            Refusal::OwnerKept => "OwnerKept",
+            Refusal::GrantsFull => "GrantsFull",
+            Refusal::SeatsGone => "SeatsGone",
+            Refusal::SeatsOut => "SeatsOut",
+            Refusal::ActorsFull => "ActorsFull",
+            Refusal::NoRevision => "NoRevision",
+            Refusal::OutOfRange => "OutOfRange",
+            Refusal::Empty => "Empty",
+            Refusal::TooMuch => "TooMuch",
+            Refusal::PadFull => "PadFull",
+            Refusal::ClockFull => "ClockFull",
+            Refusal::NoComment => "NoComment",
+            Refusal::LogFull => "LogFull",
+            Refusal::CommentsFull => "CommentsFull",
+            Refusal::BadOp => "BadOp",
+            Refusal::HoldFull => "HoldFull",
+            Refusal::PeerFault => "PeerFault",
+            Refusal::NotPeer => "NotPeer",
+            Refusal::OldPeer => "OldPeer",
+            Refusal::BadStamp => "BadStamp",
+            Refusal::Memory => "Memory",
+        }
+    }
 }

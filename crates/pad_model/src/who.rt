@@ -7,6 +7,13 @@ pub struct Author {
     pub origin: u16,
 }
 
+/// A stretch of characters by one author.
+#[derive(Clone, Debug, PartialEq, Drop)]
+pub struct AuthorRun {
+    pub author: Author,
+    pub len: u64,
+}
+
 /// What a peer can read: the first version of the wire has smaller limits.
 #[derive(Clone, Copy, Debug, PartialEq, Eq)]
 pub enum Version {

@@ -2,3 +2,4 @@ pub mod Around
 pub mod Counts
 pub mod Falls
 pub mod Height
+pub mod Waits

@@ -3,3 +3,4 @@ pub mod Find
 pub mod ItemsAndHeight
 pub mod Rank
 pub mod Tree
+pub mod Waiting

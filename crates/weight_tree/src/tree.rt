@@ -7,6 +7,9 @@ use crate::weigh::Weigh;
 use std::marker::Model;
 use std::mem;
 
+// What the height stays below where sizes fit 64 bits.
+pub(crate) const MOST_HEIGHT: usize = 154;
+
 #[cycle(tree)]
 #[derive(Drop)]
 pub struct WeightTree<T: Weigh> {
@@ -71,6 +74,7 @@ impl<T: Weigh> WeightTree<T> {
     pub fn height(&self) -> usize
         ensures height { result ≡ self.now.height }
         ensures low { IsLow self.now.height (length self.now.items) }
+        ensures most { self.now.height ≤ 154 }
     {
         match &self.root {
             None => 0,

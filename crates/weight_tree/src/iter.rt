@@ -1,0 +1,81 @@
+//! The items of a tree in order, on a stack of fixed size.
+ghost use Rattle.std.specs.Prelude.{◌≡◌, ◌+◌, ◌≤◌, ◌++◌, take, length};
+ghost use Rattle.std.specs.Iterator.{YieldsFirstRef, item_count};
+ghost use Rattle.weight_tree.specs.Waiting.{from_waiting, IsWaiting};
+
+use crate::tree::{Branch, MOST_HEIGHT, WeightTree};
+use crate::weigh::Weigh;
+use std::marker::Model;
+
+/// The items of a `WeightTree` that are still to come, in order.
+#[derive(Drop)]
+pub struct Iter<'a, T: Weigh> {
+    waiting: [Option<&'a Branch<T>>; MOST_HEIGHT],
+    depth: usize,
+}
+
+impl<'a, T: Weigh> Model for Iter<'a, T> {
+    ghost use Rattle.std.specs.Prelude.{List, ◌≤◌, take};
+
+    ghost Value = { List T };
+
+    ghost use Rattle.weight_tree.specs.Waiting.{from_waiting, IsWaiting};
+
+    ghost view = { λ a. from_waiting (take a.depth a.waiting) };
+
+    ghost invariant = { λ a. (a.depth ≤ 154) × IsWaiting 154 a.depth a.waiting };
+}
+
+impl<T: Weigh> WeightTree<T> {
+    /// Takes constant time from item to item on average, and no memory.
+    pub fn iter(&self) -> Iter<'_, T>
+        ensures { result ≡ self.now.items }
+    {
+        let height = self.height();
+        prove!(height <= MOST_HEIGHT);
+        let mut waiting = [None; MOST_HEIGHT];
+        let depth = descend(&mut waiting, 0, self);
+        Iter { waiting, depth }
+    }
+}
+
+impl<'a, T: Weigh> Iterator for Iter<'a, T> {
+    type Item = &'a T;
+
+    ghost next_gives = { YieldsFirstRef (λ s. s) };
+
+    ghost remaining = { item_count (λ s. s) };
+
+    fn next(&mut self) -> Option<&'a T> {
+        if self.depth == 0 {
+            return None;
+        }
+        let top = self.depth - 1;
+        let waiting = &mut self.waiting[..];
+        let Some(branch) = waiting[top] else {
+            unreachable!()
+        };
+        self.depth = descend(waiting, top, &branch.right);
+        Some(&branch.item)
+    }
+}
+
+// Lets the branches along the left side of `tree` wait from `depth` on, and returns the new depth.
+fn descend<'a, T: Weigh>(
+    waiting: &mut [Option<&'a Branch<T>>],
+    mut depth: usize,
+    mut tree: &'a WeightTree<T>,
+) -> usize
+    requires waiting { IsWaiting (length waiting.old) depth waiting.old }
+    requires room { depth + tree.now.height ≤ length waiting.old }
+    ensures waiting { IsWaiting (length waiting.new) result waiting.new }
+    ensures room { result ≤ length waiting.new }
+    ensures items { from_waiting (take result waiting.new) ≡ tree.now.items ++ from_waiting (take depth waiting.old) }
+{
+    while let Some(branch) = &tree.root {
+        waiting[depth] = Some(branch);
+        depth += 1;
+        tree = &branch.left;
+    }
+    depth
+}

@@ -1,13 +1,6 @@
-// A library with one function.
+//! Sequences of characters. `PlainSeq` is the plain one: a vector of cells, walked from its start.
 #![tactic(auto)]
 
-ghost use Rattle.std.specs.Prelude.{◌≡◌};
-ghost use Rattle.block_seq.specs.Echo.{echo_of};
+mod plain;
 
-// The `ensures` clause is the contract: what `echo` returns is `echo_of` of its argument, a definition
-// in `specs/Echo.antt`, which a caller's clause can cite too.
-pub fn echo(x: usize) -> usize
-    ensures { result ≡ echo_of x }
-{
-    x
-}
+pub use plain::PlainSeq;

@@ -1,7 +1,6 @@
 -- The cells of a sequence: its characters in preorder, those that are erased included, each with its birth and its death.
-use Rattle.std.specs.Prelude.{◌≡◌, ℕ, ◌+◌, ◌≤◌, Bool, true, false, not, ◌&&◌, ◌==◌, nat_lt, nat_le, if◌then◌else◌, List, [], ◌∷◌, ◌++◌, length, Option, Some, None, Result, Ok, Err, map, filter, fold, max, slice_get, option_map}
-use Rattle.std.specs.List.{AllByRecursion, list_any}
-use Rattle.pad_model.specs.Stamp.{Stamp, same_stamp}
+use Rattle.std.specs.Prelude.{◌≡◌, ℕ, ◌+◌, ◌≤◌, Bool, true, not, ◌&&◌, ◌==◌, nat_lt, nat_le, if◌then◌else◌, List, ◌++◌, length, Option, Some, None, Result, Ok, Err, map, filter, fold, max, slice_get, option_map}
+use Rattle.pad_model.specs.Stamp.{Stamp}
 use Rattle.pad_model.specs.Character.{Character, run_characters}
 use Rattle.pad_model.specs.Legal.{IsTree}
 use Rattle.pad_model.specs.Log.{run_may_join}

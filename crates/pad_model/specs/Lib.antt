@@ -13,4 +13,5 @@ pub mod Scan
 pub mod Seen
 pub mod Stamp
 pub mod Subsequence
+pub mod Views
 pub mod Visible

@@ -1,11 +1,11 @@
 -- When a log may take one more operation.
-use Rattle.std.specs.Prelude.{ℕ, ◌+◌, Bool, true, false, not, ◌&&◌, ◌||◌, ◌==◌, nat_lt, nat_le, if◌then◌else◌, List, [], ◌∷◌, length, Option, Some, None, flat_map, count_by}
+use Rattle.std.specs.Prelude.{◌+◌, Bool, true, false, not, ◌&&◌, ◌||◌, ◌==◌, nat_lt, nat_le, if◌then◌else◌, List, [], ◌∷◌, length, Option, Some, None, flat_map, count_by}
 use Rattle.std.specs.List.{list_any, list_all}
 use Rattle.pad_model.specs.Stamp.{Stamp, same_stamp}
 use Rattle.pad_model.specs.Character.{Character}
 use Rattle.pad_model.specs.Laws.{itself}
 use Rattle.pad_model.specs.Legal.{has_stamp, has_parent, counter_of}
-use Rattle.pad_model.specs.Operation.{Characters, span_stamps, inserted_by, characters_in}
+use Rattle.pad_model.specs.Operation.{span_stamps, inserted_by, characters_in}
 use Rattle.pad_model.specs.Order.{order}
 use Rattle.pad_model.specs.declared.op.Span.{Span}
 use Rattle.pad_model.specs.declared.op.OpName.{OpName}

@@ -1,5 +1,5 @@
 -- What the first version of the wire can say: one part, counters up to 2^40, replica numbers up to 255.
-use Rattle.std.specs.Prelude.{ℕ, ◌+◌, Bool, true, false, ◌&&◌, ◌==◌, nat_le, List, [], ◌∷◌, length, Option, Some, None}
+use Rattle.std.specs.Prelude.{ℕ, ◌+◌, Bool, true, ◌&&◌, ◌==◌, nat_le, List, length, Option, Some, None}
 use Rattle.std.specs.List.{list_all}
 use Rattle.pad_model.specs.Stamp.{Stamp}
 use Rattle.pad_model.specs.declared.seen.Counted.{Counted}

@@ -1,5 +1,5 @@
 -- What operations insert and erase, one by one and in a log.
-use Rattle.std.specs.Prelude.{ℕ, zero, suc, ◌+◌, List, [], ◌∷◌, ◌++◌, flat_map}
+use Rattle.std.specs.Prelude.{ℕ, zero, suc, List, [], ◌∷◌, flat_map}
 use Rattle.pad_model.specs.Stamp.{Stamp}
 use Rattle.pad_model.specs.Character.{Character, next, run_characters}
 use Rattle.pad_model.specs.declared.who.Author.{Author}

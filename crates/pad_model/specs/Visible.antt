@@ -1,5 +1,5 @@
 -- What a set of character operations shows: the preorder without what was erased, and places in it.
-use Rattle.std.specs.Prelude.{◌≡◌, ℕ, ◌+◌, ◌-◌, Bool, not, ◌&&◌, ◌==◌, if◌then◌else◌, List, [], ◌∷◌, Option, Some, None, map, filter, take, drop, take_while, count_by, slice_get, option_map, bytes_eq}
+use Rattle.std.specs.Prelude.{ℕ, ◌+◌, ◌-◌, Bool, not, ◌&&◌, ◌==◌, if◌then◌else◌, List, [], ◌∷◌, Option, Some, None, map, filter, take, drop, slice_get, option_map, bytes_eq}
 use Rattle.std.specs.List.{list_any}
 use Rattle.pad_model.specs.Stamp.{Stamp, same_stamp}
 use Rattle.pad_model.specs.Character.{Character, next}

@@ -1,9 +1,9 @@
 //! Why a request is refused: each refusal has a name and a number.
 ghost use Rattle.std.specs.Prelude.{◌≡◌, codes};
 ghost use Rattle.pad_model.specs.Refusals.{code_of, name_of};
+ghost use Rattle.pad_model.specs.declared.refusal.Refusal.TheVariants.{Memory};
 
-use std::error::Error;
-use std::fmt;
+use std::alloc::{AllocError, AllocFailed};
 
 /// Why a request or a call was refused. What was refused has changed nothing, unless the call says so.
 #[derive(Clone, Copy, Debug, PartialEq, Eq)]
@@ -173,5 +173,21 @@ impl Refusal {
             Refusal::BadStamp => "BadStamp",
             Refusal::Memory => "Memory",
         }
+    }
+}
+
+impl From<AllocError> for Refusal {
+    ghost from_gives = { λ _ refusal. refusal ≡ Memory };
+
+    fn from(_refused: AllocError) -> Refusal {
+        Refusal::Memory
+    }
+}
+
+impl<T: Drop> From<AllocFailed<T>> for Refusal {
+    ghost from_gives = { λ _ refusal. refusal ≡ Memory };
+
+    fn from(_refused: AllocFailed<T>) -> Refusal {
+        Refusal::Memory
     }
 }

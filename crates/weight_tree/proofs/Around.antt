@@ -1,10 +1,8 @@
 -- Reads and edits of a list l ++ x ∷ r on either side of x.
-use Rattle.std.proofs.Common.{◌≡◌, ℕ, suc, ◌+◌, ◌-◌, ◌<◌, ◌≤◌, List, ◌∷◌, ◌++◌, length, take, sum_by, slice_get, Some, refl, ap, sym, ◌∙◌, arith, length-append}
-use Rattle.std.specs.Prelude.{insert}
+use Rattle.std.proofs.Common.{◌≡◌, ℕ, suc, ◌+◌, ◌-◌, ◌<◌, ◌≤◌, List, ◌∷◌, ◌++◌, length, take, drop, sum_by, refl, ap, sym, ◌∙◌, arith, length-append}
 use Rattle.std.proofs.Math.ListN.{set}
-use Rattle.std.proofs.Math.Seq.{take-append-add, set-append_seam}
+use Rattle.std.proofs.Math.Seq.{take-append-add, drop-append-add, set-append_seam}
 use Rattle.std.proofs.lemmas.List.{length-set, set-append_left, set-append_right}
-use Rattle.std.proofs.lemmas.List.Edits.{insert-append_left, insert-append_right}
 use Rattle.std.proofs.lemmas.List.Sums.{sum_by-append, sum_by-cons}
 
 module _ {X : Type 0} where
@@ -17,11 +15,13 @@ module _ {X : Type 0} where
   pub take_after : (l : List X) (x : X) (r : List X) (i j : ℕ) → i ≡ length l + suc j → take i (l ++ x ∷ r) ≡ l ++ x ∷ take j r
   take_after l x r i j e = rw e (take-append-add l (x ∷ r) (suc j))
 
-  pub insert_after : (l : List X) (x : X) (r : List X) (i j : ℕ) (y : X) → i ≡ length l + suc j → insert (l ++ x ∷ r) i y ≡ l ++ x ∷ insert r j y
-  insert_after l x r i j y e =
-    let past : length l ≤ i = omega arith in
-    let gap : i - length l ≡ suc j = omega arith in
-    insert-append_right l (x ∷ r) (length l) i y refl past ∙ ap (λ k. l ++ insert (x ∷ r) k y) gap
+  pub take_right : (l : List X) (x : X) (r : List X) (i : ℕ) → length l < i → take i (l ++ x ∷ r) ≡ l ++ x ∷ take (i - length l - 1) r
+  take_right l x r i h = take_after l x r i (i - length l - 1) (omega arith)
+
+  pub drop_right : (l : List X) (x : X) (r : List X) (i : ℕ) → length l < i → drop i (l ++ x ∷ r) ≡ drop (i - length l - 1) r
+  drop_right l x r i h =
+    let place : i ≡ length l + suc (i - length l - 1) = omega arith in
+    ap (λ n. drop n (l ++ x ∷ r)) place ∙ drop-append-add l (x ∷ r) (suc (i - length l - 1))
 
   pub set_after : (l : List X) (x : X) (r : List X) (i j : ℕ) (y : X) → i ≡ length l + suc j → set (l ++ x ∷ r) i y ≡ l ++ x ∷ set r j y
   set_after l x r i j y e =
@@ -37,6 +37,9 @@ module _ {X : Type 0} where
 
   pub set_right : (l : List X) (x : X) (r : List X) (i : ℕ) (y : X) → length l < i → set (l ++ x ∷ r) i y ≡ l ++ x ∷ set r (i - length l - 1) y
   set_right l x r i y h = set_after l x r i (i - length l - 1) y (omega arith)
+
+-- what lies before and behind a place of a list, and what that sums to
+pub ruleset parts = (take_right, drop_right, sum_around, length_around)
 
 -- what a list with one item replaced is, and what it sums to
 pub ruleset edits = (set_left, set_here, set_right, sum_around, length_around, sum_by-append, length-append, length-set)

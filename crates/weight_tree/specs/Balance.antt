@@ -1,18 +1,28 @@
--- When two subtrees of these sizes may be siblings, and how low that keeps a tree.
-use Rattle.std.specs.Prelude.{◌≡◌, ℕ, ◌+◌, ◌*◌, ◌^◌, ◌≤◌}
+-- When two sides of these sizes may stand below one item, and how low that keeps a tree.
+use Rattle.std.specs.Prelude.{◌≡◌, ℕ, ◌+◌, ◌*◌, ◌^◌, ◌<◌, ◌≤◌}
 
--- each side's size and one is at most three times the other's
+-- the size and one of neither side is more than three times that of the other
 abbrev pub IsBalanced : ℕ → ℕ → Type 0
 IsBalanced left right = (left + 1 ≤ 3 * (right + 1)) × (right + 1 ≤ 3 * (left + 1))
 
--- the heavy side is one item over what its sibling allows
+-- the heavy side has one item more than the light one allows
 abbrev pub IsOneTooHeavy : ℕ → ℕ → Type 0
 IsOneTooHeavy heavy light = heavy + 1 ≡ 3 * (light + 1) + 1
 
--- the sides are balanced, or would be with one item fewer on one side
+-- the sides are balanced, or one of them is one item too heavy
 abbrev pub IsNearlyBalanced : ℕ → ℕ → Type 0
 IsNearlyBalanced left right = (left + 1 ≤ 3 * (right + 1) + 1) × (right + 1 ≤ 3 * (left + 1) + 1)
 
--- a tree of this height has at least so many items that its height is logarithmic in them
+-- a single rotation, which moves the inner part of the heavy side over to the light side, leaves each pair of sides balanced
+abbrev pub SingleMends : ℕ → ℕ → ℕ → Type 0
+SingleMends outer inner light = IsBalanced inner light × IsBalanced outer (inner + light + 1)
+
+-- a double rotation, which lifts the inner part's own item to the top, leaves each pair of sides balanced
+abbrev pub DoubleMends : ℕ → ℕ → ℕ → Type 0
+DoubleMends outer inner light =
+    (0 < inner)
+    × ((near far : ℕ) → inner ≡ near + far + 1 → IsBalanced near far → IsBalanced outer near × IsBalanced far light × IsBalanced (outer + near + 1) (far + light + 1))
+
+-- four to the height is at most three to the height times the size and one
 abbrev pub IsLow : ℕ → ℕ → Type 0
 IsLow height size = 4 ^ height ≤ 3 ^ height * (size + 1)

@@ -19,11 +19,12 @@ impl<'a, T: Weigh> Model for Iter<'a, T> {
 
     ghost Value = { List T };
 
+    ghost use Rattle.weight_tree.specs.declared.TheConstants.{MOST_HEIGHT};
     ghost use Rattle.weight_tree.specs.Waiting.{from_waiting, IsWaiting};
 
     ghost view = { λ a. from_waiting (take a.depth a.waiting) };
 
-    ghost invariant = { λ a. (a.depth ≤ 154) × IsWaiting 154 a.depth a.waiting };
+    ghost invariant = { λ a. (a.depth ≤ MOST_HEIGHT) × IsWaiting MOST_HEIGHT a.depth a.waiting };
 }
 
 impl<T: Weigh> WeightTree<T> {

@@ -1,21 +1,21 @@
-// The tree.
-ghost use Rattle.std.specs.Prelude.{◌≡◌, ◌+◌, ◌<◌, ◌≤◌, ◌^◌, ◌↔◌, [], ◌∷◌, ◌++◌, length, sum_by, max, take, insert, slice_get, slice_set, IsTrue};
+//! The tree, its sums and what lies at a rank.
+ghost use Rattle.std.specs.Prelude.{◌≡◌, ◌<◌, ◌≤◌, ◌↔◌, [], length, sum_by, take, slice_get, IsTrue};
 ghost use Rattle.weight_tree.specs.Balance.{IsLow};
 
-use crate::node::Node;
 use crate::weigh::Weigh;
 use std::marker::Model;
-use std::mem;
 
-// What the height stays below where sizes fit 64 bits.
+// What no height is above, where a size fits 64 bits.
 pub(crate) const MOST_HEIGHT: usize = 154;
 
+/// Weighed items in their order.
 #[cycle(tree)]
 #[derive(Drop)]
 pub struct WeightTree<T: Weigh> {
     pub(crate) root: Option<Box<Branch<T>>>,
 }
 
+// An item between two subtrees, with the sums of all three.
 #[cycle(tree)]
 #[derive(Drop)]
 pub(crate) struct Branch<T: Weigh> {
@@ -46,15 +46,29 @@ impl<T: Weigh> Model for WeightTree<T> {
     ghost size_decreases = { λ a h. Prim.grind (arith, length-append) };
 }
 
+impl<T: Weigh> Default for WeightTree<T> {
+    ghost is_default = { λ tree. tree ≡ record { items = []; height = 0 } };
+
+    fn default() -> Self {
+        Self::new()
+    }
+}
+
 impl<T: Weigh> WeightTree<T> {
     pub fn new() -> Self
-        ensures { result ≡ record { items = []; height = 0 } }
+        ensures empty { result ≡ record { items = []; height = 0 } }
     {
         WeightTree { root: None }
     }
 
+    pub fn is_empty(&self) -> bool
+        ensures empty { IsTrue result ↔ (self.now.items ≡ []) }
+    {
+        self.root.is_none()
+    }
+
     pub fn len(&self) -> usize
-        ensures { result ≡ length self.now.items }
+        ensures len { result ≡ length self.now.items }
     {
         match &self.root {
             None => 0,
@@ -63,7 +77,7 @@ impl<T: Weigh> WeightTree<T> {
     }
 
     pub fn weight(&self) -> u64
-        ensures { result ≡ sum_by T.weight_of self.now.items }
+        ensures sum { result ≡ sum_by T.weight_of self.now.items }
     {
         match &self.root {
             None => 0,
@@ -71,10 +85,13 @@ impl<T: Weigh> WeightTree<T> {
         }
     }
 
+    /// The number of nodes on the longest way down from the root.
     pub fn height(&self) -> usize
         ensures height { result ≡ self.now.height }
+
+        // The height is at most the logarithm of the number of items and one to the base 4/3.
         ensures low { IsLow self.now.height (length self.now.items) }
-        ensures most { self.now.height ≤ 154 }
+        ensures most { self.now.height ≤ MOST_HEIGHT }
     {
         match &self.root {
             None => 0,
@@ -82,15 +99,9 @@ impl<T: Weigh> WeightTree<T> {
         }
     }
 
-    pub fn is_empty(&self) -> bool
-        ensures { IsTrue result ↔ (self.now.items ≡ []) }
-    {
-        self.root.is_none()
-    }
-
     pub fn get(&self, rank: usize) -> &T
         requires in_range { rank < length self.now.items }
-        ensures { slice_get self.now.items rank ≡ Some result.now }
+        ensures item { slice_get self.now.items rank ≡ Some result.now }
     {
         let Some(branch) = &self.root else {
             unreachable!()
@@ -105,9 +116,11 @@ impl<T: Weigh> WeightTree<T> {
         }
     }
 
+    /// The weight of the items before `rank`.
+    #[tactic(auto, using(crate::proofs::Around::parts))]
     pub fn before(&self, rank: usize) -> u64
         requires in_range { rank ≤ length self.now.items }
-        ensures { result ≡ sum_by T.weight_of (take rank self.now.items) }
+        ensures sum { result ≡ sum_by T.weight_of (take rank self.now.items) }
     {
         let Some(branch) = &self.root else {
             return 0;
@@ -119,56 +132,5 @@ impl<T: Weigh> WeightTree<T> {
             let up_to_here = branch.left.weight() + branch.item.weight();
             up_to_here + branch.right.before(rank - left - 1)
         }
-    }
-
-    pub fn insert(&mut self, rank: usize, node: Node<T>)
-        requires in_range { rank ≤ length self.old.items }
-        requires size_fits { length self.old.items + 1 < 2 ^ 64 }
-        requires weight_fits { sum_by T.weight_of self.old.items + T.weight_of node < 2 ^ 64 }
-        ensures items { self.new.items ≡ insert self.old.items rank node }
-    {
-        let tree = mem::replace(self, WeightTree::new());
-        *self = tree.with(rank, node);
-    }
-
-    fn with(self, rank: usize, node: Node<T>) -> Self
-        requires in_range { rank ≤ length self.items }
-        requires size_fits { length self.items + 1 < 2 ^ 64 }
-        requires weight_fits { sum_by T.weight_of self.items + T.weight_of node < 2 ^ 64 }
-        ensures items { result.items ≡ insert self.items rank node }
-    {
-        if self.is_empty() {
-            return Self::join(WeightTree::new(), node, WeightTree::new());
-        }
-        let (left, middle, right) = self.split();
-        let left_len = left.len();
-        if rank <= left_len {
-            Self::rebalance(left.with(rank, node), middle, right)
-        } else {
-            Self::rebalance(left, middle, right.with(rank - left_len - 1, node))
-        }
-    }
-
-    #[tactic(auto, using(crate::proofs::Around::edits))]
-    pub fn replace(&mut self, rank: usize, item: T) -> T
-        requires in_range { rank < length self.old.items }
-        requires weight_fits { sum_by T.weight_of (slice_set self.old.items rank item) < 2 ^ 64 }
-        ensures items { self.new.items ≡ slice_set self.old.items rank item }
-        ensures height { self.new.height ≡ self.old.height }
-        ensures replaced { slice_get self.old.items rank ≡ Some result }
-    {
-        let Some(branch) = &mut self.root else {
-            unreachable!()
-        };
-        let left = branch.left.len();
-        let replaced = if rank < left {
-            branch.left.replace(rank, item)
-        } else if rank == left {
-            mem::replace(&mut branch.item, item)
-        } else {
-            branch.right.replace(rank - left - 1, item)
-        };
-        branch.weight = branch.left.weight() + branch.item.weight() + branch.right.weight();
-        replaced
     }
 }

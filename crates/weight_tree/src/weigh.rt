@@ -1,4 +1,4 @@
-// What an item weighs.
+//! What an item weighs.
 ghost use Rattle.std.specs.Prelude.{◌≡◌, ℕ};
 
 /// An item that has a weight.

@@ -1,6 +1,22 @@
-// How a tree is taken apart and put together again.
-ghost use Rattle.std.specs.Prelude.{◌≡◌, ◌+◌, ◌*◌, ◌^◌, ◌<◌, max, ◌∷◌, ◌++◌, length, sum_by};
-ghost use Rattle.weight_tree.specs.Balance.{IsBalanced, IsOneTooHeavy, IsNearlyBalanced};
+//! How a tree is taken apart and put together, and what mends a side that is one item too heavy.
+//!
+//! The weight of a side is here its number of items and one. An insertion below leaves at worst sides
+//! of the weights 3w + 1 and w. With a the outer and b the inner part of the heavy side, and c and d
+//! the parts of b, the two ways to mend it are
+//!
+//!         single, where b < 2a              double
+//!
+//!           x               y                 x                y
+//!         /   \           /   \             /   \            /   \
+//!        y     w   to    a     x           v     w   to     v     x
+//!       / \                   / \         / \              / \   / \
+//!      a   b                 b   w       a   y            a  c  d   w
+//!                                           / \
+//!                                          c   d
+//!
+//! and the same from right to left.
+ghost use Rattle.std.specs.Prelude.{◌≡◌, ℕ, ◌+◌, ◌*◌, ◌^◌, ◌<◌, ◌↔◌, max, ◌∷◌, ◌++◌, length, sum_by, IsTrue, MatchBool};
+ghost use Rattle.weight_tree.specs.Balance.{IsBalanced, IsOneTooHeavy, IsNearlyBalanced, SingleMends, DoubleMends};
 
 use crate::node::Node;
 use crate::tree::WeightTree;
@@ -8,10 +24,24 @@ use crate::weigh::Weigh;
 use std::mem;
 
 impl<T: Weigh> WeightTree<T> {
+    // In 128 bits, where three times the weight fits.
     fn balance_weight(&self) -> u128
         ensures { result ≡ length self.now.items + 1 }
     {
         self.len() as u128 + 1
+    }
+
+    pub(crate) fn split(self) -> (Self, Node<T>, Self)
+        requires { 0 < length self.items }
+        ensures items { self.items ≡ result.0.items ++ result.1 ∷ result.2.items }
+        ensures balanced { IsBalanced (length result.0.items) (length result.2.items) }
+    {
+        let Some(mut branch) = self.root else {
+            unreachable!()
+        };
+        let left = mem::take(&mut branch.left);
+        let right = mem::take(&mut branch.right);
+        (left, Node { branch }, right)
     }
 
     pub(crate) fn join(left: Self, mut node: Node<T>, right: Self) -> Self
@@ -32,19 +62,7 @@ impl<T: Weigh> WeightTree<T> {
         }
     }
 
-    pub(crate) fn split(self) -> (Self, Node<T>, Self)
-        requires { 0 < length self.items }
-        ensures items { self.items ≡ result.0.items ++ result.1 ∷ result.2.items }
-        ensures balanced { IsBalanced (length result.0.items) (length result.2.items) }
-    {
-        let Some(mut branch) = self.root else {
-            unreachable!()
-        };
-        let left = mem::replace(&mut branch.left, WeightTree::new());
-        let right = mem::replace(&mut branch.right, WeightTree::new());
-        (left, Node { branch }, right)
-    }
-
+    // As `join`, where an insertion has gone into one side.
     pub(crate) fn rebalance(left: Self, node: Node<T>, right: Self) -> Self
         requires nearly { IsNearlyBalanced (length left.items) (length right.items) }
         requires size_fits { length left.items + length right.items + 1 < 2 ^ 64 }
@@ -60,6 +78,20 @@ impl<T: Weigh> WeightTree<T> {
         }
     }
 
+    // Whether a single rotation mends a side with these parts that is one item too heavy.
+    fn single_mends(outer: &Self, inner: &Self) -> bool
+        ensures choice { IsTrue result ↔ (length inner.now.items + 1 < 2 * (length outer.now.items + 1)) }
+
+        // Such a side is mended by one rotation: by a single one or else by a double one.
+        ensures mends {
+            let (a, b) = (length outer.now.items, length inner.now.items) in
+            (w : ℕ) → IsBalanced a b → IsOneTooHeavy (a + b + 1) w → MatchBool result (SingleMends a b w) (DoubleMends a b w)
+        }
+    {
+        inner.balance_weight() < 2 * outer.balance_weight()
+    }
+
+    // The left side is one item too heavy.
     fn lean_right(left: Self, node: Node<T>, right: Self) -> Self
         requires heavy { IsOneTooHeavy (length left.items) (length right.items) }
         requires size_fits { length left.items + length right.items + 1 < 2 ^ 64 }
@@ -67,7 +99,7 @@ impl<T: Weigh> WeightTree<T> {
         ensures items { result.items ≡ left.items ++ node ∷ right.items }
     {
         let (outer, above, inner) = left.split();
-        if inner.balance_weight() < 2 * outer.balance_weight() {
+        if Self::single_mends(&outer, &inner) {
             Self::join(outer, above, Self::join(inner, node, right))
         } else {
             let (inner_left, middle, inner_right) = inner.split();
@@ -77,6 +109,7 @@ impl<T: Weigh> WeightTree<T> {
         }
     }
 
+    // The right side is one item too heavy.
     fn lean_left(left: Self, node: Node<T>, right: Self) -> Self
         requires heavy { IsOneTooHeavy (length right.items) (length left.items) }
         requires size_fits { length left.items + length right.items + 1 < 2 ^ 64 }
@@ -84,7 +117,7 @@ impl<T: Weigh> WeightTree<T> {
         ensures items { result.items ≡ left.items ++ node ∷ right.items }
     {
         let (inner, above, outer) = right.split();
-        if inner.balance_weight() < 2 * outer.balance_weight() {
+        if Self::single_mends(&outer, &inner) {
             Self::join(Self::join(left, node, inner), above, outer)
         } else {
             let (inner_left, middle, inner_right) = inner.split();

@@ -1,0 +1,86 @@
+//! What a pad asks of the sequence that keeps its characters.
+ghost use Rattle.std.specs.Prelude.{◌≡◌, ℕ, ◌≤◌, ◌<◌, ◌↔◌, List, [], IsTrue, IfOk, Some, None, MatchOption, MatchResult, slice_get, option_map, length};
+ghost use Rattle.std.specs.List.{AllByRecursion};
+ghost use Rattle.pad_model.specs.Answers.{Answers};
+ghost use Rattle.pad_model.specs.Cell.{Cell, IsBy, IsInOrder, cells_at, cell_stamp_at, character_of, clock_of, last_of, insert_run as insert_cells, text_at as cells_text};
+ghost use Rattle.pad_model.specs.Checked.{is_run};
+ghost use Rattle.pad_model.specs.Legal.{has_stamp};
+ghost use Rattle.pad_model.specs.Views.{IsViewOf};
+
+use crate::op::Run;
+use crate::refusal::Refusal;
+use crate::stamp::Stamp;
+use crate::text::Text;
+use crate::who::Author;
+use std::alloc::Global;
+
+/// A character of a sequence, with its author lent.
+#[derive(Clone, Copy, Debug)]
+pub struct CellView<'a> {
+    pub stamp: Stamp,
+    /// The character that it was inserted after; None is the start of the text.
+    pub parent: Option<Stamp>,
+    pub character: char,
+    pub author: &'a Author,
+    /// The revision that inserted it.
+    pub born: u64,
+    /// The first revision that erased it.
+    pub died: Option<u64>,
+}
+
+/// The characters of a pad in the preorder of their tree of insertions, those that are erased included.
+///
+/// A revision is a number that the caller counts up: readers take any, and see the characters born at it or before
+/// and not dead by then.
+pub trait Sequence: Drop {
+    /// The cells, however they are kept.
+    ghost cells: { Self → List Cell };
+
+    /// The sequence without characters.
+    fn empty(alloc: Global) -> Result<Self, Refusal>
+        ensures { MatchResult result (λ s. cells s ≡ []) (λ e. e ≡ Refusal.Memory) };
+
+    /// Puts a run at its place in the preorder.
+    fn insert_run(
+        &mut self,
+        alloc: Global,
+        run: &Run,
+        author: &Author,
+        rev: u64,
+    ) -> Result<(), Refusal>
+        requires checked { IsTrue (is_run author.now.origin run.now) }
+        requires latest { AllByRecursion (IsBy rev) (cells self.old) }
+        ensures { Answers (cells self.old) (insert_cells rev run.now author.now (cells self.old)) result (cells self.new) };
+
+    /// How many characters are visible.
+    fn len_at(&self, rev: u64) -> u64
+        ensures { result ≡ length (cells_at rev (cells self.now)) };
+
+    /// The stamp of the visible character at a place, from 0.
+    fn stamp_at(&self, rev: u64, place: u64) -> Option<Stamp>
+        ensures { result ≡ cell_stamp_at rev (cells self.now) place };
+
+    fn text_at(&self, alloc: Global, rev: u64) -> Result<Text, Refusal>
+        ensures { MatchResult result (λ text. text ≡ cells_text rev (cells self.now)) (λ e. e ≡ Refusal.Memory) };
+
+    /// Whether a character is there, erased or not.
+    fn has(&self, stamp: Stamp) -> bool
+        ensures { result ≡ has_stamp character_of (cells self.now) stamp };
+
+    /// The greatest counter of any character, or 0.
+    fn clock(&self) -> u64
+        ensures { result ≡ clock_of (cells self.now) };
+
+    /// The greatest counter of a replica's characters, or 0.
+    fn last_of(&self, replica: u16) -> u64
+        ensures { result ≡ last_of replica (cells self.now) };
+
+    /// How many characters there are, those that are erased included.
+    fn cell_count(&self) -> u64
+        ensures value { result ≡ length (cells self.now) }
+        ensures order { IsInOrder (cells self.now) };
+
+    /// The cell at a place of the preorder, from 0.
+    fn cell_at(&self, place: u64) -> Option<CellView<'_>>
+        ensures { IsViewOf result (slice_get (cells self.now) place) };
+}

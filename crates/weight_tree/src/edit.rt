@@ -1,0 +1,63 @@
+//! One more item, and an item in place of another.
+ghost use Rattle.std.specs.Prelude.{◌≡◌, ◌+◌, ◌<◌, ◌≤◌, ◌^◌, length, sum_by, insert, slice_get, slice_set};
+
+use crate::node::Node;
+use crate::tree::WeightTree;
+use crate::weigh::Weigh;
+use std::mem;
+
+impl<T: Weigh> WeightTree<T> {
+    /// Puts an item at `rank`, before those that stood there and after it.
+    pub fn insert(&mut self, rank: usize, node: Node<T>)
+        requires in_range { rank ≤ length self.old.items }
+        requires size_fits { length self.old.items + 1 < 2 ^ 64 }
+        requires weight_fits { sum_by T.weight_of self.old.items + T.weight_of node < 2 ^ 64 }
+        ensures items { self.new.items ≡ insert self.old.items rank node }
+    {
+        *self = mem::take(self).with_item(rank, node);
+    }
+
+    #[tactic(auto, using(crate::proofs::Around::parts))]
+    fn with_item(self, rank: usize, node: Node<T>) -> Self
+        requires in_range { rank ≤ length self.items }
+        requires size_fits { length self.items + 1 < 2 ^ 64 }
+        requires weight_fits { sum_by T.weight_of self.items + T.weight_of node < 2 ^ 64 }
+        ensures items { result.items ≡ insert self.items rank node }
+    {
+        if self.is_empty() {
+            return Self::join(Self::new(), node, Self::new());
+        }
+        let (left, middle, right) = self.split();
+        let left_len = left.len();
+        if rank <= left_len {
+            Self::rebalance(left.with_item(rank, node), middle, right)
+        } else {
+            let right = right.with_item(rank - left_len - 1, node);
+            Self::rebalance(left, middle, right)
+        }
+    }
+
+    /// Puts an item in the place of the one at `rank`, and returns that one.
+    #[tactic(auto, using(crate::proofs::Around::edits))]
+    pub fn replace(&mut self, rank: usize, item: T) -> T
+        requires in_range { rank < length self.old.items }
+        requires weight_fits { sum_by T.weight_of (slice_set self.old.items rank item) < 2 ^ 64 }
+        ensures items { self.new.items ≡ slice_set self.old.items rank item }
+        ensures height { self.new.height ≡ self.old.height }
+        ensures replaced { slice_get self.old.items rank ≡ Some result }
+    {
+        let Some(branch) = &mut self.root else {
+            unreachable!()
+        };
+        let left = branch.left.len();
+        let replaced = if rank < left {
+            branch.left.replace(rank, item)
+        } else if rank == left {
+            mem::replace(&mut branch.item, item)
+        } else {
+            branch.right.replace(rank - left - 1, item)
+        };
+        branch.weight = branch.left.weight() + branch.item.weight() + branch.right.weight();
+        replaced
+    }
+}

@@ -1,7 +1,10 @@
+pub mod Cells
 pub mod Each
 pub mod Filters
+pub mod Maps
 pub mod Members
 pub mod Newer
+pub mod Places
 pub mod Rising
 pub mod Runs
 pub mod Scan

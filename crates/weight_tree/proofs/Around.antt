@@ -1,7 +1,9 @@
 -- Reads and edits of a list l ++ x ∷ r on either side of x.
-use Rattle.std.proofs.Common.{◌≡◌, ℕ, suc, ◌+◌, ◌-◌, ◌<◌, ◌≤◌, List, ◌∷◌, ◌++◌, length, take, drop, sum_by, refl, ap, sym, ◌∙◌, arith, length-append}
+use Rattle.std.proofs.Common.{◌≡◌, ℕ, suc, ◌+◌, ◌-◌, ◌<◌, ◌≤◌, List, ◌∷◌, ◌++◌, length, take, sum_by, refl, ap, sym, ◌∙◌, arith, length-append}
+use Rattle.std.specs.Prelude.{insert}
 use Rattle.std.proofs.Math.ListN.{set}
-use Rattle.std.proofs.Math.Seq.{take-append-add, drop-append-add, set-append_seam}
+use Rattle.std.proofs.lemmas.List.Edits.{insert-append_right}
+use Rattle.std.proofs.Math.Seq.{take-append-add, set-append_seam}
 use Rattle.std.proofs.lemmas.List.{length-set, set-append_left, set-append_right}
 use Rattle.std.proofs.lemmas.List.Sums.{sum_by-append, sum_by-cons}
 
@@ -18,10 +20,11 @@ module _ {X : Type 0} where
   pub take_right : (l : List X) (x : X) (r : List X) (i : ℕ) → length l < i → take i (l ++ x ∷ r) ≡ l ++ x ∷ take (i - length l - 1) r
   take_right l x r i h = take_after l x r i (i - length l - 1) (omega arith)
 
-  pub drop_right : (l : List X) (x : X) (r : List X) (i : ℕ) → length l < i → drop i (l ++ x ∷ r) ≡ drop (i - length l - 1) r
-  drop_right l x r i h =
-    let place : i ≡ length l + suc (i - length l - 1) = omega arith in
-    ap (λ n. drop n (l ++ x ∷ r)) place ∙ drop-append-add l (x ∷ r) (suc (i - length l - 1))
+  pub insert_after : (l : List X) (x : X) (r : List X) (i j : ℕ) (y : X) → i ≡ length l + suc j → insert (l ++ x ∷ r) i y ≡ l ++ x ∷ insert r j y
+  insert_after l x r i j y e =
+    let past : length l ≤ i = omega arith in
+    let gap : i - length l ≡ suc j = omega arith in
+    insert-append_right l (x ∷ r) (length l) i y refl past ∙ ap (λ k. l ++ insert (x ∷ r) k y) gap
 
   pub set_after : (l : List X) (x : X) (r : List X) (i j : ℕ) (y : X) → i ≡ length l + suc j → set (l ++ x ∷ r) i y ≡ l ++ x ∷ set r j y
   set_after l x r i j y e =
@@ -39,7 +42,7 @@ module _ {X : Type 0} where
   set_right l x r i y h = set_after l x r i (i - length l - 1) y (omega arith)
 
 -- what lies before and behind a place of a list, and what that sums to
-pub ruleset parts = (take_right, drop_right, sum_around, length_around)
+pub ruleset parts = (take_right, sum_around, length_around)
 
 -- what a list with one item replaced is, and what it sums to
 pub ruleset edits = (set_left, set_here, set_right, sum_around, length_around, sum_by-append, length-append, length-set)

@@ -17,7 +17,6 @@ impl<T: Weigh> WeightTree<T> {
         *self = mem::take(self).with_item(rank, node);
     }
 
-    #[tactic(auto, using(crate::proofs::Around::parts))]
     fn with_item(self, rank: usize, node: Node<T>) -> Self
         requires in_range { rank ≤ length self.items }
         requires size_fits { length self.items + 1 < 2 ^ 64 }

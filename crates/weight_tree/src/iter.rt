@@ -19,7 +19,7 @@ impl<'a, T: Weigh> Model for Iter<'a, T> {
 
     ghost Value = { List T };
 
-    ghost use Rattle.weight_tree.specs.declared.TheConstants.{MOST_HEIGHT};
+    ghost use Rattle.weight_tree.specs.declared.tree.TheConstants.{MOST_HEIGHT};
     ghost use Rattle.weight_tree.specs.Waiting.{from_waiting, IsWaiting};
 
     ghost view = { λ a. from_waiting (take a.depth a.waiting) };

@@ -84,7 +84,8 @@ impl<T: Weigh> WeightTree<T> {
 
         // Such a side is mended by one rotation: by a single one or else by a double one.
         ensures mends {
-            let (a, b) = (length outer.now.items, length inner.now.items) in
+            let a = length outer.now.items in
+            let b = length inner.now.items in
             (w : ℕ) → IsBalanced a b → IsOneTooHeavy (a + b + 1) w → MatchBool result (SingleMends a b w) (DoubleMends a b w)
         }
     {

@@ -1,0 +1,62 @@
+-- A list seen through a function.
+use Rattle.std.proofs.Common.{◌≡◌, ℕ, ◌+◌, Bool, true, false, cond, ◌||◌, ◌&&◌, List, [], ◌∷◌, ◌++◌, Option, Some, None, refl, sym, ap, ◌∙◌, map, filter, fold}
+use Rattle.std.proofs.lemmas.List.{map-append}
+use Rattle.std.specs.List.{list_any, list_all, prefix_len, AllByRecursion, IsDistinct}
+use Rattle.pad_model.specs.Stamp.{Stamp, newer, same_stamp}
+use Rattle.pad_model.specs.Character.{Character}
+use Rattle.pad_model.specs.Order.{same_parent, put_rising, rising, walk_rising, order}
+use Rattle.pad_model.specs.Legal.{has_stamp, has_parent, same_item, IsTree, counter_of}
+use Rattle.pad_model.specs.Scan.{scan_from, scan_behind, put}
+use Rattle.pad_model.proofs.Newer.{split}
+
+pub filter-map : {A B : Type 0} (f : A → B) (t : B → Bool) (xs : List A) → filter t (map f xs) ≡ map f (filter (λ x. t (f x)) xs)
+filter-map f t [] = refl
+filter-map f t (x ∷ xs) = split (t (f x)) (λ e. rw e (ap (λ l. f x ∷ l) (filter-map f t xs))) (λ e. rw e (filter-map f t xs))
+
+pub list_any-map : {A B : Type 0} (f : A → B) (t : B → Bool) (xs : List A) → list_any t (map f xs) ≡ list_any (λ x. t (f x)) xs
+list_any-map f t [] = refl
+list_any-map f t (x ∷ xs) = ap (λ b. t (f x) || b) (list_any-map f t xs)
+
+pub list_all-map : {A B : Type 0} (f : A → B) (t : B → Bool) (xs : List A) → list_all t (map f xs) ≡ list_all (λ x. t (f x)) xs
+list_all-map f t [] = refl
+list_all-map f t (x ∷ xs) = ap (λ b. t (f x) && b) (list_all-map f t xs)
+
+pub each-map : {A B : Type 0} (f : A → B) (P : B → Type 0) (xs : List A) → AllByRecursion (λ x. P (f x)) xs → AllByRecursion P (map f xs)
+each-map f P [] h = tt
+each-map f P (x ∷ xs) h = (h.0, each-map f P xs h.1)
+
+pub each-of_map : {A B : Type 0} (f : A → B) (P : B → Type 0) (xs : List A) → AllByRecursion P (map f xs) → AllByRecursion (λ x. P (f x)) xs
+each-of_map f P [] h = tt
+each-of_map f P (x ∷ xs) h = (h.0, each-of_map f P xs h.1)
+
+put_rising-map : {A B : Type 0} (f : A → B) (at : B → Character) (c : A) (xs : List A) → put_rising at (f c) (map f xs) ≡ map f (put_rising (λ x. at (f x)) c xs)
+put_rising-map f at c [] = refl
+put_rising-map f at c (x ∷ xs) = split (newer (at (f x)).stamp (at (f c)).stamp) (λ e. rw e refl) (λ e. rw e (ap (λ l. f x ∷ l) (put_rising-map f at c xs)))
+
+rising_onto-map : {A B : Type 0} (f : A → B) (at : B → Character) (acc s : List A) → fold (λ sorted c. put_rising at c sorted) (map f acc) (map f s) ≡ map f (fold (λ sorted c. put_rising (λ x. at (f x)) c sorted) acc s)
+rising_onto-map f at acc [] = refl
+rising_onto-map f at acc (c ∷ s) = ap (λ a. fold (λ sorted c. put_rising at c sorted) a (map f s)) (put_rising-map f at c acc) ∙ rising_onto-map f at (put_rising (λ x. at (f x)) c acc) s
+
+walk_rising-map : {A B : Type 0} (f : A → B) (at : B → Character) (u : List A) (q : Option Stamp) → walk_rising at (map f u) q ≡ map f (walk_rising (λ x. at (f x)) u q)
+walk_rising-map f at [] q = refl
+walk_rising-map f at (x ∷ later) q =
+    split (same_parent (at (f x)).parent q)
+    (λ e. rw (e, walk_rising-map f at later q, walk_rising-map f at later (Some (at (f x)).stamp)) (sym (map-append f (walk_rising (λ x. at (f x)) later q) (x ∷ walk_rising (λ x. at (f x)) later (Some (at (f x)).stamp)))))
+    (λ e. rw e (walk_rising-map f at later q))
+
+-- the order of items seen through a function is the order of the items, seen so
+pub order-map : {A B : Type 0} (f : A → B) (at : B → Character) (s : List A) → order at (map f s) ≡ map f (order (λ x. at (f x)) s)
+order-map f at s = ap (λ u. walk_rising at u None) (rising_onto-map f at [] s) ∙ walk_rising-map f at (rising (λ x. at (f x)) s) None
+
+scan_from-map : {A B : Type 0} (f : A → B) (at : B → Character) (first : Stamp) (block xs : List A) → scan_from at first (map f block) (map f xs) ≡ map f (scan_from (λ x. at (f x)) first block xs)
+scan_from-map f at first block [] = refl
+scan_from-map f at first block (x ∷ xs) = split (newer (at (f x)).stamp first) (λ e. rw e (ap (λ l. f x ∷ l) (scan_from-map f at first block xs))) (λ e. rw e (sym (map-append f block (x ∷ xs))))
+
+-- a block put among items seen through a function is one put among the items, seen so
+pub put-map : {A B : Type 0} (f : A → B) (at : B → Character) (p : Option Stamp) (first : Stamp) (block xs : List A) → put at p first (map f block) (map f xs) ≡ map f (put (λ x. at (f x)) p first block xs)
+put-map f at None first block xs = scan_from-map f at first block xs
+put-map f at (Some p) first block [] = refl
+put-map f at (Some p) first block (x ∷ xs) =
+    split (same_stamp (at (f x)).stamp p)
+    (λ e. rw e (ap (λ l. f x ∷ l) (scan_from-map f at first block xs)))
+    (λ e. rw e (ap (λ l. f x ∷ l) (put-map f at (Some p) first block xs)))

@@ -1,0 +1,10 @@
+use Rattle.std.proofs.Common.{◌≡◌, suc, ◌+◌, ◌-◌, length, arith}
+use Rattle.weight_tree.proofs.Around.{insert_after}
+use Rattle.weight_tree.proofs.tree.WeightTree.+with_item.Goals as goal
+
+pub returns-else-rank-left_len : goal.returns-else-rank-left_len
+returns-else-rank-left_len g t c =
+    let left = c.split-left.result.0.items in
+    let place : c.args.rank ≡ length left + suc (c.args.rank - c.len-left_len.result - 1) = omega arith in
+    let edit = insert_after left c.split-left.result.1 c.split-left.result.2.items _ _ c.args.node place in
+    record { items = cc (edit) }

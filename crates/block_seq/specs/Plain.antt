@@ -1,10 +1,12 @@
 -- What the plain sequence keeps.
-use Rattle.std.specs.Prelude.{◌≡◌, ℕ, ◌+◌, ◌<◌, ◌≤◌, List, [], ◌∷◌, length, map, slice_index_or, Option, Some, None}
+use Rattle.std.specs.Prelude.{◌≡◌, ℕ, zero, suc, ◌+◌, ◌<◌, ◌≤◌, List, [], ◌∷◌, length, map, slice_index_or, Option, Some, None, Bool, ◌&&◌, nat_le}
 use Rattle.std.specs.List.{AllByRecursion}
-use Rattle.pad_model.specs.Cell.{Cell, IsInOrder}
+use Rattle.pad_model.specs.Cell.{Cell, IsInOrder, character_of, is_after}
+use Rattle.pad_model.specs.Character.{Character, next}
+use Rattle.pad_model.specs.Stamp.{Stamp}
 use Rattle.pad_model.specs.declared.who.Author.{Author}
 use Rattle.pad_model.specs.declared.limits.TheConstants.{MAX_CHARACTERS}
-use Rattle.block_seq.specs.declared.plain.PlainCell.{PlainCell}
+use Rattle.block_seq.specs.declared.place.PlainCell.{PlainCell}
 
 -- the author at a place of the list
 abbrev pub author_at : List Author → ℕ → Author
@@ -18,8 +20,25 @@ cell_of authors c = record { stamp = c.stamp; parent = c.parent; character = c.c
 abbrev pub cells_of : List Author → List PlainCell → List Cell
 cells_of authors cells = map (cell_of authors) cells
 
--- each cell's author is in the list, and the cells stand in preorder
+-- the character of a kept cell, its author left out
+abbrev pub kept_character : PlainCell → Character
+kept_character c = character_of (cell_of [] c)
+
+-- each cell's author is in the list
+abbrev pub AreKnown : List Author → List PlainCell → Type 0
+AreKnown authors cells = AllByRecursion (λ c. c.author < length authors) cells
+
+-- the authors are known, and the cells stand in preorder
 pub record IsPlain (authors : List Author) (cells : List PlainCell) : Type 0 where
-  pub known : AllByRecursion (λ c. c.author < length authors) cells
+  pub known : AreKnown authors cells
   pub order : IsInOrder (cells_of authors cells)
-  pub few : length cells ≤ MAX_CHARACTERS
+
+-- whether a kept cell is visible at a revision
+abbrev pub is_shown : ℕ → PlainCell → Bool
+is_shown rev c = nat_le c.born rev && is_after rev c.died
+
+-- the kept cells of a run
+abbrev pub kept_run : Stamp → Option Stamp → List ℕ → ℕ → ℕ → List PlainCell
+kept_run first parent [] author rev = []
+kept_run first parent (c ∷ text) author rev =
+    record { stamp = first; parent = parent; character = c; author = author; born = rev; died = None } ∷ kept_run (next first) (Some first) text author rev

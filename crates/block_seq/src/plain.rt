@@ -1,24 +1,12 @@
 //! The plain sequence: a vector of cells in preorder, read and searched from its start.
 //!
 //! It does the least that its contract asks, and stays as the model that tests compare every faster sequence with.
-ghost use Rattle.std.specs.Prelude.{◌≡◌, ℕ, ◌+◌, ◌≤◌, ◌<◌, ◌↔◌, List, [], IsTrue, IfOk, OnOk, OnErr, Some, None, MatchOption, MatchResult, slice_get, option_map, length, map, take, drop, ◌++◌, vec_len, vec_capacity};
-ghost use Rattle.pad_model.specs.Answers.{Answers};
-ghost use Rattle.pad_model.specs.Cell.{Cell, IsBy, IsInOrder, cells_at, cell_stamp_at, character_of, clock_of, last_of, insert_run as insert_cells, text_at as cells_text};
-
+use crate::authors::place_author;
+use crate::place::{PlainCell, cells_of_run, has, may_join, place_of, splice};
+use crate::readers::{count_shown, greatest_counter, greatest_counter_of, shown_stamp, shown_text};
 use pad_model::{Author, CellView, MAX_CHARACTERS, Refusal, Run, Sequence, Stamp, Text};
-use std::alloc::Global;
+use std::alloc::{AllocError, Global};
 use std::marker::Model;
-
-/// A cell whose author is a place in the sequence's list of authors.
-#[derive(Clone, Copy, Debug)]
-pub struct PlainCell {
-    stamp: Stamp,
-    parent: Option<Stamp>,
-    character: char,
-    author: usize,
-    born: u64,
-    died: Option<u64>,
-}
 
 /// A vector of cells.
 #[derive(Debug, Drop)]
@@ -38,4 +26,76 @@ impl Model for PlainSeq {
     ghost view = { λ s. cells_of s.authors.items s.cells.items };
 
     ghost invariant = { λ s. IsPlain s.authors.items s.cells.items };
+}
+
+impl Sequence for PlainSeq {
+    ghost cells = { λ s. s };
+
+    fn empty(alloc: Global) -> Result<PlainSeq, Refusal> {
+        Ok(PlainSeq {
+            cells: Vec::new(alloc),
+            authors: Vec::new(alloc),
+        })
+    }
+
+    fn insert_run(
+        &mut self,
+        alloc: Global,
+        run: &Run,
+        author: &Author,
+        rev: u64,
+    ) -> Result<(), Refusal> {
+        if !may_join(self.cells.as_slice(), run.first, run.after) {
+            return Err(Refusal::PeerFault);
+        }
+        if MAX_CHARACTERS < self.cells.len() as u64 + run.text.len() as u64 {
+            return Err(Refusal::PadFull);
+        }
+        let place = place_of(self.cells.as_slice(), run.after, run.first);
+        let author = place_author(&mut self.authors, author)?;
+        let block = cells_of_run(alloc, run, author, rev)?;
+        splice(&mut self.cells, place, block)?;
+        Ok(())
+    }
+
+    fn len_at(&self, rev: u64) -> u64 {
+        count_shown(self.cells.as_slice(), rev) as u64
+    }
+
+    fn stamp_at(&self, rev: u64, place: u64) -> Option<Stamp> {
+        shown_stamp(self.cells.as_slice(), rev, place)
+    }
+
+    fn text_at(&self, alloc: Global, rev: u64) -> Result<Text, Refusal> {
+        Ok(Text::from_vec(shown_text(alloc, self.cells.as_slice(), rev)?))
+    }
+
+    fn has(&self, stamp: Stamp) -> bool {
+        has(self.cells.as_slice(), stamp)
+    }
+
+    fn clock(&self) -> u64 {
+        greatest_counter(self.cells.as_slice())
+    }
+
+    fn last_of(&self, replica: u16) -> u64 {
+        greatest_counter_of(self.cells.as_slice(), replica)
+    }
+
+    fn cell_count(&self) -> u64 {
+        self.cells.len() as u64
+    }
+
+    fn cell_at(&self, place: u64) -> Option<CellView<'_>> {
+        let cell = self.cells.get(place as usize)?;
+        let author = self.authors.get(cell.author)?;
+        Some(CellView {
+            stamp: cell.stamp,
+            parent: cell.parent,
+            character: cell.character,
+            author,
+            born: cell.born,
+            died: cell.died,
+        })
+    }
 }

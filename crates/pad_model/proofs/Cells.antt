@@ -1,17 +1,20 @@
 -- Cells stay in order when a run joins them.
-use Rattle.std.proofs.Common.{◌≡◌, ℕ, ◌+◌, ◌<◌, ◌≤◌, Bool, true, false, not, ◌&&◌, ◌||◌, cond, List, [], ◌∷◌, ◌++◌, length, Option, Some, None, refl, sym, ap, ◌∙◌, subst, map, filter, IsPermutation, eqb, ltb, ltb-true, eq-eqb}
+use Rattle.std.proofs.Common.{◌≡◌, ℕ, ◌+◌, ◌<◌, ◌≤◌, Bool, true, false, not, ◌&&◌, ◌||◌, cond, List, [], ◌∷◌, ◌++◌, length, Option, Some, None, refl, sym, ap, ◌∙◌, subst, map, filter, IsPermutation, eqb, ltb, ltb-true, lt-ltb, le-ltb, eq-eqb, Result, Ok, Err}
 use Rattle.std.proofs.lemmas.Bool.{and_parts, both_ways, or_cases}
 use Rattle.std.proofs.lemmas.List.Sorted.{IsPermutation-sym}
 use Rattle.std.specs.List.{list_any, list_all, AllByRecursion, IsDistinct}
 use Rattle.pad_model.specs.Stamp.{Stamp}
 use Rattle.pad_model.specs.Character.{Character, next, run_characters}
-use Rattle.pad_model.specs.Cell.{Cell, character_of, born_at, new_cells, with_run, IsInOrder}
+use Rattle.pad_model.specs.Cell.{Cell, character_of, born_at, new_cells, with_run, insert_run, IsInOrder}
 use Rattle.pad_model.specs.Legal.{has_parent, counter_of, IsTree, RunMayJoin, IsRun}
 use Rattle.pad_model.specs.Log.{run_may_join}
 use Rattle.pad_model.specs.Order.{order}
 use Rattle.pad_model.specs.Scan.{put}
 use Rattle.pad_model.specs.declared.who.Author.{Author}
 use Rattle.pad_model.specs.declared.op.Run.{Run}
+use Rattle.pad_model.specs.declared.refusal.Refusal.{Refusal}
+use Rattle.pad_model.specs.declared.refusal.Refusal.TheVariants.{PeerFault, PadFull}
+use Rattle.pad_model.specs.declared.limits.TheConstants.{MAX_CHARACTERS}
 use Rattle.pad_model.proofs.Members.{order-permutation, IsTree-permutation}
 use Rattle.pad_model.proofs.Runs.{order-run, IsTree-run}
 use Rattle.pad_model.proofs.Sets.{Has-permutation, set_law}
@@ -62,3 +65,13 @@ IsInOrder-with_run rev run author cells o h =
     record {
     tree = IsTree-permutation character_of (cells ++ new_cells rev run author) (with_run rev run author cells) (order-permutation character_of (cells ++ new_cells rev run author) more) more;
     is = order-order character_of (cells ++ new_cells rev run author) more }
+
+-- what an insertion answers, case by case
+pub insert_run-fault : (rev : ℕ) (run : Run) (author : Author) (cells : List Cell) → run_may_join character_of cells run.first run.after ≡ false → insert_run rev run author cells ≡ (Err PeerFault, cells)
+insert_run-fault rev run author cells e = rw e refl
+
+pub insert_run-full : (rev : ℕ) (run : Run) (author : Author) (cells : List Cell) → run_may_join character_of cells run.first run.after ≡ true → MAX_CHARACTERS < length cells + length run.text → insert_run rev run author cells ≡ (Err PadFull, cells)
+insert_run-full rev run author cells e h = rw (e, lt-ltb MAX_CHARACTERS (length cells + length run.text) h) refl
+
+pub insert_run-ok : (rev : ℕ) (run : Run) (author : Author) (cells : List Cell) → run_may_join character_of cells run.first run.after ≡ true → length cells + length run.text ≤ MAX_CHARACTERS → insert_run rev run author cells ≡ (Ok tt, with_run rev run author cells)
+insert_run-ok rev run author cells e h = rw (e, le-ltb MAX_CHARACTERS (length cells + length run.text) h) refl

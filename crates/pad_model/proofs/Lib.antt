@@ -1,5 +1,6 @@
 pub mod Cells
 pub mod Each
+pub mod Exits
 pub mod Filters
 pub mod Maps
 pub mod Members

@@ -1,13 +1,18 @@
 -- A list seen through a function.
-use Rattle.std.proofs.Common.{◌≡◌, ℕ, ◌+◌, Bool, true, false, cond, ◌||◌, ◌&&◌, List, [], ◌∷◌, ◌++◌, Option, Some, None, refl, sym, ap, ◌∙◌, map, filter, fold}
+use Rattle.std.proofs.Common.{◌≡◌, ℕ, ◌+◌, Bool, true, false, cond, ◌||◌, ◌&&◌, List, [], ◌∷◌, ◌++◌, Option, Some, None, refl, sym, ap, ap₂, ◌∙◌, not, eqb, ltb, map, filter, fold}
 use Rattle.std.proofs.lemmas.List.{map-append}
 use Rattle.std.specs.List.{list_any, list_all, prefix_len, AllByRecursion, IsDistinct}
 use Rattle.pad_model.specs.Stamp.{Stamp, newer, same_stamp}
 use Rattle.pad_model.specs.Character.{Character}
 use Rattle.pad_model.specs.Order.{same_parent, put_rising, rising, walk_rising, order}
 use Rattle.pad_model.specs.Legal.{has_stamp, has_parent, same_item, IsTree, counter_of}
+use Rattle.pad_model.specs.Log.{run_may_join}
 use Rattle.pad_model.specs.Scan.{scan_from, scan_behind, put}
 use Rattle.pad_model.proofs.Newer.{split}
+
+pub map-map : {A B C : Type 0} (f : A → B) (g : B → C) (xs : List A) → map g (map f xs) ≡ map (λ x. g (f x)) xs
+map-map f g [] = refl
+map-map f g (x ∷ xs) = ap (λ l. g (f x) ∷ l) (map-map f g xs)
 
 pub filter-map : {A B : Type 0} (f : A → B) (t : B → Bool) (xs : List A) → filter t (map f xs) ≡ map f (filter (λ x. t (f x)) xs)
 filter-map f t [] = refl
@@ -60,3 +65,12 @@ put-map f at (Some p) first block (x ∷ xs) =
     split (same_stamp (at (f x)).stamp p)
     (λ e. rw e (ap (λ l. f x ∷ l) (scan_from-map f at first block xs)))
     (λ e. rw e (ap (λ l. f x ∷ l) (put-map f at (Some p) first block xs)))
+
+pub has_parent-map : {A B : Type 0} (f : A → B) (at : B → Character) (xs : List A) (p : Option Stamp) → has_parent at (map f xs) p ≡ has_parent (λ x. at (f x)) xs p
+has_parent-map f at xs None = refl
+has_parent-map f at xs (Some p) = list_any-map f (λ x. same_stamp (at x).stamp p) xs
+
+pub run_may_join-map : {A B : Type 0} (f : A → B) (at : B → Character) (xs : List A) (first : Stamp) (p : Option Stamp) → run_may_join at (map f xs) first p ≡ run_may_join (λ x. at (f x)) xs first p
+run_may_join-map f at xs first p =
+    ap₂ (λ h t. h && ltb (counter_of p) first.counter && t) (has_parent-map f at xs p)
+    (list_all-map f (λ x. not (eqb (at x).stamp.replica first.replica) || ltb (at x).stamp.counter first.counter) xs)

@@ -48,6 +48,12 @@ impl Text {
         }
     }
 
+    pub fn from_vec(characters: Vec<char>) -> Text
+        ensures { result ≡ characters.items }
+    {
+        Text { characters }
+    }
+
     pub fn from_str(alloc: Global, text: &str) -> Result<Text, AllocError>
         ensures { IfOk result (λ t. encode_utf8_all t ≡ text.now) }
     {

@@ -22,15 +22,15 @@ module _ {X : Type 0} where
 
   pub insert_after : (l : List X) (x : X) (r : List X) (i j : ℕ) (y : X) → i ≡ length l + suc j → insert (l ++ x ∷ r) i y ≡ l ++ x ∷ insert r j y
   insert_after l x r i j y e =
-    let past : length l ≤ i = omega arith in
-    let gap : i - length l ≡ suc j = omega arith in
-    insert-append_right l (x ∷ r) (length l) i y refl past ∙ ap (λ k. l ++ insert (x ∷ r) k y) gap
+      let past : length l ≤ i = omega arith in
+      let gap : i - length l ≡ suc j = omega arith in
+      insert-append_right l (x ∷ r) (length l) i y refl past ∙ ap (λ k. l ++ insert (x ∷ r) k y) gap
 
   pub set_after : (l : List X) (x : X) (r : List X) (i j : ℕ) (y : X) → i ≡ length l + suc j → set (l ++ x ∷ r) i y ≡ l ++ x ∷ set r j y
   set_after l x r i j y e =
-    let past : length l ≤ i = omega arith in
-    let gap : i - length l ≡ suc j = omega arith in
-    set-append_right l (x ∷ r) (length l) i y refl past ∙ ap (λ k. l ++ set (x ∷ r) k y) gap
+      let past : length l ≤ i = omega arith in
+      let gap : i - length l ≡ suc j = omega arith in
+      set-append_right l (x ∷ r) (length l) i y refl past ∙ ap (λ k. l ++ set (x ∷ r) k y) gap
 
   pub set_left : (l : List X) (x : X) (r : List X) (i : ℕ) (y : X) → i < length l → set (l ++ x ∷ r) i y ≡ set l i y ++ x ∷ r
   set_left l x r i y h = set-append_left l (x ∷ r) i y h

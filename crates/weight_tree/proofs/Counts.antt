@@ -1,5 +1,5 @@
 -- How many items of a list l ++ x ∷ r are below, where the answers rise.
-use Rattle.std.proofs.Common.{◌≡◌, ℕ, zero, suc, ◌+◌, ◌<◌, ◌≤◌, Bool, true, false, cond, List, [], ◌∷◌, ◌++◌, length, get_or, count_by, refl, ap, sym, ◌∙◌, arith, length-append}
+use Rattle.std.proofs.Common.{◌≡◌, ℕ, zero, suc, ◌+◌, ◌<◌, ◌≤◌, ◌⊎◌, inl, inr, Bool, true, false, cond, List, [], ◌∷◌, ◌++◌, length, get_or, count_by, refl, ◌∙◌, arith, length-append}
 use Rattle.std.proofs.Math.ListN.{get_or-append}
 use Rattle.std.proofs.lemmas.List.{get_or-append-add}
 use Rattle.std.proofs.lemmas.List.Sums.{sum_by-append, sum_by-cons}
@@ -23,6 +23,10 @@ not_less_after a Greater less rising = refl
 not_less_after Less Less less rising = less
 not_less_after Equal Less less rising = absurd (omega arith)
 not_less_after Greater Less less rising = absurd (omega arith)
+
+true_or_false : (b : Bool) → (b ≡ true) ⊎ (b ≡ false)
+true_or_false true = inl refl
+true_or_false false = inr refl
 
 module _ {X : Type 0} where
   all_counted : (p : X → Bool) (xs : List X) → ((i : ℕ) (d : X) → i < length xs → p (get_or xs i d) ≡ true) → count_by p xs ≡ length xs
@@ -62,18 +66,41 @@ module _ {X : Type 0} where
     pub count_past : IsRising order (l ++ x ∷ r) → is_lt (order x) ≡ true → count_less order (l ++ x ∷ r) ≡ length l + 1 + count_less order r
     count_past rising less =
         let left : count_less order l ≡ length l =
-          all_counted (λ y. is_lt (order y)) l (λ i d q.
-            let first : get_or (l ++ x ∷ r) i d ≡ get_or l i d = get_or-append l (x ∷ r) d i q in
-            let second : get_or (l ++ x ∷ r) (length l + 0) d ≡ x = get_or-append-add l (x ∷ r) 0 d in
-            less_before _ _ less (rw (first, second) at (rising i (length l + 0) d (omega arith) (omega (arith, length-append l (x ∷ r)))))) in
+        all_counted (λ y. is_lt (order y)) l (λ i d q.
+        let first : get_or (l ++ x ∷ r) i d ≡ get_or l i d = get_or-append l (x ∷ r) d i q in
+        let second : get_or (l ++ x ∷ r) (length l + 0) d ≡ x = get_or-append-add l (x ∷ r) 0 d in
+        less_before _ _ less (rw (first, second) at (rising i (length l + 0) d (omega arith) (omega (arith, length-append l (x ∷ r)))))) in
         count_around ∙ rw (left, less) refl
 
     -- where x is not below, nothing behind it is
     pub count_up_to : IsRising order (l ++ x ∷ r) → is_lt (order x) ≡ false → count_less order (l ++ x ∷ r) ≡ count_less order l
     count_up_to rising not_less =
         let right : count_less order r ≡ 0 =
-          none_counted (λ y. is_lt (order y)) r (λ i d q.
-            let first : get_or (l ++ x ∷ r) (length l + 0) d ≡ x = get_or-append-add l (x ∷ r) 0 d in
-            let second : get_or (l ++ x ∷ r) (length l + suc i) d ≡ get_or r i d = get_or-append-add l (x ∷ r) (suc i) d in
-            not_less_after _ _ not_less (rw (first, second) at (rising (length l + 0) (length l + suc i) d (omega arith) (omega (arith, length-append l (x ∷ r)))))) in
+        none_counted (λ y. is_lt (order y)) r (λ i d q.
+        let first : get_or (l ++ x ∷ r) (length l + 0) d ≡ x = get_or-append-add l (x ∷ r) 0 d in
+        let second : get_or (l ++ x ∷ r) (length l + suc i) d ≡ get_or r i d = get_or-append-add l (x ∷ r) (suc i) d in
+        not_less_after _ _ not_less (rw (first, second) at (rising (length l + 0) (length l + suc i) d (omega arith) (omega (arith, length-append l (x ∷ r)))))) in
         count_around ∙ rw (right, not_less) (omega arith)
+
+  module _ (order : X → Ordering) where
+    -- where the answers rise, the items before the count are below
+    pub less_below : (xs : List X) → IsRising order xs → (k : ℕ) (d : X) → k < count_less order xs → k < length xs → is_lt (order (get_or xs k d)) ≡ true
+    less_below [] rising k d below within = absurd (omega arith)
+    less_below (x ∷ xs) rising zero d below within =
+        elim (true_or_false (is_lt (order x))) [ inl less ↦ less | inr not_less ↦ absurd (omega (arith, count_up_to order [] x xs rising not_less)) ]
+    less_below (x ∷ xs) rising (suc k) d below within =
+        elim (true_or_false (is_lt (order x))) [
+          | inl less ↦ less_below xs (rising_right order [] x xs rising) k d (omega (arith, count_past order [] x xs rising less)) (omega arith)
+          | inr not_less ↦ absurd (omega (arith, count_up_to order [] x xs rising not_less))
+        ]
+
+    -- and those from the count on are not
+    pub not_less_from : (xs : List X) → IsRising order xs → (k : ℕ) (d : X) → count_less order xs ≤ k → k < length xs → is_lt (order (get_or xs k d)) ≡ false
+    not_less_from [] rising k d from within = absurd (omega arith)
+    not_less_from (x ∷ xs) rising zero d from within =
+        elim (true_or_false (is_lt (order x))) [ inl less ↦ absurd (omega (arith, count_past order [] x xs rising less)) | inr not_less ↦ not_less ]
+    not_less_from (x ∷ xs) rising (suc k) d from within =
+        elim (true_or_false (is_lt (order x))) [
+          | inl less ↦ not_less_from xs (rising_right order [] x xs rising) k d (omega (arith, count_past order [] x xs rising less)) (omega arith)
+          | inr not_less ↦ not_less_after (order x) (order (get_or xs k d)) not_less (rising 0 (suc k) d (omega arith) within)
+        ]

@@ -1,5 +1,5 @@
 -- How low a balanced tree is.
-use Rattle.std.proofs.Common.{◌≡◌, ℕ, suc, zero, ◌+◌, ◌*◌, ◌^◌, ◌<◌, ◌≤◌, ◌⊎◌, ◌-◌, max, arith, lit<, inl, inr}
+use Rattle.std.proofs.Common.{◌≡◌, ℕ, suc, zero, ◌+◌, ◌*◌, ◌^◌, ◌<◌, ◌≤◌, ◌-◌, max, arith, lit<, inl, inr}
 use Rattle.std.proofs.Math.Nat.{pow-suc, mul-le-mul_left, max-eq_left, max-eq_right}
 use Rattle.std.proofs.lemmas.Bool.{cases_lt}
 use Rattle.weight_tree.specs.Balance.{IsBalanced, IsLow}

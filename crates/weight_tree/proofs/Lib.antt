@@ -1,4 +1,6 @@
 pub mod Around
+pub mod AtBranch
+pub mod CallerLemmas
 pub mod Counts
 pub mod Falls
 pub mod Height

@@ -1,8 +1,11 @@
--- What a search by a closure counts.
-use Rattle.std.specs.Prelude.{ℕ, List, count_by}
+-- What a search by a closure counts, and how often it asks.
+use Rattle.std.specs.Prelude.{◌≡◌, ℕ, zero, suc, List, count_by}
+use Rattle.std.specs.Borrow.{Bor}
+use Rattle.std.specs.Fn.{CalledAt}
 use Rattle.std.specs.List.Sorted.{IsNonDecreasingBy}
 use Rattle.std.specs.Ordering.{is_lt, ordering_index}
 use Rattle.std.specs.declared.cmp.Ordering.{Ordering}
+use denote.Param.Members.{Mut}
 
 -- the answers along the items are first `Less`, then `Equal`, then `Greater`
 abbrev pub IsRising : {T : Type 0} → (T → Ordering) → List T → Type 0
@@ -11,3 +14,8 @@ IsRising order items = IsNonDecreasingBy (λ item. ordering_index (order item)) 
 -- how many of the items the order answers `Less` for
 abbrev pub count_less : {T : Type 0} → (T → Ordering) → List T → ℕ
 count_less order items = count_by (λ item. is_lt (order item)) items
+
+-- so many calls, each about an item, took the closure from the one state to the other
+abbrev pub AsksTimes : {T F : Type 0} → Mut F (Bor T × Unit {0}) Ordering → ℕ → F → F → Type 0
+AsksTimes g zero before after = after ≡ before
+AsksTimes {T} {F} g (suc n) before after = (item : T) × (answer : Ordering) × (next : F) × CalledAt g before item answer next × AsksTimes g n next after

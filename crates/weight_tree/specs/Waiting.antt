@@ -1,6 +1,6 @@
 -- What an iterator over a tree still has to give.
 use Rattle.std.specs.Prelude.{ℕ, ◌+◌, ◌<◌, List, [], ◌∷◌, ◌++◌, Option, Some, None, slice_index_or}
-use denote.Ref.{Bor}
+use Rattle.std.specs.Borrow.{Bor}
 use Rattle.weight_tree.specs.declared.tree.Branch.{Branch}
 
 -- the item of a branch that waits, and those of its right side

@@ -1,5 +1,5 @@
 // Which item a number falls in, where the weights lie end to end.
-ghost use Rattle.std.specs.Prelude.{◌↔◌, ◌≤◌, sum_by, length, IsNone, IfSome};
+ghost use Rattle.std.specs.Prelude.{◌<◌, ◌≤◌, ◌↔◌, sum_by, length, IsNone, IfSome};
 ghost use Rattle.weight_tree.specs.Find.{FallsIn};
 
 use crate::tree::WeightTree;
@@ -20,6 +20,7 @@ impl<T: Weigh> WeightTree<T> {
         ensures none { IsNone result ↔ (sum_by T.weight_of self.now.items ≤ number) }
         ensures some { IfSome result (λ found. FallsIn T.weight_of self.now.items number found.rank found.offset) }
         ensures visits { IfSome result (λ found. found.visits ≤ self.now.height) }
+        ensures counted { IfSome result (λ found. 0 < found.visits) }
     {
         let Some(branch) = &self.root else {
             return None;

@@ -40,6 +40,18 @@ impl<T: Weigh> WeightTree<T> {
     }
 }
 
+impl<'a, T: Weigh> IntoIterator for &'a WeightTree<T> {
+    type Item = &'a T;
+
+    type IntoIter = Iter<'a, T>;
+
+    ghost into_iter_gives = { λ tree items. items ≡ tree.now.items };
+
+    fn into_iter(self) -> Iter<'a, T> {
+        self.iter()
+    }
+}
+
 impl<'a, T: Weigh> Iterator for Iter<'a, T> {
     type Item = &'a T;
 

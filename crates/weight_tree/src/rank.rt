@@ -1,8 +1,8 @@
 //! The rank that a closure's answers point to.
 ghost use Rattle.std.specs.Prelude.{◌≡◌, ◌≤◌, length};
-ghost use Rattle.std.specs.Fn.{ComputesKey};
+ghost use Rattle.std.specs.Fn.{CalledAt, ComputesKey};
 ghost use Rattle.std.specs.declared.cmp.Ordering.{Ordering};
-ghost use Rattle.weight_tree.specs.Rank.{IsRising, count_less};
+ghost use Rattle.weight_tree.specs.Rank.{IsRising, count_less, AsksTimes};
 
 use crate::tree::WeightTree;
 use crate::weigh::Weigh;
@@ -17,12 +17,13 @@ pub struct Placed {
 }
 
 impl<T: Weigh> WeightTree<T> {
-    /// Goes down the tree by the answers of `f`, which it asks once about each node that it visits.
+    /// Counts the items for which `f` answers `Less`. It asks `f` once about each node that it visits.
     pub fn rank_by<F: FnMut(&T) -> Ordering>(&self, mut f: F) -> Placed
         requires { F.IsAlwaysCallable f }
         ensures rank { (order : T → Ordering) → ComputesKey F.FnMut order f → IsRising order self.now.items → result.rank ≡ count_less order self.now.items }
         ensures in_range { result.rank ≤ length self.now.items }
         ensures visits { result.visits ≤ self.now.height }
+        ensures calls { (last : F) × AsksTimes F.FnMut result.visits f last }
     {
         self.place(&mut f)
     }
@@ -32,6 +33,7 @@ impl<T: Weigh> WeightTree<T> {
         ensures rank { (order : T → Ordering) → ComputesKey F.FnMut order f.old → IsRising order self.now.items → result.rank ≡ count_less order self.now.items }
         ensures in_range { result.rank ≤ length self.now.items }
         ensures visits { result.visits ≤ self.now.height }
+        ensures calls { AsksTimes F.FnMut result.visits f.old f.new }
     {
         let Some(branch) = &self.root else {
             return Placed { rank: 0, visits: 0 };
@@ -56,6 +58,7 @@ impl<T: Weigh> WeightTree<T> {
 fn ask<T, F: FnMut(&T) -> Ordering>(f: &mut F, item: &T) -> Ordering
     requires { F.IsAlwaysCallable f.old }
     ensures callable { F.IsAlwaysCallable f.new }
+    ensures called { CalledAt F.FnMut f.old item.now result f.new }
     ensures answer { (order : T → Ordering) → ComputesKey F.FnMut order f.old → ComputesKey F.FnMut order f.new × (result ≡ order item.now) }
 {
     f(item)

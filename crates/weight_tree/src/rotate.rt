@@ -15,7 +15,7 @@
 //!                                          c   d
 //!
 //! and the same from right to left.
-ghost use Rattle.std.specs.Prelude.{◌≡◌, ℕ, ◌+◌, ◌*◌, ◌^◌, ◌<◌, ◌↔◌, max, ◌∷◌, ◌++◌, length, sum_by, IsTrue, MatchBool};
+ghost use Rattle.std.specs.Prelude.{◌≡◌, ℕ, ◌+◌, ◌*◌, ◌^◌, ◌<◌, ◌≤◌, ◌↔◌, max, ◌∷◌, ◌++◌, length, sum_by, IsTrue, MatchBool};
 ghost use Rattle.weight_tree.specs.Balance.{IsBalanced, IsOneTooHeavy, IsNearlyBalanced, SingleMends, DoubleMends};
 
 use crate::node::Node;
@@ -26,7 +26,8 @@ use std::mem;
 impl<T: Weigh> WeightTree<T> {
     // In 128 bits, where three times the weight fits.
     fn balance_weight(&self) -> u128
-        ensures { result ≡ length self.now.items + 1 }
+        ensures weight { result ≡ length self.now.items + 1 }
+        ensures fits { result ≤ 2 ^ 64 }
     {
         self.len() as u128 + 1
     }
@@ -83,11 +84,9 @@ impl<T: Weigh> WeightTree<T> {
         ensures choice { IsTrue result ↔ (length inner.now.items + 1 < 2 * (length outer.now.items + 1)) }
 
         // Such a side is mended by one rotation: by a single one or else by a double one.
-        ensures mends {
-            let a = length outer.now.items in
+        ensures mends { let a = length outer.now.items in
             let b = length inner.now.items in
-            (w : ℕ) → IsBalanced a b → IsOneTooHeavy (a + b + 1) w → MatchBool result (SingleMends a b w) (DoubleMends a b w)
-        }
+            (w : ℕ) → IsBalanced a b → IsOneTooHeavy (a + b + 1) w → MatchBool result (SingleMends a b w) (DoubleMends a b w) }
     {
         inner.balance_weight() < 2 * outer.balance_weight()
     }

@@ -1,5 +1,5 @@
 -- One more call answers by the order, and the calls after it still do.
-use Rattle.std.proofs.Common.{◌≡◌, [], ◌∷◌, refl}
+use Rattle.std.proofs.Common.{[], ◌∷◌, refl}
 use Rattle.std.proofs.lemmas.Fn.{called}
 use Rattle.std.specs.Fn.{AlwaysReturns, Called}
 use denote.Param.Members.{Mut}

@@ -1,5 +1,4 @@
-use Rattle.std.proofs.Common.{◌≡◌, ◌+◌, ◌-◌, ◌<◌, ◌≤◌, ◌∷◌, length, take, Some, ap, sym, ◌∙◌, arith, rules}
-use Rattle.weight_tree.specs.Waiting.{from_waiting}
+use Rattle.std.proofs.Common.{◌∷◌, length, Some, ap, sym, ◌∙◌, arith, rules}
 use Rattle.weight_tree.proofs.Waits.{from_waiting_top}
 use Rattle.weight_tree.proofs.iter.IterIterator.next.Goals as goal
 

@@ -1,20 +1,19 @@
-use Rattle.std.proofs.Common.{◌≡◌, ◌+◌, ◌-◌, ◌<◌, ◌≤◌, length, sum_by, ap, sym, ◌∙◌, arith}
-use Rattle.weight_tree.specs.Find.{FallsIn}
-use Rattle.weight_tree.specs.Tree.{branch_items, items_and_height}
+use Rattle.std.proofs.Common.{◌≡◌, ◌+◌, ◌-◌, ◌<◌, ◌≤◌, length, sum_by, arith}
+use Rattle.weight_tree.proofs.AtBranch.{items_at}
 use Rattle.weight_tree.proofs.Falls.{falls_left, falls_here, falls_right}
 use Rattle.weight_tree.proofs.tree.WeightTree.+find.Goals as goal
 
 pub returns-then-number-left_weight-clause-some : goal.returns-then-number-left_weight-clause-some
 returns-then-number-left_weight-clause-some g t c =
     let b = c.in-Some.branch.value in
-    let is : c.args.self.now.items ≡ branch_items b = ap (λ d. d.items) (sym c.self.view_is ∙ ap items_and_height c.in-Some.is) in
+    let is = items_at _ _ c.args.self.now c.self.view_is c.in-Some.is in
     let below = rw c.deref-then-number-left_weight.ensures at c.in_ok-found.ensures.some in
     rw is (falls_left g.T.Weigh.weight_of b.left.items b.item b.right.items _ _ _ below)
 
 pub returns-then-offset-item_weight-clause-some : goal.returns-then-offset-item_weight-clause-some
 returns-then-offset-item_weight-clause-some g t c =
     let b = c.in-Some.branch.value in
-    let is : c.args.self.now.items ≡ branch_items b = ap (λ d. d.items) (sym c.self.view_is ∙ ap items_and_height c.in-Some.is) in
+    let is = items_at _ _ c.args.self.now c.self.view_is c.in-Some.is in
     let rank : c.len-rank.result ≡ length b.left.items = grind arith in
     let before : sum_by g.T.Weigh.weight_of b.left.items + (c.args.number - c.weight-left_weight.result) ≡ c.args.number = grind arith in
     let inside : c.args.number - c.weight-left_weight.result < g.T.Weigh.weight_of b.item = grind arith in
@@ -23,7 +22,7 @@ returns-then-offset-item_weight-clause-some g t c =
 pub returns-clause-some : goal.returns-clause-some
 returns-clause-some g t c =
     let b = c.in-Some.branch.value in
-    let is : c.args.self.now.items ≡ branch_items b = ap (λ d. d.items) (sym c.self.view_is ∙ ap items_and_height c.in-Some.is) in
+    let is = items_at _ _ c.args.self.now c.self.view_is c.in-Some.is in
     let left : c.weight-left_weight.result ≡ sum_by g.T.Weigh.weight_of b.left.items = grind arith in
     let own : c.weight-item_weight.result ≡ g.T.Weigh.weight_of b.item = grind arith in
     let rank : c.len-rank.result + 1 + c.in_ok-found-2.found.rank ≡ length b.left.items + 1 + c.in_ok-found-2.found.rank = grind arith in

@@ -1,7 +1,7 @@
-use Rattle.std.proofs.Common.{◌≡◌, ◌+◌, true, false, length, ap, sym, ◌∙◌, subst, arith}
+use Rattle.std.proofs.Common.{◌≡◌, true, false, length, sym, subst, arith, add-one}
 use Rattle.std.specs.Ordering.{is_lt}
-use Rattle.weight_tree.specs.Rank.{IsRising, count_less}
-use Rattle.weight_tree.specs.Tree.{branch_items, items_and_height}
+use Rattle.weight_tree.specs.Rank.{IsRising}
+use Rattle.weight_tree.proofs.AtBranch.{items_at}
 use Rattle.weight_tree.proofs.Counts.{rising_left, rising_right, count_past, count_up_to}
 use Rattle.weight_tree.proofs.tree.WeightTree.+place.Goals as goal
 
@@ -9,7 +9,7 @@ pub returns-then-is_lt-clause-rank : goal.returns-then-is_lt-clause-rank
 returns-then-is_lt-clause-rank g t c =
     λ order by rising.
     let b = c.in-Some.branch.value in
-    let is : c.args.self.now.items ≡ branch_items b = ap (λ d. d.items) (sym c.self.view_is ∙ ap items_and_height c.in-Some.is) in
+    let is = items_at _ _ c.args.self.now c.self.view_is c.in-Some.is in
     let asked = c.ask.ensures.answer order by in
     let less : is_lt (order b.item) ≡ true = grind (arith, asked.1) in
     let spread = subst (IsRising order) is rising in
@@ -21,9 +21,15 @@ pub returns-else-is_lt-clause-rank : goal.returns-else-is_lt-clause-rank
 returns-else-is_lt-clause-rank g t c =
     λ order by rising.
     let b = c.in-Some.branch.value in
-    let is : c.args.self.now.items ≡ branch_items b = ap (λ d. d.items) (sym c.self.view_is ∙ ap items_and_height c.in-Some.is) in
+    let is = items_at _ _ c.args.self.now c.self.view_is c.in-Some.is in
     let asked = c.ask.ensures.answer order by in
     let not_less : is_lt (order b.item) ≡ false = grind (arith, asked.1) in
     let spread = subst (IsRising order) is rising in
     let below = (rw c.deref-else-is_lt.ensures at c.place-left.ensures.rank) order asked.0 (rising_left order b.left.items b.item b.right.items spread) in
     rw (is, below) (sym (count_up_to order b.left.items b.item b.right.items spread not_less))
+
+pub returns-then-is_lt-clause-calls : goal.returns-then-is_lt-clause-calls
+returns-then-is_lt-clause-calls g t c = rw add-one (_, _, _, c.ask.ensures.called, c.place-right.ensures.calls)
+
+pub returns-else-is_lt-clause-calls : goal.returns-else-is_lt-clause-calls
+returns-else-is_lt-clause-calls g t c = rw add-one (_, _, _, c.ask.ensures.called, c.place-left.ensures.calls)

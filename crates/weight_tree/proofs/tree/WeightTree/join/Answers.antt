@@ -1,4 +1,4 @@
-use Rattle.std.proofs.Common.{◌≡◌, ◌+◌, max, ◌∷◌, ◌++◌, length, arith}
+use Rattle.std.proofs.Common.{◌≡◌, ◌+◌, max, arith}
 use Rattle.weight_tree.proofs.Around.{length_around}
 use Rattle.weight_tree.proofs.Height.{low_join}
 use Rattle.weight_tree.proofs.tree.WeightTree.join.Goals as goal

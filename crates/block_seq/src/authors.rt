@@ -1,0 +1,31 @@
+//! The authors of a sequence, each once.
+ghost use Rattle.std.specs.Prelude.{◌≡◌, ◌<◌, ◌⊎◌, [], ◌∷◌, ◌++◌, length, IfOk, IfSome, IfNone, OnErr};
+ghost use Rattle.block_seq.specs.Plain.{author_at};
+
+use pad_model::Author;
+use std::alloc::AllocError;
+
+/// Where an author stands in the list, if it does.
+fn find_author(authors: &[Author], author: &Author) -> Option<usize>
+    ensures found { IfSome result (λ i. (i < length authors.now) × (author_at authors.now i ≡ author.now)) }
+{
+    for (place, known) in authors.iter().enumerate() {
+        if known == author {
+            return Some(place);
+        }
+    }
+    None
+}
+
+/// The place of an author, who joins the list where it is new.
+pub fn place_author(authors: &mut Vec<Author>, author: &Author) -> Result<usize, AllocError>
+    ensures place { IfOk result (λ i. (i < length authors.new.items) × (author_at authors.new.items i ≡ author.now)) }
+    ensures more { (authors.new.items ≡ authors.old.items) ⊎ (authors.new.items ≡ authors.old.items ++ author.now ∷ []) }
+{
+    if let Some(place) = find_author(authors.as_slice(), author) {
+        return Ok(place);
+    }
+    let place = authors.len();
+    authors.push(author.clone()?)?;
+    Ok(place)
+}

@@ -1,0 +1,151 @@
+//! The cells of the plain sequence, as a slice: tests, and RGA's scan for the place of a run.
+ghost use Rattle.std.specs.Prelude.{◌≡◌, ℕ, ◌+◌, ◌≤◌, ◌^◌, ◌<◌, Bool, ◌||◌, ◌&&◌, ◌==◌, not, nat_lt, List, [], ◌++◌, IsTrue, IfOk, OnOk, OnErr, length, take, drop, vec_len};
+ghost use Rattle.std.specs.List.{list_all, position_or_len};
+ghost use Rattle.pad_model.specs.Checked.{is_run};
+ghost use Rattle.pad_model.specs.Legal.{has_stamp, has_parent, counter_of};
+ghost use Rattle.pad_model.specs.Log.{run_may_join};
+ghost use Rattle.pad_model.specs.Stamp.{same_stamp};
+ghost use Rattle.pad_model.proofs.Places.{passed, place_in, up_to, spliced};
+ghost use Rattle.block_seq.specs.Plain.{kept_character, kept_run};
+
+use pad_model::{Run, Stamp};
+use std::alloc::{AllocError, Global};
+
+/// A cell whose author is a place in the sequence's list of authors.
+#[derive(Clone, Copy, Debug)]
+pub struct PlainCell {
+    pub stamp: Stamp,
+    pub parent: Option<Stamp>,
+    pub character: char,
+    pub author: usize,
+    pub born: u64,
+    pub died: Option<u64>,
+}
+
+/// Whether a character is among the cells.
+pub fn has(cells: &[PlainCell], stamp: Stamp) -> bool
+    ensures { result ≡ has_stamp kept_character cells.now stamp }
+{
+    cells.iter().any(|c| c.stamp.is_same(stamp))
+}
+
+/// Whether a parent is there, or the root, and has a smaller counter.
+fn hangs_below(cells: &[PlainCell], parent: Option<Stamp>, counter: u64) -> bool
+    ensures { result ≡ (has_parent kept_character cells.now parent && nat_lt (counter_of parent) counter) }
+{
+    match parent {
+        None => counter > 0,
+        Some(stamp) => has(cells, stamp) && stamp.counter() < counter,
+    }
+}
+
+/// Whether all characters of the stamp's replica have smaller counters.
+fn is_above(cells: &[PlainCell], first: Stamp) -> bool
+    ensures { result ≡ list_all (λ c. not (c.stamp.replica == first.replica) || nat_lt c.stamp.counter first.counter) cells.now }
+{
+    let counter = first.counter();
+    let replica = first.replica();
+    cells
+        .iter()
+        .all(|c| c.stamp.replica() != replica || c.stamp.counter() < counter)
+}
+
+/// Whether a run's first character fits: its parent is there, and it is newer than its parent and its replica's others.
+pub fn may_join(cells: &[PlainCell], first: Stamp, parent: Option<Stamp>) -> bool
+    ensures { result ≡ run_may_join kept_character cells.now first parent }
+{
+    hangs_below(cells, parent, first.counter()) && is_above(cells, first)
+}
+
+/// How many cells stand before a character; all, where it is missing.
+fn count_before(cells: &[PlainCell], stamp: Stamp) -> usize
+    ensures { result ≡ position_or_len (λ c. same_stamp c.stamp stamp) cells.now }
+{
+    cells
+        .iter()
+        .take_while(|c| !c.stamp.is_same(stamp))
+        .count()
+}
+
+/// How many cells there are up to and including a character; all, where it is missing.
+fn count_up_to(cells: &[PlainCell], stamp: Stamp) -> usize
+    ensures value { result ≡ up_to kept_character stamp cells.now }
+    ensures within { result ≤ length cells.now }
+{
+    let before = count_before(cells, stamp);
+    if before < cells.len() {
+        before + 1
+    } else {
+        cells.len()
+    }
+}
+
+/// How many cells in front are newer.
+fn count_newer(cells: &[PlainCell], first: Stamp) -> usize
+    ensures value { result ≡ passed kept_character first cells.now }
+    ensures within { result ≤ length cells.now }
+{
+    cells
+        .iter()
+        .take_while(|c| c.stamp.is_newer(first))
+        .count()
+}
+
+/// Where a run goes (RGA): behind its parent, past each newer character.
+///
+/// The scan stops before the first character that is older than the run's. What it passes hangs below newer siblings of
+/// the run, so it ends where the parent's older children begin, or the parent's subtree ends.
+pub fn place_of(cells: &[PlainCell], parent: Option<Stamp>, first: Stamp) -> usize
+    ensures value { result ≡ place_in kept_character parent first cells.now }
+    ensures within { result ≤ length cells.now }
+{
+    let start = match parent {
+        None => 0,
+        Some(stamp) => count_up_to(cells, stamp),
+    };
+    start + count_newer(&cells[start..], first)
+}
+
+/// The cells of a run.
+pub fn cells_of_run(
+    alloc: Global,
+    run: &Run,
+    author: usize,
+    rev: u64,
+) -> Result<Vec<PlainCell>, AllocError>
+    requires { IsTrue (is_run run.now.first.replica run.now) }
+    ensures { IfOk result (λ cells. cells.items ≡ kept_run run.now.first run.now.after run.now.text author rev) }
+{
+    let text = run.text.as_slice();
+    let mut cells = Vec::with_capacity(alloc, text.len())?;
+    let mut parent = run.after;
+    for (place, character) in text.iter().enumerate() {
+        let stamp = run.first.plus(place as u64);
+        cells.push(PlainCell {
+            stamp,
+            parent,
+            character: *character,
+            author,
+            born: rev,
+            died: None,
+        })?;
+        parent = Some(stamp);
+    }
+    Ok(cells)
+}
+
+/// Puts a block among the cells, or finds no memory and leaves them.
+pub fn splice(
+    cells: &mut Vec<PlainCell>,
+    place: usize,
+    mut block: Vec<PlainCell>,
+) -> Result<(), AllocError>
+    requires { place ≤ vec_len cells.old }
+    ensures ok { OnOk result (cells.new.items ≡ spliced place block.items cells.old.items) }
+    ensures err { OnErr result (cells.new.items ≡ cells.old.items) }
+{
+    let len = block.len();
+    cells.append(&mut block)?;
+    cells[place..].rotate_right(len);
+    Ok(())
+}

@@ -2,6 +2,8 @@ pub mod Cells
 pub mod Each
 pub mod Exits
 pub mod Filters
+pub mod Growth
+pub mod History
 pub mod Maps
 pub mod Members
 pub mod Newer

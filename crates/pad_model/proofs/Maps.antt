@@ -1,5 +1,5 @@
 -- A list seen through a function.
-use Rattle.std.proofs.Common.{◌≡◌, ℕ, ◌+◌, Bool, true, false, cond, ◌||◌, ◌&&◌, List, [], ◌∷◌, ◌++◌, Option, Some, None, refl, sym, ap, ap₂, ◌∙◌, not, eqb, ltb, map, filter, fold}
+use Rattle.std.proofs.Common.{◌≡◌, ℕ, ◌+◌, ◌<◌, Bool, true, false, cond, ◌||◌, ◌&&◌, List, [], ◌∷◌, ◌++◌, Option, Some, None, refl, sym, ap, ap₂, ◌∙◌, not, eqb, ltb, map, filter, fold}
 use Rattle.std.proofs.lemmas.List.{map-append}
 use Rattle.std.specs.List.{list_any, list_all, prefix_len, AllByRecursion, IsDistinct}
 use Rattle.pad_model.specs.Stamp.{Stamp, newer, same_stamp}
@@ -74,3 +74,16 @@ pub run_may_join-map : {A B : Type 0} (f : A → B) (at : B → Character) (xs :
 run_may_join-map f at xs first p =
     ap₂ (λ h t. h && ltb (counter_of p) first.counter && t) (has_parent-map f at xs p)
     (list_all-map f (λ x. not (eqb (at x).stamp.replica first.replica) || ltb (at x).stamp.counter first.counter) xs)
+
+IsDistinct-of_map : {A B : Type 0} (f : A → B) (at : B → Character) (xs : List A) → IsDistinct (same_item at) (map f xs) → IsDistinct (same_item (λ x. at (f x))) xs
+IsDistinct-of_map f at [] d = Rattle.pad_model.proofs.Rising.IsDistinct-nil (λ x. at (f x))
+IsDistinct-of_map f at (x ∷ xs) d =
+    let parts = Rattle.pad_model.proofs.Rising.IsDistinct-parts at (f x) (map f xs) d in
+    Rattle.pad_model.proofs.Rising.IsDistinct-from_parts (λ x. at (f x)) x xs (each-of_map f (λ y. same_stamp (at (f x)).stamp (at y).stamp ≡ false) xs parts.0) (IsDistinct-of_map f at xs parts.1)
+
+-- items seen as a tree are one
+pub IsTree-of_map : {A B : Type 0} (f : A → B) (at : B → Character) (xs : List A) → IsTree at (map f xs) → IsTree (λ x. at (f x)) xs
+IsTree-of_map f at xs t = record {
+    distinct = IsDistinct-of_map f at xs t.distinct;
+    rooted = Rattle.pad_model.proofs.Each.each-imply (λ x. has_parent at (map f xs) (at (f x)).parent ≡ true) (λ x. has_parent (λ x. at (f x)) xs (at (f x)).parent ≡ true) (λ x h. sym (has_parent-map f at xs (at (f x)).parent) ∙ h) xs (each-of_map f (λ y. has_parent at (map f xs) (at y).parent ≡ true) xs t.rooted);
+    later = each-of_map f (λ y. counter_of (at y).parent < (at y).stamp.counter) xs t.later }

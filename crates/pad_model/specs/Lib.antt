@@ -2,6 +2,7 @@ pub mod Answers
 pub mod Cell
 pub mod Character
 pub mod Checked
+pub mod History
 pub mod Laws
 pub mod Legal
 pub mod Log

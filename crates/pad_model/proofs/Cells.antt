@@ -1,18 +1,17 @@
 -- Cells stay in order when a run joins them.
 use Rattle.std.proofs.Common.{◌≡◌, ℕ, ◌+◌, ◌<◌, ◌≤◌, Bool, true, false, not, ◌&&◌, ◌||◌, cond, List, [], ◌∷◌, ◌++◌, length, Option, Some, None, refl, sym, ap, ◌∙◌, subst, map, filter, IsPermutation, eqb, ltb, ltb-true, lt-ltb, le-ltb, eq-eqb, Result, Ok, Err}
-use Rattle.std.proofs.lemmas.Bool.{and_parts, both_ways, or_cases}
+use Rattle.std.proofs.lemmas.Bool.{and_parts}
 use Rattle.std.proofs.lemmas.List.Sorted.{IsPermutation-sym}
-use Rattle.std.specs.List.{list_any, list_all, AllByRecursion, IsDistinct}
+use Rattle.std.specs.List.{list_all, AllByRecursion}
 use Rattle.pad_model.specs.Stamp.{Stamp}
 use Rattle.pad_model.specs.Character.{Character, next, run_characters}
 use Rattle.pad_model.specs.Cell.{Cell, character_of, born_at, new_cells, with_run, insert_run, IsInOrder}
-use Rattle.pad_model.specs.Legal.{has_parent, counter_of, IsTree, RunMayJoin, IsRun}
+use Rattle.pad_model.specs.Legal.{counter_of, IsTree, RunMayJoin, IsRun}
 use Rattle.pad_model.specs.Log.{run_may_join}
 use Rattle.pad_model.specs.Order.{order}
 use Rattle.pad_model.specs.Scan.{put}
 use Rattle.pad_model.specs.declared.who.Author.{Author}
 use Rattle.pad_model.specs.declared.op.Run.{Run}
-use Rattle.pad_model.specs.declared.refusal.Refusal.{Refusal}
 use Rattle.pad_model.specs.declared.refusal.Refusal.TheVariants.{PeerFault, PadFull}
 use Rattle.pad_model.specs.declared.limits.TheConstants.{MAX_CHARACTERS}
 use Rattle.pad_model.proofs.Members.{order-permutation, IsTree-permutation}

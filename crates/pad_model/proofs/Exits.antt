@@ -1,5 +1,5 @@
 -- Exits of calls that found no memory.
-use Rattle.std.proofs.Common.{◌≡◌, Result, Ok, Err, ap, ◌∙◌, inl, inr, IsErrAnd}
+use Rattle.std.proofs.Common.{◌≡◌, Result, Err, ap, ◌∙◌, inl, IsErrAnd}
 use Rattle.std.proofs.lemmas.Result.{err_from_is_err_and}
 use Rattle.pad_model.specs.Answers.{Answers}
 use Rattle.pad_model.specs.declared.refusal.Refusal.{Refusal}

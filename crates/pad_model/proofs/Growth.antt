@@ -1,26 +1,22 @@
 -- A log that grows by an operation in the limits that is valid stays a tree.
 use Rattle.std.proofs.Common.{◌≡◌, ℕ, zero, suc, ◌+◌, ◌-◌, ◌<◌, ◌≤◌, ◌⊎◌, inl, inr, Bool, true, false, not, ◌&&◌, ◌||◌, cond, eqb, leb, ltb, List, [], ◌∷◌, ◌++◌, length, Option, Some, None, refl, sym, ap, ap₂, ◌∙◌, subst, map, filter, fold, flat_map, take, max, IsPermutation, arith, append-nil, append_assoc, le-leb, leb-true, le-ltb, lt-ltb, leb→le}
-use Rattle.std.proofs.lemmas.Bool.{and_parts, and_from, both_ways, or_cases, or_left, or_right}
+use Rattle.std.proofs.lemmas.Bool.{and_parts}
 use Rattle.std.proofs.lemmas.List.Concat.{flat_map-append}
-use Rattle.std.proofs.lemmas.List.Folds.{list_any-append}
-use Rattle.std.proofs.lemmas.List.Sorted.{list_any-IsPermutation}
-use Rattle.std.specs.List.{AllByRecursion, IsDistinct, list_any, list_all}
-use Rattle.pad_model.specs.Stamp.{Stamp, same_stamp}
+use Rattle.std.specs.List.{AllByRecursion, list_all}
+use Rattle.pad_model.specs.Stamp.{Stamp}
 use Rattle.pad_model.specs.Character.{Character, next, run_characters}
-use Rattle.pad_model.specs.Checked.{is_part, is_checked, are_parts, counters_rise}
+use Rattle.pad_model.specs.Checked.{is_checked, counters_rise}
 use Rattle.pad_model.specs.History.{Continues, IsHistory}
 use Rattle.pad_model.specs.Laws.{itself}
-use Rattle.pad_model.specs.Legal.{has_stamp, has_parent, counter_of, IsTree, RunMayJoin}
-use Rattle.pad_model.specs.Log.{run_may_join, has_spans, part_is_valid, is_valid}
-use Rattle.pad_model.specs.Operation.{author_of, part_inserts, part_erases, inserted_by, erased_by, characters_in, span_stamps}
-use Rattle.pad_model.specs.Visible.{is_erased}
+use Rattle.pad_model.specs.Legal.{IsTree, RunMayJoin}
+use Rattle.pad_model.specs.Log.{part_is_valid, is_valid}
+use Rattle.pad_model.specs.Operation.{author_of, part_inserts, inserted_by, characters_in}
 use Rattle.pad_model.specs.declared.who.Author.{Author}
 use Rattle.pad_model.specs.declared.op.Part.{Part}
 use Rattle.pad_model.specs.declared.op.Part.TheVariants.{Insert, Delete, Comment, Resolve}
 use Rattle.pad_model.specs.declared.op.Op.{Op}
-use Rattle.pad_model.proofs.Newer.{split, same_stamp-true, same_stamp-refl}
-use Rattle.pad_model.proofs.Each.{each-append, each-imply, each-left, each-right}
-use Rattle.pad_model.proofs.Cells.{each_passes, RunMayJoin-from_test}
+use Rattle.pad_model.proofs.Each.{each-append, each-imply}
+use Rattle.pad_model.proofs.Cells.{RunMayJoin-from_test}
 use Rattle.pad_model.proofs.Rising.{IsDistinct-nil}
 use Rattle.pad_model.proofs.Runs.{IsTree-run, IsRun-run_characters, has_parent-append}
 

@@ -1,23 +1,23 @@
 -- Old revisions can be read from the cells of a log by birth and death.
 use Rattle.std.proofs.Common.{◌≡◌, ℕ, zero, suc, ◌+◌, ◌<◌, ◌≤◌, Bool, true, false, slice_get, option_map, not, ◌&&◌, ◌||◌, cond, leb, ltb, List, [], ◌∷◌, ◌++◌, length, Option, Some, None, refl, sym, ap, ap₂, ◌∙◌, subst, map, filter, flat_map, take, IsPermutation, arith, append-nil, append_assoc, le-leb, le-ltb, lt-ltb, zero-add}
-use Rattle.std.proofs.lemmas.Bool.{both_ways, lt-leb}
+use Rattle.std.proofs.lemmas.Bool.{lt-leb}
 use Rattle.std.proofs.lemmas.List.{map-append}
 use Rattle.std.proofs.lemmas.List.Elements.{filter-append}
 use Rattle.std.proofs.lemmas.List.Folds.{list_any-append}
-use Rattle.std.specs.List.{AllByRecursion, IsDistinct, list_any, list_all}
+use Rattle.std.specs.List.{AllByRecursion}
 use Rattle.pad_model.specs.Stamp.{Stamp, same_stamp}
 use Rattle.pad_model.specs.Character.{Character}
-use Rattle.pad_model.specs.Cell.{Cell, born_at, character_of, is_after, shown_at, cells_at, text_at, cell_stamp_at}
+use Rattle.pad_model.specs.Cell.{Cell, born_at, character_of, is_after, cells_at, text_at, cell_stamp_at}
 use Rattle.pad_model.specs.History.{births, death_in, dated, cells_of}
 use Rattle.pad_model.specs.Laws.{itself}
-use Rattle.pad_model.specs.Legal.{IsTree, same_item}
+use Rattle.pad_model.specs.Legal.{IsTree}
 use Rattle.pad_model.specs.Operation.{inserted_by, erased_by, characters_in}
 use Rattle.pad_model.specs.Order.{order}
 use Rattle.pad_model.specs.Visible.{is_erased, visible, text_of, stamp_at}
 use Rattle.std.proofs.lemmas.List.Sorted.{length_permutation}
 use Rattle.pad_model.specs.declared.op.Op.{Op}
 use Rattle.pad_model.proofs.Newer.{split}
-use Rattle.pad_model.proofs.Each.{each-append, each-imply, each-permutation}
+use Rattle.pad_model.proofs.Each.{each-append, each-permutation}
 use Rattle.pad_model.proofs.Maps.{map-map, filter-map, order-map, each-map, IsTree-of_map}
 use Rattle.pad_model.proofs.Members.{order-permutation}
 use Rattle.pad_model.proofs.Filters.{order-filter, each-filter}

@@ -4,10 +4,12 @@ pub mod Exits
 pub mod Filters
 pub mod Growth
 pub mod History
+pub mod Local
 pub mod Maps
 pub mod Members
 pub mod Newer
 pub mod Places
+pub mod Pushed
 pub mod Rising
 pub mod Runs
 pub mod Scan

@@ -1,13 +1,13 @@
 -- A list seen through a function.
-use Rattle.std.proofs.Common.{◌≡◌, ℕ, ◌+◌, ◌<◌, Bool, true, false, cond, ◌||◌, ◌&&◌, List, [], ◌∷◌, ◌++◌, Option, Some, None, refl, sym, ap, ap₂, ◌∙◌, not, eqb, ltb, map, filter, fold}
+use Rattle.std.proofs.Common.{◌≡◌, ◌<◌, Bool, true, false, ◌||◌, ◌&&◌, List, [], ◌∷◌, Option, Some, None, refl, sym, ap, ap₂, ◌∙◌, not, eqb, ltb, map, filter, fold}
 use Rattle.std.proofs.lemmas.List.{map-append}
-use Rattle.std.specs.List.{list_any, list_all, prefix_len, AllByRecursion, IsDistinct}
+use Rattle.std.specs.List.{list_any, list_all, AllByRecursion, IsDistinct}
 use Rattle.pad_model.specs.Stamp.{Stamp, newer, same_stamp}
 use Rattle.pad_model.specs.Character.{Character}
 use Rattle.pad_model.specs.Order.{same_parent, put_rising, rising, walk_rising, order}
-use Rattle.pad_model.specs.Legal.{has_stamp, has_parent, same_item, IsTree, counter_of}
+use Rattle.pad_model.specs.Legal.{has_parent, same_item, IsTree, counter_of}
 use Rattle.pad_model.specs.Log.{run_may_join}
-use Rattle.pad_model.specs.Scan.{scan_from, scan_behind, put}
+use Rattle.pad_model.specs.Scan.{scan_from, put}
 use Rattle.pad_model.proofs.Newer.{split}
 
 pub map-map : {A B C : Type 0} (f : A → B) (g : B → C) (xs : List A) → map g (map f xs) ≡ map (λ x. g (f x)) xs

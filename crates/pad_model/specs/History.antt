@@ -1,5 +1,5 @@
 -- The cells that a log makes, and the logs that a pad can have.
-use Rattle.std.specs.Prelude.{◌≡◌, ℕ, zero, suc, ◌+◌, true, if◌then◌else◌, List, [], ◌∷◌, ◌++◌, Option, Some, None, map, fold, max, IsTrue}
+use Rattle.std.specs.Prelude.{ℕ, suc, if◌then◌else◌, List, [], ◌∷◌, ◌++◌, Option, Some, None, map, fold, max, IsTrue}
 use Rattle.pad_model.specs.Stamp.{Stamp}
 use Rattle.pad_model.specs.Character.{Character}
 use Rattle.pad_model.specs.Cell.{Cell, born_at, character_of}

@@ -1,4 +1,4 @@
-// Which item a number falls in, where the weights lie end to end.
+//! Which item a number falls in, where the weights lie end to end.
 ghost use Rattle.std.specs.Prelude.{◌<◌, ◌≤◌, ◌↔◌, sum_by, length, IsNone, IfSome};
 ghost use Rattle.weight_tree.specs.Find.{FallsIn};
 

@@ -1,5 +1,5 @@
-//! What no clause says: that the sums come out as someone adds them up, how low a tree is, and that a
-//! search by a closure asks about no more nodes than it visits.
+//! That the sums come out as someone adds them up, how low a tree is however it grew, and that the counts
+//! of visits are those of the calls that are made.
 use super::{Found, Node, Placed, Weigh, WeightTree};
 use std::alloc::Global;
 use std::cmp::Ordering;

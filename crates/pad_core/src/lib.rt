@@ -1,13 +1,13 @@
-// A library with one function.
+//! The pad machine: one pad, for any sequence of characters. An event goes in, a reply and the next state come out.
 #![tactic(auto)]
 
-ghost use Rattle.std.specs.Prelude.{◌≡◌};
-ghost use Rattle.pad_core.specs.Echo.{echo_of};
+mod admit;
+mod event;
+mod grow;
+mod insert;
+mod owned;
+mod pad;
 
-// The `ensures` clause is the contract: what `echo` returns is `echo_of` of its argument, a definition
-// in `specs/Echo.antt`, which a caller's clause can cite too.
-pub fn echo(x: usize) -> usize
-    ensures { result ≡ echo_of x }
-{
-    x
-}
+pub use event::{Act, Claim, PadEvent, PadReply};
+pub use owned::Owned;
+pub use pad::Pad;

@@ -4,13 +4,13 @@ use Rattle.std.proofs.Math.ListN.{set}
 use Rattle.std.proofs.lemmas.Bool.{cases_order}
 use Rattle.std.proofs.lemmas.Fn.{always_returns_same}
 use Rattle.std.proofs.lemmas.List.Sums.{sum_by-cons, count_by-le-length}
-use Rattle.std.specs.Fn.{ComputesKey, Called}
+use Rattle.std.specs.Fn.{Called}
 use Rattle.std.specs.List.Sorted.{IsPartitionPoint}
 use Rattle.std.specs.Ordering.{is_lt}
 use Rattle.std.specs.declared.cmp.Ordering.{Ordering}
 use denote.Param.Members.{Mut}
 use Rattle.weight_tree.specs.Find.{FallsIn}
-use Rattle.weight_tree.specs.Rank.{IsRising, count_less}
+use Rattle.weight_tree.specs.Rank.{IsRising, IsRankBy, count_less}
 use Rattle.weight_tree.proofs.Counts.{less_below, not_less_from}
 use Rattle.weight_tree.proofs.Falls.{within_range}
 
@@ -74,13 +74,13 @@ module _ {X : Type 0} (weight_of : X → ℕ) where
       ]
 
 -- from the clause `rank` of `rank_by`, where each call gives the order of the item
-pub count_less-from_clause : {X F : Type 0} {g : Mut F (Bor X × Unit {0}) Ordering} {f : F} (order : X → Ordering) (xs : List X) (i : ℕ)
-    → ((q : X → Ordering) → ComputesKey g q f → IsRising q xs → i ≡ count_less q xs) → IsRising order xs
+pub rank_from_clause : {X F : Type 0} {g : Mut F (Bor X × Unit {0}) Ordering} {f : F} (order : X → Ordering) (xs : List X) (i : ℕ)
+    → IsRankBy g f xs i → IsRising order xs
     → ((a : Bor X × Unit {0}) (r : Ordering) (f' : F) → Called g f a r f' → (r ≡ order a.0.now) × (f' ≡ f)) → i ≡ count_less order xs
-count_less-from_clause {g = g} {f = f} order xs i clause rising same = clause order (always_returns_same g (λ a r. r ≡ order a.0.now) f same) rising
+rank_from_clause {g = g} {f = f} order xs i clause rising same = clause order (always_returns_same g (λ a r. r ≡ order a.0.now) f same) rising
 
 -- where the answers rise, the rank parts the items that are below from the others
-pub IsPartitionPoint-count_less : {X : Type 0} (order : X → Ordering) (xs : List X) → IsRising order xs
+pub partition_at_rank : {X : Type 0} (order : X → Ordering) (xs : List X) → IsRising order xs
     → IsPartitionPoint (λ x. is_lt (order x) ≡ true) (λ x. is_lt (order x) ≡ false) xs (count_less order xs)
-IsPartitionPoint-count_less order xs rising =
+partition_at_rank order xs rising =
     (λ k d from below. less_below order xs rising k d below (omega (arith, count_by-le-length (λ x. is_lt (order x)) xs)), λ k d from within. not_less_from order xs rising k d from within)

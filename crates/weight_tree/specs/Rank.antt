@@ -1,7 +1,7 @@
 -- What a search by a closure counts, and how often it asks.
 use Rattle.std.specs.Prelude.{◌≡◌, ℕ, zero, suc, List, count_by}
 use Rattle.std.specs.Borrow.{Bor}
-use Rattle.std.specs.Fn.{CalledAt}
+use Rattle.std.specs.Fn.{CalledAt, ComputesKey}
 use Rattle.std.specs.List.Sorted.{IsNonDecreasingBy}
 use Rattle.std.specs.Ordering.{is_lt, ordering_index}
 use Rattle.std.specs.declared.cmp.Ordering.{Ordering}
@@ -14,6 +14,10 @@ IsRising order items = IsNonDecreasingBy (λ item. ordering_index (order item)) 
 -- how many of the items the order answers `Less` for
 abbrev pub count_less : {T : Type 0} → (T → Ordering) → List T → ℕ
 count_less order items = count_by (λ item. is_lt (order item)) items
+
+-- for each order that the closure computes and that rises along the items, the rank is how many of them it answers `Less` for
+abbrev pub IsRankBy : {T F : Type 0} → Mut F (Bor T × Unit {0}) Ordering → F → List T → ℕ → Type 0
+IsRankBy {T} g f items rank = (order : T → Ordering) → ComputesKey g order f → IsRising order items → rank ≡ count_less order items
 
 -- so many calls, each about an item, took the closure from the one state to the other
 abbrev pub AsksTimes : {T F : Type 0} → Mut F (Bor T × Unit {0}) Ordering → ℕ → F → F → Type 0

@@ -18,7 +18,8 @@ impl<T: Weigh> WeightTree<T> {
     #[tactic(auto, using(crate::proofs::Around::sum_around))]
     pub fn find(&self, number: u64) -> Option<Found>
         ensures none { IsNone result ↔ (sum_by T.weight_of self.now.items ≤ number) }
-        ensures some { IfSome result (λ found. FallsIn T.weight_of self.now.items number found.rank found.offset) }
+        ensures some { IfSome result (λ found.
+            FallsIn T.weight_of self.now.items number found.rank found.offset) }
         ensures visits { IfSome result (λ found. found.visits ≤ self.now.height) }
         ensures counted { IfSome result (λ found. 0 < found.visits) }
     {

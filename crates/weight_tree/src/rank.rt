@@ -2,7 +2,7 @@
 ghost use Rattle.std.specs.Prelude.{◌≡◌, ◌≤◌, length};
 ghost use Rattle.std.specs.Fn.{CalledAt, ComputesKey};
 ghost use Rattle.std.specs.declared.cmp.Ordering.{Ordering};
-ghost use Rattle.weight_tree.specs.Rank.{IsRising, count_less, AsksTimes};
+ghost use Rattle.weight_tree.specs.Rank.{IsRankBy, AsksTimes};
 
 use crate::tree::WeightTree;
 use crate::weigh::Weigh;
@@ -20,7 +20,7 @@ impl<T: Weigh> WeightTree<T> {
     /// Counts the items for which `f` answers `Less`. It asks `f` once about each node that it visits.
     pub fn rank_by<F: FnMut(&T) -> Ordering>(&self, mut f: F) -> Placed
         requires { F.IsAlwaysCallable f }
-        ensures rank { (order : T → Ordering) → ComputesKey F.FnMut order f → IsRising order self.now.items → result.rank ≡ count_less order self.now.items }
+        ensures rank { IsRankBy F.FnMut f self.now.items result.rank }
         ensures in_range { result.rank ≤ length self.now.items }
         ensures visits { result.visits ≤ self.now.height }
         ensures calls { (last : F) × AsksTimes F.FnMut result.visits f last }
@@ -30,7 +30,7 @@ impl<T: Weigh> WeightTree<T> {
 
     fn place<F: FnMut(&T) -> Ordering>(&self, f: &mut F) -> Placed
         requires { F.IsAlwaysCallable f.old }
-        ensures rank { (order : T → Ordering) → ComputesKey F.FnMut order f.old → IsRising order self.now.items → result.rank ≡ count_less order self.now.items }
+        ensures rank { IsRankBy F.FnMut f.old self.now.items result.rank }
         ensures in_range { result.rank ≤ length self.now.items }
         ensures visits { result.visits ≤ self.now.height }
         ensures calls { AsksTimes F.FnMut result.visits f.old f.new }
@@ -38,7 +38,8 @@ impl<T: Weigh> WeightTree<T> {
         let Some(branch) = &self.root else {
             return Placed { rank: 0, visits: 0 };
         };
-        if ask(f, &branch.item).is_lt() {
+        let below = ask(f, &branch.item).is_lt();
+        if below {
             let right = branch.right.place(f);
             Placed {
                 rank: branch.left.len() + 1 + right.rank,
@@ -59,7 +60,8 @@ fn ask<T, F: FnMut(&T) -> Ordering>(f: &mut F, item: &T) -> Ordering
     requires { F.IsAlwaysCallable f.old }
     ensures callable { F.IsAlwaysCallable f.new }
     ensures called { CalledAt F.FnMut f.old item.now result f.new }
-    ensures answer { (order : T → Ordering) → ComputesKey F.FnMut order f.old → ComputesKey F.FnMut order f.new × (result ≡ order item.now) }
+    ensures answer { (order : T → Ordering) → ComputesKey F.FnMut order f.old →
+        ComputesKey F.FnMut order f.new × (result ≡ order item.now) }
 {
     f(item)
 }

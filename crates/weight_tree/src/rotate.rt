@@ -15,8 +15,9 @@
 //!                                          c   d
 //!
 //! and the same from right to left.
-ghost use Rattle.std.specs.Prelude.{◌≡◌, ℕ, ◌+◌, ◌*◌, ◌^◌, ◌<◌, ◌≤◌, ◌↔◌, max, ◌∷◌, ◌++◌, length, sum_by, IsTrue, MatchBool};
+ghost use Rattle.std.specs.Prelude.{◌≡◌, ℕ, ◌+◌, ◌*◌, ◌^◌, ◌<◌, ◌≤◌, ◌↔◌, max, ◌∷◌, ◌++◌, length, IsTrue, MatchBool};
 ghost use Rattle.weight_tree.specs.Balance.{IsBalanced, IsOneTooHeavy, IsNearlyBalanced, SingleMends, DoubleMends};
+ghost use Rattle.weight_tree.specs.Tree.{FitTogether};
 
 use crate::node::Node;
 use crate::tree::WeightTree;
@@ -47,8 +48,7 @@ impl<T: Weigh> WeightTree<T> {
 
     pub(crate) fn join(left: Self, mut node: Node<T>, right: Self) -> Self
         requires balanced { IsBalanced (length left.items) (length right.items) }
-        requires size_fits { length left.items + length right.items + 1 < 2 ^ 64 }
-        requires weight_fits { sum_by T.weight_of left.items + T.weight_of node + sum_by T.weight_of right.items < 2 ^ 64 }
+        requires fits { FitTogether T.weight_of left node right }
         ensures items { result.items ≡ left.items ++ node ∷ right.items }
         ensures height { result.height ≡ max left.height right.height + 1 }
     {
@@ -66,8 +66,7 @@ impl<T: Weigh> WeightTree<T> {
     // As `join`, where an insertion has gone into one side.
     pub(crate) fn rebalance(left: Self, node: Node<T>, right: Self) -> Self
         requires nearly { IsNearlyBalanced (length left.items) (length right.items) }
-        requires size_fits { length left.items + length right.items + 1 < 2 ^ 64 }
-        requires weight_fits { sum_by T.weight_of left.items + T.weight_of node + sum_by T.weight_of right.items < 2 ^ 64 }
+        requires fits { FitTogether T.weight_of left node right }
         ensures items { result.items ≡ left.items ++ node ∷ right.items }
     {
         if left.balance_weight() > 3 * right.balance_weight() {
@@ -86,7 +85,8 @@ impl<T: Weigh> WeightTree<T> {
         // Such a side is mended by one rotation: by a single one or else by a double one.
         ensures mends { let a = length outer.now.items in
             let b = length inner.now.items in
-            (w : ℕ) → IsBalanced a b → IsOneTooHeavy (a + b + 1) w → MatchBool result (SingleMends a b w) (DoubleMends a b w) }
+            (w : ℕ) → IsBalanced a b → IsOneTooHeavy (a + b + 1) w →
+            MatchBool result (SingleMends a b w) (DoubleMends a b w) }
     {
         inner.balance_weight() < 2 * outer.balance_weight()
     }
@@ -94,8 +94,7 @@ impl<T: Weigh> WeightTree<T> {
     // The left side is one item too heavy.
     fn lean_right(left: Self, node: Node<T>, right: Self) -> Self
         requires heavy { IsOneTooHeavy (length left.items) (length right.items) }
-        requires size_fits { length left.items + length right.items + 1 < 2 ^ 64 }
-        requires weight_fits { sum_by T.weight_of left.items + T.weight_of node + sum_by T.weight_of right.items < 2 ^ 64 }
+        requires fits { FitTogether T.weight_of left node right }
         ensures items { result.items ≡ left.items ++ node ∷ right.items }
     {
         let (outer, above, inner) = left.split();
@@ -112,8 +111,7 @@ impl<T: Weigh> WeightTree<T> {
     // The right side is one item too heavy.
     fn lean_left(left: Self, node: Node<T>, right: Self) -> Self
         requires heavy { IsOneTooHeavy (length right.items) (length left.items) }
-        requires size_fits { length left.items + length right.items + 1 < 2 ^ 64 }
-        requires weight_fits { sum_by T.weight_of left.items + T.weight_of node + sum_by T.weight_of right.items < 2 ^ 64 }
+        requires fits { FitTogether T.weight_of left node right }
         ensures items { result.items ≡ left.items ++ node ∷ right.items }
     {
         let (inner, above, outer) = right.split();

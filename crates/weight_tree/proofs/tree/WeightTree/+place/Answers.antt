@@ -5,31 +5,31 @@ use Rattle.weight_tree.proofs.AtBranch.{items_at}
 use Rattle.weight_tree.proofs.Counts.{rising_left, rising_right, count_past, count_up_to}
 use Rattle.weight_tree.proofs.tree.WeightTree.+place.Goals as goal
 
-pub returns-then-is_lt-clause-rank : goal.returns-then-is_lt-clause-rank
-returns-then-is_lt-clause-rank g t c =
+pub returns-then-below-clause-rank : goal.returns-then-below-clause-rank
+returns-then-below-clause-rank g t c =
     λ order by rising.
     let b = c.in-Some.branch.value in
     let is = items_at _ _ c.args.self.now c.self.view_is c.in-Some.is in
     let asked = c.ask.ensures.answer order by in
     let less : is_lt (order b.item) ≡ true = grind (arith, asked.1) in
     let spread = subst (IsRising order) is rising in
-    let below = (rw c.deref-then-is_lt.ensures at c.place-right.ensures.rank) order asked.0 (rising_right order b.left.items b.item b.right.items spread) in
+    let below = (rw c.deref-then-below.ensures at c.place-right.ensures.rank) order asked.0 (rising_right order b.left.items b.item b.right.items spread) in
     let left : c.len.result ≡ length b.left.items = grind arith in
     rw (is, left, below) (sym (count_past order b.left.items b.item b.right.items spread less))
 
-pub returns-else-is_lt-clause-rank : goal.returns-else-is_lt-clause-rank
-returns-else-is_lt-clause-rank g t c =
+pub returns-else-below-clause-rank : goal.returns-else-below-clause-rank
+returns-else-below-clause-rank g t c =
     λ order by rising.
     let b = c.in-Some.branch.value in
     let is = items_at _ _ c.args.self.now c.self.view_is c.in-Some.is in
     let asked = c.ask.ensures.answer order by in
     let not_less : is_lt (order b.item) ≡ false = grind (arith, asked.1) in
     let spread = subst (IsRising order) is rising in
-    let below = (rw c.deref-else-is_lt.ensures at c.place-left.ensures.rank) order asked.0 (rising_left order b.left.items b.item b.right.items spread) in
+    let below = (rw c.deref-else-below.ensures at c.place-left.ensures.rank) order asked.0 (rising_left order b.left.items b.item b.right.items spread) in
     rw (is, below) (sym (count_up_to order b.left.items b.item b.right.items spread not_less))
 
-pub returns-then-is_lt-clause-calls : goal.returns-then-is_lt-clause-calls
-returns-then-is_lt-clause-calls g t c = rw add-one (_, _, _, c.ask.ensures.called, c.place-right.ensures.calls)
+pub returns-then-below-clause-calls : goal.returns-then-below-clause-calls
+returns-then-below-clause-calls g t c = rw add-one (_, _, _, c.ask.ensures.called, c.place-right.ensures.calls)
 
-pub returns-else-is_lt-clause-calls : goal.returns-else-is_lt-clause-calls
-returns-else-is_lt-clause-calls g t c = rw add-one (_, _, _, c.ask.ensures.called, c.place-left.ensures.calls)
+pub returns-else-below-clause-calls : goal.returns-else-below-clause-calls
+returns-else-below-clause-calls g t c = rw add-one (_, _, _, c.ask.ensures.called, c.place-left.ensures.calls)

@@ -17,7 +17,7 @@ pub use limits::{
     MAX_CHARACTERS, MAX_COMMENT, MAX_COMMENTS, MAX_COUNTER, MAX_NAME, MAX_NUMBER, MAX_OPERATIONS,
     MAX_PARTS, MAX_REPLICA, MAX_TEXT, OLD_COUNTER, OLD_REPLICA,
 };
-pub use name::Name;
+pub use name::{Name, is_well_formed_name};
 pub use op::{Op, OpName, Part, Run, Span};
 pub use refusal::Refusal;
 pub use row::Row;

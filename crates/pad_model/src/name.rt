@@ -1,7 +1,10 @@
 ghost use Rattle.std.specs.Prelude.{◌≡◌, IfOk, length, bytes_eq, string_bytes, IsTrue, ◌↔◌};
+ghost use Rattle.std.specs.List.{list_all};
+ghost use Rattle.pad_model.specs.Checked.{is_name, is_name_byte};
 ghost use Rattle.std.specs.Cmp.{partial_equiv_from_equiv};
 ghost use Rattle.std.specs.Cmp.Lexicographic.{nat_list_eq_equiv};
 
+use crate::limits::MAX_NAME;
 use std::alloc::{AllocError, Global};
 use std::marker::Model;
 
@@ -60,4 +63,30 @@ impl Name {
     {
         self.text.as_str() == text
     }
+    /// Whether this is a name that an author can have.
+    pub fn is_well_formed(&self) -> bool
+        ensures { result ≡ is_name self.now }
+    {
+        is_well_formed_name(self.text.as_str())
+    }
+}
+
+/// Whether a text is a name that a pad or an author can have.
+pub fn is_well_formed_name(text: &str) -> bool
+    ensures { result ≡ is_name text.now }
+{
+    let bytes = text.as_bytes();
+    !bytes.is_empty() && bytes.len() as u64 <= MAX_NAME && are_name_bytes(bytes)
+}
+
+fn are_name_bytes(bytes: &[u8]) -> bool
+    ensures { result ≡ list_all is_name_byte bytes.now }
+{
+    bytes.iter().all(|byte| is_name_byte(*byte))
+}
+
+fn is_name_byte(byte: u8) -> bool
+    ensures { result ≡ is_name_byte byte }
+{
+    matches!(byte, b'a'..=b'z' | b'0'..=b'9' | b'-')
 }

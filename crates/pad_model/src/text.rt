@@ -1,5 +1,5 @@
 //! A text, as its characters.
-ghost use Rattle.std.specs.Prelude.{◌≡◌, ◌^◌, ◌<◌, [], ◌∷◌, ◌++◌, length, IfOk, OnErr, OnOk, bytes_eq, encode_utf8_all, IsTrue, ◌↔◌};
+ghost use Rattle.std.specs.Prelude.{◌≡◌, ◌^◌, ◌<◌, [], ◌∷◌, ◌++◌, length, IfOk, OnErr, OnOk, bytes_eq, encode_utf8_all, string_bytes, IsTrue, ◌↔◌};
 ghost use Rattle.std.specs.Cmp.{partial_equiv_from_equiv};
 ghost use Rattle.std.specs.Cmp.Lexicographic.{nat_list_eq_equiv};
 
@@ -61,6 +61,13 @@ impl Text {
         Ok(Text { characters })
     }
 
+    /// The text in UTF-8.
+    pub fn to_string(&self, alloc: Global) -> Result<String, AllocError>
+        ensures { IfOk result (λ s. string_bytes s ≡ encode_utf8_all self.now) }
+    {
+        self.characters.iter().copied().collect(alloc)
+    }
+
     pub fn len(&self) -> usize
         ensures { result ≡ length self.now }
     {
@@ -85,6 +92,21 @@ impl Text {
         ensures err { OnErr result (self.new ≡ self.old) }
     {
         self.characters.push(character)?;
+        Ok(())
+    }
+}
+
+#[cfg(test)]
+mod tests {
+    use super::*;
+    use std::test::Fail;
+
+    #[test]
+    fn writes_what_it_read(rt: HostRuntime) -> Result<(), Fail> {
+        let mut text = Text::from_str(rt.alloc(), "añ")?;
+        text.push('☺')?;
+        assert_eq!(rt; text.len(), 3);
+        assert_eq!(rt; text.to_string(rt.alloc())?.as_str(), "añ☺");
         Ok(())
     }
 }

@@ -65,7 +65,8 @@ impl<S: Sequence> Pad<S> {
     pub fn revision(&self) -> u64
         ensures { result ≡ length self.now.log }
     {
-        self.log.len() as u64
+        let operations = self.log.len();
+        operations as u64
     }
 
     /// Gives a pad without a name this name and owner. Both are well formed.

@@ -1,0 +1,7 @@
+pub mod Order
+pub mod CallerLemmas
+pub mod Count
+pub mod Cut
+pub mod Kept
+pub mod Nearest
+pub mod Sound

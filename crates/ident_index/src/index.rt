@@ -1,0 +1,153 @@
+ghost use Rattle.std.specs.Prelude.{◌≡◌, ◌+◌, ◌<◌, ◌≤◌, OnOk, OnErr, IsSome, MatchOption};
+ghost use Rattle.std.specs.Option.{IsSomeAnd};
+ghost use Rattle.std.specs.FinMap as map;
+ghost use Rattle.pad_model.specs.Stamp.{IsInLimits};
+ghost use Rattle.pad_model.specs.declared.limits.TheConstants.{MAX_COUNTER};
+ghost use Rattle.ident_index.specs.Index.{IsNew, IsCut, IsRelabelled, IsPlace, HoldsNone, IsSound};
+
+use crate::place::{Entry, Place};
+use pad_model::Stamp;
+use std::alloc::{AllocError, Global};
+use std::collections::BTreeMap;
+use std::marker::Model;
+
+// A first stamp. In this order the blocks of one replica stand beside each other.
+#[derive(Clone, Copy, PartialEq, Eq, PartialOrd, Ord)]
+struct Key {
+    replica: u16,
+    counter: u64,
+}
+
+impl Key {
+    fn new(first: Stamp) -> Key
+        ensures value { result ≡ record { replica = first.replica; counter = first.counter } }
+        ensures limits { IsInLimits first.counter first.replica }
+    {
+        Key {
+            replica: first.replica(),
+            counter: first.counter(),
+        }
+    }
+}
+
+/// The blocks of a text by their first stamps: how many characters each has, and its label.
+///
+/// Only `add` and `cut` take memory, and no other call can fail.
+#[derive(Drop)]
+pub struct IdentIndex {
+    entries: BTreeMap<Key, Entry>,
+}
+
+impl Model for IdentIndex {
+    ghost use Rattle.ident_index.specs.Index.{Index, index_code, IsSound};
+
+    ghost Value = { Index };
+
+    ghost coded = { index_code };
+
+    ghost use Rattle.ident_index.specs.View.{index_of};
+
+    ghost view = { λ a. index_of a.entries.entries };
+
+    ghost invariant = { λ a. IsSound (index_of a.entries.entries) };
+}
+
+impl IdentIndex {
+    /// An index of no blocks. It takes no memory yet.
+    pub fn new(alloc: Global) -> IdentIndex
+        ensures { result ≡ map.empty }
+    {
+        IdentIndex {
+            entries: BTreeMap::new(alloc),
+        }
+    }
+
+    /// How many blocks there are.
+    pub fn len(&self) -> usize
+        ensures { result ≡ map.len self.now }
+    {
+        self.entries.len()
+    }
+
+    /// The block that begins with this stamp.
+    pub fn get(&self, first: Stamp) -> Option<Entry>
+        ensures value { result ≡ map.get self.now first }
+        ensures sound { IsSound self.now }
+    {
+        self.entries.get(&Key::new(first)).copied()
+    }
+
+    /// Enters a block of `len` characters, whose stamps follow on `first`.
+    pub fn add(&mut self, first: Stamp, len: u64, label: u64) -> Result<(), AllocError>
+        requires sized { 1 ≤ len }
+        requires limit { first.counter + len ≤ MAX_COUNTER + 1 }
+        requires fresh { IsNew self.old first len }
+        ensures ok { OnOk result
+            (self.new ≡ map.insert self.old first (record { len = len; label = label })) }
+        ensures err { OnErr result (self.new ≡ self.old) }
+    {
+        self.entries.insert(Key::new(first), Entry { len, label })?;
+        Ok(())
+    }
+
+    /// Finds the block that holds a character, by one look-up: of the last block of its replica that
+    /// begins no later.
+    pub fn locate(&self, stamp: Stamp) -> Option<Place>
+        ensures place { MatchOption result (HoldsNone self.now stamp) (IsPlace self.now stamp) }
+        ensures sound { IsSound self.now }
+    {
+        let (key, entry) = self.entries.range(..=Key::new(stamp)).next_back()?;
+        if key.replica != stamp.replica() {
+            return None;
+        }
+        let offset = stamp.counter() - key.counter;
+        if offset >= entry.len {
+            return None;
+        }
+        let Ok(first) = Stamp::new(key.counter, key.replica) else {
+            return None;
+        };
+        Some(Place {
+            first,
+            offset,
+            label: entry.label,
+        })
+    }
+
+    /// Cuts a block in two: the left part keeps its label, and the right part gets this one.
+    pub fn cut(&mut self, first: Stamp, offset: u64, label: u64) -> Result<(), AllocError>
+        requires { IsSomeAnd (map.get self.old first) (λ e. (0 < offset) × (offset < e.len)) }
+        ensures ok { OnOk result (IsCut self.old self.new first offset label) }
+        ensures err { OnErr result (self.new ≡ self.old) }
+    {
+        let key = Key::new(first);
+        let whole = self.entries[&key];
+        let right = Entry {
+            len: whole.len - offset,
+            label,
+        };
+        self.entries.insert(Key::new(first.plus(offset)), right)?;
+        if let Some(left) = self.entries.get_mut(&key) {
+            left.len = offset;
+        }
+        Ok(())
+    }
+
+    /// Changes the label of a block.
+    pub fn relabel(&mut self, first: Stamp, label: u64)
+        requires { IsSome (map.get self.old first) }
+        ensures { IsRelabelled self.old self.new first label }
+    {
+        if let Some(entry) = self.entries.get_mut(&Key::new(first)) {
+            entry.label = label;
+        }
+    }
+
+    /// Takes a block away, and says whether it was there.
+    pub fn remove(&mut self, first: Stamp) -> bool
+        ensures was_there { result ≡ map.contains_key self.old first }
+        ensures rest { self.new ≡ map.remove self.old first }
+    {
+        self.entries.remove(&Key::new(first)).is_some()
+    }
+}

@@ -1,0 +1,88 @@
+//! What no clause says: that memory is found where there is some, and that places and labels come out
+//! as someone counts them.
+ghost use Rattle.std.specs.Prelude.{◌≡◌, IfOk};
+ghost use Rattle.std.specs.FinMap as map;
+
+use crate::{Entry, IdentIndex, Place, between, spaced};
+use pad_model::Stamp;
+use std::alloc::Global;
+use std::test::Fail;
+
+fn stamp(counter: u64, replica: u16) -> Result<Stamp, Fail>
+    ensures { IfOk result (λ s. s ≡ record { counter = counter; replica = replica }) }
+{
+    Ok(Stamp::new(counter, replica)?)
+}
+
+// The stamps 1 to 5 of replica 1, under the label 100.
+fn five_characters(alloc: Global) -> Result<IdentIndex, Fail>
+    ensures { IfOk result (λ m. m ≡ map.insert map.empty
+        (record { counter = 1; replica = 1 }) (record { len = 5; label = 100 })) }
+{
+    let mut index = IdentIndex::new(alloc);
+    index.add(stamp(1, 1)?, 5, 100)?;
+    Ok(index)
+}
+
+fn at(first: Stamp, offset: u64, label: u64) -> Option<Place> {
+    Some(Place {
+        first,
+        offset,
+        label,
+    })
+}
+
+#[test]
+fn a_cut_gives_the_right_part_its_own_place(rt: HostRuntime) -> Result<(), Fail> {
+    let mut index = five_characters(rt.alloc())?;
+    let first = stamp(1, 1)?;
+    assert_eq!(rt; index.locate(stamp(3, 1)?), at(first, 2, 100));
+    index.cut(first, 2, 150)?;
+    assert_eq!(rt; index.locate(stamp(3, 1)?), at(stamp(3, 1)?, 0, 150));
+    assert_eq!(rt; index.locate(stamp(2, 1)?), at(first, 1, 100));
+    assert_eq!(rt; index.locate(stamp(6, 1)?), None);
+    assert_eq!(rt; index.len(), 2);
+    Ok(())
+}
+
+#[test]
+fn a_block_is_taken_away_once(rt: HostRuntime) -> Result<(), Fail> {
+    let mut index = five_characters(rt.alloc())?;
+    let first = stamp(1, 1)?;
+    assert!(rt; !index.remove(stamp(2, 1)?));
+    assert!(rt; index.remove(first));
+    assert!(rt; !index.remove(first));
+    assert_eq!(rt; index.locate(first), None);
+    Ok(())
+}
+
+#[test]
+fn a_label_is_changed_and_the_length_is_not(rt: HostRuntime) -> Result<(), Fail> {
+    let mut index = five_characters(rt.alloc())?;
+    let first = stamp(1, 1)?;
+    index.relabel(first, 7);
+    assert_eq!(rt; index.get(first), Some(Entry { len: 5, label: 7 }));
+    assert_eq!(rt; index.locate(stamp(5, 1)?), at(first, 4, 7));
+    Ok(())
+}
+
+#[test]
+fn replicas_with_equal_counters_do_not_meet(rt: HostRuntime) -> Result<(), Fail> {
+    let mut index = five_characters(rt.alloc())?;
+    let other = stamp(1, 2)?;
+    index.add(other, 3, 200)?;
+    assert_eq!(rt; index.locate(stamp(3, 1)?), at(stamp(1, 1)?, 2, 100));
+    assert_eq!(rt; index.locate(stamp(3, 2)?), at(other, 2, 200));
+    assert_eq!(rt; index.locate(stamp(4, 2)?), None);
+    assert_eq!(rt; index.locate(stamp(1, 3)?), None);
+    Ok(())
+}
+
+#[test]
+fn labels_lie_halfway_and_evenly(rt: HostRuntime) {
+    assert_eq!(rt; between(100, 150), Some(125));
+    assert_eq!(rt; between(100, 102), Some(101));
+    assert_eq!(rt; between(100, 101), None);
+    assert_eq!(rt; spaced(1, 1), 9_223_372_036_854_775_807);
+    assert_eq!(rt; spaced(2, 3), 9_223_372_036_854_775_806);
+}

@@ -75,14 +75,17 @@ inserted authors cells run i rev p h joins =
     let new = spliced (place_in kept_character run.after run.first cells) block cells in
     let may : run_may_join character_of (cells_of authors cells) run.first run.after ≡ true = run_may_join-map (cell_of authors) character_of cells run.first run.after ∙ joins in
     let is : cells_of authors new ≡ with_run rev run (author_at authors i) (cells_of authors cells) =
-        ap (cells_of authors) (sym (put-spliced kept_character run.after run.first block cells))
-        ∙ sym (put-map (cell_of authors) character_of run.after run.first block cells)
-        ∙ ap (λ b. put character_of run.after run.first b (cells_of authors cells)) (cells_of-kept_run authors run.first run.after run.text i rev)
-        ∙ sym (with_run-put rev run (author_at authors i) (cells_of authors cells) p.order may)
-    in
-    (record {
-    known = each-permutation (λ c. c.author < length authors) (block ++ cells) new (subst (IsPermutation (block ++ cells)) (put-spliced kept_character run.after run.first block cells) (put-permutation kept_character run.after run.first block cells)) (each-append (λ c. c.author < length authors) block cells (AreKnown-kept_run authors run.first run.after run.text i rev h) p.known);
-    order = subst IsInOrder (sym is) (IsInOrder-with_run rev run (author_at authors i) (cells_of authors cells) p.order may) }, is)
+    ap (cells_of authors) (sym (put-spliced kept_character run.after run.first block cells))
+    ∙ sym (put-map (cell_of authors) character_of run.after run.first block cells)
+    ∙ ap (λ b. put character_of run.after run.first b (cells_of authors cells)) (cells_of-kept_run authors run.first run.after run.text i rev)
+    ∙ sym (with_run-put rev run (author_at authors i) (cells_of authors cells) p.order may)
+    in (
+      record {
+        known = each-permutation (λ c. c.author < length authors) (block ++ cells) new (subst (IsPermutation (block ++ cells)) (put-spliced kept_character run.after run.first block cells) (put-permutation kept_character run.after run.first block cells)) (each-append (λ c. c.author < length authors) block cells (AreKnown-kept_run authors run.first run.after run.text i rev h) p.known);
+        order = subst IsInOrder (sym is) (IsInOrder-with_run rev run (author_at authors i) (cells_of authors cells) p.order may);
+      },
+      is,
+    )
 
 -- a run may join the cells where it may join the kept ones
 pub may_join_view : (authors : List Author) (cells : List PlainCell) (now : List Cell) (first : Stamp) (p : Option Stamp) (b : Bool) → cells_of authors cells ≡ now → run_may_join kept_character cells first p ≡ b → run_may_join character_of now first p ≡ b
@@ -109,6 +112,7 @@ pub insert_joined : (old new : List Author) (a : Author) (cells after : List Pla
 insert_joined old new a cells after now run i rev place block p is more here may at made spliced_so =
     let wide = grown old new a cells p more in
     let done = inserted new cells run i rev wide.0 here.0 may in
-    let so : after ≡ spliced (place_in kept_character run.after run.first cells) (kept_run run.first run.after run.text i rev) cells = spliced_so ∙ ap₂ (λ n b. spliced n b cells) at made in
-    (subst (IsPlain new) (sym so) done.0,
-    ap (cells_of new) so ∙ done.1 ∙ ap (λ who. with_run rev run who (cells_of new cells)) here.1 ∙ ap (with_run rev run a) (wide.1 ∙ is))
+    let so : after ≡ spliced (place_in kept_character run.after run.first cells) (kept_run run.first run.after run.text i rev) cells = spliced_so ∙ ap₂ (λ n b. spliced n b cells) at made in (
+      subst (IsPlain new) (sym so) done.0,
+      ap (cells_of new) so ∙ done.1 ∙ ap (λ who. with_run rev run who (cells_of new cells)) here.1 ∙ ap (with_run rev run a) (wide.1 ∙ is),
+    )

@@ -45,9 +45,7 @@ fn is_above(cells: &[PlainCell], first: Stamp) -> bool
 {
     let counter = first.counter();
     let replica = first.replica();
-    cells
-        .iter()
-        .all(|c| c.stamp.replica() != replica || c.stamp.counter() < counter)
+    cells.iter().all(|c| c.stamp.replica() != replica || c.stamp.counter() < counter)
 }
 
 /// Whether a run's first character fits: its parent is there, and it is newer than its parent and its replica's others.
@@ -61,10 +59,7 @@ pub fn may_join(cells: &[PlainCell], first: Stamp, parent: Option<Stamp>) -> boo
 fn count_before(cells: &[PlainCell], stamp: Stamp) -> usize
     ensures { result ≡ position_or_len (λ c. same_stamp c.stamp stamp) cells.now }
 {
-    cells
-        .iter()
-        .take_while(|c| !c.stamp.is_same(stamp))
-        .count()
+    cells.iter().take_while(|c| !c.stamp.is_same(stamp)).count()
 }
 
 /// How many cells there are up to and including a character; all, where it is missing.
@@ -85,10 +80,7 @@ fn count_newer(cells: &[PlainCell], first: Stamp) -> usize
     ensures value { result ≡ passed kept_character first cells.now }
     ensures within { result ≤ length cells.now }
 {
-    cells
-        .iter()
-        .take_while(|c| c.stamp.is_newer(first))
-        .count()
+    cells.iter().take_while(|c| c.stamp.is_newer(first)).count()
 }
 
 /// Where a run goes (RGA): behind its parent, past each newer character.

@@ -53,9 +53,7 @@ pub fn shown_text(alloc: Global, cells: &[PlainCell], rev: u64) -> Result<Vec<ch
 pub fn greatest_counter(cells: &[PlainCell]) -> u64
     ensures { result ≡ fold (λ most c. max most c.stamp.counter) 0 cells.now }
 {
-    cells
-        .iter()
-        .fold(0, |most, c| most.max(c.stamp.counter()))
+    cells.iter().fold(0, |most, c| most.max(c.stamp.counter()))
 }
 
 /// The greatest counter of a replica, or 0.

@@ -39,8 +39,8 @@ pub refused_memory : (old new cells : List Cell) (expected : Result (Unit {0}) R
 refused_memory old new cells expected refusal (inl h) e = (cc, h.1)
 refused_memory old new cells expected refusal (inr h) e = absurd (ok_err (ap (λ p. p.0) (sym e ∙ h)))
   where
-  ok_err : {u : Unit {0}} → Ok u ≡ Err refusal → ⊥
-  ok_err q = cc
+    ok_err : {u : Unit {0}} → Ok u ≡ Err refusal → ⊥
+    ok_err q = cc
 
 -- and an answer leaves the new cells
 pub answered_cells : (old new cells : List Cell) (expected : Result (Unit {0}) Refusal × List Cell) (u : Unit {0}) → Answers old expected (Ok u) new → expected ≡ (Ok tt, cells) → new ≡ cells

@@ -65,8 +65,8 @@ run_is replica log cells rev at text h kept =
     ap (λ l. run_by replica l rev at text) kept
     ∙ ap₂ (λ n p. run replica n p text) (clock_of-cells_of log (IsTree-history log h)) (in_front log rev at h)
   where
-  run : ℕ → ℕ → Option Stamp → List ℕ → Run
-  run replica clock after text = record { first = record { counter = clock + 1; replica = replica }; after = after; text = text }
+    run : ℕ → ℕ → Option Stamp → List ℕ → Run
+    run replica clock after text = record { first = record { counter = clock + 1; replica = replica }; after = after; text = text }
 
 unless : (b : Bool) (r : Refusal) (rest : Option Refusal) → cond b (Some r) rest ≡ None → (b ≡ false) × (rest ≡ None)
 unless true r rest e = absurd (cc)
@@ -95,12 +95,13 @@ allowed rev at text log e =
     let g = unless _ _ _ f.1 in
     let h = unless _ _ _ g.1 in
     record {
-    known = ltb-false (length log) rev a.0;
-    some = not_zero (length text) c.0;
-    few = ltb-false MAX_TEXT (length text) d.0;
-    room = ltb-false MAX_CHARACTERS (length (characters_in log).inserted + length text) f.0;
-    clock = ltb-false MAX_COUNTER (clock_of_characters (characters_in log).inserted + length text) g.0;
-    short = leb-false MAX_OPERATIONS (length log) h.0 }
+      known = ltb-false (length log) rev a.0;
+      some = not_zero (length text) c.0;
+      few = ltb-false MAX_TEXT (length text) d.0;
+      room = ltb-false MAX_CHARACTERS (length (characters_in log).inserted + length text) f.0;
+      clock = ltb-false MAX_COUNTER (clock_of_characters (characters_in log).inserted + length text) g.0;
+      short = leb-false MAX_OPERATIONS (length log) h.0;
+    }
 
 -- the operation of a local insertion is in the limits
 pub made_checked : (replica rev at : ℕ) (text author : List ℕ) (log : List Op) (name : OpName) → Allowed rev at text log → is_name author ≡ true → 1 ≤ replica → name.origin ≡ replica → name.number ≡ length log + 1 →
@@ -123,9 +124,9 @@ run_differs first p [] author = refl
 run_differs first p (c ∷ text) author =
     let rest = run_characters (next first) (Some first) text author in
     let fresh : has_stamp itself rest first ≡ false =
-        none_found (λ x. same_stamp x.stamp first) rest
-        (each-imply (λ (x : Character). first.counter < x.stamp.counter) (λ x. same_stamp x.stamp first ≡ false)
-        (λ x l. split (same_stamp x.stamp first) (λ e. let same : x.stamp.counter ≡ first.counter = ap (λ s. s.counter) (same_stamp-true x.stamp first e) in absurd (omega arith)) (λ e. e)) rest (run_above (next first) (Some first) text author first.counter (omega arith)))
+    none_found (λ x. same_stamp x.stamp first) rest
+    (each-imply (λ (x : Character). first.counter < x.stamp.counter) (λ x. same_stamp x.stamp first ≡ false)
+    (λ x l. split (same_stamp x.stamp first) (λ e. let same : x.stamp.counter ≡ first.counter = ap (λ s. s.counter) (same_stamp-true x.stamp first e) in absurd (omega arith)) (λ e. e)) rest (run_above (next first) (Some first) text author first.counter (omega arith)))
     in
     and_from _ _ (ap not fresh) (run_differs (next first) (Some first) text author)
 
@@ -202,7 +203,7 @@ text_read log cells m asked now rev text h kept is count named there shown =
     let now_is : length m.log ≡ now = ap length is ∙ sym count in
     let rev_is : revision_of asked m ≡ rev = asked_is asked m now rev now_is named in
     let text_is : text_of (characters_at rev m.log) ≡ text =
-        ap (λ l. text_of (characters_at rev l)) is ∙ sym (text_at-cells_of log rev (IsTree-history log h) (IsTree-history (take rev log) (IsHistory-take log rev h))) ∙ ap (text_at rev) (sym kept) ∙ sym shown
+    ap (λ l. text_of (characters_at rev l)) is ∙ sym (text_at-cells_of log rev (IsTree-history log h) (IsTree-history (take rev log) (IsHistory-take log rev h))) ∙ ap (text_at rev) (sym kept) ∙ sym shown
     in
     rw (rev_is, now_is, le-ltb now rev there, text_is) refl
 
@@ -210,18 +211,20 @@ text_read log cells m asked now rev text h kept is count named there shown =
 pub ready_from : (o : Option Owned) (replica : ℕ) (log : List Op) (cells : List Cell) (now rev at : ℕ) (text : List ℕ) → IsPad o replica log cells → IsSome o → now ≡ length log → refusal_by now cells rev at text ≡ None → Ready o replica log rev at text
 ready_from o replica log cells now rev at text p owned count none =
     record {
-    allows = allowed rev at text log (sym (refusal_is log cells now rev at text p.history p.kept count) ∙ none);
-    named = named_owner o p.named owned;
-    low = p.replica_low;
-    history = p.history }
+      allows = allowed rev at text log (sym (refusal_is log cells now rev at text p.history p.kept count) ∙ none);
+      named = named_owner o p.named owned;
+      low = p.replica_low;
+      history = p.history;
+    }
 
 -- a pad stays one when the insertion joins it
 pub IsPad-push : (o : Option Owned) (replica : ℕ) (log new : List Op) (cells grown : List Cell) (rev at : ℕ) (text : List ℕ) (op : Op) → IsPad o replica log cells → Allowed rev at text log → is_checked op ≡ true → is_valid op log ≡ true → new ≡ log ++ op ∷ [] → grown ≡ cells_of new → IsPad o replica new grown
 IsPad-push o replica log new cells grown rev at text op p a checked valid is kept =
     record {
-    named = p.named;
-    replica_low = p.replica_low;
-    replica_high = p.replica_high;
-    history = subst IsHistory (sym is) (IsHistory-push log op p.history checked valid);
-    short = (let short : length log < MAX_OPERATIONS = a.short in let longer : length new ≡ length log + 1 = ap length is ∙ length-append log (op ∷ []) in omega arith);
-    kept = kept }
+      named = p.named;
+      replica_low = p.replica_low;
+      replica_high = p.replica_high;
+      history = subst IsHistory (sym is) (IsHistory-push log op p.history checked valid);
+      short = (let short : length log < MAX_OPERATIONS = a.short in let longer : length new ≡ length log + 1 = ap length is ∙ length-append log (op ∷ []) in omega arith);
+      kept = kept;
+    }

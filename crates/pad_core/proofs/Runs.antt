@@ -26,6 +26,6 @@ Ran-machine m new (e ∷ events) (x ∷ replies) r f =
     let rest = Ran-machine r.0 new events replies r.2 f.1 in
     ap (λ s. (s.0 ∷ (run events s.1).0, (run events s.1).1)) stepped ∙ ap (λ s. (x ∷ s.0, s.1)) rest
   where
-  answered : Answers m (event_step e m) x r.0 → (x ≡ Err Memory → ⊥) → event_step e m ≡ (x, r.0)
-  answered (inl h) no_memory = absurd (no_memory h.0)
-  answered (inr h) no_memory = h
+    answered : Answers m (event_step e m) x r.0 → (x ≡ Err Memory → ⊥) → event_step e m ≡ (x, r.0)
+    answered (inl h) no_memory = absurd (no_memory h.0)
+    answered (inr h) no_memory = h

@@ -88,9 +88,9 @@ owner_of (Some owned) = owned.owner
 abbrev pub insert : ℕ → ℕ → List ℕ → Machine → Result PadReply Refusal × Machine
 insert rev at text m = settle (insert_refusal rev at text m.log)
   where
-  settle : Option Refusal → Result PadReply Refusal × Machine
-  settle (Some refusal) = (Err refusal, m)
-  settle None = (Ok (Made (now_of m + 1) (next_name m)), record m { log = m.log ++ op_of_run (next_name m) (owner_of m.owned) (made_run m.replica rev at text m.log) ∷ [] })
+    settle : Option Refusal → Result PadReply Refusal × Machine
+    settle (Some refusal) = (Err refusal, m)
+    settle None = (Ok (Made (now_of m + 1) (next_name m)), record m { log = m.log ++ op_of_run (next_name m) (owner_of m.owned) (made_run m.replica rev at text m.log) ∷ [] })
 
 -- whether a request comes with the owner's visit, which is 1
 abbrev pub is_visit : Option ℕ → Bool
@@ -117,9 +117,9 @@ act_step (act.Text rev) m = read_text rev m
 abbrev pub step : List ℕ → Who → Option ℕ → Act → Machine → Result PadReply Refusal × Machine
 step pad who visit it m = admitted (turned_away m.owned pad who visit)
   where
-  admitted : Option (Result PadReply Refusal) → Result PadReply Refusal × Machine
-  admitted (Some reply) = (reply, m)
-  admitted None = act_step it m
+    admitted : Option (Result PadReply Refusal) → Result PadReply Refusal × Machine
+    admitted (Some reply) = (reply, m)
+    admitted None = act_step it m
 
 -- the name of a pad, if it has one
 abbrev pub name_of : Option Owned → Option (List ℕ)
@@ -130,9 +130,9 @@ name_of (Some owned) = Some owned.name
 abbrev pub claim : List ℕ → List ℕ → Machine → Result Claim Refusal × Machine
 claim name owner m = claim_of m.owned
   where
-  claim_of : Option Owned → Result Claim Refusal × Machine
-  claim_of None = (Ok (Created 1), record m { owned = Some (record { name = name; owner = owner }) })
-  claim_of (Some owned) = if bytes_eq owned.name name then (Ok Exists, m) else (Ok Other, m)
+    claim_of : Option Owned → Result Claim Refusal × Machine
+    claim_of None = (Ok (Created 1), record m { owned = Some (record { name = name; owner = owner }) })
+    claim_of (Some owned) = if bytes_eq owned.name name then (Ok Exists, m) else (Ok Other, m)
 
 -- an owner's name is well formed
 abbrev pub IsOwned : Option Owned → Type 0

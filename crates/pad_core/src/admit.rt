@@ -8,10 +8,7 @@ use pad_model::{Name, Refusal, Who};
 use std::alloc::AllocError;
 
 /// What is answered before the act is looked at, if anything.
-pub fn turned_away(
-    owned: &Option<Owned>,
-    event: &PadEvent<'_>,
-) -> Option<Result<PadReply, Refusal>>
+pub fn turned_away(owned: &Option<Owned>, event: &PadEvent<'_>) -> Option<Result<PadReply, Refusal>>
     ensures { result ≡ is_turned_away owned.now event.now.pad.now event.now.who.now event.now.visit }
 {
     let Some(owned) = owned else {

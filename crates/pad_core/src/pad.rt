@@ -126,13 +126,7 @@ impl<S: Sequence> Pad<S> {
         Ok(replies)
     }
 
-    fn insert(
-        &mut self,
-        alloc: Global,
-        rev: u64,
-        at: u64,
-        text: &Text,
-    ) -> Result<PadReply, Refusal>
+    fn insert(&mut self, alloc: Global, rev: u64, at: u64, text: &Text) -> Result<PadReply, Refusal>
         requires { IsSome self.old.owned }
         ensures { Answers self.old (inserted rev at text.now self.old) result self.new }
     {
@@ -149,9 +143,14 @@ impl<S: Sequence> Pad<S> {
             origin: self.replica,
             number: now + 1,
         };
-        if let Err(refusal) =
-            append_run(alloc, &mut self.sequence, &mut self.log, name, run, author)
-        {
+        if let Err(refusal) = append_run(
+            alloc,
+            &mut self.sequence,
+            &mut self.log,
+            name,
+            run,
+            author,
+        ) {
             return Err(refusal);
         }
         Ok(PadReply::Made { now: now + 1, name })

@@ -29,11 +29,12 @@ RunMayJoin-from_test at items first p h =
     let outer = and_parts _ _ h in
     let inner = and_parts _ _ outer.0 in
     record {
-    above = Rattle.pad_model.proofs.Each.each-imply (λ x. (not (eqb (at x).stamp.replica first.replica) || ltb (at x).stamp.counter first.counter) ≡ true) (λ x. (at x).stamp.replica ≡ first.replica → (at x).stamp.counter < first.counter)
-        (λ x t same. ltb-true (at x).stamp.counter first.counter (subst (λ b. (not b || ltb (at x).stamp.counter first.counter) ≡ true) (eq-eqb (at x).stamp.replica first.replica same) t))
-        items (each_passes (λ x. not (eqb (at x).stamp.replica first.replica) || ltb (at x).stamp.counter first.counter) items outer.1);
-    rooted = inner.0;
-    later = ltb-true (counter_of p) first.counter inner.1 }
+      above = Rattle.pad_model.proofs.Each.each-imply (λ x. (not (eqb (at x).stamp.replica first.replica) || ltb (at x).stamp.counter first.counter) ≡ true) (λ x. (at x).stamp.replica ≡ first.replica → (at x).stamp.counter < first.counter)
+          (λ x t same. ltb-true (at x).stamp.counter first.counter (subst (λ b. (not b || ltb (at x).stamp.counter first.counter) ≡ true) (eq-eqb (at x).stamp.replica first.replica same) t))
+          items (each_passes (λ x. not (eqb (at x).stamp.replica first.replica) || ltb (at x).stamp.counter first.counter) items outer.1);
+      rooted = inner.0;
+      later = ltb-true (counter_of p) first.counter inner.1;
+    }
 
 -- the order of a list in order is the list
 pub order-order : {A : Type 0} (at : A → Character) (s : List A) → IsTree at s → order at (order at s) ≡ order at s
@@ -62,8 +63,9 @@ pub IsInOrder-with_run : (rev : ℕ) (run : Run) (author : Author) (cells : List
 IsInOrder-with_run rev run author cells o h =
     let more : IsTree character_of (cells ++ new_cells rev run author) = IsTree-run character_of cells run.first run.after (new_cells rev run author) o.tree (RunMayJoin-from_test character_of cells run.first run.after h) (IsRun-new_cells rev run.first run.after run.text author) in
     record {
-    tree = IsTree-permutation character_of (cells ++ new_cells rev run author) (with_run rev run author cells) (order-permutation character_of (cells ++ new_cells rev run author) more) more;
-    is = order-order character_of (cells ++ new_cells rev run author) more }
+      tree = IsTree-permutation character_of (cells ++ new_cells rev run author) (with_run rev run author cells) (order-permutation character_of (cells ++ new_cells rev run author) more) more;
+      is = order-order character_of (cells ++ new_cells rev run author) more;
+    }
 
 -- what an insertion answers, case by case
 pub insert_run-fault : (rev : ℕ) (run : Run) (author : Author) (cells : List Cell) → run_may_join character_of cells run.first run.after ≡ false → insert_run rev run author cells ≡ (Err PeerFault, cells)

@@ -82,14 +82,15 @@ dropped_absent at t s x d h fails =
 
 closed_part : {A : Type 0} (at : A → Character) (t : A → Bool) (s v : List A) → IsDistinct (same_item at) s → AllByRecursion (λ y. has_parent at (filter t s) (at y).parent ≡ true) (filter t s) → ((c : A) → Has v c → Has s c) → IsClosed at t v
 closed_part at t s [] d r h = tt
-closed_part at t s (x ∷ later) d r h =
-    ((λ no. each_Has (λ y. same_parent (at y).parent (Some (at x).stamp) ≡ false) (filter t later)
-    (λ y m. let kept = Has-filter t later y m in
-    let rooted : has_parent at (filter t s) (at y).parent ≡ true = Has-each (λ y. has_parent at (filter t s) (at y).parent ≡ true) (filter t s) y r (Has-from_filter t s y (h y (inr kept.0)) kept.1) in
-    split (same_parent (at y).parent (Some (at x).stamp))
-    (λ e. absurd (both_ways _ (dropped_absent at t s x d (h x (inl refl)) no) (subst (λ p. has_parent at (filter t s) p ≡ true) (same_parent-true (at y).parent (at x).stamp e) rooted)))
-    (λ e. e))),
-    closed_part at t s later d r (λ c m. h c (inr m)))
+closed_part at t s (x ∷ later) d r h = (
+  (λ no. each_Has (λ y. same_parent (at y).parent (Some (at x).stamp) ≡ false) (filter t later)
+      (λ y m. let kept = Has-filter t later y m in
+      let rooted : has_parent at (filter t s) (at y).parent ≡ true = Has-each (λ y. has_parent at (filter t s) (at y).parent ≡ true) (filter t s) y r (Has-from_filter t s y (h y (inr kept.0)) kept.1) in
+      split (same_parent (at y).parent (Some (at x).stamp))
+      (λ e. absurd (both_ways _ (dropped_absent at t s x d (h x (inl refl)) no) (subst (λ p. has_parent at (filter t s) p ≡ true) (same_parent-true (at y).parent (at x).stamp e) rooted)))
+      (λ e. e))),
+  closed_part at t s later d r (λ c m. h c (inr m)),
+)
 
 pub order-filter : {A : Type 0} (at : A → Character) (t : A → Bool) (s : List A) → IsTree at s → IsTree at (filter t s) → order at (filter t s) ≡ filter t (order at s)
 order-filter at t s whole part =
@@ -106,20 +107,21 @@ order-subset {A} at s u small large h =
     let t : A → Bool = λ c. has_stamp at s (at c).stamp in
     let there : (c : A) → Has s c → Has (filter t u) c = λ c m. Has-from_filter t u c (h c m) (has_stamp_of at s c m) in
     let back : (c : A) → Has (filter t u) c → Has s c =
-        λ c m. let kept = Has-filter t u c m in
-        let found = item_of_stamp at s (at c).stamp kept.1 in
-        subst (Has s) (same_of_stamp at u found.0 c large.distinct (h found.0 found.1.0) kept.0 found.1.1) found.1.0
+    λ c m. let kept = Has-filter t u c m in
+    let found = item_of_stamp at s (at c).stamp kept.1 in
+    subst (Has s) (same_of_stamp at u found.0 c large.distinct (h found.0 found.1.0) kept.0 found.1.1) found.1.0
     in
     let same_parents : (p : Option Stamp) → has_parent at s p ≡ true → has_parent at (filter t u) p ≡ true =
-        λ p e. parents at s (filter t u) there p e
+    λ p e. parents at s (filter t u) there p e
     in
     let part : IsTree at (filter t u) = record {
-        distinct = distinct-filter at t u large.distinct;
-        rooted = each_Has (λ c. has_parent at (filter t u) (at c).parent ≡ true) (filter t u) (λ c m. same_parents (at c).parent (Has-each (λ c. has_parent at s (at c).parent ≡ true) s c small.rooted (back c m)));
-        later = each-filter (λ c. counter_of (at c).parent < (at c).stamp.counter) t u large.later }
+      distinct = distinct-filter at t u large.distinct;
+      rooted = each_Has (λ c. has_parent at (filter t u) (at c).parent ≡ true) (filter t u) (λ c m. same_parents (at c).parent (Has-each (λ c. has_parent at s (at c).parent ≡ true) s c small.rooted (back c m)));
+      later = each-filter (λ c. counter_of (at c).parent < (at c).stamp.counter) t u large.later;
+    }
     in
     rw (set_law at s (filter t u) small.distinct part.distinct there back, order-filter at t u large part) (filter-subsequence t (order at u))
   where
-  parents : {A : Type 0} (at : A → Character) (xs ys : List A) → ((c : A) → Has xs c → Has ys c) → (p : Option Stamp) → has_parent at xs p ≡ true → has_parent at ys p ≡ true
-  parents at xs ys f None e = refl
-  parents at xs ys f (Some s) e = let found = item_of_stamp at xs s e in subst (λ z. has_stamp at ys z ≡ true) (same_stamp-true (at found.0).stamp s found.1.1) (has_stamp_of at ys found.0 (f found.0 found.1.0))
+    parents : {A : Type 0} (at : A → Character) (xs ys : List A) → ((c : A) → Has xs c → Has ys c) → (p : Option Stamp) → has_parent at xs p ≡ true → has_parent at ys p ≡ true
+    parents at xs ys f None e = refl
+    parents at xs ys f (Some s) e = let found = item_of_stamp at xs s e in subst (λ z. has_stamp at ys z ≡ true) (same_stamp-true (at found.0).stamp s found.1.1) (has_stamp_of at ys found.0 (f found.0 found.1.0))

@@ -37,10 +37,11 @@ parts_join author before mine floor (Insert run ∷ parts) log is t below rise v
     let joins = RunMayJoin-from_test itself before run.first run.after (rw is checks.0) in
     let cs = run_characters run.first run.after run.text author in
     let all_join : RunMayJoin itself (before ++ mine) run.first run.after = record {
-        above = each-append (λ x. x.stamp.replica ≡ run.first.replica → x.stamp.counter < run.first.counter) before mine joins.above
-            (each-imply (λ c. c.stamp.counter < floor) (λ x. x.stamp.replica ≡ run.first.replica → x.stamp.counter < run.first.counter) (λ x l e. omega arith) mine below);
-        rooted = has_parent-append itself before mine run.after joins.rooted;
-        later = joins.later }
+      above = each-append (λ x. x.stamp.replica ≡ run.first.replica → x.stamp.counter < run.first.counter) before mine joins.above
+          (each-imply (λ c. c.stamp.counter < floor) (λ x. x.stamp.replica ≡ run.first.replica → x.stamp.counter < run.first.counter) (λ x l e. omega arith) mine below);
+      rooted = has_parent-append itself before mine run.after joins.rooted;
+      later = joins.later;
+    }
     in
     let longer : IsTree itself (before ++ (mine ++ cs)) = subst (IsTree itself) (append_assoc before mine cs) (IsTree-run itself (before ++ mine) run.first run.after cs t all_join (IsRun-run_characters run.first run.after run.text author)) in
     subst (λ l. IsTree itself (before ++ l)) (append_assoc mine cs (flat_map (part_inserts author) parts))

@@ -108,22 +108,22 @@ cells_at-visible log k whole part =
     let all = map (dated log) (births 1 log) in
     let old = filter (born_by k) all in
     let old_is : map character_of old ≡ (characters_in (take k log)).inserted =
-        ap (map character_of) (filter-map (dated log) (born_by k) (births 1 log)) ∙ map-map (dated log) character_of (filter (born_by k) (births 1 log)) ∙ births_to k log
+    ap (map character_of) (filter-map (dated log) (born_by k) (births 1 log)) ∙ map-map (dated log) character_of (filter (born_by k) (births 1 log)) ∙ births_to k log
     in
     let tree = IsTree-of_map character_of itself all (subst (IsTree itself) (sym (dated-characters log)) whole) in
     let old_tree = IsTree-of_map character_of itself old (subst (IsTree itself) (sym old_is) part) in
     let alive : AllByRecursion (λ c. lives k c ≡ not (is_erased (characters_in (take k log)).erased c.stamp)) (order character_of old) =
-        each-permutation (λ c. lives k c ≡ not (is_erased (characters_in (take k log)).erased c.stamp)) old (order character_of old) (order-permutation character_of old old_tree)
-        (each-filter (λ c. lives k c ≡ not (is_erased (characters_in (take k log)).erased c.stamp)) (born_by k) all
-        (each-map (dated log) (λ c. lives k c ≡ not (is_erased (characters_in (take k log)).erased c.stamp)) (births 1 log) (each_any (births 1 log) (λ c. death_to k log c.stamp))))
+    each-permutation (λ c. lives k c ≡ not (is_erased (characters_in (take k log)).erased c.stamp)) old (order character_of old) (order-permutation character_of old old_tree)
+    (each-filter (λ c. lives k c ≡ not (is_erased (characters_in (take k log)).erased c.stamp)) (born_by k) all
+    (each-map (dated log) (λ c. lives k c ≡ not (is_erased (characters_in (take k log)).erased c.stamp)) (births 1 log) (each_any (births 1 log) (λ c. death_to k log c.stamp))))
     in
     ap (map character_of) (filter-both (born_by k) (lives k) (order character_of all) ∙ ap (filter (lives k)) (sym (order-filter character_of (born_by k) all tree old_tree)) ∙ filter-same (lives k) (λ c. not (is_erased (characters_in (take k log)).erased c.stamp)) (order character_of old) alive)
     ∙ sym (filter-map character_of (λ c. not (is_erased (characters_in (take k log)).erased c.stamp)) (order character_of old))
     ∙ ap (filter (λ c. not (is_erased (characters_in (take k log)).erased c.stamp))) (sym (order-map character_of itself old) ∙ ap (order itself) old_is)
   where
-  each_any : {A : Type 0} {P : A → Type 0} (xs : List A) → ((x : A) → P x) → AllByRecursion P xs
-  each_any [] h = tt
-  each_any (x ∷ xs) h = (h x, each_any xs h)
+    each_any : {A : Type 0} {P : A → Type 0} (xs : List A) → ((x : A) → P x) → AllByRecursion P xs
+    each_any [] h = tt
+    each_any (x ∷ xs) h = (h x, each_any xs h)
 
 map_keeps_length : {A B : Type 0} (f : A → B) (xs : List A) → length (map f xs) ≡ length xs
 map_keeps_length f xs = simp Rattle.std.proofs.lemmas.List.length-map

@@ -1,5 +1,7 @@
 pub mod Cells
+pub mod CheckedLemmas
 pub mod Each
+pub mod Erase
 pub mod Exits
 pub mod Filters
 pub mod Growth
@@ -13,5 +15,6 @@ pub mod Pushed
 pub mod Rising
 pub mod Runs
 pub mod Scan
+pub mod SeenLemmas
 pub mod Sets
 pub mod Tree

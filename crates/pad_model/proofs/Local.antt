@@ -84,10 +84,10 @@ stamp_at-inserted set i s t h =
     let there = Has-permutation (order itself set.inserted) set.inserted found.0 (IsPermutation-sym set.inserted (order itself set.inserted) (order-permutation itself set.inserted t)) kept.0 in
     subst (λ z. has_stamp itself set.inserted z ≡ true) found.1.1 (has_stamp_of itself set.inserted found.0 there)
   where
-  shown_has : (xs : List Character) (i : ℕ) (s : Stamp) → option_map (λ c. c.stamp) (slice_get xs i) ≡ Some s → (c : Character) × (Has xs c × (c.stamp ≡ s))
-  shown_has [] i s h = absurd (cc)
-  shown_has (x ∷ xs) zero s h = (x, (inl refl, cc))
-  shown_has (x ∷ xs) (suc i) s h = let more = shown_has xs i s h in (more.0, (inr more.1.0, more.1.1))
+    shown_has : (xs : List Character) (i : ℕ) (s : Stamp) → option_map (λ c. c.stamp) (slice_get xs i) ≡ Some s → (c : Character) × (Has xs c × (c.stamp ≡ s))
+    shown_has [] i s h = absurd (cc)
+    shown_has (x ∷ xs) zero s h = (x, (inl refl, cc))
+    shown_has (x ∷ xs) (suc i) s h = let more = shown_has xs i s h in (more.0, (inr more.1.0, more.1.1))
 
 -- what the first operations insert, the log inserts
 pub has_parent-take : (log : List Op) (k : ℕ) (p : Option Stamp) → has_parent itself (characters_in (take k log)).inserted p ≡ true → has_parent itself (characters_in log).inserted p ≡ true

@@ -84,6 +84,7 @@ IsDistinct-of_map f at (x ∷ xs) d =
 -- items seen as a tree are one
 pub IsTree-of_map : {A B : Type 0} (f : A → B) (at : B → Character) (xs : List A) → IsTree at (map f xs) → IsTree (λ x. at (f x)) xs
 IsTree-of_map f at xs t = record {
-    distinct = IsDistinct-of_map f at xs t.distinct;
-    rooted = Rattle.pad_model.proofs.Each.each-imply (λ x. has_parent at (map f xs) (at (f x)).parent ≡ true) (λ x. has_parent (λ x. at (f x)) xs (at (f x)).parent ≡ true) (λ x h. sym (has_parent-map f at xs (at (f x)).parent) ∙ h) xs (each-of_map f (λ y. has_parent at (map f xs) (at y).parent ≡ true) xs t.rooted);
-    later = each-of_map f (λ y. counter_of (at y).parent < (at y).stamp.counter) xs t.later }
+  distinct = IsDistinct-of_map f at xs t.distinct;
+  rooted = Rattle.pad_model.proofs.Each.each-imply (λ x. has_parent at (map f xs) (at (f x)).parent ≡ true) (λ x. has_parent (λ x. at (f x)) xs (at (f x)).parent ≡ true) (λ x h. sym (has_parent-map f at xs (at (f x)).parent) ∙ h) xs (each-of_map f (λ y. has_parent at (map f xs) (at y).parent ≡ true) xs t.rooted);
+  later = each-of_map f (λ y. counter_of (at y).parent < (at y).stamp.counter) xs t.later;
+}

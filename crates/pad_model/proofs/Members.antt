@@ -25,9 +25,10 @@ has_parent-permutation at xs ys (Some p) h = list_any-IsPermutation (λ x. same_
 -- a tree stays one in another order
 pub IsTree-permutation : {A : Type 0} (at : A → Character) (xs ys : List A) → IsPermutation xs ys → IsTree at xs → IsTree at ys
 IsTree-permutation at xs ys h t = record {
-    distinct = distinct-permutation at xs ys h t.distinct;
-    rooted = each-permutation (λ c. has_parent at ys (at c).parent ≡ true) xs ys h (each-imply (λ c. has_parent at xs (at c).parent ≡ true) (λ c. has_parent at ys (at c).parent ≡ true) (λ c e. sym (has_parent-permutation at xs ys (at c).parent h) ∙ e) xs t.rooted);
-    later = each-permutation (λ c. counter_of (at c).parent < (at c).stamp.counter) xs ys h t.later }
+  distinct = distinct-permutation at xs ys h t.distinct;
+  rooted = each-permutation (λ c. has_parent at ys (at c).parent ≡ true) xs ys h (each-imply (λ c. has_parent at xs (at c).parent ≡ true) (λ c. has_parent at ys (at c).parent ≡ true) (λ c e. sym (has_parent-permutation at xs ys (at c).parent h) ∙ e) xs t.rooted);
+  later = each-permutation (λ c. counter_of (at c).parent < (at c).stamp.counter) xs ys h t.later;
+}
 
 -- what is older than c hangs not below c
 pub not_below : {A : Type 0} (at : A → Character) (c x : A) → counter_of (at x).parent < (at x).stamp.counter → newer (at c).stamp (at x).stamp ≡ true → same_parent (at x).parent (Some (at c).stamp) ≡ false
@@ -47,12 +48,12 @@ rising_front at (x ∷ w) c rest r =
 older_in_front : {A : Type 0} (at : A → Character) (w : List A) (c : A) (rest : List A) (q : Stamp) → IsRising at (c ∷ rest) → newer (at c).stamp q ≡ true → has_stamp at (w ++ c ∷ rest) q ≡ true → has_stamp at w q ≡ true
 older_in_front at w c rest q r older h =
     let first : same_stamp (at c).stamp q ≡ false =
-        split (same_stamp (at c).stamp q) (λ e. absurd (both_ways _ (newer-irrefl q) (subst (λ s. newer s q ≡ true) (same_stamp-true (at c).stamp q e) older))) (λ e. e)
+    split (same_stamp (at c).stamp q) (λ e. absurd (both_ways _ (newer-irrefl q) (subst (λ s. newer s q ≡ true) (same_stamp-true (at c).stamp q e) older))) (λ e. e)
     in
     let others : list_any (λ x. same_stamp (at x).stamp q) rest ≡ false =
-        none_found (λ x. same_stamp (at x).stamp q) rest
-        (each-imply (λ y. newer (at y).stamp (at c).stamp ≡ true) (λ y. same_stamp (at y).stamp q ≡ false)
-        (λ y n. split (same_stamp (at y).stamp q) (λ e. absurd (both_ways _ (newer-asym (at c).stamp q older) (subst (λ s. newer s (at c).stamp ≡ true) (same_stamp-true (at y).stamp q e) n))) (λ e. e)) rest r.0)
+    none_found (λ x. same_stamp (at x).stamp q) rest
+    (each-imply (λ y. newer (at y).stamp (at c).stamp ≡ true) (λ y. same_stamp (at y).stamp q ≡ false)
+    (λ y n. split (same_stamp (at y).stamp q) (λ e. absurd (both_ways _ (newer-asym (at c).stamp q older) (subst (λ s. newer s (at c).stamp ≡ true) (same_stamp-true (at y).stamp q e) n))) (λ e. e)) rest r.0)
     in
     let behind : has_stamp at (c ∷ rest) q ≡ false = or_from _ _ first others in
     elim (Rattle.std.proofs.lemmas.Bool.or_cases _ _ (sym (list_any-append (λ x. same_stamp (at x).stamp q) w (c ∷ rest)) ∙ h)) [
@@ -76,7 +77,7 @@ newest_step at w c rest r t h =
     let walked : has_parent at (walk_rising at w None) (at c).parent ≡ true = sym (has_parent-permutation at w (walk_rising at w None) (at c).parent h) ∙ here in
     let apart = distinct-permutation at w (walk_rising at w None) h (distinct-left at w (c ∷ rest) t.distinct) in
     let is : walk_rising at (w ++ c ∷ []) None ≡ put at (at c).parent (at c).stamp (c ∷ []) (walk_rising at w None) =
-        ap (λ u. walk_rising at u None) (sym (put_rising_last at c w front.0)) ∙ walk-put at (at c).parent c w None refl front.1 below ∙ everywhere-put at (at c).parent c (walk_rising at w None) walked mine apart
+    ap (λ u. walk_rising at u None) (sym (put_rising_last at c w front.0)) ∙ walk-put at (at c).parent c w None refl front.1 below ∙ everywhere-put at (at c).parent c (walk_rising at w None) walked mine apart
     in
     rw is
     (IsPermutation-trans (w ++ c ∷ []) (c ∷ w) _ (IsPermutation-to_front w c)
@@ -98,8 +99,8 @@ pub order-push : {A : Type 0} (at : A → Character) (s : List A) (c : A) → Is
 order-push at s c t j =
     let all = order-permutation at s t in
     let childless : AllByRecursion (λ x. same_parent (at x).parent (Some (at c).stamp) ≡ false) s =
-        each-imply (λ x. has_parent at s (at x).parent ≡ true) (λ x. same_parent (at x).parent (Some (at c).stamp) ≡ false)
-        (λ x h. split (same_parent (at x).parent (Some (at c).stamp)) (λ e. absurd (both_ways _ j.fresh (subst (λ p. has_parent at s p ≡ true) (same_parent-true (at x).parent (at c).stamp e) h))) (λ e. e)) s t.rooted
+    each-imply (λ x. has_parent at s (at x).parent ≡ true) (λ x. same_parent (at x).parent (Some (at c).stamp) ≡ false)
+    (λ x h. split (same_parent (at x).parent (Some (at c).stamp)) (λ e. absurd (both_ways _ j.fresh (subst (λ p. has_parent at s p ≡ true) (same_parent-true (at x).parent (at c).stamp e) h))) (λ e. e)) s t.rooted
     in
     ap (λ u. walk_rising at u None) (rising-push at s c)
     ∙ walk-put at (at c).parent c (rising at s) None refl (IsRising-rising at s t.distinct) (each-permutation (λ x. same_parent (at x).parent (Some (at c).stamp) ≡ false) s (rising at s) (rising-permutation at s) childless)

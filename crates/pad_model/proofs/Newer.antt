@@ -55,10 +55,10 @@ pub newer-total : (a b : Stamp) → newer a b ≡ false → newer b a ≡ false 
 newer-total a b p q =
     elim (cases_order a.counter b.counter) [
       | inl e ↦ elim (cases_order a.replica b.replica) [
-          | inl f ↦ same_stamp-true a b (and_from _ _ (eq-eqb _ _ e) (eq-eqb _ _ f))
-          | inr (inl f) ↦ absurd (both_ways _ q (newer_from b a (inr (omega (arith, e), f))))
-          | inr (inr f) ↦ absurd (both_ways _ p (newer_from a b (inr (e, f))))
-        ]
+        | inl f ↦ same_stamp-true a b (and_from _ _ (eq-eqb _ _ e) (eq-eqb _ _ f))
+        | inr (inl f) ↦ absurd (both_ways _ q (newer_from b a (inr (omega (arith, e), f))))
+        | inr (inr f) ↦ absurd (both_ways _ p (newer_from a b (inr (e, f))))
+      ]
       | inr (inl f) ↦ absurd (both_ways _ q (newer_of_counter b a f))
       | inr (inr f) ↦ absurd (both_ways _ p (newer_of_counter a b f))
     ]

@@ -85,10 +85,10 @@ erased_there before (op ∷ more) s k c e =
     (λ f.
     let wide = flat_map-append inserted_by before (op ∷ []) in
     let there : has_stamp itself (characters_in before).inserted s ≡ true =
-        elim (or_cases _ _ (sym (list_any-append (λ x. same_stamp x s) (flat_map erased_by before) (flat_map erased_by (op ∷ []))) ∙ subst (λ l. is_erased l s ≡ true) (flat_map-append erased_by before (op ∷ [])) f)) [
-          | inl old ↦ k old
-          | inr new ↦ parts_erase op.parts before s (and_parts _ _ c.1).0 (subst (λ l. is_erased l s ≡ true) (append-nil (erased_by op)) new)
-        ]
+    elim (or_cases _ _ (sym (list_any-append (λ x. same_stamp x s) (flat_map erased_by before) (flat_map erased_by (op ∷ []))) ∙ subst (λ l. is_erased l s ≡ true) (flat_map-append erased_by before (op ∷ [])) f)) [
+      | inl old ↦ k old
+      | inr new ↦ parts_erase op.parts before s (and_parts _ _ c.1).0 (subst (λ l. is_erased l s ≡ true) (append-nil (erased_by op)) new)
+    ]
     in
     subst (λ l. has_stamp itself l s ≡ true) (sym wide) (list_any-append (λ x. same_stamp x.stamp s) (characters_in before).inserted (flat_map inserted_by (op ∷ [])) ∙ Rattle.std.proofs.lemmas.Bool.or_left _ _ there))
     c.2 (subst (λ l. is_erased (characters_in l).erased s ≡ true) (sym (append_assoc before (op ∷ []) more)) e))
@@ -104,7 +104,7 @@ run_undated log rev first p [] author h a = refl
 run_undated log rev first p (c ∷ text) author h a =
     let fresh = run_fresh itself (characters_in log).inserted first a in
     let kept : is_erased (characters_in log).erased first ≡ false =
-        split (is_erased (characters_in log).erased first) (λ e. absurd (both_ways _ fresh (erased-inserted log first h e))) (λ e. e)
+    split (is_erased (characters_in log).erased first) (λ e. absurd (both_ways _ fresh (erased-inserted log first h e))) (λ e. e)
     in
     ap₂ (λ (x : Cell) l. x ∷ l)
     (ap (λ d. let it : Cell = record { stamp = first; parent = p; character = c; author = author; born = rev; died = d } in it) (death_none 1 log first kept))
@@ -125,22 +125,22 @@ cells_of-push_run log op run h one checked valid =
     let joins = RunMayJoin-from_test itself (characters_in log).inserted run.first run.after part_valid in
     let same_dates : (xs : List Cell) → map (dated (log ++ op ∷ [])) xs ≡ map (dated log) xs = λ xs. dates xs log op none in
     let made : map (dated (log ++ op ∷ [])) (births 1 (log ++ op ∷ [])) ≡ old ++ new =
-        same_dates (births 1 (log ++ op ∷ []))
-        ∙ ap (map (dated log)) (births-append 1 log (op ∷ []) ∙ ap (λ l. births 1 log ++ l) (append-nil (map (born_at (1 + length log)) (inserted_by op)) ∙ ap₂ (λ n l. map (born_at n) l) (let e : 1 + length log ≡ length log + 1 = omega arith in e) mine))
-        ∙ map-append (dated log) (births 1 log) new
-        ∙ ap (λ l. old ++ l) (run_undated log (length log + 1) run.first run.after run.text (author_of op) h joins.above)
+    same_dates (births 1 (log ++ op ∷ []))
+    ∙ ap (map (dated log)) (births-append 1 log (op ∷ []) ∙ ap (λ l. births 1 log ++ l) (append-nil (map (born_at (1 + length log)) (inserted_by op)) ∙ ap₂ (λ n l. map (born_at n) l) (let e : 1 + length log ≡ length log + 1 = omega arith in e) mine))
+    ∙ map-append (dated log) (births 1 log) new
+    ∙ ap (λ l. old ++ l) (run_undated log (length log + 1) run.first run.after run.text (author_of op) h joins.above)
     in
     let grown : IsTree character_of (old ++ new) = subst (IsTree character_of) made (IsTree-of_map character_of itself (map (dated (log ++ op ∷ [])) (births 1 (log ++ op ∷ []))) (subst (IsTree itself) (sym (dated-characters (log ++ op ∷ []))) (tree_grows log op checked valid tree))) in
     let old_tree = IsTree-of_map character_of itself old (subst (IsTree itself) (sym (dated-characters log)) tree) in
     ap (order character_of) made
     ∙ order-permuted character_of (old ++ new) (cells_of log ++ new) (IsPermutation-append_left new old (cells_of log) (order-permutation character_of old old_tree)) grown
   where
-  dates : (xs : List Cell) (log : List Op) (op : Op) → erased_by op ≡ [] → map (dated (log ++ op ∷ [])) xs ≡ map (dated log) xs
-  dates [] log op none = refl
-  dates (x ∷ xs) log op none =
-      ap₂ (λ (y : Cell) l. y ∷ l)
-      (ap (λ d. let it : Cell = record { stamp = x.stamp; parent = x.parent; character = x.character; author = x.author; born = x.born; died = d } in it) (death_in-push 1 log op x.stamp none))
-      (dates xs log op none)
+    dates : (xs : List Cell) (log : List Op) (op : Op) → erased_by op ≡ [] → map (dated (log ++ op ∷ [])) xs ≡ map (dated log) xs
+    dates [] log op none = refl
+    dates (x ∷ xs) log op none =
+        ap₂ (λ (y : Cell) l. y ∷ l)
+        (ap (λ d. let it : Cell = record { stamp = x.stamp; parent = x.parent; character = x.character; author = x.author; born = x.born; died = d } in it) (death_in-push 1 log op x.stamp none))
+        (dates xs log op none)
 
 born_before : (rev : ℕ) (cs : List Character) (most : ℕ) → rev < most → AllByRecursion (λ (c : Cell). c.born < most) (map (born_at rev) cs)
 born_before rev [] most h = tt

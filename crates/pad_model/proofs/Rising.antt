@@ -40,8 +40,8 @@ IsRising-put at c (x ∷ xs) r f =
     (λ e. rw e ((e, each-imply (λ y. newer (at y).stamp (at x).stamp ≡ true) (λ y. newer (at y).stamp (at c).stamp ≡ true) (λ y h. newer-trans (at y).stamp (at x).stamp (at c).stamp h e) xs r.0), r))
     (λ e. rw e
     (let younger : newer (at c).stamp (at x).stamp ≡ true =
-        split (newer (at c).stamp (at x).stamp) (λ h. h)
-        (λ h. absurd (Rattle.std.proofs.lemmas.Bool.both_ways _ f.0 (rw (newer-total (at x).stamp (at c).stamp e h) (same_stamp-refl (at c).stamp))))
+    split (newer (at c).stamp (at x).stamp) (λ h. h)
+    (λ h. absurd (Rattle.std.proofs.lemmas.Bool.both_ways _ f.0 (rw (newer-total (at x).stamp (at c).stamp e h) (same_stamp-refl (at c).stamp))))
     in
     (each-permutation (λ y. newer (at y).stamp (at x).stamp ≡ true) (c ∷ xs) (put_rising at c xs) (put_rising-permutation at c xs) (younger, r.0), IsRising-put at c xs r.1 f.1)))
 

@@ -21,12 +21,13 @@ has_parent-append at xs ys (Some p) h = list_any-append (λ x. same_stamp (at x)
 -- a tree that an item joins is a tree
 pub IsTree-push : {A : Type 0} (at : A → Character) (s : List A) (c : A) → IsTree at s → MayJoin at s c → IsTree at (s ++ c ∷ [])
 IsTree-push at s c t j = record {
-    distinct = distinct-permutation at (c ∷ s) (s ++ c ∷ []) (IsPermutation-sym (s ++ c ∷ []) (c ∷ s) (IsPermutation-to_front s c))
-        (IsDistinct-from_parts at c s (each-imply (λ y. same_stamp (at y).stamp (at c).stamp ≡ false) (λ y. same_stamp (at c).stamp (at y).stamp ≡ false) (λ y e. same_stamp-sym (at c).stamp (at y).stamp ∙ e) s (each_fails (λ x. same_stamp (at x).stamp (at c).stamp) s j.fresh)) t.distinct);
-    rooted = each-append (λ x. has_parent at (s ++ c ∷ []) (at x).parent ≡ true) s (c ∷ [])
-        (each-imply (λ x. has_parent at s (at x).parent ≡ true) (λ x. has_parent at (s ++ c ∷ []) (at x).parent ≡ true) (λ x h. has_parent-append at s (c ∷ []) (at x).parent h) s t.rooted)
-        (has_parent-append at s (c ∷ []) (at c).parent j.rooted, tt);
-    later = each-append (λ x. counter_of (at x).parent < (at x).stamp.counter) s (c ∷ []) t.later (j.later, tt) }
+  distinct = distinct-permutation at (c ∷ s) (s ++ c ∷ []) (IsPermutation-sym (s ++ c ∷ []) (c ∷ s) (IsPermutation-to_front s c))
+      (IsDistinct-from_parts at c s (each-imply (λ y. same_stamp (at y).stamp (at c).stamp ≡ false) (λ y. same_stamp (at c).stamp (at y).stamp ≡ false) (λ y e. same_stamp-sym (at c).stamp (at y).stamp ∙ e) s (each_fails (λ x. same_stamp (at x).stamp (at c).stamp) s j.fresh)) t.distinct);
+  rooted = each-append (λ x. has_parent at (s ++ c ∷ []) (at x).parent ≡ true) s (c ∷ [])
+      (each-imply (λ x. has_parent at s (at x).parent ≡ true) (λ x. has_parent at (s ++ c ∷ []) (at x).parent ≡ true) (λ x h. has_parent-append at s (c ∷ []) (at x).parent h) s t.rooted)
+      (has_parent-append at s (c ∷ []) (at c).parent j.rooted, tt);
+  later = each-append (λ x. counter_of (at x).parent < (at x).stamp.counter) s (c ∷ []) t.later (j.later, tt);
+}
 
 pub put_nothing : {A : Type 0} (at : A → Character) (p : Option Stamp) (first : Stamp) (xs : List A) → put at p first [] xs ≡ xs
 put_nothing at None first [] = refl
@@ -72,11 +73,12 @@ run_fresh at s first h =
 -- what an item of a run leaves for the rest of it
 pub RunMayJoin-rest : {A : Type 0} (at : A → Character) (s : List A) (c : A) (first : Stamp) (p : Option Stamp) → (at c).stamp ≡ first → RunMayJoin at s first p → RunMayJoin at (s ++ c ∷ []) (next first) (Some first)
 RunMayJoin-rest at s c first p is j = record {
-    above = each-append (λ x. (at x).stamp.replica ≡ first.replica → (at x).stamp.counter < first.counter + 1) s (c ∷ [])
-        (each-imply (λ x. (at x).stamp.replica ≡ first.replica → (at x).stamp.counter < first.counter) (λ x. (at x).stamp.replica ≡ first.replica → (at x).stamp.counter < first.counter + 1) (λ x k e. let less : (at x).stamp.counter < first.counter = k e in omega arith) s j.above)
-        ((λ e. rw is (omega arith)), tt);
-    rooted = list_any-append (λ x. same_stamp (at x).stamp first) s (c ∷ []) ∙ Rattle.std.proofs.lemmas.Bool.or_right _ _ (or_left (same_stamp (at c).stamp first) false (rw is (same_stamp-refl first)));
-    later = omega arith }
+  above = each-append (λ x. (at x).stamp.replica ≡ first.replica → (at x).stamp.counter < first.counter + 1) s (c ∷ [])
+      (each-imply (λ x. (at x).stamp.replica ≡ first.replica → (at x).stamp.counter < first.counter) (λ x. (at x).stamp.replica ≡ first.replica → (at x).stamp.counter < first.counter + 1) (λ x k e. let less : (at x).stamp.counter < first.counter = k e in omega arith) s j.above)
+      ((λ e. rw is (omega arith)), tt);
+  rooted = list_any-append (λ x. same_stamp (at x).stamp first) s (c ∷ []) ∙ Rattle.std.proofs.lemmas.Bool.or_right _ _ (or_left (same_stamp (at c).stamp first) false (rw is (same_stamp-refl first)));
+  later = omega arith;
+}
 
 pub MayJoin-first : {A : Type 0} (at : A → Character) (s : List A) (c : A) (first : Stamp) (p : Option Stamp) → (at c).stamp ≡ first → (at c).parent ≡ p → RunMayJoin at s first p → MayJoin at s c
 MayJoin-first at s c first p is under j = record { fresh = rw is (run_fresh at s first j.above); rooted = rw under j.rooted; later = rw (is, under) j.later }

@@ -99,8 +99,8 @@ everywhere_behind at p c (x ∷ xs) y d h =
     (λ e. rw e (ap (λ l. x ∷ l) (everywhere_behind at p c xs y (IsDistinct-parts at x xs d).1 rest)))
     (λ e. rw e (ap (λ l. x ∷ l) (everywhere_behind at p c xs y (IsDistinct-parts at x xs d).1 rest)))))
   where
-  newer_not : {A : Type 0} (at : A → Character) (p : Stamp) (c x : A) → newer (at c).stamp p ≡ true → same_stamp (at x).stamp p ≡ true → newer (at x).stamp (at c).stamp ≡ false
-  newer_not at p c x y same = rw (same_stamp-true (at x).stamp p same) (newer-asym (at c).stamp p y)
+    newer_not : {A : Type 0} (at : A → Character) (p : Stamp) (c x : A) → newer (at c).stamp p ≡ true → same_stamp (at x).stamp p ≡ true → newer (at x).stamp (at c).stamp ≡ false
+    newer_not at p c x y same = rw (same_stamp-true (at x).stamp p same) (newer-asym (at c).stamp p y)
 
 pub scan_from-permutation : {A : Type 0} (at : A → Character) (first : Stamp) (block xs : List A) → IsPermutation (block ++ xs) (scan_from at first block xs)
 scan_from-permutation at first block [] = rw append-nil (IsPermutation-refl block)

@@ -1,9 +1,14 @@
 -- The cells of a sequence: its characters in preorder, those that are erased included, each with its birth and its death.
-use Rattle.std.specs.Prelude.{◌≡◌, ℕ, ◌+◌, ◌≤◌, Bool, true, not, ◌&&◌, ◌==◌, nat_lt, nat_le, if◌then◌else◌, List, ◌++◌, length, Option, Some, None, Result, Ok, Err, map, filter, fold, max, slice_get, option_map}
+use Rattle.std.specs.Prelude.{◌≡◌, ℕ, ◌+◌, ◌≤◌, Bool, true, not, ◌&&◌, ◌==◌, nat_lt, nat_le, if◌then◌else◌, List, ◌++◌, length, Option, Some, None, Result, Ok, Err, map, filter, fold, max, slice_get, option_map, flat_map, is_none, count_by, take, drop}
 use Rattle.pad_model.specs.Stamp.{Stamp}
 use Rattle.pad_model.specs.Character.{Character, run_characters}
 use Rattle.pad_model.specs.Legal.{IsTree}
-use Rattle.pad_model.specs.Log.{run_may_join}
+use Rattle.pad_model.specs.Log.{run_may_join, has_spans, stands_before}
+use Rattle.pad_model.specs.Legal.{has_stamp}
+use Rattle.pad_model.specs.Operation.{span_stamps}
+use Rattle.pad_model.specs.Visible.{is_erased, runs, spans, shown_before, shown_through}
+use Rattle.pad_model.specs.declared.op.Span.{Span}
+use Rattle.pad_model.specs.declared.who.AuthorRun.{AuthorRun}
 use Rattle.pad_model.specs.Order.{order}
 use Rattle.pad_model.specs.declared.who.Author.{Author}
 use Rattle.pad_model.specs.declared.op.Run.{Run}
@@ -64,6 +69,52 @@ last_of replica cells = fold (λ most c. if c.stamp.replica == replica then max 
 -- no birth and no death is later than a revision
 abbrev pub IsBy : ℕ → Cell → Type 0
 IsBy rev cell = (cell.born ≤ rev) × ((died : ℕ) → cell.died ≡ Some died → died ≤ rev)
+
+-- whether spans name a cell
+abbrev pub is_named : List Span → Cell → Bool
+is_named spans cell = is_erased (flat_map span_stamps spans) cell.stamp
+
+-- whether a cell did not die yet
+abbrev pub is_alive : Cell → Bool
+is_alive cell = is_none cell.died
+
+-- whether a deletion of these spans hides a cell anew
+abbrev pub is_hidden_by : List Span → Cell → Bool
+is_hidden_by spans cell = is_named spans cell && is_alive cell
+
+-- a cell after a deletion: what it hides anew dies at its revision
+abbrev pub erased_at : ℕ → List Span → Cell → Cell
+erased_at rev spans cell = if is_hidden_by spans cell then record cell { died = Some rev } else cell
+
+-- the cells after a deletion
+abbrev pub without_spans : ℕ → List Span → List Cell → List Cell
+without_spans rev spans cells = map (erased_at rev spans) cells
+
+-- what a deletion answers, and the cells after it
+abbrev pub delete_spans : ℕ → List Span → List Cell → Result ℕ Refusal × List Cell
+delete_spans rev spans cells =
+    if has_spans character_of cells spans then (Ok (count_by (is_hidden_by spans) cells), without_spans rev spans cells) else (Err PeerFault, cells)
+
+-- the author runs at a revision
+abbrev pub runs_at : ℕ → List Cell → List AuthorRun
+runs_at rev cells = runs (map (λ c. c.author) (cells_at rev cells))
+
+-- the spans of n visible characters of a revision from a place on
+abbrev pub spans_at : ℕ → List Cell → ℕ → ℕ → List Span
+spans_at rev cells at n = spans (map (λ c. c.stamp) (take n (drop at (cells_at rev cells))))
+
+-- how many cells visible at a revision stand before a stamp, if it is there
+abbrev pub before_at : ℕ → List Cell → Stamp → Option ℕ
+before_at rev cells a = if has_stamp character_of cells a then Some (shown_before character_of (shown_at rev) cells a) else None
+
+-- how many cells visible at a revision stand up to and including a stamp, if it is there
+abbrev pub through_at : ℕ → List Cell → Stamp → Option ℕ
+through_at rev cells a = if has_stamp character_of cells a then Some (shown_through character_of (shown_at rev) cells a) else None
+
+-- whether a is b or stands before it, if both are there
+abbrev pub is_before : List Cell → Stamp → Stamp → Option Bool
+is_before cells a b =
+    if has_stamp character_of cells a && has_stamp character_of cells b then Some (stands_before character_of cells a b) else None
 
 -- the cells form a tree of insertions and stand in its preorder
 pub record IsInOrder (cells : List Cell) : Type 0 where

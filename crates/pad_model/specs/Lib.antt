@@ -14,5 +14,6 @@ pub mod Scan
 pub mod Seen
 pub mod Stamp
 pub mod Subsequence
+pub mod VectorLaws
 pub mod Views
 pub mod Visible

@@ -4,53 +4,44 @@ ghost use Rattle.pad_model.specs.Laws.{TreeLaw, UniquenessLaw, MembersLaw, SetLa
 /// The walk is the textbook's preorder (Attiya and others 2016).
 pub fn tree_law()
     ensures { TreeLaw }
-{
-}
+{}
 
 /// Nothing but the walk is that preorder.
 pub fn uniqueness_law()
     ensures { UniquenessLaw }
-{
-}
+{}
 
 /// The order has just the characters of the set, each once.
 pub fn members_law()
     ensures { MembersLaw }
-{
-}
+{}
 
 /// The order depends on the set of characters alone.
 pub fn set_law()
     ensures { SetLaw }
-{
-}
+{}
 
 /// A tree's order keeps the order of each tree inside it: the strong list specification (Attiya and others 2016).
 pub fn subset_law()
     ensures { SubsetLaw }
-{
-}
+{}
 
 /// What was there at an earlier time can be read from the order of today.
 pub fn revision_law()
     ensures { RevisionLaw }
-{
-}
+{}
 
 /// Where RGA's scan puts a character is its place in the preorder (Roh and others 2011).
 pub fn scan_law()
     ensures { ScanLaw }
-{
-}
+{}
 
 /// A text that is inserted at once is one block of the order.
 pub fn run_law()
     ensures { RunLaw }
-{
-}
+{}
 
 /// A local insertion stands right behind the character that it was typed after.
 pub fn newest_law()
     ensures { NewestLaw }
-{
-}
+{}

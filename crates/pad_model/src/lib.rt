@@ -4,6 +4,7 @@
 pub mod laws;
 mod limits;
 mod name;
+mod old_wire;
 mod op;
 mod refusal;
 mod row;
@@ -11,6 +12,7 @@ mod seen;
 mod sequence;
 mod stamp;
 mod text;
+pub mod vector_laws;
 mod who;
 
 pub use limits::{
@@ -18,6 +20,7 @@ pub use limits::{
     MAX_PARTS, MAX_REPLICA, MAX_TEXT, OLD_COUNTER, OLD_REPLICA,
 };
 pub use name::{Name, is_well_formed_name};
+pub use old_wire::{op_in_v1, seen_in_v1};
 pub use op::{Op, OpName, Part, Run, Span};
 pub use refusal::Refusal;
 pub use row::Row;

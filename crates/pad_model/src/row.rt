@@ -1,4 +1,4 @@
-ghost use Rattle.std.specs.Prelude.{◌≡◌, ◌<◌, [], ◌∷◌, ◌++◌, length, IfOk, OnErr, OnOk, slice_get, option_copied};
+ghost use Rattle.std.specs.Prelude.{◌≡◌, ◌<◌, [], ◌∷◌, ◌++◌, length, IfOk, IsTrue, OnErr, OnOk, ◌↔◌, slice_get, option_copied};
 ghost use Rattle.std.specs.Cmp.Lexicographic.{pointwise, lists_per};
 ghost use Rattle.std.specs.List.{AllZip};
 
@@ -60,6 +60,19 @@ impl<T> Row<T> {
         self.items.len()
     }
 
+    pub fn is_empty(&self) -> bool
+        ensures { IsTrue result ↔ (self.now ≡ []) }
+    {
+        self.items.is_empty()
+    }
+
+    /// The item at a place, from 0.
+    pub fn get(&self, place: usize) -> Option<&T>
+        ensures { option_copied result ≡ slice_get self.now place }
+    {
+        self.items.get(place)
+    }
+
     pub fn as_slice(&self) -> &[T]
         ensures { result.now ≡ self.now }
     {
@@ -74,6 +87,24 @@ impl<T> Row<T> {
         ensures err { OnErr result (self.new ≡ self.old) }
     {
         self.items.push(item)?;
+        Ok(())
+    }
+}
+
+#[cfg(test)]
+mod tests {
+    use super::*;
+    use std::test::Fail;
+
+    #[test]
+    fn gives_its_items(rt: HostRuntime) -> Result<(), Fail> {
+        let mut row: Row<u16> = Row::new(rt.alloc());
+        assert_eq!(rt; row.is_empty(), true);
+        row.push(7)?;
+        row.push(9)?;
+        assert_eq!(rt; row.get(1), Some(&9));
+        assert_eq!(rt; row.get(2), None);
+        assert_eq!(rt; row.clone()?, row);
         Ok(())
     }
 }

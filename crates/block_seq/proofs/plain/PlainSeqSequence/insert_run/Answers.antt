@@ -11,14 +11,14 @@ use Rattle.block_seq.proofs.plain.PlainSeqSequence.insert_run.Goals as goal
 pub returns-then-not-may_join : goal.returns-then-not-may_join
 returns-then-not-may_join c =
     let refused : run_may_join kept_character c.self.inside.cells.items c.args.run.now.first c.args.run.now.after ≡ false =
-        ap (λ l. run_may_join kept_character l c.args.run.now.first c.args.run.now.after) (sym c.as_slice.ensures.value) ∙ sym c.may_join.ensures ∙ c.if-not-may_join.true
+    ap (λ l. run_may_join kept_character l c.args.run.now.first c.args.run.now.after) (sym c.as_slice.ensures.value) ∙ sym c.may_join.ensures ∙ c.if-not-may_join.true
     in
     inr (insert_run-fault c.args.rev c.args.run.now c.args.author.now c.args.self.now (may_join_view c.self.inside.authors.items c.self.inside.cells.items c.args.self.now c.args.run.now.first c.args.run.now.after false c.self.view_is refused))
 
 pub returns-then-len-gt-MAX_CHARACTERS : goal.returns-then-len-gt-MAX_CHARACTERS
 returns-then-len-gt-MAX_CHARACTERS c =
     let joined : run_may_join kept_character c.self.inside.cells.items c.args.run.now.first c.args.run.now.after ≡ true =
-        ap (λ l. run_may_join kept_character l c.args.run.now.first c.args.run.now.after) (sym c.as_slice.ensures.value) ∙ sym c.may_join.ensures ∙ c.if-not-may_join.false
+    ap (λ l. run_may_join kept_character l c.args.run.now.first c.args.run.now.after) (sym c.as_slice.ensures.value) ∙ sym c.may_join.ensures ∙ c.if-not-may_join.false
     in
     let kept : length c.as_slice.result.now ≡ length c.self.inside.cells.items = ap length c.as_slice.ensures.value in
     inr (insert_run-full c.args.rev c.args.run.now c.args.author.now c.args.self.now (may_join_view c.self.inside.authors.items c.self.inside.cells.items c.args.self.now c.args.run.now.first c.args.run.now.after true c.self.view_is joined) (omega (arith, length-cells_of c.self.inside.authors.items c.self.inside.cells.items c.args.self.now c.self.view_is, kept, c.as_slice.ensures.len)))

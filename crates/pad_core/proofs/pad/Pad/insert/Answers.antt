@@ -8,7 +8,7 @@ pub returns-in-Some : goal.returns-in-Some
 returns-in-Some g c =
     let count : c.len-now.result ≡ length c.self.inside.log.items = omega arith in
     let refused : insert_refusal c.args.rev c.args.at c.args.text.now c.self.inside.log.items ≡ Some c.in-Some.refusal =
-        sym (refusal_is c.self.inside.log.items (g.S.Sequence.cells c.self.inside.sequence) c.len-now.result c.args.rev c.args.at c.args.text.now c.self.invariant.history c.self.invariant.kept count) ∙ sym c.refuse_insert.ensures ∙ c.in-Some.is
+    sym (refusal_is c.self.inside.log.items (g.S.Sequence.cells c.self.inside.sequence) c.len-now.result c.args.rev c.args.at c.args.text.now c.self.invariant.history c.self.invariant.kept count) ∙ sym c.refuse_insert.ensures ∙ c.in-Some.is
     in
     inr (insert_refused c.args.rev c.args.at c.args.text.now c.args.self.now c.in-Some.refusal (ap (λ m. insert_refusal c.args.rev c.args.at c.args.text.now m.log) (sym c.self.view_is) ∙ refused))
 
@@ -56,7 +56,7 @@ pub returns : goal.returns
 returns g c =
     let count : c.len-now.result ≡ length c.self.inside.log.items = omega arith in
     let none : insert_refusal c.args.rev c.args.at c.args.text.now c.self.inside.log.items ≡ None =
-        sym (refusal_is c.self.inside.log.items (g.S.Sequence.cells c.self.inside.sequence) c.len-now.result c.args.rev c.args.at c.args.text.now c.self.invariant.history c.self.invariant.kept count) ∙ sym c.refuse_insert.ensures ∙ c.in_default.is
+    sym (refusal_is c.self.inside.log.items (g.S.Sequence.cells c.self.inside.sequence) c.len-now.result c.args.rev c.args.at c.args.text.now c.self.invariant.history c.self.invariant.kept count) ∙ sym c.refuse_insert.ensures ∙ c.in_default.is
     in
     inr (ap (insert c.args.rev c.args.at c.args.text.now) (sym c.self.view_is)
     ∙ made_machine c.self.inside.owned c.self.inside.replica c.self.inside.log.items c.append_run.new.log.items c.args.rev c.args.at c.args.text.now c.in_ok-owner_name.field-0 c.in_ok-run.run' c.len-now.result c.in_ok-owner_name.ensures (made_done g c) count none c.in_default-append_run.ensures.log)

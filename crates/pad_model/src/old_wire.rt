@@ -1,0 +1,112 @@
+//! What the first version of the wire can say.
+ghost use Rattle.std.specs.Prelude.{◌≡◌};
+ghost use Rattle.std.specs.List.{list_all};
+ghost use Rattle.pad_model.specs.OldWire.{old_stamps, old_parent, old_part, seen_in_v1, op_in_v1};
+
+use crate::limits::{OLD_COUNTER, OLD_REPLICA};
+use crate::op::{Op, Part, Span};
+use crate::seen::Seen;
+use crate::stamp::Stamp;
+
+/// Whether the first version of the wire can say the operation.
+pub fn op_in_v1(op: &Op) -> bool
+    ensures { result ≡ op_in_v1 op.now }
+{
+    op.parts.len() == 1
+        && are_old_parts(op.parts.as_slice())
+        && op.name.origin <= OLD_REPLICA
+        && seen_in_v1(&op.seen)
+}
+
+/// Whether the first version of the wire can say the version vector.
+pub fn seen_in_v1(seen: &Seen) -> bool
+    ensures { result ≡ seen_in_v1 seen.now }
+{
+    seen.pairs().iter().all(|pair| pair.origin <= OLD_REPLICA)
+}
+
+fn are_old_parts(parts: &[Part]) -> bool
+    ensures { result ≡ list_all old_part parts.now }
+{
+    parts.iter().all(is_old_part)
+}
+
+fn is_old_part(part: &Part) -> bool
+    ensures { result ≡ old_part part.now }
+{
+    match part {
+        Part::Insert(run) => {
+            has_old_stamps(run.first, run.text.len() as u64) && is_old_parent(run.after)
+        }
+        Part::Delete(spans) => are_old_spans(spans.as_slice()),
+        Part::Comment { first, last, .. } => has_old_stamps(*first, 1) && has_old_stamps(*last, 1),
+        Part::Resolve { comment } => comment.origin <= OLD_REPLICA,
+    }
+}
+
+fn are_old_spans(spans: &[Span]) -> bool
+    ensures { result ≡ list_all (λ span. old_stamps span.first span.len) spans.now }
+{
+    spans
+        .iter()
+        .all(|span| has_old_stamps(span.first, span.len))
+}
+
+fn is_old_parent(parent: Option<Stamp>) -> bool
+    ensures { result ≡ old_parent parent }
+{
+    match parent {
+        None => true,
+        Some(stamp) => has_old_stamps(stamp, 1),
+    }
+}
+
+/// Whether this many stamps from the first on can be said.
+fn has_old_stamps(first: Stamp, len: u64) -> bool
+    ensures { result ≡ old_stamps first len }
+{
+    first.counter().saturating_add(len) <= OLD_COUNTER + 1 && first.replica() <= OLD_REPLICA
+}
+
+#[cfg(test)]
+mod tests {
+    use super::*;
+    use crate::name::Name;
+    use crate::op::OpName;
+    use crate::row::Row;
+    use std::alloc::Global;
+    use std::test::Fail;
+
+    fn deletion(alloc: Global, counter: u64, replica: u16) -> Result<Row<Part>, Fail> {
+        let mut spans = Row::new(alloc);
+        spans.push(Span {
+            first: Stamp::new(counter, replica)?,
+            len: 2,
+        })?;
+        let mut parts = Row::new(alloc);
+        parts.push(Part::Delete(spans))?;
+        Ok(parts)
+    }
+
+    #[test]
+    fn says_small_stamps(rt: HostRuntime) -> Result<(), Fail> {
+        let cases = [
+            (1_099_511_627_775, 255, true),
+            (1_099_511_627_776, 255, false),
+            (1, 256, false),
+        ];
+        for (counter, replica, said) in cases {
+            let op = Op {
+                name: OpName {
+                    origin: 255,
+                    number: 1,
+                },
+                seen: Seen::new(rt.alloc()),
+                author: Name::from_str(rt.alloc(), "ada")?,
+                parts: deletion(rt.alloc(), counter, replica)?,
+            };
+            assert_eq!(rt; (counter, op_in_v1(&op)), (counter, said));
+        }
+        Ok(())
+    }
+}

@@ -1,5 +1,5 @@
 -- The kept cells of a run.
-use Rattle.std.proofs.Common.{◌≡◌, ◌⊎◌, inl, inr, ℕ, zero, suc, ◌+◌, ◌<◌, Bool, true, List, [], ◌∷◌, ◌++◌, length, drop, get_or, Option, Some, None, refl, sym, ap, ap₂, ◌∙◌, subst, drop-cons, add-one, arith, length-append, filter, map, slice_get, option_map, IsPermutation}
+use Rattle.std.proofs.Common.{◌≡◌, ◌⊎◌, inl, inr, ℕ, zero, suc, ◌+◌, ◌<◌, Bool, true, false, cond, ◌||◌, ◌&&◌, ◌-◌, flat_map, Result, Ok, Err, count_by, List, [], ◌∷◌, ◌++◌, length, drop, get_or, Option, Some, None, refl, sym, ap, ap₂, ◌∙◌, subst, drop-cons, add-one, arith, length-append, filter, map, slice_get, option_map, IsPermutation}
 use Rattle.std.proofs.lemmas.List.{length-map, get_or_append_left}
 use Rattle.pad_model.specs.Stamp.{Stamp}
 use Rattle.pad_model.specs.Character.{next}
@@ -11,11 +11,23 @@ use Rattle.pad_model.specs.Scan.{put}
 use Rattle.pad_model.specs.declared.who.Author.{Author}
 use Rattle.pad_model.specs.declared.op.Run.{Run}
 use Rattle.pad_model.proofs.Each.{each-append, each-imply, each-permutation}
-use Rattle.pad_model.proofs.Maps.{filter-map, map-map, put-map, run_may_join-map}
+use Rattle.pad_model.proofs.Maps.{filter-map, list_any-map, map-map, put-map, run_may_join-map}
 use Rattle.pad_model.proofs.Places.{spliced, place_in, put-spliced}
 use Rattle.pad_model.proofs.Rising.{IsDistinct-nil}
 use Rattle.pad_model.proofs.Scan.{put-permutation}
 use Rattle.pad_model.proofs.Cells.{with_run-put, IsInOrder-with_run}
+use Rattle.std.specs.List.{list_all}
+use Rattle.pad_model.specs.Stamp.{same_stamp}
+use Rattle.pad_model.specs.Legal.{has_stamp}
+use Rattle.pad_model.specs.Log.{stands_before, has_spans}
+use Rattle.pad_model.specs.Operation.{stamps_from, span_stamps}
+use Rattle.pad_model.specs.declared.refusal.Refusal.TheVariants.{PeerFault}
+use Rattle.pad_model.specs.Visible.{shown_before, shown_through}
+use Rattle.pad_model.specs.Cell.{is_hidden_by, without_spans, delete_spans}
+use Rattle.pad_model.specs.declared.op.Span.{Span}
+use Rattle.pad_model.proofs.Newer.{split}
+use Rattle.pad_model.proofs.Erase.{IsInOrder-without}
+use Rattle.block_seq.specs.Plain.{is_hidden_by as kept_hidden, erased_at as kept_erased}
 use Rattle.block_seq.specs.Plain.{author_at, cell_of, cells_of, kept_character, AreKnown, IsPlain, is_shown, kept_run}
 
 -- a run from a place on begins with the character at the place
@@ -116,3 +128,93 @@ insert_joined old new a cells after now run i rev place block p is more here may
       subst (IsPlain new) (sym so) done.0,
       ap (cells_of new) so ∙ done.1 ∙ ap (λ who. with_run rev run who (cells_of new cells)) here.1 ∙ ap (with_run rev run a) (wide.1 ∙ is),
     )
+
+-- counting in front of a stamp, of the kept cells or of what they stand for
+pub shown_before-map : {A B : Type 0} (f : A → B) (at : B → Character) (shown : B → Bool) (xs : List A) (a : Stamp) → shown_before at shown (map f xs) a ≡ shown_before (λ x. at (f x)) (λ x. shown (f x)) xs a
+shown_before-map f at shown [] a = refl
+shown_before-map f at shown (x ∷ xs) a = ap (λ n. cond (same_stamp (at (f x)).stamp a) 0 (cond (shown (f x)) 1 0 + n)) (shown_before-map f at shown xs a)
+
+pub shown_through-map : {A B : Type 0} (f : A → B) (at : B → Character) (shown : B → Bool) (xs : List A) (a : Stamp) → shown_through at shown (map f xs) a ≡ shown_through (λ x. at (f x)) (λ x. shown (f x)) xs a
+shown_through-map f at shown [] a = refl
+shown_through-map f at shown (x ∷ xs) a = ap (λ n. cond (shown (f x)) 1 0 + cond (same_stamp (at (f x)).stamp a) 0 n) (shown_through-map f at shown xs a)
+
+pub stands_before-map : {A B : Type 0} (f : A → B) (at : B → Character) (xs : List A) (a b : Stamp) → stands_before at (map f xs) a b ≡ stands_before (λ x. at (f x)) xs a b
+stands_before-map f at [] a b = refl
+stands_before-map f at (x ∷ xs) a b =
+    ap₂ (λ h r. cond (same_stamp (at (f x)).stamp a) (same_stamp a b || h) r) (list_any-map f (λ y. same_stamp (at y).stamp b) xs) (stands_before-map f at xs a b)
+
+-- whether a stamp is among what the kept cells stand for
+pub has_view : (authors : List Author) (cells kept : List PlainCell) (now : List Cell) (s : Stamp) (b : Bool) → cells_of authors cells ≡ now → kept ≡ cells → b ≡ has_stamp kept_character kept s → has_stamp character_of now s ≡ b
+has_view authors cells kept now s b is same e =
+    ap (λ l. has_stamp character_of l s) (sym is) ∙ list_any-map (cell_of authors) (λ x. same_stamp x.stamp s) cells ∙ ap (λ l. has_stamp kept_character l s) (sym same) ∙ sym e
+
+-- a test that failed, and one that passed
+pub unless_has : {A : Type 0} (b t : Bool) (x : Option A) → t ≡ b → b ≡ false → None ≡ cond t x None
+unless_has b t x e f = rw (e, f) refl
+
+pub where_has : {A : Type 0} (b t : Bool) (x y : A) → t ≡ b → b ≡ true → x ≡ y → Some x ≡ cond t (Some y) None
+where_has b t x y e f h = rw (e, f) (ap Some h)
+
+-- a deletion of kept cells is one of what they stand for
+pub cells_of-erased : (authors : List Author) (rev : ℕ) (spans : List Span) (cells : List PlainCell) → cells_of authors (map (kept_erased rev spans) cells) ≡ without_spans rev spans (cells_of authors cells)
+cells_of-erased authors rev spans [] = refl
+cells_of-erased authors rev spans (c ∷ cells) =
+    ap₂ (λ (x : Cell) l. x ∷ l)
+    (split (kept_hidden spans c) (λ e. rw e refl) (λ e. rw e refl))
+    (cells_of-erased authors rev spans cells)
+
+pub AreKnown-erased : (authors : List Author) (rev : ℕ) (spans : List Span) (cells : List PlainCell) → AreKnown authors cells → AreKnown authors (map (kept_erased rev spans) cells)
+AreKnown-erased authors rev spans [] k = tt
+AreKnown-erased authors rev spans (c ∷ cells) k =
+    (split (kept_hidden spans c) (λ e. rw e k.0) (λ e. rw e k.0), AreKnown-erased authors rev spans cells k.1)
+
+pub IsPlain-erased : (authors : List Author) (rev : ℕ) (spans : List Span) (cells new : List PlainCell) → IsPlain authors cells → new ≡ map (kept_erased rev spans) cells → IsPlain authors new
+IsPlain-erased authors rev spans cells new p e =
+    rw e (record {
+      known = AreKnown-erased authors rev spans cells p.known;
+      order = subst IsInOrder (sym (cells_of-erased authors rev spans cells)) (IsInOrder-without rev spans (cells_of authors cells) p.order);
+    })
+
+-- how many are hidden, of the kept cells or of what they stand for
+pub hidden-cells_of : (authors : List Author) (spans : List Span) (cells : List PlainCell) → count_by (is_hidden_by spans) (cells_of authors cells) ≡ count_by (kept_hidden spans) cells
+hidden-cells_of authors spans cells = Rattle.std.proofs.lemmas.List.Folds.fold-map (λ a x. a + cond (is_hidden_by spans x) 1 0) (cell_of authors) 0 cells
+
+-- the rest of a span behind a character that is there
+pub span_step : (t : Stamp → Bool) (first : Stamp) (len place : ℕ) → place < len → t (record first { counter = first.counter + place }) ≡ true →
+    list_all t (stamps_from (record first { counter = first.counter + (place + 1) }) (len - (place + 1))) ≡ list_all t (stamps_from (record first { counter = first.counter + place }) (len - place))
+span_step t first len place h e =
+    let split_off : len - place ≡ suc (len - (place + 1)) = omega arith in
+    let behind : first.counter + (place + 1) ≡ first.counter + place + 1 = omega arith in
+    sym (ap (λ n. list_all t (stamps_from (let s : Stamp = record { counter = first.counter + place; replica = first.replica } in s) n)) split_off
+    ∙ ap (λ b. b && list_all t (stamps_from (let s : Stamp = record { counter = first.counter + place + 1; replica = first.replica } in s) (len - (place + 1)))) e
+    ∙ ap (λ k. list_all t (stamps_from (let s : Stamp = record { counter = k; replica = first.replica } in s) (len - (place + 1)))) (sym behind))
+
+-- two stamps that are there, or not both
+pub unless_both : {A : Type 0} (b s t : Bool) (x : Option A) → s ≡ true → t ≡ b → b ≡ false → None ≡ cond (s && t) x None
+unless_both b s t x e f g = rw (e, f, g) refl
+
+pub unless_first : {A : Type 0} (b s t : Bool) (x : Option A) → s ≡ b → b ≡ false → None ≡ cond (s && t) x None
+unless_first b s t x e g = rw (e, g) refl
+
+pub where_both : {A : Type 0} (s t : Bool) (x y : A) → s ≡ true → t ≡ true → x ≡ y → Some x ≡ cond (s && t) (Some y) None
+where_both s t x y e f h = rw (e, f) (ap Some h)
+
+-- whether the stamps of spans are among what the kept cells stand for
+pub has_spans-view : (authors : List Author) (cells kept : List PlainCell) (now : List Cell) (spans : List Span) (b : Bool) → cells_of authors cells ≡ now → kept ≡ cells → b ≡ has_spans kept_character kept spans → has_spans character_of now spans ≡ b
+has_spans-view authors cells kept now spans b is same e =
+    ap (λ l. has_spans character_of l spans) (sym is) ∙ stamps_same (flat_map span_stamps spans) ∙ ap (λ l. has_spans kept_character l spans) (sym same) ∙ sym e
+  where
+    stamps_same : (stamps : List Stamp) → list_all (λ s. has_stamp character_of (cells_of authors cells) s) stamps ≡ list_all (λ s. has_stamp kept_character cells s) stamps
+    stamps_same [] = refl
+    stamps_same (s ∷ stamps) = ap₂ (λ a b. a && b) (list_any-map (cell_of authors) (λ x. same_stamp x.stamp s) cells) (stamps_same stamps)
+
+-- what a deletion answers, case by case
+pub delete-fault : (rev : ℕ) (spans : List Span) (now : List Cell) → has_spans character_of now spans ≡ false → delete_spans rev spans now ≡ (Err PeerFault, now)
+delete-fault rev spans now e = rw e refl
+
+pub delete-done : (rev : ℕ) (spans : List Span) (authors : List Author) (cells new : List PlainCell) (now : List Cell) (hidden : ℕ) → cells_of authors cells ≡ now → has_spans character_of now spans ≡ true → new ≡ map (kept_erased rev spans) cells → hidden ≡ count_by (kept_hidden spans) cells →
+    delete_spans rev spans now ≡ (Ok hidden, cells_of authors new)
+delete-done rev spans authors cells new now hidden is e n h =
+    rw e (ap₂ (λ k l. (Ok k, l))
+    (ap (count_by (is_hidden_by spans)) (sym is) ∙ hidden-cells_of authors spans cells ∙ sym h)
+    (ap (without_spans rev spans) (sym is) ∙ sym (cells_of-erased authors rev spans cells) ∙ ap (cells_of authors) (sym n)))

@@ -1,11 +1,13 @@
 -- What the plain sequence keeps.
-use Rattle.std.specs.Prelude.{◌≡◌, ℕ, zero, suc, ◌+◌, ◌<◌, ◌≤◌, List, [], ◌∷◌, length, map, slice_index_or, Option, Some, None, Bool, ◌&&◌, nat_le}
+use Rattle.std.specs.Prelude.{ℕ, ◌<◌, List, [], ◌∷◌, length, map, slice_index_or, Option, Some, None, Bool, ◌&&◌, nat_le, if◌then◌else◌, is_none, flat_map}
 use Rattle.std.specs.List.{AllByRecursion}
 use Rattle.pad_model.specs.Cell.{Cell, IsInOrder, character_of, is_after}
 use Rattle.pad_model.specs.Character.{Character, next}
+use Rattle.pad_model.specs.Operation.{span_stamps}
 use Rattle.pad_model.specs.Stamp.{Stamp}
+use Rattle.pad_model.specs.Visible.{is_erased}
+use Rattle.pad_model.specs.declared.op.Span.{Span}
 use Rattle.pad_model.specs.declared.who.Author.{Author}
-use Rattle.pad_model.specs.declared.limits.TheConstants.{MAX_CHARACTERS}
 use Rattle.block_seq.specs.declared.place.PlainCell.{PlainCell}
 
 -- the author at a place of the list
@@ -42,3 +44,11 @@ abbrev pub kept_run : Stamp → Option Stamp → List ℕ → ℕ → ℕ → Li
 kept_run first parent [] author rev = []
 kept_run first parent (c ∷ text) author rev =
     record { stamp = first; parent = parent; character = c; author = author; born = rev; died = None } ∷ kept_run (next first) (Some first) text author rev
+
+-- whether a deletion of these spans hides a kept cell anew
+abbrev pub is_hidden_by : List Span → PlainCell → Bool
+is_hidden_by spans c = is_erased (flat_map span_stamps spans) c.stamp && is_none c.died
+
+-- a kept cell after a deletion
+abbrev pub erased_at : ℕ → List Span → PlainCell → PlainCell
+erased_at rev spans c = if is_hidden_by spans c then record c { died = Some rev } else c

@@ -2,6 +2,8 @@
 #![tactic(auto)]
 
 mod authors;
+mod erase;
+mod measure;
 mod place;
 mod plain;
 mod readers;

@@ -2,9 +2,11 @@
 //!
 //! It does the least that its contract asks, and stays as the model that tests compare every faster sequence with.
 use crate::authors::place_author;
+use crate::erase::{count_hidden, erase, has_spans};
+use crate::measure::{count_before, count_through, stands_before};
 use crate::place::{PlainCell, cells_of_run, has, may_join, place_of, splice};
 use crate::readers::{count_shown, greatest_counter, greatest_counter_of, shown_stamp, shown_text};
-use pad_model::{Author, CellView, MAX_CHARACTERS, Refusal, Run, Sequence, Stamp, Text};
+use pad_model::{Author, CellView, MAX_CHARACTERS, Refusal, Run, Sequence, Span, Stamp, Text};
 use std::alloc::{AllocError, Global};
 use std::marker::Model;
 
@@ -58,6 +60,15 @@ impl Sequence for PlainSeq {
         Ok(())
     }
 
+    fn delete_spans(&mut self, spans: &[Span], rev: u64) -> Result<u64, Refusal> {
+        if !has_spans(self.cells.as_slice(), spans) {
+            return Err(Refusal::PeerFault);
+        }
+        let hidden = count_hidden(self.cells.as_slice(), spans);
+        erase(self.cells.as_mut_slice(), spans, rev);
+        Ok(hidden as u64)
+    }
+
     fn len_at(&self, rev: u64) -> u64 {
         count_shown(self.cells.as_slice(), rev) as u64
     }
@@ -68,6 +79,33 @@ impl Sequence for PlainSeq {
 
     fn text_at(&self, alloc: Global, rev: u64) -> Result<Text, Refusal> {
         Ok(Text::from_vec(shown_text(alloc, self.cells.as_slice(), rev)?))
+    }
+
+    fn before(&self, stamp: Stamp, rev: u64) -> Option<u64> {
+        let cells = self.cells.as_slice();
+        if !has(cells, stamp) {
+            return None;
+        }
+        Some(count_before(cells, rev, stamp))
+    }
+
+    fn through(&self, stamp: Stamp, rev: u64) -> Option<u64> {
+        let cells = self.cells.as_slice();
+        if !has(cells, stamp) {
+            return None;
+        }
+        Some(count_through(cells, rev, stamp))
+    }
+
+    fn stands_before(&self, a: Stamp, b: Stamp) -> Option<bool> {
+        let cells = self.cells.as_slice();
+        if !has(cells, a) {
+            return None;
+        }
+        if !has(cells, b) {
+            return None;
+        }
+        Some(stands_before(cells, a, b))
     }
 
     fn has(&self, stamp: Stamp) -> bool {

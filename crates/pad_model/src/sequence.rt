@@ -1,13 +1,13 @@
 //! What a pad asks of the sequence that keeps its characters.
 ghost use Rattle.std.specs.Prelude.{◌≡◌, ℕ, ◌≤◌, ◌<◌, ◌↔◌, List, [], IsTrue, IfOk, Some, None, MatchOption, MatchResult, slice_get, option_map, length};
-ghost use Rattle.std.specs.List.{AllByRecursion};
+ghost use Rattle.std.specs.List.{AllByRecursion, list_all};
 ghost use Rattle.pad_model.specs.Answers.{Answers};
-ghost use Rattle.pad_model.specs.Cell.{Cell, IsBy, IsInOrder, cells_at, cell_stamp_at, character_of, clock_of, last_of, insert_run as insert_cells, text_at as cells_text};
-ghost use Rattle.pad_model.specs.Checked.{is_run};
+ghost use Rattle.pad_model.specs.Cell.{Cell, IsBy, IsInOrder, cells_at, cell_stamp_at, character_of, clock_of, last_of, delete_spans as delete_cells, insert_run as insert_cells, before_at, through_at, is_before, text_at as cells_text};
+ghost use Rattle.pad_model.specs.Checked.{is_run, is_span};
 ghost use Rattle.pad_model.specs.Legal.{has_stamp};
 ghost use Rattle.pad_model.specs.Views.{IsViewOf};
 
-use crate::op::Run;
+use crate::op::{Run, Span};
 use crate::refusal::Refusal;
 use crate::stamp::Stamp;
 use crate::text::Text;
@@ -52,6 +52,12 @@ pub trait Sequence: Drop {
         requires latest { AllByRecursion (IsBy rev) (cells self.old) }
         ensures { Answers (cells self.old) (insert_cells rev run.now author.now (cells self.old)) result (cells self.new) };
 
+    /// Erases the characters of the spans that are not erased yet, and answers their number.
+    fn delete_spans(&mut self, spans: &[Span], rev: u64) -> Result<u64, Refusal>
+        requires checked { IsTrue (list_all is_span spans.now) }
+        requires latest { AllByRecursion (IsBy rev) (cells self.old) }
+        ensures { Answers (cells self.old) (delete_cells rev spans.now (cells self.old)) result (cells self.new) };
+
     /// How many characters are visible.
     fn len_at(&self, rev: u64) -> u64
         ensures { result ≡ length (cells_at rev (cells self.now)) };
@@ -62,6 +68,18 @@ pub trait Sequence: Drop {
 
     fn text_at(&self, alloc: Global, rev: u64) -> Result<Text, Refusal>
         ensures { MatchResult result (λ text. text ≡ cells_text rev (cells self.now)) (λ e. e ≡ Refusal.Memory) };
+
+    /// How many visible characters stand before a character; None where it is missing.
+    fn before(&self, stamp: Stamp, rev: u64) -> Option<u64>
+        ensures { result ≡ before_at rev (cells self.now) stamp };
+
+    /// How many visible characters stand up to and including a character; None where it is missing.
+    fn through(&self, stamp: Stamp, rev: u64) -> Option<u64>
+        ensures { result ≡ through_at rev (cells self.now) stamp };
+
+    /// Whether `a` is `b` or stands before it, erased or not; None where one is missing.
+    fn stands_before(&self, a: Stamp, b: Stamp) -> Option<bool>
+        ensures { result ≡ is_before (cells self.now) a b };
 
     /// Whether a character is there, erased or not.
     fn has(&self, stamp: Stamp) -> bool

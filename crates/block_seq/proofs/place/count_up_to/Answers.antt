@@ -1,4 +1,4 @@
-use Rattle.std.proofs.Common.{sym, ◌∙◌, ap, ◌+◌}
+use Rattle.std.proofs.Common.{sym}
 use Rattle.pad_model.proofs.Places.{up_to-found, up_to-missing}
 use Rattle.block_seq.specs.Plain.{kept_character}
 use Rattle.block_seq.proofs.place.count_up_to.Goals as goal

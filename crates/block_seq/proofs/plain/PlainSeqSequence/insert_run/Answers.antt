@@ -1,10 +1,10 @@
-use Rattle.std.proofs.Common.{◌≡◌, ◌+◌, ◌≤◌, ◌<◌, ap, sym, subst, ◌∙◌, refl, true, false, inl, inr, length, arith, Ok}
-use Rattle.pad_model.specs.Cell.{insert_run, with_run}
+use Rattle.std.proofs.Common.{◌≡◌, ap, sym, ◌∙◌, true, false, inr, length, arith, Ok}
+use Rattle.pad_model.specs.Cell.{with_run}
 use Rattle.pad_model.specs.Log.{run_may_join}
 use Rattle.pad_model.proofs.Cells.{insert_run-fault, insert_run-full, insert_run-ok}
 use Rattle.pad_model.proofs.Places.{place_in}
 use Rattle.pad_model.proofs.Exits.{answers_memory}
-use Rattle.block_seq.specs.Plain.{IsPlain, cells_of, kept_character, author_at}
+use Rattle.block_seq.specs.Plain.{IsPlain, cells_of, kept_character}
 use Rattle.block_seq.proofs.Kept.{may_join_view, length-cells_of, grown, insert_joined}
 use Rattle.block_seq.proofs.plain.PlainSeqSequence.insert_run.Goals as goal
 

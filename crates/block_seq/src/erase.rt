@@ -1,0 +1,99 @@
+//! Erasing cells of the plain sequence by spans of stamps.
+ghost use Rattle.std.specs.Prelude.{◌≡◌, ℕ, ◌+◌, ◌≤◌, ◌<◌, ◌&&◌, IsTrue, length, map, count_by, flat_map, is_none, take};
+ghost use Rattle.std.specs.List.{list_all, list_any};
+ghost use Rattle.pad_model.specs.Checked.{is_span};
+ghost use Rattle.pad_model.specs.Legal.{has_stamp};
+ghost use Rattle.pad_model.specs.Log.{has_spans as holds_spans};
+ghost use Rattle.pad_model.specs.Operation.{span_stamps};
+ghost use Rattle.pad_model.specs.Visible.{is_erased};
+ghost use Rattle.pad_model.proofs.Erase.{in_span};
+ghost use Rattle.block_seq.specs.Plain.{kept_character, is_hidden_by, erased_at};
+
+use crate::place::{PlainCell, has};
+use pad_model::{Span, Stamp};
+
+/// Whether a stamp is one of a span's.
+fn covers(span: &Span, stamp: Stamp) -> bool
+    ensures { result ≡ in_span span.now.first span.now.len stamp }
+{
+    let first = span.first;
+    let counter = first.counter();
+    first.replica() == stamp.replica()
+        && counter <= stamp.counter()
+        && stamp.counter() - counter < span.len
+}
+
+/// Whether a stamp is one of some spans'.
+pub fn is_named(spans: &[Span], stamp: Stamp) -> bool
+    ensures { result ≡ is_erased (flat_map span_stamps spans.now) stamp }
+{
+    any_covers(spans, stamp)
+}
+
+fn any_covers(spans: &[Span], stamp: Stamp) -> bool
+    ensures { result ≡ list_any (λ span. in_span span.first span.len stamp) spans.now }
+{
+    spans.iter().any(|span| covers(span, stamp))
+}
+
+/// Whether each character of a span is among the cells.
+fn has_span(cells: &[PlainCell], span: &Span) -> bool
+    requires { IsTrue (is_span span.now) }
+    ensures { result ≡ list_all (λ s. has_stamp kept_character cells.now s) (span_stamps span.now) }
+{
+    for place in 0..span.len {
+        if !has(cells, span.first.plus(place)) {
+            return false;
+        }
+    }
+    true
+}
+
+/// Whether each character of some spans is among the cells.
+pub fn has_spans(cells: &[PlainCell], spans: &[Span]) -> bool
+    requires { IsTrue (list_all is_span spans.now) }
+    ensures { result ≡ holds_spans kept_character cells.now spans.now }
+{
+    for span in spans {
+        if !has_span(cells, span) {
+            return false;
+        }
+    }
+    true
+}
+
+/// Whether a deletion of the spans hides a cell anew.
+fn is_hidden(cell: &PlainCell, spans: &[Span]) -> bool
+    ensures { result ≡ is_hidden_by spans.now cell.now }
+{
+    is_named(spans, cell.stamp) && cell.died.is_none()
+}
+
+/// How many cells a deletion of the spans hides anew.
+pub fn count_hidden(cells: &[PlainCell], spans: &[Span]) -> usize
+    ensures { result ≡ count_by (is_hidden_by spans.now) cells.now }
+{
+    cells.iter().filter(|cell| is_hidden(cell, spans)).count()
+}
+
+/// A cell after a deletion.
+fn erased(cell: &PlainCell, spans: &[Span], rev: u64) -> PlainCell
+    ensures { result ≡ erased_at rev spans.now cell.now }
+{
+    let died = if is_hidden(cell, spans) {
+        Some(rev)
+    } else {
+        cell.died
+    };
+    PlainCell { died, ..*cell }
+}
+
+/// Marks the cells that a deletion hides anew.
+pub fn erase(cells: &mut [PlainCell], spans: &[Span], rev: u64)
+    ensures { cells.new ≡ map (erased_at rev spans.now) cells.old }
+{
+    for cell in cells.iter_mut() {
+        let after = erased(cell, spans, rev);
+        *cell = after;
+    }
+}

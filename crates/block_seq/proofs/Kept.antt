@@ -1,10 +1,10 @@
 -- The kept cells of a run.
-use Rattle.std.proofs.Common.{◌≡◌, ◌⊎◌, inl, inr, ℕ, zero, suc, ◌+◌, ◌<◌, Bool, true, false, cond, ◌||◌, ◌&&◌, ◌-◌, flat_map, Result, Ok, Err, count_by, List, [], ◌∷◌, ◌++◌, length, drop, get_or, Option, Some, None, refl, sym, ap, ap₂, ◌∙◌, subst, drop-cons, add-one, arith, length-append, filter, map, slice_get, option_map, IsPermutation}
-use Rattle.std.proofs.lemmas.List.{length-map, get_or_append_left}
+use Rattle.std.proofs.Common.{◌≡◌, ◌⊎◌, inl, inr, ℕ, zero, suc, ◌+◌, ◌<◌, Bool, true, false, cond, ◌||◌, ◌&&◌, ◌-◌, flat_map, Result, Ok, Err, count_by, List, [], ◌∷◌, ◌++◌, length, take, drop, get_or, Option, Some, None, refl, sym, ap, ap₂, ◌∙◌, subst, drop-cons, add-one, arith, length-append, filter, map, slice_get, option_map, IsPermutation}
+use Rattle.std.proofs.lemmas.List.{length-map, get_or_append_left, drop-map, take-map}
 use Rattle.pad_model.specs.Stamp.{Stamp}
 use Rattle.pad_model.specs.Character.{next}
 use Rattle.block_seq.specs.declared.place.PlainCell.{PlainCell}
-use Rattle.pad_model.specs.Character.{Character, run_characters}
+use Rattle.pad_model.specs.Character.{run_characters}
 use Rattle.pad_model.specs.Cell.{Cell, character_of, cells_at, cell_stamp_at, text_at, shown_at, born_at, with_run, IsInOrder}
 use Rattle.pad_model.specs.Log.{run_may_join}
 use Rattle.pad_model.specs.Scan.{put}
@@ -19,10 +19,9 @@ use Rattle.pad_model.proofs.Cells.{with_run-put, IsInOrder-with_run}
 use Rattle.std.specs.List.{list_all}
 use Rattle.pad_model.specs.Stamp.{same_stamp}
 use Rattle.pad_model.specs.Legal.{has_stamp}
-use Rattle.pad_model.specs.Log.{stands_before, has_spans}
+use Rattle.pad_model.specs.Log.{has_spans}
 use Rattle.pad_model.specs.Operation.{stamps_from, span_stamps}
 use Rattle.pad_model.specs.declared.refusal.Refusal.TheVariants.{PeerFault}
-use Rattle.pad_model.specs.Visible.{shown_before, shown_through}
 use Rattle.pad_model.specs.Cell.{is_hidden_by, without_spans, delete_spans}
 use Rattle.pad_model.specs.declared.op.Span.{Span}
 use Rattle.pad_model.proofs.Newer.{split}
@@ -57,6 +56,20 @@ cell_stamp_at-cells_of authors rev cells i =
 
 pub text_at-cells_of : (authors : List Author) (rev : ℕ) (cells : List PlainCell) → text_at rev (cells_of authors cells) ≡ map (λ c. c.character) (filter (is_shown rev) cells)
 text_at-cells_of authors rev cells = rw (cells_at-cells_of) (map-map (cell_of authors) (λ c. c.character) (filter (is_shown rev) cells))
+
+-- the authors of the cells that are visible
+pub authors_at-cells_of : (authors : List Author) (rev : ℕ) (cells : List PlainCell) (now : List Cell) → cells_of authors cells ≡ now → map (λ c. author_at authors c.author) (filter (is_shown rev) cells) ≡ map (λ c. c.author) (cells_at rev now)
+authors_at-cells_of authors rev cells now is =
+    sym (map-map (cell_of authors) (λ c. c.author) (filter (is_shown rev) cells)) ∙ ap (map (λ c. c.author)) (sym (cells_at-cells_of authors rev cells) ∙ ap (cells_at rev) is)
+
+-- the stamps of some cells that are visible
+pub stamps_at-cells_of : (authors : List Author) (rev at len : ℕ) (cells : List PlainCell) (now : List Cell) → cells_of authors cells ≡ now →
+    map (λ c. c.stamp) (take len (drop at (filter (is_shown rev) cells))) ≡ map (λ c. c.stamp) (take len (drop at (cells_at rev now)))
+stamps_at-cells_of authors rev at len cells now is =
+    sym (map-map (cell_of authors) (λ c. c.stamp) (take len (drop at (filter (is_shown rev) cells))))
+    ∙ ap (map (λ c. c.stamp))
+    (sym (take-map (cell_of authors) len (drop at (filter (is_shown rev) cells)))
+    ∙ ap (take len) (sym (drop-map (cell_of authors) at (filter (is_shown rev) cells)) ∙ ap (drop at) (sym (cells_at-cells_of authors rev cells) ∙ ap (cells_at rev) is)))
 
 -- one more author changes no cell
 pub cells_of-push : (authors : List Author) (a : Author) (cells : List PlainCell) → AreKnown authors cells → cells_of (authors ++ a ∷ []) cells ≡ cells_of authors cells
@@ -117,31 +130,16 @@ pub nothing_kept : {authors : List Author} {cells : List PlainCell} → cells �
 nothing_kept {authors} {cells} e = rw e (record { known = tt; order = record { tree = record { distinct = IsDistinct-nil character_of; rooted = tt; later = tt }; is = refl } })
 
 -- what an insertion leaves, step by step
-pub insert_joined : (old new : List Author) (a : Author) (cells after : List PlainCell) (now : List Cell) (run : Run) (i rev place : ℕ) (block : List PlainCell) →
+pub insert_joined : (old new : List Author) (a : Author) (cells after : List PlainCell) (now : List Cell) (run : Run) (i rev : ℕ) →
     IsPlain old cells → cells_of old cells ≡ now → (new ≡ old) ⊎ (new ≡ old ++ a ∷ []) → (i < length new) × (author_at new i ≡ a) → run_may_join kept_character cells run.first run.after ≡ true →
-    place ≡ place_in kept_character run.after run.first cells → block ≡ kept_run run.first run.after run.text i rev → after ≡ spliced place block cells →
+    after ≡ spliced (place_in kept_character run.after run.first cells) (kept_run run.first run.after run.text i rev) cells →
     IsPlain new after × (cells_of new after ≡ with_run rev run a now)
-insert_joined old new a cells after now run i rev place block p is more here may at made spliced_so =
+insert_joined old new a cells after now run i rev p is more here may spliced_so =
     let wide = grown old new a cells p more in
-    let done = inserted new cells run i rev wide.0 here.0 may in
-    let so : after ≡ spliced (place_in kept_character run.after run.first cells) (kept_run run.first run.after run.text i rev) cells = spliced_so ∙ ap₂ (λ n b. spliced n b cells) at made in (
-      subst (IsPlain new) (sym so) done.0,
-      ap (cells_of new) so ∙ done.1 ∙ ap (λ who. with_run rev run who (cells_of new cells)) here.1 ∙ ap (with_run rev run a) (wide.1 ∙ is),
+    let done = inserted new cells run i rev wide.0 here.0 may in (
+      subst (IsPlain new) (sym spliced_so) done.0,
+      ap (cells_of new) spliced_so ∙ done.1 ∙ ap (λ who. with_run rev run who (cells_of new cells)) here.1 ∙ ap (with_run rev run a) (wide.1 ∙ is),
     )
-
--- counting in front of a stamp, of the kept cells or of what they stand for
-pub shown_before-map : {A B : Type 0} (f : A → B) (at : B → Character) (shown : B → Bool) (xs : List A) (a : Stamp) → shown_before at shown (map f xs) a ≡ shown_before (λ x. at (f x)) (λ x. shown (f x)) xs a
-shown_before-map f at shown [] a = refl
-shown_before-map f at shown (x ∷ xs) a = ap (λ n. cond (same_stamp (at (f x)).stamp a) 0 (cond (shown (f x)) 1 0 + n)) (shown_before-map f at shown xs a)
-
-pub shown_through-map : {A B : Type 0} (f : A → B) (at : B → Character) (shown : B → Bool) (xs : List A) (a : Stamp) → shown_through at shown (map f xs) a ≡ shown_through (λ x. at (f x)) (λ x. shown (f x)) xs a
-shown_through-map f at shown [] a = refl
-shown_through-map f at shown (x ∷ xs) a = ap (λ n. cond (shown (f x)) 1 0 + cond (same_stamp (at (f x)).stamp a) 0 n) (shown_through-map f at shown xs a)
-
-pub stands_before-map : {A B : Type 0} (f : A → B) (at : B → Character) (xs : List A) (a b : Stamp) → stands_before at (map f xs) a b ≡ stands_before (λ x. at (f x)) xs a b
-stands_before-map f at [] a b = refl
-stands_before-map f at (x ∷ xs) a b =
-    ap₂ (λ h r. cond (same_stamp (at (f x)).stamp a) (same_stamp a b || h) r) (list_any-map f (λ y. same_stamp (at y).stamp b) xs) (stands_before-map f at xs a b)
 
 -- whether a stamp is among what the kept cells stand for
 pub has_view : (authors : List Author) (cells kept : List PlainCell) (now : List Cell) (s : Stamp) (b : Bool) → cells_of authors cells ≡ now → kept ≡ cells → b ≡ has_stamp kept_character kept s → has_stamp character_of now s ≡ b

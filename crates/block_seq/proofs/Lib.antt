@@ -1,1 +1,4 @@
+pub mod Applied
+pub mod Fronts
 pub mod Kept
+pub mod PartSteps

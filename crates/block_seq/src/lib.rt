@@ -4,9 +4,12 @@
 mod authors;
 mod erase;
 mod measure;
+mod parts;
 mod place;
 mod plain;
+mod put;
 mod readers;
+mod stretches;
 
 pub use place::PlainCell;
 pub use plain::PlainSeq;

@@ -1,15 +1,13 @@
 //! The cells of the plain sequence, as a slice: tests, and RGA's scan for the place of a run.
 ghost use Rattle.std.specs.Prelude.{◌≡◌, ℕ, ◌+◌, ◌≤◌, ◌^◌, ◌<◌, Bool, ◌||◌, ◌&&◌, ◌==◌, not, nat_lt, List, [], ◌++◌, IsTrue, IfOk, OnOk, OnErr, length, take, drop, vec_len};
 ghost use Rattle.std.specs.List.{list_all, position_or_len};
-ghost use Rattle.pad_model.specs.Checked.{is_run};
 ghost use Rattle.pad_model.specs.Legal.{has_stamp, has_parent, counter_of};
 ghost use Rattle.pad_model.specs.Log.{run_may_join};
 ghost use Rattle.pad_model.specs.Stamp.{same_stamp};
-ghost use Rattle.pad_model.proofs.Places.{passed, place_in, up_to, spliced};
-ghost use Rattle.block_seq.specs.Plain.{kept_character, kept_run};
+ghost use Rattle.pad_model.proofs.Places.{passed, place_in, up_to};
+ghost use Rattle.block_seq.specs.Plain.{kept_character};
 
-use pad_model::{Run, Stamp};
-use std::alloc::{AllocError, Global};
+use pad_model::Stamp;
 
 /// A cell whose author is a place in the sequence's list of authors.
 #[derive(Clone, Copy, Debug)]
@@ -96,48 +94,4 @@ pub fn place_of(cells: &[PlainCell], parent: Option<Stamp>, first: Stamp) -> usi
         Some(stamp) => count_up_to(cells, stamp),
     };
     start + count_newer(&cells[start..], first)
-}
-
-/// The cells of a run.
-pub fn cells_of_run(
-    alloc: Global,
-    run: &Run,
-    author: usize,
-    rev: u64,
-) -> Result<Vec<PlainCell>, AllocError>
-    requires { IsTrue (is_run run.now.first.replica run.now) }
-    ensures { IfOk result (λ cells. cells.items ≡ kept_run run.now.first run.now.after run.now.text author rev) }
-{
-    let text = run.text.as_slice();
-    let mut cells = Vec::with_capacity(alloc, text.len())?;
-    let mut parent = run.after;
-    for (place, character) in text.iter().enumerate() {
-        let stamp = run.first.plus(place as u64);
-        cells.push(PlainCell {
-            stamp,
-            parent,
-            character: *character,
-            author,
-            born: rev,
-            died: None,
-        })?;
-        parent = Some(stamp);
-    }
-    Ok(cells)
-}
-
-/// Puts a block among the cells, or finds no memory and leaves them.
-pub fn splice(
-    cells: &mut Vec<PlainCell>,
-    place: usize,
-    mut block: Vec<PlainCell>,
-) -> Result<(), AllocError>
-    requires { place ≤ vec_len cells.old }
-    ensures ok { OnOk result (cells.new.items ≡ spliced place block.items cells.old.items) }
-    ensures err { OnErr result (cells.new.items ≡ cells.old.items) }
-{
-    let len = block.len();
-    cells.append(&mut block)?;
-    cells[place..].rotate_right(len);
-    Ok(())
 }

@@ -4,9 +4,18 @@
 use crate::authors::place_author;
 use crate::erase::{count_hidden, erase, has_spans};
 use crate::measure::{count_before, count_through, stands_before};
-use crate::place::{PlainCell, cells_of_run, has, may_join, place_of, splice};
-use crate::readers::{count_shown, greatest_counter, greatest_counter_of, shown_stamp, shown_text};
-use pad_model::{Author, CellView, MAX_CHARACTERS, Refusal, Run, Sequence, Span, Stamp, Text};
+use crate::parts::{count_inserted, each_fits, erase_parts, put_runs};
+use crate::place::{PlainCell, has, may_join};
+use crate::put::put_run;
+use crate::readers::{
+    count_shown, greatest_counter, greatest_counter_of, shown_authors, shown_stamp, shown_stamps,
+    shown_text,
+};
+use crate::stretches::{runs_of, spans_of};
+use pad_model::{
+    Author, AuthorRun, CellView, MAX_CHARACTERS, Part, Refusal, Row, Run, Sequence, Span, Stamp,
+    Text,
+};
 use std::alloc::{AllocError, Global};
 use std::marker::Model;
 
@@ -53,10 +62,9 @@ impl Sequence for PlainSeq {
         if MAX_CHARACTERS < self.cells.len() as u64 + run.text.len() as u64 {
             return Err(Refusal::PadFull);
         }
-        let place = place_of(self.cells.as_slice(), run.after, run.first);
         let author = place_author(&mut self.authors, author)?;
-        let block = cells_of_run(alloc, run, author, rev)?;
-        splice(&mut self.cells, place, block)?;
+        self.cells.reserve(run.text.len())?;
+        put_run(&mut self.cells, run, author, rev);
         Ok(())
     }
 
@@ -66,6 +74,27 @@ impl Sequence for PlainSeq {
         }
         let hidden = count_hidden(self.cells.as_slice(), spans);
         erase(self.cells.as_mut_slice(), spans, rev);
+        Ok(hidden as u64)
+    }
+
+    fn apply(
+        &mut self,
+        alloc: Global,
+        parts: &[Part],
+        author: &Author,
+        rev: u64,
+    ) -> Result<u64, Refusal> {
+        if !each_fits(self.cells.as_slice(), parts) {
+            return Err(Refusal::PeerFault);
+        }
+        let more = count_inserted(parts);
+        if MAX_CHARACTERS < self.cells.len() as u64 + more as u64 {
+            return Err(Refusal::PadFull);
+        }
+        let author = place_author(&mut self.authors, author)?;
+        self.cells.reserve(more)?;
+        let hidden = erase_parts(self.cells.as_mut_slice(), parts, rev);
+        put_runs(&mut self.cells, parts, author, rev);
         Ok(hidden as u64)
     }
 
@@ -79,6 +108,17 @@ impl Sequence for PlainSeq {
 
     fn text_at(&self, alloc: Global, rev: u64) -> Result<Text, Refusal> {
         Ok(Text::from_vec(shown_text(alloc, self.cells.as_slice(), rev)?))
+    }
+
+    fn authors_at(&self, alloc: Global, rev: u64) -> Result<Row<AuthorRun>, Refusal> {
+        let cells = self.cells.as_slice();
+        let authors = shown_authors(alloc, cells, self.authors.as_slice(), rev)?;
+        Ok(Row::from_vec(runs_of(alloc, authors.as_slice())?))
+    }
+
+    fn spans_at(&self, alloc: Global, rev: u64, at: u64, len: u64) -> Result<Row<Span>, Refusal> {
+        let stamps = shown_stamps(alloc, self.cells.as_slice(), rev, at, len)?;
+        Ok(Row::from_vec(spans_of(alloc, stamps.as_slice())?))
     }
 
     fn before(&self, stamp: Stamp, rev: u64) -> Option<u64> {

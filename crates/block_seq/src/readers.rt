@@ -1,9 +1,9 @@
 //! What the cells of the plain sequence show at a revision.
-ghost use Rattle.std.specs.Prelude.{◌≡◌, ◌==◌, if◌then◌else◌, max, length, map, filter, fold, IfOk, slice_get, option_map, Some, None};
-ghost use Rattle.block_seq.specs.Plain.{is_shown as shown};
+ghost use Rattle.std.specs.Prelude.{◌≡◌, ◌==◌, if◌then◌else◌, max, length, map, filter, fold, take, drop, IfOk, slice_get, option_map, Some, None};
+ghost use Rattle.block_seq.specs.Plain.{AreKnown, author_at, is_shown as shown};
 
 use crate::place::PlainCell;
-use pad_model::Stamp;
+use pad_model::{Author, Stamp};
 use std::alloc::{AllocError, Global};
 
 /// Whether a cell is visible: it is born, and did not die yet.
@@ -47,6 +47,44 @@ pub fn shown_text(alloc: Global, cells: &[PlainCell], rev: u64) -> Result<Vec<ch
         .filter(|c| is_shown(c, rev))
         .map(|c| c.character)
         .collect(alloc)
+}
+
+/// The stamps of some visible characters from a place on.
+pub fn shown_stamps(
+    alloc: Global,
+    cells: &[PlainCell],
+    rev: u64,
+    at: u64,
+    len: u64,
+) -> Result<Vec<Stamp>, AllocError>
+    ensures { IfOk result (λ stamps. stamps.items ≡ map (λ c. c.stamp) (take len (drop at (filter (shown rev) cells.now)))) }
+{
+    cells
+        .iter()
+        .filter(|c| is_shown(c, rev))
+        .skip(at as usize)
+        .take(len as usize)
+        .map(|c| c.stamp)
+        .collect(alloc)
+}
+
+/// The author of each visible character.
+pub fn shown_authors<'a>(
+    alloc: Global,
+    cells: &[PlainCell],
+    authors: &'a [Author],
+    rev: u64,
+) -> Result<Vec<&'a Author>, AllocError>
+    requires { AreKnown authors.now cells.now }
+    ensures { IfOk result (λ shown_by. map (λ author. author.now) shown_by.items ≡ map (λ c. author_at authors.now c.author) (filter (shown rev) cells.now)) }
+{
+    let mut shown = Vec::new(alloc);
+    for cell in cells {
+        if is_shown(cell, rev) {
+            shown.push(&authors[cell.author])?;
+        }
+    }
+    Ok(shown)
 }
 
 /// The greatest counter, or 0.

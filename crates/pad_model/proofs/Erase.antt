@@ -1,17 +1,18 @@
 -- Cells stay in order when some of them die.
-use Rattle.std.proofs.Common.{◌≡◌, inl, inr, ℕ, zero, suc, ◌+◌, ◌-◌, ◌<◌, ◌≤◌, Bool, true, false, not, ◌&&◌, ◌||◌, cond, eqb, leb, ltb, List, [], ◌∷◌, ◌++◌, length, Option, Some, None, refl, sym, ap, ap₂, ◌∙◌, subst, map, filter, fold, flat_map, is_none, arith, le-leb, le-ltb, lt-ltb, eq-eqb, ne_eqb, leb-true}
+use Rattle.std.proofs.Common.{◌≡◌, inl, inr, ℕ, zero, suc, ◌+◌, ◌<◌, ◌≤◌, Bool, true, false, ◌&&◌, ◌||◌, cond, is_none, eqb, leb, ltb, List, [], ◌∷◌, ◌++◌, Option, Some, None, refl, sym, ap, ap₂, ◌∙◌, subst, map, fold, flat_map, arith, le-leb, le-ltb, lt-ltb, eq-eqb, ne_eqb, leb-true}
 use Rattle.std.proofs.lemmas.Bool.{lt-leb, cases_order}
+use Rattle.std.proofs.lemmas.List.Concat.{flat_map-append}
 use Rattle.std.proofs.lemmas.List.Folds.{list_any-append}
-use Rattle.std.specs.List.{AllByRecursion, IsDistinct, list_any, list_all}
+use Rattle.std.specs.List.{IsDistinct, list_any, list_all}
 use Rattle.pad_model.specs.Stamp.{Stamp, newer, same_stamp}
 use Rattle.pad_model.specs.Character.{Character, next}
-use Rattle.pad_model.specs.Cell.{Cell, character_of, is_hidden_by, erased_at, without_spans, delete_spans, IsInOrder}
-use Rattle.pad_model.specs.Legal.{has_stamp, has_parent, same_item, counter_of, IsTree}
+use Rattle.pad_model.specs.Cell.{Cell, character_of, is_hidden_by, erased_at, without_spans, IsInOrder}
+use Rattle.pad_model.specs.Legal.{has_parent, same_item, counter_of, IsTree}
 use Rattle.pad_model.specs.Order.{same_parent, put_rising, rising, walk_rising, order}
 use Rattle.pad_model.specs.Operation.{stamps_from, span_stamps}
 use Rattle.pad_model.specs.Visible.{is_erased}
 use Rattle.pad_model.specs.declared.op.Span.{Span}
-use Rattle.pad_model.proofs.Newer.{split, same_stamp-true, same_stamp-refl}
+use Rattle.pad_model.proofs.Newer.{split}
 use Rattle.pad_model.proofs.Each.{each-imply}
 use Rattle.pad_model.proofs.Maps.{order-map, each-map, has_parent-map, IsTree-of_map}
 use Rattle.pad_model.proofs.Rising.{IsDistinct-nil, IsDistinct-parts, IsDistinct-from_parts}
@@ -115,3 +116,44 @@ is_erased-spans (span ∷ spans) s =
 pub has_spans-each : (t : Stamp → Bool) (spans : List Span) → list_all t (flat_map span_stamps spans) ≡ list_all (λ span. list_all t (span_stamps span)) spans
 has_spans-each t [] = refl
 has_spans-each t (span ∷ spans) = Rattle.std.proofs.lemmas.List.Folds.list_all-append t (span_stamps span) (flat_map span_stamps spans) ∙ ap (λ b. list_all t (span_stamps span) && b) (has_spans-each t spans)
+
+-- what two lists of spans name together
+pub named_by_both : (xs ys : List Span) (s : Stamp) → is_erased (flat_map span_stamps (xs ++ ys)) s ≡ (is_erased (flat_map span_stamps xs) s || is_erased (flat_map span_stamps ys) s)
+named_by_both xs ys s = ap (λ l. is_erased l s) (flat_map-append span_stamps xs ys) ∙ list_any-append (λ e. same_stamp e s) (flat_map span_stamps xs) (flat_map span_stamps ys)
+
+-- what dies of one of two deletions dies once
+pub dies_once : (a b : Bool) (rev : ℕ) (d : Option ℕ) → cond (b && is_none (cond (a && is_none d) (Some rev) d)) (Some rev) (cond (a && is_none d) (Some rev) d) ≡ cond ((a || b) && is_none d) (Some rev) d
+dies_once true true rev None = refl
+dies_once true true rev (Some d) = refl
+dies_once true false rev None = refl
+dies_once true false rev (Some d) = refl
+dies_once false true rev None = refl
+dies_once false true rev (Some d) = refl
+dies_once false false rev None = refl
+dies_once false false rev (Some d) = refl
+
+pub erased_at-died : (rev : ℕ) (spans : List Span) (c : Cell) → erased_at rev spans c ≡ record c { died = cond (is_hidden_by spans c) (Some rev) c.died }
+erased_at-died rev spans c = split (is_hidden_by spans c) (λ e. rw e refl) (λ e. rw e refl)
+
+erased_twice : (rev : ℕ) (xs ys : List Span) (c : Cell) → erased_at rev ys (erased_at rev xs c) ≡ erased_at rev (xs ++ ys) c
+erased_twice rev xs ys c =
+    ap (erased_at rev ys) (erased_at-died rev xs c)
+    ∙ erased_at-died rev ys (record c { died = cond (is_hidden_by xs c) (Some rev) c.died })
+    ∙ ap (λ d. let it : Cell = record c { died = d } in it)
+    (dies_once (is_erased (flat_map span_stamps xs) c.stamp) (is_erased (flat_map span_stamps ys) c.stamp) rev c.died
+    ∙ ap (λ b. cond (b && is_none c.died) (Some rev) c.died) (sym (named_by_both xs ys c.stamp)))
+    ∙ sym (erased_at-died rev (xs ++ ys) c)
+
+-- a second deletion of the same revision adds its spans to those of the first
+pub without_twice : (rev : ℕ) (xs ys : List Span) (cells : List Cell) → without_spans rev ys (without_spans rev xs cells) ≡ without_spans rev (xs ++ ys) cells
+without_twice rev xs ys [] = refl
+without_twice rev xs ys (c ∷ cells) = ap₂ (λ (x : Cell) l. x ∷ l) (erased_twice rev xs ys c) (without_twice rev xs ys cells)
+
+pub without_none : (rev : ℕ) (cells : List Cell) → without_spans rev [] cells ≡ cells
+without_none rev [] = refl
+without_none rev (c ∷ cells) = ap (λ l. c ∷ l) (without_none rev cells)
+
+-- deaths change no place
+pub without-order : (rev : ℕ) (spans : List Span) (cells : List Cell) → without_spans rev spans (order character_of cells) ≡ order character_of (without_spans rev spans cells)
+without-order rev spans cells =
+    ap (map (erased_at rev spans)) (sym (order-same (λ c. character_of (erased_at rev spans c)) character_of (erased_at-character rev spans) cells)) ∙ sym (order-map (erased_at rev spans) character_of cells)

@@ -72,7 +72,7 @@ walk-filter at t (x ∷ later) q c =
     (λ no. rw no (walk-filter at t later q c.1))))
 
 -- the stamp of an item that fails the test is none of those that pass
-dropped_absent : {A : Type 0} (at : A → Character) (t : A → Bool) (s : List A) (x : A) → IsDistinct (same_item at) s → Has s x → t x ≡ false → has_stamp at (filter t s) (at x).stamp ≡ false
+pub dropped_absent : {A : Type 0} (at : A → Character) (t : A → Bool) (s : List A) (x : A) → IsDistinct (same_item at) s → Has s x → t x ≡ false → has_stamp at (filter t s) (at x).stamp ≡ false
 dropped_absent at t s x d h fails =
     split (has_stamp at (filter t s) (at x).stamp)
     (λ e. let found = item_of_stamp at (filter t s) (at x).stamp e in

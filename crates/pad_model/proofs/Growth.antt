@@ -21,7 +21,7 @@ use Rattle.pad_model.proofs.Rising.{IsDistinct-nil}
 use Rattle.pad_model.proofs.Runs.{IsTree-run, IsRun-run_characters, has_parent-append}
 
 -- the counters of a run are below the next one
-run_below : (first : Stamp) (p : Option Stamp) (text : List ℕ) (author : Author) (most : ℕ) → first.counter + length text ≤ most → AllByRecursion (λ c. c.stamp.counter < most) (run_characters first p text author)
+pub run_below : (first : Stamp) (p : Option Stamp) (text : List ℕ) (author : Author) (most : ℕ) → first.counter + length text ≤ most → AllByRecursion (λ c. c.stamp.counter < most) (run_characters first p text author)
 run_below first p [] author most h = tt
 run_below first p (c ∷ text) author most h = (omega arith, run_below (next first) (Some first) text author most (omega arith))
 

@@ -125,7 +125,33 @@ cells_at-visible log k whole part =
     each_any [] h = tt
     each_any (x ∷ xs) h = (h x, each_any xs h)
 
-map_keeps_length : {A B : Type 0} (f : A → B) (xs : List A) → length (map f xs) ≡ length xs
+-- the cells that are born by a revision are, in place, the characters of the first operations
+pub cells_by-order : (log : List Op) (k : ℕ) → IsTree itself (characters_in log).inserted → IsTree itself (characters_in (take k log)).inserted →
+    map character_of (filter (λ c. leb c.born k) (cells_of log)) ≡ order itself (characters_in (take k log)).inserted
+cells_by-order log k whole part =
+    let all = map (dated log) (births 1 log) in
+    let by : Cell → Bool = λ c. leb c.born k in
+    let old = filter by all in
+    let old_is : map character_of old ≡ (characters_in (take k log)).inserted =
+    ap (map character_of) (filter-map (dated log) by (births 1 log)) ∙ map-map (dated log) character_of (filter by (births 1 log)) ∙ births_to k log
+    in
+    let tree = IsTree-of_map character_of itself all (subst (IsTree itself) (sym (dated-characters log)) whole) in
+    let old_tree = IsTree-of_map character_of itself old (subst (IsTree itself) (sym old_is) part) in
+    ap (map character_of) (sym (order-filter character_of by all tree old_tree)) ∙ sym (order-map character_of itself old) ∙ ap (order itself) old_is
+
+-- a cell lives after a revision just where the first operations do not erase it
+pub cells_alive : (log : List Op) (k : ℕ) → IsTree itself (characters_in log).inserted → AllByRecursion (λ c. is_after k c.died ≡ not (is_erased (characters_in (take k log)).erased c.stamp)) (cells_of log)
+cells_alive log k whole =
+    let all = map (dated log) (births 1 log) in
+    each-permutation (λ c. is_after k c.died ≡ not (is_erased (characters_in (take k log)).erased c.stamp)) all (cells_of log)
+    (order-permutation character_of all (IsTree-of_map character_of itself all (subst (IsTree itself) (sym (dated-characters log)) whole)))
+    (each-map (dated log) (λ c. is_after k c.died ≡ not (is_erased (characters_in (take k log)).erased c.stamp)) (births 1 log) (each_any (births 1 log) (λ c. death_to k log c.stamp)))
+  where
+    each_any : {A : Type 0} {P : A → Type 0} (xs : List A) → ((x : A) → P x) → AllByRecursion P xs
+    each_any [] h = tt
+    each_any (x ∷ xs) h = (h x, each_any xs h)
+
+pub map_keeps_length : {A B : Type 0} (f : A → B) (xs : List A) → length (map f xs) ≡ length xs
 map_keeps_length f xs = simp Rattle.std.proofs.lemmas.List.length-map
 
 -- what a log's cells show at a revision is what its first operations show

@@ -1,15 +1,20 @@
 pub mod Cells
 pub mod CheckedLemmas
 pub mod Each
+pub mod Edited
 pub mod Erase
+pub mod Erasing
 pub mod Exits
 pub mod Filters
+pub mod Grown
 pub mod Growth
 pub mod History
+pub mod InTurn
 pub mod Local
 pub mod Maps
 pub mod Members
 pub mod Newer
+pub mod Parts
 pub mod Places
 pub mod Pushed
 pub mod Rising
@@ -17,4 +22,6 @@ pub mod Runs
 pub mod Scan
 pub mod SeenLemmas
 pub mod Sets
+pub mod Shown
+pub mod Stretch
 pub mod Tree

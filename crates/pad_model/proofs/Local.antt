@@ -27,7 +27,7 @@ use Rattle.pad_model.proofs.Members.{order-permutation, has_parent-permutation}
 use Rattle.pad_model.proofs.Sets.{Has, Has-permutation, has_stamp_of, set_law}
 
 -- tests of all items, in any order
-all_pass : {A : Type 0} (t : A → Bool) (xs : List A) → AllByRecursion (λ x. t x ≡ true) xs → list_all t xs ≡ true
+pub all_pass : {A : Type 0} (t : A → Bool) (xs : List A) → AllByRecursion (λ x. t x ≡ true) xs → list_all t xs ≡ true
 all_pass t [] h = refl
 all_pass t (x ∷ xs) h = and_from _ _ h.0 (all_pass t xs h.1)
 

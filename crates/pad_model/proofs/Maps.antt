@@ -1,13 +1,14 @@
 -- A list seen through a function.
-use Rattle.std.proofs.Common.{◌≡◌, ◌<◌, Bool, true, false, ◌||◌, ◌&&◌, List, [], ◌∷◌, Option, Some, None, refl, sym, ap, ap₂, ◌∙◌, not, eqb, ltb, map, filter, fold}
+use Rattle.std.proofs.Common.{◌≡◌, ◌<◌, ◌+◌, cond, Bool, true, false, ◌||◌, ◌&&◌, List, [], ◌∷◌, Option, Some, None, refl, sym, ap, ap₂, ◌∙◌, not, eqb, ltb, map, filter, fold}
 use Rattle.std.proofs.lemmas.List.{map-append}
 use Rattle.std.specs.List.{list_any, list_all, AllByRecursion, IsDistinct}
 use Rattle.pad_model.specs.Stamp.{Stamp, newer, same_stamp}
 use Rattle.pad_model.specs.Character.{Character}
 use Rattle.pad_model.specs.Order.{same_parent, put_rising, rising, walk_rising, order}
 use Rattle.pad_model.specs.Legal.{has_parent, same_item, IsTree, counter_of}
-use Rattle.pad_model.specs.Log.{run_may_join}
+use Rattle.pad_model.specs.Log.{run_may_join, stands_before}
 use Rattle.pad_model.specs.Scan.{scan_from, put}
+use Rattle.pad_model.specs.Visible.{shown_before, shown_through}
 use Rattle.pad_model.proofs.Newer.{split}
 
 pub map-map : {A B C : Type 0} (f : A → B) (g : B → C) (xs : List A) → map g (map f xs) ≡ map (λ x. g (f x)) xs
@@ -88,3 +89,17 @@ IsTree-of_map f at xs t = record {
   rooted = Rattle.pad_model.proofs.Each.each-imply (λ x. has_parent at (map f xs) (at (f x)).parent ≡ true) (λ x. has_parent (λ x. at (f x)) xs (at (f x)).parent ≡ true) (λ x h. sym (has_parent-map f at xs (at (f x)).parent) ∙ h) xs (each-of_map f (λ y. has_parent at (map f xs) (at y).parent ≡ true) xs t.rooted);
   later = each-of_map f (λ y. counter_of (at y).parent < (at y).stamp.counter) xs t.later;
 }
+
+-- counting in front of a stamp, through a function or not
+pub shown_before-map : {A B : Type 0} (f : A → B) (at : B → Character) (shown : B → Bool) (xs : List A) (a : Stamp) → shown_before at shown (map f xs) a ≡ shown_before (λ x. at (f x)) (λ x. shown (f x)) xs a
+shown_before-map f at shown [] a = refl
+shown_before-map f at shown (x ∷ xs) a = ap (λ n. cond (same_stamp (at (f x)).stamp a) 0 (cond (shown (f x)) 1 0 + n)) (shown_before-map f at shown xs a)
+
+pub shown_through-map : {A B : Type 0} (f : A → B) (at : B → Character) (shown : B → Bool) (xs : List A) (a : Stamp) → shown_through at shown (map f xs) a ≡ shown_through (λ x. at (f x)) (λ x. shown (f x)) xs a
+shown_through-map f at shown [] a = refl
+shown_through-map f at shown (x ∷ xs) a = ap (λ n. cond (shown (f x)) 1 0 + cond (same_stamp (at (f x)).stamp a) 0 n) (shown_through-map f at shown xs a)
+
+pub stands_before-map : {A B : Type 0} (f : A → B) (at : B → Character) (xs : List A) (a b : Stamp) → stands_before at (map f xs) a b ≡ stands_before (λ x. at (f x)) xs a b
+stands_before-map f at [] a b = refl
+stands_before-map f at (x ∷ xs) a b =
+    ap₂ (λ h r. cond (same_stamp (at (f x)).stamp a) (same_stamp a b || h) r) (list_any-map f (λ y. same_stamp (at y).stamp b) xs) (stands_before-map f at xs a b)

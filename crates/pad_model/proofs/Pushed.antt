@@ -38,7 +38,7 @@ pub order-permuted : {A : Type 0} (at : A → Character) (xs ys : List A) → Is
 order-permuted at xs ys p t =
     set_law at xs ys t.distinct (distinct-permutation at xs ys p t.distinct) (λ c h. Has-permutation xs ys c p h) (λ c h. Has-permutation ys xs c (IsPermutation-sym xs ys p) h)
 
-births-append : (rev : ℕ) (xs ys : List Op) → births rev (xs ++ ys) ≡ births rev xs ++ births (rev + length xs) ys
+pub births-append : (rev : ℕ) (xs ys : List Op) → births rev (xs ++ ys) ≡ births rev xs ++ births (rev + length xs) ys
 births-append rev [] ys = rw Rattle.std.proofs.Common.add-zero refl
 births-append rev (op ∷ xs) ys =
     ap (λ l. map (born_at rev) (inserted_by op) ++ l) (births-append (suc rev) xs ys ∙ ap (λ n. births (suc rev) xs ++ births n ys) (let e : suc rev + length xs ≡ rev + suc (length xs) = omega arith in e))
@@ -50,26 +50,27 @@ death_in-push rev [] op s e = rw e refl
 death_in-push rev (one ∷ log) op s e = split (is_erased (erased_by one) s) (λ h. rw h refl) (λ h. rw h (death_in-push (suc rev) log op s e))
 
 -- what is not erased has no death
-death_none : (rev : ℕ) (log : List Op) (s : Stamp) → is_erased (flat_map erased_by log) s ≡ false → death_in rev log s ≡ None
+pub death_none : (rev : ℕ) (log : List Op) (s : Stamp) → is_erased (flat_map erased_by log) s ≡ false → death_in rev log s ≡ None
 death_none rev [] s h = refl
 death_none rev (op ∷ log) s h =
     let parts = Rattle.std.proofs.lemmas.Bool.or_parts (is_erased (erased_by op) s) (is_erased (flat_map erased_by log) s) (sym (list_any-append (λ x. same_stamp x s) (erased_by op) (flat_map erased_by log)) ∙ h) in
     rw parts.0 (death_none (suc rev) log s parts.1)
 
-stamps_there : (stamps : List Stamp) (cs : List Character) (s : Stamp) → list_all (λ z. has_stamp itself cs z) stamps ≡ true → is_erased stamps s ≡ true → has_stamp itself cs s ≡ true
-stamps_there [] cs s h e = absurd (false≢true e)
-stamps_there (z ∷ stamps) cs s h e =
+-- a stamp that is among some that are there
+pub stamps_there : {A : Type 0} (at : A → Character) (stamps : List Stamp) (items : List A) (s : Stamp) → list_all (λ z. has_stamp at items z) stamps ≡ true → is_erased stamps s ≡ true → has_stamp at items s ≡ true
+stamps_there at [] items s h e = absurd (false≢true e)
+stamps_there at (z ∷ stamps) items s h e =
     let all = and_parts _ _ h in
-    split (same_stamp z s) (λ same. subst (λ w. has_stamp itself cs w ≡ true) (same_stamp-true z s same) all.0)
-    (λ other. stamps_there stamps cs s all.1 (rw other at e))
+    split (same_stamp z s) (λ same. subst (λ w. has_stamp at items w ≡ true) (same_stamp-true z s same) all.0)
+    (λ other. stamps_there at stamps items s all.1 (rw other at e))
 
-parts_erase : (parts : List Part) (log : List Op) (s : Stamp) → list_all (λ part. part_is_valid part log) parts ≡ true → is_erased (flat_map part_erases parts) s ≡ true → has_stamp itself (characters_in log).inserted s ≡ true
+pub parts_erase : (parts : List Part) (log : List Op) (s : Stamp) → list_all (λ part. part_is_valid part log) parts ≡ true → is_erased (flat_map part_erases parts) s ≡ true → has_stamp itself (characters_in log).inserted s ≡ true
 parts_erase [] log s h e = absurd (false≢true e)
 parts_erase (Insert run ∷ parts) log s h e = parts_erase parts log s (and_parts _ _ h).1 e
 parts_erase (Delete spans ∷ parts) log s h e =
     let all = and_parts _ _ h in
     elim (or_cases _ _ (sym (list_any-append (λ x. same_stamp x s) (flat_map span_stamps spans) (flat_map part_erases parts)) ∙ e)) [
-      | inl here ↦ stamps_there (flat_map span_stamps spans) (characters_in log).inserted s all.0 here
+      | inl here ↦ stamps_there itself (flat_map span_stamps spans) (characters_in log).inserted s all.0 here
       | inr later ↦ parts_erase parts log s all.1 later
     ]
 parts_erase (Comment first last text ∷ parts) log s h e = parts_erase parts log s (and_parts _ _ h).1 e

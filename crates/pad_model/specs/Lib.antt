@@ -1,5 +1,6 @@
 pub mod Answers
 pub mod Cell
+pub mod CellLaws
 pub mod Character
 pub mod Checked
 pub mod History
@@ -9,6 +10,7 @@ pub mod Log
 pub mod OldWire
 pub mod Operation
 pub mod Order
+pub mod Parts
 pub mod Refusals
 pub mod Scan
 pub mod Seen

@@ -1,5 +1,5 @@
 -- What a set of character operations shows: the preorder without what was erased, and places in it.
-use Rattle.std.specs.Prelude.{ℕ, ◌+◌, ◌-◌, Bool, not, ◌&&◌, ◌==◌, if◌then◌else◌, List, [], ◌∷◌, Option, Some, None, map, filter, take, drop, slice_get, option_map, bytes_eq}
+use Rattle.std.specs.Prelude.{ℕ, ◌+◌, ◌-◌, Bool, not, ◌&&◌, ◌==◌, if◌then◌else◌, List, [], ◌∷◌, Option, Some, None, map, filter, take, drop, slice_get, option_map, bytes_eq, count_by}
 use Rattle.std.specs.List.{list_any}
 use Rattle.pad_model.specs.Stamp.{Stamp, same_stamp}
 use Rattle.pad_model.specs.Character.{Character, next}
@@ -95,3 +95,7 @@ spans (s ∷ stamps) = join_span s (spans stamps)
 -- the spans of the n visible characters from place i on
 abbrev pub spans_of : Characters → ℕ → ℕ → List Span
 spans_of set i n = spans (map (λ c. c.stamp) (take n (drop i (visible set))))
+
+-- how many visible characters an erasure of these stamps hides
+abbrev pub hidden_by : List Stamp → Characters → ℕ
+hidden_by stamps set = count_by (λ c. is_erased stamps c.stamp) (visible set)

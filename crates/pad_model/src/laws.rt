@@ -1,4 +1,5 @@
 //! Laws of the definitions, each the contract of a function that does nothing.
+ghost use Rattle.pad_model.specs.CellLaws.{GrowthLaw, PlaceLaw, SliderLaw, PartsLaw};
 ghost use Rattle.pad_model.specs.Laws.{TreeLaw, UniquenessLaw, MembersLaw, SetLaw, SubsetLaw, RevisionLaw, ScanLaw, RunLaw, NewestLaw};
 
 /// The walk is the textbook's preorder (Attiya and others 2016).
@@ -44,4 +45,24 @@ pub fn run_law()
 /// A local insertion stands right behind the character that it was typed after.
 pub fn newest_law()
     ensures { NewestLaw }
+{}
+
+/// Each revision of a log can be read from its cells by birth and death.
+pub fn slider_law()
+    ensures { SliderLaw }
+{}
+
+/// The parts of one operation leave the same at once and one after the other.
+pub fn parts_law()
+    ensures { PartsLaw }
+{}
+
+/// What an operation does to the cells of its log is what its parts do.
+pub fn growth_law()
+    ensures { GrowthLaw }
+{}
+
+/// Comment ranges and carets of a revision can be read from the cells.
+pub fn place_law()
+    ensures { PlaceLaw }
 {}

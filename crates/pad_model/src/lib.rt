@@ -1,6 +1,7 @@
 //! The words of a pad: stamps, operations, version vectors, refusals, and the trait of a sequence of characters.
 #![tactic(auto)]
 
+mod check;
 pub mod laws;
 mod limits;
 mod name;

@@ -1,17 +1,19 @@
 //! What a pad asks of the sequence that keeps its characters.
-ghost use Rattle.std.specs.Prelude.{◌≡◌, ℕ, ◌≤◌, ◌<◌, ◌↔◌, List, [], IsTrue, IfOk, Some, None, MatchOption, MatchResult, slice_get, option_map, length};
+ghost use Rattle.std.specs.Prelude.{◌≡◌, ℕ, ◌+◌, ◌≤◌, ◌<◌, ◌↔◌, List, [], IsTrue, IfOk, Some, None, MatchOption, MatchResult, slice_get, option_map, length};
 ghost use Rattle.std.specs.List.{AllByRecursion, list_all};
 ghost use Rattle.pad_model.specs.Answers.{Answers};
-ghost use Rattle.pad_model.specs.Cell.{Cell, IsBy, IsInOrder, cells_at, cell_stamp_at, character_of, clock_of, last_of, delete_spans as delete_cells, insert_run as insert_cells, before_at, through_at, is_before, text_at as cells_text};
-ghost use Rattle.pad_model.specs.Checked.{is_run, is_span};
+ghost use Rattle.pad_model.specs.Cell.{Cell, IsBy, IsInOrder, cells_at, cell_stamp_at, character_of, clock_of, last_of, delete_spans as delete_cells, insert_run as insert_cells, before_at, through_at, is_before, text_at as cells_text, runs_at, spans_at as cells_spans};
+ghost use Rattle.pad_model.specs.Checked.{is_run, is_span, is_edit, are_parts};
 ghost use Rattle.pad_model.specs.Legal.{has_stamp};
+ghost use Rattle.pad_model.specs.Parts.{apply as apply_parts};
 ghost use Rattle.pad_model.specs.Views.{IsViewOf};
 
-use crate::op::{Run, Span};
+use crate::op::{Part, Run, Span};
 use crate::refusal::Refusal;
+use crate::row::Row;
 use crate::stamp::Stamp;
 use crate::text::Text;
-use crate::who::Author;
+use crate::who::{Author, AuthorRun};
 use std::alloc::Global;
 
 /// A character of a sequence, with its author lent.
@@ -58,6 +60,21 @@ pub trait Sequence: Drop {
         requires latest { AllByRecursion (IsBy rev) (cells self.old) }
         ensures { Answers (cells self.old) (delete_cells rev spans.now (cells self.old)) result (cells self.new) };
 
+    /// Makes the insertions and deletions of one operation, and answers how many characters they hide anew.
+    ///
+    /// Each part is judged by what stood before all of them. All parts are made, or none.
+    fn apply(
+        &mut self,
+        alloc: Global,
+        parts: &[Part],
+        author: &Author,
+        rev: u64,
+    ) -> Result<u64, Refusal>
+        requires checked { IsTrue (are_parts author.now.origin parts.now) }
+        requires edits { IsTrue (list_all is_edit parts.now) }
+        requires latest { AllByRecursion (IsBy rev) (cells self.old) }
+        ensures { Answers (cells self.old) (apply_parts rev parts.now author.now (cells self.old)) result (cells self.new) };
+
     /// How many characters are visible.
     fn len_at(&self, rev: u64) -> u64
         ensures { result ≡ length (cells_at rev (cells self.now)) };
@@ -68,6 +85,15 @@ pub trait Sequence: Drop {
 
     fn text_at(&self, alloc: Global, rev: u64) -> Result<Text, Refusal>
         ensures { MatchResult result (λ text. text ≡ cells_text rev (cells self.now)) (λ e. e ≡ Refusal.Memory) };
+
+    /// The authors of the visible characters, in the longest runs.
+    fn authors_at(&self, alloc: Global, rev: u64) -> Result<Row<AuthorRun>, Refusal>
+        ensures { MatchResult result (λ runs. runs ≡ runs_at rev (cells self.now)) (λ e. e ≡ Refusal.Memory) };
+
+    /// The stamps of `len` visible characters from a place on, in the longest spans.
+    fn spans_at(&self, alloc: Global, rev: u64, at: u64, len: u64) -> Result<Row<Span>, Refusal>
+        requires { at + len ≤ length (cells_at rev (cells self.now)) }
+        ensures { MatchResult result (λ spans. spans ≡ cells_spans rev (cells self.now) at len) (λ e. e ≡ Refusal.Memory) };
 
     /// How many visible characters stand before a character; None where it is missing.
     fn before(&self, stamp: Stamp, rev: u64) -> Option<u64>

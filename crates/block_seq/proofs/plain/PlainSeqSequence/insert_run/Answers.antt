@@ -1,10 +1,10 @@
-use Rattle.std.proofs.Common.{◌≡◌, ap, sym, ◌∙◌, true, false, inr, length, arith, Ok}
+use Rattle.std.proofs.Common.{◌≡◌, subst, ap, sym, ◌∙◌, true, false, inr, length, arith, Ok}
 use Rattle.pad_model.specs.Cell.{with_run}
 use Rattle.pad_model.specs.Log.{run_may_join}
 use Rattle.pad_model.proofs.Cells.{insert_run-fault, insert_run-full, insert_run-ok}
-use Rattle.pad_model.proofs.Places.{place_in}
+use Rattle.pad_model.proofs.Places.{place_in, spliced}
 use Rattle.pad_model.proofs.Exits.{answers_memory}
-use Rattle.block_seq.specs.Plain.{IsPlain, cells_of, kept_character}
+use Rattle.block_seq.specs.Plain.{IsPlain, cells_of, kept_character, kept_run}
 use Rattle.block_seq.proofs.Kept.{may_join_view, length-cells_of, grown, insert_joined}
 use Rattle.block_seq.proofs.plain.PlainSeqSequence.insert_run.Goals as goal
 
@@ -29,26 +29,20 @@ invariant_of-self c = (grown c.self.inside.authors.items c.place_author.new.auth
 pub returns-in_err-author : goal.returns-in_err-author
 returns-in_err-author c = answers_memory c.from_residual.result c.from_residual.ensures.1 ((grown c.self.inside.authors.items c.place_author.new.authors.items c.args.author.now c.self.inside.cells.items c.self.invariant c.place_author.ensures.more).1 ∙ c.self.view_is)
 
-pub invariant_of-self-in_err-block : goal.invariant_of-self-in_err-block
-invariant_of-self-in_err-block c = (grown c.self.inside.authors.items c.place_author.new.authors.items c.args.author.now c.self.inside.cells.items c.self.invariant c.place_author.ensures.more).0
+pub invariant_of-self-in_err-reserve : goal.invariant_of-self-in_err-reserve
+invariant_of-self-in_err-reserve c = subst (IsPlain c.place_author.new.authors.items) (sym c.reserve.ensures.items) (grown c.self.inside.authors.items c.place_author.new.authors.items c.args.author.now c.self.inside.cells.items c.self.invariant c.place_author.ensures.more).0
 
-pub returns-in_err-block : goal.returns-in_err-block
-returns-in_err-block c = answers_memory c.from_residual-in_err-block.result c.from_residual-in_err-block.ensures.1 ((grown c.self.inside.authors.items c.place_author.new.authors.items c.args.author.now c.self.inside.cells.items c.self.invariant c.place_author.ensures.more).1 ∙ c.self.view_is)
+pub returns-in_err-reserve : goal.returns-in_err-reserve
+returns-in_err-reserve c = answers_memory c.from_residual-in_err-reserve.result c.from_residual-in_err-reserve.ensures.1 (ap (cells_of c.place_author.new.authors.items) c.reserve.ensures.items ∙ (grown c.self.inside.authors.items c.place_author.new.authors.items c.args.author.now c.self.inside.cells.items c.self.invariant c.place_author.ensures.more).1 ∙ c.self.view_is)
 
-pub invariant_of-self-in_err-splice : goal.invariant_of-self-in_err-splice
-invariant_of-self-in_err-splice c = rw c.in_err-splice.ensures.err ((grown c.self.inside.authors.items c.place_author.new.authors.items c.args.author.now c.self.inside.cells.items c.self.invariant c.place_author.ensures.more).0)
-
-pub returns-in_err-splice : goal.returns-in_err-splice
-returns-in_err-splice c = answers_memory c.from_residual-in_err-splice.result c.from_residual-in_err-splice.ensures.1 (ap (cells_of c.place_author.new.authors.items) c.in_err-splice.ensures.err ∙ (grown c.self.inside.authors.items c.place_author.new.authors.items c.args.author.now c.self.inside.cells.items c.self.invariant c.place_author.ensures.more).1 ∙ c.self.view_is)
-
-joins : (c : goal.In_ok-splice) → run_may_join kept_character c.self.inside.cells.items c.args.run.now.first c.args.run.now.after ≡ true
+joins : (c : goal.After-put_run) → run_may_join kept_character c.self.inside.cells.items c.args.run.now.first c.args.run.now.after ≡ true
 joins c = ap (λ l. run_may_join kept_character l c.args.run.now.first c.args.run.now.after) (sym c.as_slice.ensures.value) ∙ sym c.may_join.ensures ∙ c.if-not-may_join.false
 
-done : (c : goal.In_ok-splice) → IsPlain c.place_author.new.authors.items c.splice.new.cells.items × (cells_of c.place_author.new.authors.items c.splice.new.cells.items ≡ with_run c.args.rev c.args.run.now c.args.author.now c.args.self.now)
+done : (c : goal.After-put_run) → IsPlain c.place_author.new.authors.items c.put_run.new.cells.items × (cells_of c.place_author.new.authors.items c.put_run.new.cells.items ≡ with_run c.args.rev c.args.run.now c.args.author.now c.args.self.now)
 done c =
-    insert_joined c.self.inside.authors.items c.place_author.new.authors.items c.args.author.now c.self.inside.cells.items c.splice.new.cells.items c.args.self.now c.args.run.now c.in_ok-author.author c.args.rev c.place_of-place.result c.in_ok-block.block.items
+    insert_joined c.self.inside.authors.items c.place_author.new.authors.items c.args.author.now c.self.inside.cells.items c.put_run.new.cells.items c.args.self.now c.args.run.now c.in_ok-author.author c.args.rev
     c.self.invariant c.self.view_is c.place_author.ensures.more c.in_ok-author.ensures.place (joins c)
-    (c.place_of-place.ensures.value ∙ ap (λ l. place_in kept_character c.args.run.now.after c.args.run.now.first l) c.as_slice-2.ensures.value) c.in_ok-block.ensures c.in_ok-splice.ensures.ok
+    (c.put_run.ensures.items ∙ ap (λ l. spliced (place_in kept_character c.args.run.now.after c.args.run.now.first l) (kept_run c.args.run.now.first c.args.run.now.after c.args.run.now.text c.in_ok-author.author c.args.rev) l) c.reserve.ensures.items)
 
 pub invariant_of-self-2 : goal.invariant_of-self-2
 invariant_of-self-2 c = (done c).0

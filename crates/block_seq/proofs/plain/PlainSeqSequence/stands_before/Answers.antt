@@ -3,7 +3,8 @@ use Rattle.pad_model.specs.Cell.{character_of}
 use Rattle.pad_model.specs.Legal.{has_stamp}
 use Rattle.pad_model.specs.Log.{stands_before}
 use Rattle.block_seq.specs.Plain.{cell_of, kept_character}
-use Rattle.block_seq.proofs.Kept.{has_view, unless_first, unless_both, where_both, stands_before-map}
+use Rattle.pad_model.proofs.Maps.{stands_before-map}
+use Rattle.block_seq.proofs.Kept.{has_view, unless_first, unless_both, where_both}
 use Rattle.block_seq.proofs.plain.PlainSeqSequence.stands_before.Goals as goal
 
 pub returns-then-not-has : goal.returns-then-not-has

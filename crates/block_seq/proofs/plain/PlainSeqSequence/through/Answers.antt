@@ -3,7 +3,8 @@ use Rattle.pad_model.specs.Cell.{character_of, shown_at}
 use Rattle.pad_model.specs.Legal.{has_stamp}
 use Rattle.pad_model.specs.Visible.{shown_through}
 use Rattle.block_seq.specs.Plain.{cell_of, kept_character, is_shown}
-use Rattle.block_seq.proofs.Kept.{has_view, unless_has, where_has, shown_through-map}
+use Rattle.pad_model.proofs.Maps.{shown_through-map}
+use Rattle.block_seq.proofs.Kept.{has_view, unless_has, where_has}
 use Rattle.block_seq.proofs.plain.PlainSeqSequence.through.Goals as goal
 
 pub returns-then-not-has : goal.returns-then-not-has

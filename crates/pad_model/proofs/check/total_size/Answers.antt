@@ -1,7 +1,7 @@
 use Rattle.std.proofs.Common.{◌≡◌, ◌+◌, min, fold, rules, ◌∙◌}
 use Rattle.pad_model.specs.Checked.{part_size}
 use Rattle.pad_model.proofs.CheckedLemmas.{fold_bounded}
-use Rattle.pad_model.proofs.op.total_size.Goals as goal
+use Rattle.pad_model.proofs.check.total_size.Goals as goal
 
 pub returns : goal.returns
 returns c =

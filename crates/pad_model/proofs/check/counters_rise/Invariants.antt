@@ -1,6 +1,6 @@
 use Rattle.std.proofs.Common.{◌≡◌, drop}
 use Rattle.pad_model.specs.Checked.{counters_rise}
-use Rattle.pad_model.proofs.op.counters_rise.Given as goal
+use Rattle.pad_model.proofs.check.counters_rise.Given as goal
 
 -- the parts that are left, from the floor on, rise as all parts do
 abbrev pub invariant-loop-part : goal.invariant-loop-part

@@ -1,7 +1,7 @@
 use Rattle.std.proofs.Common.{◌≡◌, ◌+◌, min, fold, rules, ◌∙◌}
 use Rattle.pad_model.specs.declared.op.Span.{Span}
 use Rattle.pad_model.proofs.CheckedLemmas.{fold_total}
-use Rattle.pad_model.proofs.op.total_len.Goals as goal
+use Rattle.pad_model.proofs.check.total_len.Goals as goal
 
 pub returns : goal.returns
 returns c =

@@ -1,0 +1,63 @@
+-- The insertions and deletions of one operation, made at once.
+use Rattle.std.specs.Prelude.{ℕ, ◌+◌, Bool, false, not, ◌&&◌, nat_lt, if◌then◌else◌, List, [], ◌++◌, length, Result, Ok, Err, map, flat_map, count_by, fold}
+use Rattle.std.specs.List.{list_all}
+use Rattle.pad_model.specs.Cell.{Cell, character_of, born_at, is_hidden_by, without_spans, with_run}
+use Rattle.pad_model.specs.Character.{Character}
+use Rattle.pad_model.specs.Log.{run_may_join, has_spans, all_differ}
+use Rattle.pad_model.specs.Operation.{part_inserts}
+use Rattle.pad_model.specs.Order.{order}
+use Rattle.pad_model.specs.declared.limits.TheConstants.{MAX_CHARACTERS}
+use Rattle.pad_model.specs.declared.op.Part.{Part}
+use Rattle.pad_model.specs.declared.op.Part.TheVariants.{Insert, Delete, Comment, Resolve}
+use Rattle.pad_model.specs.declared.op.Span.{Span}
+use Rattle.pad_model.specs.declared.refusal.Refusal.{Refusal}
+use Rattle.pad_model.specs.declared.refusal.Refusal.TheVariants.{PeerFault, PadFull}
+use Rattle.pad_model.specs.declared.who.Author.{Author}
+
+-- whether an insertion or a deletion fits what stands there
+abbrev pub part_fits : {A : Type 0} → (A → Character) → List A → Part → Bool
+part_fits at items (Insert run) = run_may_join at items run.first run.after
+part_fits at items (Delete spans) = has_spans at items spans
+part_fits at items (Comment first last text) = false
+part_fits at items (Resolve comment) = false
+
+-- the spans that a part erases
+abbrev pub part_spans : Part → List Span
+part_spans (Insert run) = []
+part_spans (Delete spans) = spans
+part_spans (Comment first last text) = []
+part_spans (Resolve comment) = []
+
+-- the spans that the parts erase together
+abbrev pub spans_in : List Part → List Span
+spans_in parts = flat_map part_spans parts
+
+-- the characters that the parts insert together
+abbrev pub inserts_in : Author → List Part → List Character
+inserts_in author parts = flat_map (part_inserts author) parts
+
+-- whether each part fits the cells that stood before all of them, and no stamp is inserted twice
+abbrev pub parts_fit : Author → List Part → List Cell → Bool
+parts_fit author parts cells = list_all (part_fits character_of cells) parts && all_differ (inserts_in author parts)
+
+-- the cells with what the parts insert, in preorder, and with the deaths of what they erase
+abbrev pub with_parts : ℕ → List Part → Author → List Cell → List Cell
+with_parts rev parts author cells = order character_of (without_spans rev (spans_in parts) cells ++ map (born_at rev) (inserts_in author parts))
+
+-- what the parts of one operation answer, and the cells after them: all of them, or none
+abbrev pub apply : ℕ → List Part → Author → List Cell → Result ℕ Refusal × List Cell
+apply rev parts author cells =
+    if not (parts_fit author parts cells) then (Err PeerFault, cells)
+    else if nat_lt MAX_CHARACTERS (length cells + length (inserts_in author parts)) then (Err PadFull, cells)
+    else (Ok (count_by (is_hidden_by (spans_in parts)) cells), with_parts rev parts author cells)
+
+-- the cells after one part alone
+abbrev pub with_part : ℕ → Author → List Cell → Part → List Cell
+with_part rev author cells (Insert run) = with_run rev run author cells
+with_part rev author cells (Delete spans) = without_spans rev spans cells
+with_part rev author cells (Comment first last text) = cells
+with_part rev author cells (Resolve comment) = cells
+
+-- the cells after the parts, one after the other
+abbrev pub with_each_part : ℕ → Author → List Cell → List Part → List Cell
+with_each_part rev author cells parts = fold (with_part rev author) cells parts

@@ -1,13 +1,14 @@
 -- What follows from the clauses of this crate, for those who call it.
 use Rattle.std.proofs.Common.{◌≡◌, ℕ, ◌+◌, ◌≤◌, ◌<◌, ◌⊎◌, inl, inr, Bool, true, false, cond, Option, Some, None, refl, sym, ap, ◌∙◌, subst, arith}
+use Rattle.std.proofs.lemmas.Bool.{cases_order}
 use Rattle.std.specs.Option.{IfSome, IsSomeAnd}
 use Rattle.std.specs.Ordering.{eq_by_cmp}
 use Rattle.std.specs.FinMap.{get, insert, remove, empty, get-empty, get-insert, get-remove, same_map}
 use Rattle.pad_model.specs.Stamp.{Stamp}
 use Rattle.ident_index.specs.declared.place.Entry.{Entry}
 use Rattle.ident_index.specs.declared.place.Place.{Place}
-use Rattle.ident_index.specs.Index.{Index, stamp_cmp, Covers, Holds, IsNew, IsBlock, IsSound, IsPlace}
-use Rattle.ident_index.proofs.Order.{stamp_cmp_total, stamp_cmp-IsAntisymmetric, apart_stamps, same_from_tied, tied}
+use Rattle.ident_index.specs.Index.{Index, stamp_cmp, stamp_behind, Covers, Holds, HoldsNone, IsNew, IsBlock, IsSound, IsPlace}
+use Rattle.ident_index.proofs.Order.{stamp_cmp_total, stamp_cmp-IsAntisymmetric, apart_stamps, same_from_tied, same_stamps, tied}
 use Rattle.ident_index.proofs.Sound.{get_here, get_beside, holds_insert, some_entry}
 
 -- ---- what the index has at a stamp after a change
@@ -47,6 +48,18 @@ remove-insert m k e none =
 -- ---- when stamps are new, as `add` requires
 pub IsNew-empty : (first : Stamp) (len : ℕ) → IsNew empty first len
 IsNew-empty first len s covers other h = subst (λ (o : Option Entry). IsSomeAnd o (λ e. Covers other e.len s)) (get-empty stamp_cmp other) h
+
+-- where they are found one by one to be held by no block
+pub IsNew-none : (m : Index) (first : Stamp) → IsNew m first 0
+IsNew-none m first s covers = absurd (let c = covers in omega arith)
+
+pub IsNew-one_more : (m : Index) (first : Stamp) (len : ℕ) → IsNew m first len → HoldsNone m (stamp_behind first len) → IsNew m first (len + 1)
+IsNew-one_more m first len fresh none s covers =
+    elim (cases_order s.counter (first.counter + len)) [
+      | inl same ↦ subst (λ (x : Stamp). HoldsNone m x) (same_stamps (stamp_behind first len) s (sym same) covers.0) none
+      | inr (inl less) ↦ fresh s (covers.0, covers.1, less)
+      | inr (inr more) ↦ absurd (let c = covers in omega arith)
+    ]
 
 -- beside a block that has none of them
 pub IsNew-insert : (m : Index) (k : Stamp) (e : Entry) (first : Stamp) (len : ℕ) → IsNew m first len

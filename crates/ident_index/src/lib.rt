@@ -7,6 +7,8 @@
 
 mod index;
 mod label;
+#[cfg(test)]
+mod long_run;
 mod place;
 #[cfg(test)]
 mod tests;

@@ -10,6 +10,8 @@
 mod edit;
 mod find;
 mod iter;
+#[cfg(test)]
+mod long_run;
 mod node;
 mod rank;
 mod rotate;

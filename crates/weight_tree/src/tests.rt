@@ -6,10 +6,10 @@ use std::cmp::Ordering;
 use std::process::Abort;
 use std::test::Fail;
 
-#[derive(Drop)]
-struct Stone {
-    number: u64,
-    weight: u64,
+#[derive(Clone, Copy, Debug, PartialEq, Eq)]
+pub(crate) struct Stone {
+    pub(crate) number: u64,
+    pub(crate) weight: u64,
 }
 
 impl Weigh for Stone {
@@ -20,7 +20,7 @@ impl Weigh for Stone {
     }
 }
 
-fn put(
+pub(crate) fn put(
     rt: &impl Abort,
     alloc: Global,
     tree: &mut WeightTree<Stone>,

@@ -1,0 +1,33 @@
+-- The order of names.
+use Rattle.std.proofs.Common.{◌≡◌, true, false, arith}
+use Rattle.std.proofs.lemmas.Bool.Decides.{nat_tests}
+use Rattle.pad_model.specs.Log.{same_name}
+use Rattle.pad_model.specs.declared.op.OpName.{OpName}
+use Rattle.anchors.specs.Comments.{precedes}
+
+-- the order goes on along a chain
+pub precedes-trans : (a b c : OpName) → precedes a b ≡ true → precedes b c ≡ true → precedes a c ≡ true
+precedes-trans a b c p q = grind (arith, nat_tests)
+
+-- no name stands before an equal one
+pub precedes-same : (a b : OpName) → same_name a b ≡ true → precedes a b ≡ false
+precedes-same a b e = grind (arith, nat_tests)
+
+-- a name that stands before another is another
+pub same-precedes : (a b : OpName) → precedes a b ≡ true → same_name a b ≡ false
+same-precedes a b p = grind (arith, nat_tests)
+
+pub same-follows : (a b : OpName) → precedes b a ≡ true → same_name a b ≡ false
+same-follows a b p = grind (arith, nat_tests)
+
+-- names of which neither stands before the other are one
+pub same-neither : (a b : OpName) → precedes a b ≡ false → precedes b a ≡ false → same_name a b ≡ true
+same-neither a b p q = grind (arith, nat_tests)
+
+-- one of two names that differ stands before the other
+pub precedes-other : (a b : OpName) → precedes a b ≡ false → same_name a b ≡ false → precedes b a ≡ true
+precedes-other a b p q = grind (arith, nat_tests)
+
+-- what follows a name that is no smaller than another is not that one
+pub follows : (first later name : OpName) → precedes first name ≡ false → precedes first later ≡ true → same_name later name ≡ false
+follows first later name stops h = grind (arith, nat_tests)

@@ -1,0 +1,139 @@
+//! The book of a pad's comments.
+ghost use Rattle.std.specs.Prelude.{◌≡◌, ◌≤◌, ◌<◌, [], false, true, nat_lt, if◌then◌else◌, length, OnOk, IfOk, IfErr, MatchResult, None};
+ghost use Rattle.pad_model.specs.declared.limits.TheConstants.{MAX_COMMENTS};
+ghost use Rattle.anchors.specs.Comments.{IsBook, is_comment, comment_of, earlier, refusal_of, with_comment, with_resolution, born_by, range_of, comments_at, AreHeld};
+
+use crate::comment::Comment;
+use crate::find::{find, place_of};
+use crate::show::{Range, Shown, list, range_between};
+use pad_model::{Author, MAX_COMMENTS, Name, OpName, Refusal, Row, Sequence, Stamp, Text};
+use std::alloc::Global;
+use std::marker::Model;
+
+/// The comments of a pad, by name.
+#[derive(Debug, Drop)]
+pub struct CommentBook {
+    comments: Vec<Comment>,
+}
+
+impl Model for CommentBook {
+    ghost use Rattle.std.specs.Prelude.{List};
+    ghost use Rattle.anchors.specs.declared.comment.Comment.{Comment};
+
+    ghost Value = { List Comment };
+
+    ghost use Rattle.anchors.specs.Comments.{IsBook};
+
+    ghost view = { λ b. b.comments.items };
+
+    ghost invariant = { λ b. IsBook b.comments.items };
+}
+
+impl CommentBook {
+    /// The book of no comments. It takes no memory yet.
+    pub fn new(alloc: Global) -> CommentBook
+        ensures { result ≡ [] }
+    {
+        CommentBook {
+            comments: Vec::new(alloc),
+        }
+    }
+
+    /// How many comments there are.
+    pub fn len(&self) -> u64
+        ensures value { result ≡ length self.now }
+        ensures book { IsBook self.now }
+    {
+        self.comments.len() as u64
+    }
+
+    /// Whether a name is a comment's.
+    pub fn has(&self, name: OpName) -> bool
+        ensures { result ≡ is_comment name self.now }
+    {
+        find(self.comments.as_slice(), name).is_some()
+    }
+
+    /// Enters a comment on the characters from one stamp to another, made at a revision.
+    pub fn add(
+        &mut self,
+        alloc: Global,
+        name: OpName,
+        first: Stamp,
+        last: Stamp,
+        author: &Author,
+        text: &Text,
+        rev: u64,
+    ) -> Result<(), Refusal>
+        requires { is_comment name self.old ≡ false }
+        ensures room { OnOk result (length self.old < MAX_COMMENTS) }
+        ensures ok { OnOk result (self.new ≡ with_comment (record { name = name; first = first; last = last; author = author.now; text = text.now; born = rev; resolved = None }) self.old) }
+        ensures err { IfErr result (λ e. (e ≡ refusal_of self.old) × (self.new ≡ self.old)) }
+    {
+        if self.len() >= MAX_COMMENTS {
+            return Err(Refusal::CommentsFull);
+        }
+        let author = Author {
+            name: Name::from_str(alloc, author.name.as_str())?,
+            origin: author.origin,
+        };
+        let comment = Comment {
+            name,
+            first,
+            last,
+            author,
+            text: text.clone()?,
+            born: rev,
+            resolved: None,
+        };
+        let place = place_of(self.comments.as_slice(), name);
+        self.comments.insert(place, comment)?;
+        Ok(())
+    }
+
+    /// Resolves a comment from a revision on. A later resolution changes nothing more.
+    pub fn resolve(&mut self, name: OpName, rev: u64) -> Result<(), Refusal>
+        ensures ok { OnOk result ((is_comment name self.old ≡ true) × (self.new ≡ with_resolution name rev self.old)) }
+        ensures err { IfErr result (λ e. (e ≡ Refusal.NoComment) × (is_comment name self.old ≡ false) × (self.new ≡ self.old)) }
+    {
+        let Some(place) = find(self.comments.as_slice(), name) else {
+            return Err(Refusal::NoComment);
+        };
+        let comment = &mut self.comments[place];
+        comment.resolved = Some(earlier(comment.resolved, rev));
+        Ok(())
+    }
+
+    /// Where a comment stands at a revision; None where the name is no comment's, or a stamp is missing.
+    pub fn range<S: Sequence>(&self, sequence: &S, name: OpName, rev: u64) -> Option<Range>
+        ensures { result ≡ range_of rev (S.cells sequence.now) (comment_of name self.now) }
+    {
+        let place = find(self.comments.as_slice(), name)?;
+        let comment = &self.comments[place];
+        range_between(sequence, comment.first, comment.last, rev)
+    }
+
+    /// The comments of a revision, by name.
+    pub fn list_at<S: Sequence>(
+        &self,
+        alloc: Global,
+        sequence: &S,
+        rev: u64,
+    ) -> Result<Row<Shown>, Refusal>
+        requires { AreHeld (S.cells sequence.now) (born_by rev self.now) }
+        ensures { MatchResult result (λ rows. rows ≡ comments_at rev (S.cells sequence.now) self.now) (λ e. e ≡ Refusal.Memory) }
+    {
+        let rows = list(alloc, self.comments.as_slice(), sequence, rev)?;
+        Ok(Row::from_vec(rows))
+    }
+}
+
+/// The revision that resolves a comment, where one more resolution is made.
+fn earlier(before: Option<u64>, rev: u64) -> u64
+    ensures { result ≡ earlier before rev }
+{
+    match before {
+        Some(before) => before.min(rev),
+        None => rev,
+    }
+}

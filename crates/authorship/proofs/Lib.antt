@@ -1,0 +1,8 @@
+pub mod At
+pub mod CallerLemmas
+pub mod Changes
+pub mod Cuts
+pub mod Fewest
+pub mod Known
+pub mod Puts
+pub mod Takes

@@ -1,0 +1,7 @@
+use Rattle.std.proofs.Common.{◌≡◌, map, take}
+use Rattle.authorship.specs.Kept.{author_run}
+use Rattle.authorship.proofs.run_list.author_runs.Given as goal
+
+-- the runs that were passed
+abbrev pub invariant-loop-run : goal.invariant-loop-run
+invariant-loop-run l = l.rows.items ≡ map (author_run l.table) (take l.run-index l.runs)

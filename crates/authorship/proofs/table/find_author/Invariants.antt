@@ -1,0 +1,7 @@
+use Rattle.std.proofs.Common.{◌≢◌, ℕ, ◌<◌}
+use Rattle.authorship.specs.Kept.{author_in}
+use Rattle.authorship.proofs.table.find_author.Given as goal
+
+-- no author that was passed is the one
+abbrev pub invariant-loop-place : goal.invariant-loop-place
+invariant-loop-place l = (i : ℕ) → i < l.place → author_in l.table i ≢ l.author

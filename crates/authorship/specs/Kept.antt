@@ -1,0 +1,74 @@
+-- How a list of authors is kept: as runs of places in a table of authors.
+use Rattle.std.specs.Prelude.{◌≡◌, ◌≢◌, ℕ, ◌+◌, ◌*◌, ◌^◌, ◌≤◌, ◌<◌, List, [], ◌∷◌, length, map, replicate, flat_map, sum_by, slice_index_or, Option, Some, None}
+use Rattle.std.specs.List.{AllByRecursion}
+use Rattle.pad_model.specs.declared.who.Author.{Author}
+use Rattle.pad_model.specs.declared.who.AuthorRun.{AuthorRun}
+use Rattle.authorship.specs.Authors.{Authored, Spare}
+use Rattle.authorship.specs.declared.kept.KeptRun.{KeptRun}
+use Rattle.authorship.specs.declared.kept.KeptSpare.{KeptSpare}
+
+-- how many characters runs have
+abbrev pub characters : List KeptRun → ℕ
+characters runs = sum_by (λ run. run.len) runs
+
+-- the place of each character's author
+abbrev pub places : List KeptRun → List ℕ
+places runs = flat_map (λ run. replicate run.len run.author) runs
+
+-- the author at a place of a table
+abbrev pub author_in : List Author → ℕ → Author
+author_in table place = slice_index_or table place (record { name = []; origin = 0 })
+
+-- the author of each character
+abbrev pub authors_in : List Author → List KeptRun → List Author
+authors_in table runs = map (author_in table) (places runs)
+
+-- the author run that a kept one stands for
+abbrev pub author_run : List Author → KeptRun → AuthorRun
+author_run table run = record { author = author_in table run.author; len = run.len }
+
+-- each run's author is in a table of this length
+abbrev pub AreKnown : ℕ → List KeptRun → Type 0
+AreKnown authors runs = AllByRecursion (λ run. run.author < authors) runs
+
+-- the room that is kept
+abbrev pub spare_in : List Author → Option KeptSpare → Option Spare
+spare_in table None = None
+spare_in table (Some spare) = Some (record { author = author_in table spare.author; left = spare.left })
+
+-- the authors and the room that are kept
+abbrev pub authored : List Author → List KeptRun → Option KeptSpare → Authored
+authored table runs spare = record { authors = authors_in table runs; spare = spare_in table spare }
+
+-- the first run is not of this author
+abbrev pub StartsApart : ℕ → List KeptRun → Type 0
+StartsApart author [] = Unit {0}
+StartsApart author (run ∷ runs) = author ≢ run.author
+
+-- the last run is not of this author
+abbrev pub EndsApart : List KeptRun → ℕ → Type 0
+EndsApart [] author = Unit {0}
+EndsApart (run ∷ []) author = run.author ≢ author
+EndsApart (run ∷ next ∷ runs) author = EndsApart (next ∷ runs) author
+
+-- each run has a character, and no two neighbours have one author
+abbrev pub IsProper : List KeptRun → Type 0
+IsProper [] = Unit {0}
+IsProper (run ∷ runs) = (1 ≤ run.len) × StartsApart run.author runs × IsProper runs
+
+-- no author stands twice in a table
+abbrev pub IsOnce : List Author → Type 0
+IsOnce table = (i j : ℕ) → i < length table → j < length table → author_in table i ≡ author_in table j → i ≡ j
+
+-- each insertion that has room may add two runs, and its author is in the table
+abbrev pub HasRoom : ℕ → ℕ → ℕ → Option KeptSpare → Type 0
+HasRoom authors runs capacity None = Unit {0}
+HasRoom authors runs capacity (Some spare) = (spare.author < authors) × (runs + 2 * spare.left ≤ capacity)
+
+-- the runs are proper, and fit the table and the room
+pub record IsKept (table : List Author) (runs : List KeptRun) (len capacity : ℕ) (spare : Option KeptSpare) : Type 0 where
+  pub proper : IsProper runs
+  pub known : AllByRecursion (λ place. place < length table) (places runs)
+  pub once : IsOnce table
+  pub fits : characters runs < 2 ^ 64
+  pub room : HasRoom (length table) len capacity spare

@@ -1,0 +1,3 @@
+pub mod Authors
+pub mod Cut
+pub mod Kept

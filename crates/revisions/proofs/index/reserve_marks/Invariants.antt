@@ -1,0 +1,10 @@
+use Rattle.std.proofs.Common.{◌≡◌, take, map}
+use Rattle.std.specs.List.{AllByRecursion}
+use Rattle.revisions.specs.Index.{kept, HasRoom}
+use Rattle.revisions.proofs.index.reserve_marks.Given as goal
+
+abbrev pub invariant-loop-track : goal.invariant-loop-track
+invariant-loop-track l = record {
+  same : map kept l.tracks ≡ map kept l.initial.tracks;
+  room : AllByRecursion HasRoom (take l.track-index l.tracks);
+}

@@ -1,0 +1,89 @@
+ghost use Rattle.std.specs.Prelude.{◌≡◌, ◌<◌, [], ◌∷◌, ◌++◌, List, length, map, vec_len, OnOk};
+ghost use Rattle.std.specs.List.{AllByRecursion, position};
+ghost use Rattle.std.specs.Vec.{vec_capacity};
+ghost use Rattle.pad_model.specs.declared.op.Op.{Op};
+ghost use Rattle.revisions.specs.Track.{highest_after, mark_of, marks_of};
+ghost use Rattle.revisions.specs.Index.{IsIndex, HasRoom, kept, has_origin, earlier};
+
+use crate::track::{Mark, Track, highest_of};
+use pad_model::OpName;
+use std::alloc::AllocError;
+use std::mem;
+
+/// The place of an origin's track.
+fn track_of(tracks: &[Track], origin: u16) -> Option<usize>
+    ensures { result ≡ position (λ track. has_origin origin (kept track)) tracks.now }
+{
+    tracks.iter().position(|track| origin == track.origin)
+}
+
+/// The marks of an origin.
+pub fn marks_of(tracks: &[Track], origin: u16) -> &[Mark]
+    ensures { (ops : List Op) → IsIndex (map kept tracks.now) ops → result.now ≡ marks_of origin ops }
+{
+    match track_of(tracks, origin) {
+        Some(at) => tracks[at].marks.as_slice(),
+        None => &[],
+    }
+}
+
+/// Makes room for one more mark in each track, whichever gets it.
+pub fn reserve_marks(tracks: &mut [Track]) -> Result<(), AllocError>
+    ensures same { map kept tracks.new ≡ map kept tracks.old }
+    ensures ok { OnOk result (AllByRecursion HasRoom tracks.new) }
+{
+    for track in tracks.iter_mut() {
+        track.marks.reserve(1)?;
+    }
+    Ok(())
+}
+
+/// Marks the operation at a place. `fresh` is the memory of the marks of a new origin.
+pub fn enter(tracks: &mut Vec<Track>, fresh: &mut Vec<Mark>, place: u64, name: OpName)
+    requires tracks { vec_len tracks.old < vec_capacity tracks.old }
+    requires marks { AllByRecursion HasRoom tracks.old.items }
+    requires fresh { vec_len fresh.old < vec_capacity fresh.old }
+    requires empty { fresh.old.items ≡ [] }
+    ensures index { (ops : List Op) (op : Op) → op.name ≡ name → length ops ≡ place
+        → IsIndex (map kept tracks.old.items) ops → IsIndex (map kept tracks.new.items) (ops ++ op ∷ []) }
+    ensures empty { fresh.new.items ≡ [] }
+{
+    match track_of(tracks, name.origin) {
+        Some(at) => {
+            let track = &mut tracks[at];
+            add_mark(&mut track.marks, place, name.number);
+        }
+        None => {
+            let empty = Vec::new(*fresh.allocator());
+            let mut marks = mem::replace(fresh, empty);
+            add_mark(&mut marks, place, name.number);
+            tracks.push_reserved(Track {
+                origin: name.origin,
+                marks,
+            });
+        }
+    }
+}
+
+fn add_mark(marks: &mut Vec<Mark>, place: u64, number: u64)
+    requires { vec_len marks.old < vec_capacity marks.old }
+    ensures { marks.new.items ≡ marks.old.items ++ mark_of place number (highest_after 0 marks.old.items) ∷ [] }
+{
+    let highest = highest_of(marks).max(number);
+    marks.push_reserved(Mark {
+        place,
+        number,
+        highest,
+    });
+}
+
+/// The earlier of two places, if any.
+pub fn earlier(a: Option<u64>, b: Option<u64>) -> Option<u64>
+    ensures { result ≡ earlier a b }
+{
+    match (a, b) {
+        (Some(a), Some(b)) => Some(a.min(b)),
+        (Some(a), None) => Some(a),
+        (None, b) => b,
+    }
+}

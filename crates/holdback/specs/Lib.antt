@@ -1,0 +1,5 @@
+pub mod Held
+pub mod Inside
+pub mod Laws
+pub mod Next
+pub mod Offered

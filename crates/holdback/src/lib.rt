@@ -1,0 +1,14 @@
+//! The operations of a pad that wait for others: causal delivery.
+//!
+//! It stands on `pad_model`. It delivers nothing itself: it says which operation may go on next, and its
+//! caller delivers it and keeps the vector of what was delivered.
+#![tactic(auto)]
+
+mod held;
+pub mod laws;
+mod order;
+mod ready;
+#[cfg(test)]
+mod tests;
+
+pub use held::{Hold, MAX_HELD, Offer};

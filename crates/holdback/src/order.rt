@@ -1,0 +1,32 @@
+ghost use Rattle.std.specs.Prelude.{◌≡◌, IfOk, IfErr};
+ghost use Rattle.holdback.specs.Held.{comes_before, IsRising};
+ghost use Rattle.holdback.specs.Inside.{IsParted, IsAt, IsGapFor};
+
+use pad_model::{Op, OpName};
+
+/// The place of the operation with a name; an error is the place where it would go.
+pub fn place_of(held: &[Op], name: OpName) -> Result<usize, usize>
+    requires { IsRising held.now }
+    ensures found { IfOk result (λ place. IsAt held.now name place) }
+    ensures absent { IfErr result (λ place. IsGapFor held.now name place) }
+{
+    let place = place_for(held, name);
+    match held.get(place) {
+        Some(op) if op.name == name => Ok(place),
+        _ => Err(place),
+    }
+}
+
+// The first place whose operation does not come before a name.
+fn place_for(held: &[Op], name: OpName) -> usize
+    requires { IsRising held.now }
+    ensures { IsParted held.now name result }
+{
+    held.partition_point(|op| comes_before(op.name, name))
+}
+
+fn comes_before(a: OpName, b: OpName) -> bool
+    ensures { result ≡ comes_before a b }
+{
+    a.origin < b.origin || (a.origin == b.origin && a.number < b.number)
+}

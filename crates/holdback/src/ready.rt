@@ -1,0 +1,28 @@
+ghost use Rattle.std.specs.Prelude.{◌≡◌, option_copied};
+ghost use Rattle.std.specs.List.{find};
+ghost use Rattle.holdback.specs.Held.{reaches, is_ready};
+
+use pad_model::{Counted, Op, Seen};
+
+/// Whether an operation is the next of its origin, and all that it had seen was delivered.
+pub fn is_ready(op: &Op, seen: &Seen) -> bool
+    ensures { result ≡ is_ready seen.now op.now }
+{
+    let count = seen.count(op.name.origin);
+    op.name.number.checked_sub(1) == Some(count) && reaches(seen, op.seen.pairs())
+}
+
+/// The first of them that is ready.
+pub fn first_ready<'a>(held: &'a [Op], seen: &Seen) -> Option<&'a Op>
+    ensures { option_copied result ≡ find (is_ready seen.now) held.now }
+{
+    held.iter().find(|op| is_ready(op, seen))
+}
+
+fn reaches(seen: &Seen, counts: &[Counted]) -> bool
+    ensures { result ≡ reaches seen.now counts.now }
+{
+    counts
+        .iter()
+        .all(|pair| pair.count <= seen.count(pair.origin))
+}

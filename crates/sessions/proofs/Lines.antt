@@ -1,0 +1,108 @@
+-- The lines and the words of an accounts file.
+use Rattle.std.proofs.Common.{◌≡◌, ℕ, zero, suc, ◌+◌, ◌<◌, Bool, true, false, ◌&&◌, ◌||◌, not, List, [], ◌∷◌, length, take, drop, get_or, None, Some, true≢false, ◌≢◌, refl, sym, ap, ◌∙◌, arith, eqb, ltb, leb, bytes_eq}
+use Rattle.std.specs.List.{list_all, position, position_or_len, slice_split, onto_first}
+use Rattle.std.specs.Str.{IsAscii, IsUtf8}
+use Rattle.std.specs.Str.Lines.{lines_of_parts, strip_carriage_return}
+use Rattle.std.proofs.lemmas.Bool.{ltb-true, ltb-false, leb-true, ne_eqb, and_parts, and_from, and_left, and_right, cond-true, cond-false}
+use Rattle.std.proofs.lemmas.Option.{same_Some}
+use Rattle.std.proofs.lemmas.List.Splits.{slice_split_first, slice_split_none}
+use Rattle.std.proofs.lemmas.List.Sums.{fails_before_first}
+use Rattle.std.proofs.lemmas.Str.{IsUtf8-from_ascii}
+use Rattle.pad_model.specs.Checked.{is_name, is_name_byte, is_within}
+use Rattle.pad_model.proofs.Newer.{split}
+use Rattle.sessions.specs.AccountsFile.{is_shown, is_word, no_form, said_by, words}
+
+-- the first part of a list that is cut ends where the test first holds
+pub split_found : (p : ℕ → Bool) (xs : List ℕ) (i : ℕ) → position p xs ≡ Some i → slice_split p xs ≡ take i xs ∷ slice_split p (drop (i + 1) xs)
+split_found p xs i found =
+    split (ltb (position_or_len p xs) (length xs))
+    (λ t.
+    let same : position_or_len p xs ≡ i = same_Some _ _ (sym (cond-true _ _ _ t) ∙ found) in
+    slice_split_first p xs 0 (ltb-true _ _ t) ∙ ap (λ k. take k xs ∷ slice_split p (drop (k + 1) xs)) same)
+    (λ f. let none = sym (cond-false _ _ _ f) ∙ found in cc)
+
+pub split_absent : (p : ℕ → Bool) (xs : List ℕ) → position p xs ≡ None → slice_split p xs ≡ xs ∷ []
+split_absent p xs absent =
+    split (ltb (position_or_len p xs) (length xs))
+    (λ t. let some = sym (cond-true _ _ _ t) ∙ absent in cc)
+    (λ f. slice_split_none p xs (λ k d lt. fails_before_first p xs k d (omega (arith, ltb-false _ _ f))))
+
+-- a part that is not the last is a line
+pub line_before : (p : ℕ → Bool) (x ys : List ℕ) → lines_of_parts (x ∷ slice_split p ys) ≡ strip_carriage_return x ∷ lines_of_parts (slice_split p ys)
+line_before p x [] = refl
+line_before p x (y ∷ ys) = split (p y) (λ t. rw t refl) (λ f. rw f (first (slice_split p ys)))
+  where
+    first : (parts : List (List ℕ)) → lines_of_parts (x ∷ onto_first y parts) ≡ strip_carriage_return x ∷ lines_of_parts (onto_first y parts)
+    first [] = refl
+    first (part ∷ parts) = refl
+
+-- the last part is a line where it is not empty
+pub last_line : (x : List ℕ) → 0 < length x → lines_of_parts (x ∷ []) ≡ x ∷ []
+last_line x lt = cond-false _ _ _ (ne_eqb (length x) 0 (λ e. omega (arith, e)))
+
+-- shown bytes are text
+shown_is_ascii : (w : List ℕ) → list_all is_shown w ≡ true → IsAscii w
+shown_is_ascii [] h i = omega arith
+shown_is_ascii (b ∷ bs) h zero = let parts = and_parts (leb 33 b) (leb b 126) (and_parts (is_shown b) (list_all is_shown bs) h).0 in omega (arith, leb-true b 126 parts.1)
+shown_is_ascii (b ∷ bs) h (suc i) = shown_is_ascii bs (and_parts (is_shown b) (list_all is_shown bs) h).1 i
+
+pub word_is_text : (most : ℕ) (w : List ℕ) → is_word most w ≡ true → IsUtf8 w
+word_is_text most w h = IsUtf8-from_ascii w (shown_is_ascii w (and_parts (is_within (length w) most) (list_all is_shown w) h).1)
+
+-- a name is a word
+byte_is_shown : (b : ℕ) → is_name_byte b ≡ true → is_shown b ≡ true
+byte_is_shown b h = grind arith
+
+name_is_shown : (w : List ℕ) → list_all is_name_byte w ≡ true → list_all is_shown w ≡ true
+name_is_shown [] h = refl
+name_is_shown (b ∷ bs) h =
+    let parts = and_parts (is_name_byte b) (list_all is_name_byte bs) h in
+    and_from _ _ (byte_is_shown b parts.0) (name_is_shown bs parts.1)
+
+pub name_is_word : (w : List ℕ) → is_word 32 w ≡ false → is_name w ≡ false
+name_is_word w h =
+    let within = is_within (length w) 32 in
+    split (list_all is_name_byte w)
+    (λ t. and_left within _ (by_other within _ h (name_is_shown w t)))
+    (λ f. and_right within _ f)
+  where
+    by_other : (a b : Bool) → (a && b) ≡ false → b ≡ true → a ≡ false
+    by_other false b h t = refl
+    by_other true b h t = absurd (true≢false (sym t ∙ h))
+
+-- equal so far, and at one more place
+pub same_more : (a b : List ℕ) (i : ℕ) → i < length a → i < length b → bytes_eq (take (i + 1) a) (take (i + 1) b) ≡ (bytes_eq (take i a) (take i b) && eqb (get_or a i 0) (get_or b i 0))
+same_more [] b i la lb = absurd (omega arith)
+same_more (x ∷ a) [] i la lb = absurd (omega arith)
+same_more (x ∷ a) (y ∷ b) zero la lb = and_true (eqb x y)
+  where
+    and_true : (p : Bool) → (p && true) ≡ p
+    and_true true = refl
+    and_true false = refl
+same_more (x ∷ a) (y ∷ b) (suc i) la lb =
+    let e : suc i + 1 ≡ suc (i + 1) = omega arith in
+    rw e (ap (λ r. eqb x y && r) (same_more a b i (omega arith) (omega arith)) ∙ and_assoc (eqb x y) (bytes_eq (take i a) (take i b)) (eqb (get_or a i 0) (get_or b i 0)))
+  where
+    and_assoc : (p q r : Bool) → (p && (q && r)) ≡ ((p && q) && r)
+    and_assoc true q r = refl
+    and_assoc false q r = refl
+
+pub other_length : (a b : List ℕ) → length a ≢ length b → bytes_eq a b ≡ false
+other_length [] [] ne = absurd (ne refl)
+other_length [] (y ∷ b) ne = refl
+other_length (x ∷ a) [] ne = refl
+other_length (x ∷ a) (y ∷ b) ne = and_right (eqb x y) _ (other_length a b (λ e. ne (ap suc e)))
+
+pub no_difference : (differs same : Bool) → not (differs || not same) ≡ (not differs && same)
+no_difference true same = refl
+no_difference false true = refl
+no_difference false false = refl
+
+-- a line of more than four words has no form
+pub too_many : (a b c d x : List ℕ) → said_by (a ∷ b ∷ c ∷ d ∷ words x) ≡ no_form
+too_many a b c d [] = refl
+too_many a b c d (y ∷ ys) = split (eqb y 32) (λ t. rw t refl) (λ f. rw f (more (words ys)))
+  where
+    more : (parts : List (List ℕ)) → said_by (a ∷ b ∷ c ∷ d ∷ onto_first y parts) ≡ no_form
+    more [] = refl
+    more (part ∷ parts) = refl

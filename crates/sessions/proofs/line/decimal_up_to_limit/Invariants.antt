@@ -1,0 +1,6 @@
+use Rattle.std.proofs.Common.{◌≡◌, take, min}
+use Rattle.sessions.specs.AccountsFile.{decimal}
+use Rattle.sessions.proofs.line.decimal_up_to_limit.Given as goal
+
+abbrev pub invariant-loop-digit : goal.invariant-loop-digit
+invariant-loop-digit l = l.number ≡ min (decimal (take l.digit-index l.digits)) 65536

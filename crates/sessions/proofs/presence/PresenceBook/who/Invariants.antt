@@ -1,0 +1,6 @@
+use Rattle.std.proofs.Common.{◌≡◌, ◌++◌}
+use Rattle.sessions.specs.Inside.{visits_of}
+use Rattle.sessions.proofs.presence.PresenceBook.who.Given as goal
+
+abbrev pub invariant-loop-number : goal.invariant-loop-number
+invariant-loop-number l = l.visits ++ visits_of l.number-iterator ≡ l.self.present

@@ -1,0 +1,37 @@
+-- What is kept of those who are present and of a session, and what is shown of it.
+use Rattle.std.specs.Prelude.{ℕ, ◌-◌, ◌≤◌, List, length, map, vec_len}
+use Rattle.std.specs.Vec.{vec_capacity}
+use Rattle.sessions.specs.Presence.{Presence, AreNumbered}
+use Rattle.sessions.specs.Session.{Session, IsNamed}
+use Rattle.sessions.specs.declared.presence.TheConstants.{MAX_PRESENT, MAX_VISITS}
+use Rattle.sessions.specs.declared.presence.Visit.{Visit}
+use Rattle.sessions.specs.declared.presence.Visitor.{Visitor}
+use Rattle.sessions.specs.declared.presence.PresenceBook.TheInside.{Inside as KeptPresence}
+use Rattle.sessions.specs.declared.session.Session.TheInside.{Inside as KeptSession}
+
+-- the visit of a number and of what is kept beside it
+abbrev pub visit_of : ℕ → Visitor → Visit
+visit_of number visitor = record { number = number; author = visitor.author; caret = visitor.caret }
+
+-- the visits of the entries
+abbrev pub visits_of : List (ℕ × Visitor) → List Visit
+visits_of entries = map (λ entry. visit_of entry.0 entry.1) entries
+
+-- the visits, in the order of the map
+abbrev pub shown : KeptPresence → Presence
+shown book = record { given = book.given; present = visits_of book.visitors.entries }
+
+-- the numbers rise up to the one given last, and the limits hold
+pub record IsSound (book : KeptPresence) : Type 0 where
+  pub numbered : AreNumbered book.given (visits_of book.visitors.entries)
+  pub few : length book.visitors.entries ≤ MAX_PRESENT
+  pub spent : book.given ≤ MAX_VISITS
+
+-- whose it is, the rooms, and the room that their vector has
+abbrev pub session_of : KeptSession → Session
+session_of s = record { who = s.who; rooms = s.rooms.items; spare = vec_capacity s.rooms - vec_len s.rooms }
+
+-- the author's name is well formed, and the vector has room for what it holds
+pub record IsSoundSession (s : KeptSession) : Type 0 where
+  pub named : IsNamed s.who
+  pub fits : vec_len s.rooms ≤ vec_capacity s.rooms

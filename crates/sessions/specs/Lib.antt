@@ -1,0 +1,6 @@
+pub mod Accounts
+pub mod AccountsFile
+pub mod Inside
+pub mod Presence
+pub mod Said
+pub mod Session

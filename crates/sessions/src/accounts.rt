@@ -1,0 +1,180 @@
+//! Who may log in.
+ghost use Rattle.std.specs.Prelude.{◌≡◌, if◌then◌else◌, Some, None, Ok, IfOk, IfErr};
+ghost use Rattle.std.specs.List.{list_any};
+ghost use Rattle.sessions.specs.Accounts.{no_accounts, has_name, has_number, is_full, with_line, accounts_of, Tells, is_author, is_peer};
+ghost use Rattle.sessions.specs.AccountsFile.{an_author, a_peer};
+ghost use Rattle.sessions.specs.Said.{said};
+ghost use Rattle.sessions.specs.declared.accounts.AccountsError.TheVariants.{Memory};
+
+use crate::line::{Line, cut_line, read_line};
+use crate::word::Word;
+use pad_model::Name;
+use std::alloc::{AllocError, AllocFailed, Global};
+use std::marker::Model;
+
+/// How many accounts there can be, authors and peers together.
+pub const MAX_ACCOUNTS: u64 = 1_000;
+
+/// Why an accounts file could not be read.
+#[derive(Clone, Copy, Debug, PartialEq, Eq)]
+pub enum AccountsError {
+    /// 500: the first line, counted from 1, that has none of the forms, or whose account is there already
+    /// or is one too many.
+    BadLine { line: u64 },
+    /// 900: there was no memory.
+    Memory,
+}
+
+impl From<AllocError> for AccountsError {
+    ghost from_gives = { λ _ error. error ≡ Memory };
+
+    fn from(_refused: AllocError) -> AccountsError {
+        AccountsError::Memory
+    }
+}
+
+/// An author who may log in.
+#[derive(Drop)]
+pub struct AuthorAccount {
+    name: Name,
+    token: Word,
+}
+
+/// A peer: its replica number, its token for both directions, and where it listens.
+#[derive(Debug, Drop)]
+pub struct Peer {
+    pub number: u16,
+    pub token: Word,
+    pub address: Word,
+}
+
+/// The authors and peers that may log in.
+#[derive(Drop)]
+pub struct Accounts {
+    authors: Vec<AuthorAccount>,
+    peers: Vec<Peer>,
+}
+
+impl Model for Accounts {
+    ghost use Rattle.sessions.specs.Accounts.{Accounts};
+
+    ghost Value = { Accounts };
+
+    ghost view = { λ a. record { authors = a.authors.items; peers = a.peers.items } };
+}
+
+impl Accounts {
+    /// Reads an accounts file whole.
+    pub fn read(alloc: Global, bytes: &[u8]) -> Result<Accounts, AccountsError>
+        ensures ok { IfOk result (λ accounts. accounts_of bytes.now ≡ Ok accounts) }
+        ensures refused { IfErr result (Tells bytes.now) }
+    {
+        let mut accounts = Accounts {
+            authors: Vec::new(alloc),
+            peers: Vec::new(alloc),
+        };
+        let mut rest = bytes;
+        let mut line = 0;
+        while !rest.is_empty() {
+            let (text, after) = cut_line(rest);
+            line += 1;
+            if !accounts.add(alloc, read_line(text))? {
+                return Err(AccountsError::BadLine { line });
+            }
+            rest = after;
+        }
+        Ok(accounts)
+    }
+
+    /// Whether an author has this token.
+    pub fn author(&self, name: &str, token: &str) -> bool
+        ensures { result ≡ is_author name.now token.now self.now }
+    {
+        self.authors
+            .iter()
+            .any(|account| account.name.is(name) && account.token.is(token))
+    }
+
+    /// Whether the peer with this number has this token. No number above those of replicas is a peer's.
+    pub fn peer(&self, number: u64, token: &str) -> bool
+        ensures { result ≡ is_peer number token.now self.now }
+    {
+        self.peers.iter().any(|peer| u64::from(peer.number) == number && peer.token.is(token))
+    }
+
+    /// The peers, in the order of their lines.
+    pub fn peers(&self) -> &[Peer]
+        ensures { result.now ≡ self.now.peers }
+    {
+        self.peers.as_slice()
+    }
+
+    /// Adds what a line says; false where it is at fault.
+    fn add(&mut self, alloc: Global, line: Line<'_>) -> Result<bool, AllocError>
+        ensures { IfOk result (λ taken. with_line self.old (said line.entry) ≡ (if taken then Some self.new else None)) }
+    {
+        match line {
+            Line::Skip => Ok(true),
+            Line::Author { name, token } => self.add_author(alloc, name, token),
+            Line::Peer {
+                number,
+                token,
+                address,
+            } => self.add_peer(alloc, number, token, address),
+            Line::Bad => Ok(false),
+        }
+    }
+
+    fn add_author(&mut self, alloc: Global, name: &str, token: &str) -> Result<bool, AllocError>
+        ensures { IfOk result (λ taken. with_line self.old (an_author name.now token.now) ≡ (if taken then Some self.new else None)) }
+    {
+        if self.is_full() || self.has_author(name) {
+            return Ok(false);
+        }
+        let account = AuthorAccount {
+            name: Name::from_str(alloc, name)?,
+            token: Word::from_str(alloc, token)?,
+        };
+        self.authors.push(account)?;
+        Ok(true)
+    }
+
+    fn add_peer(
+        &mut self,
+        alloc: Global,
+        number: u16,
+        token: &str,
+        address: &str,
+    ) -> Result<bool, AllocError>
+        ensures { IfOk result (λ taken. with_line self.old (a_peer number token.now address.now) ≡ (if taken then Some self.new else None)) }
+    {
+        if self.is_full() || self.has_peer(number) {
+            return Ok(false);
+        }
+        let peer = Peer {
+            number,
+            token: Word::from_str(alloc, token)?,
+            address: Word::from_str(alloc, address)?,
+        };
+        self.peers.push(peer)?;
+        Ok(true)
+    }
+
+    fn is_full(&self) -> bool
+        ensures { result ≡ is_full self.now }
+    {
+        self.authors.len() as u64 + self.peers.len() as u64 >= MAX_ACCOUNTS
+    }
+
+    fn has_author(&self, name: &str) -> bool
+        ensures { result ≡ list_any (has_name name.now) self.now.authors }
+    {
+        self.authors.iter().any(|account| account.name.is(name))
+    }
+
+    fn has_peer(&self, number: u16) -> bool
+        ensures { result ≡ list_any (has_number number) self.now.peers }
+    {
+        self.peers.iter().any(|peer| peer.number == number)
+    }
+}

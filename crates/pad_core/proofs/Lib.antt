@@ -1,3 +1,4 @@
 pub mod Appended
+pub mod Deleted
 pub mod Made
 pub mod Runs

@@ -1,20 +1,21 @@
 -- A local insertion that is not refused is in the limits and fits its log.
-use Rattle.std.proofs.Common.{◌≡◌, ℕ, zero, suc, ◌+◌, ◌<◌, ◌≤◌, Bool, true, false, not, ◌&&◌, cond, eqb, leb, ltb, List, [], ◌∷◌, ◌++◌, length, take, Option, Some, None, Result, Ok, Err, refl, sym, ap, ap₂, ◌∙◌, subst, arith, IsSome, unwrap_or, length-append, le-ltb, le-leb, leb-true, leb-false, ltb-false, eq-eqb}
+use Rattle.std.proofs.Common.{◌≡◌, ℕ, zero, suc, ◌+◌, ◌<◌, ◌≤◌, Bool, true, false, not, ◌&&◌, cond, eqb, leb, ltb, List, [], ◌∷◌, ◌++◌, length, take, Option, Some, None, Result, Ok, Err, refl, sym, ap, ap₂, ◌∙◌, subst, arith, IsSome, unwrap_or, flat_map, length-append, le-ltb, le-leb, leb-true, leb-false, ltb-false, eq-eqb}
 use Rattle.std.proofs.lemmas.Bool.{and_from, and_parts, or_left, both_ways}
-use Rattle.std.specs.List.{list_any, list_all, AllByRecursion}
+use Rattle.std.specs.List.{list_all, AllByRecursion}
 use Rattle.pad_model.specs.Stamp.{Stamp, same_stamp}
 use Rattle.pad_model.specs.Character.{Character, next, run_characters}
-use Rattle.pad_model.specs.Cell.{Cell, cells_at, cell_stamp_at, clock_of, text_at}
-use Rattle.pad_model.specs.Checked.{is_name, is_checked, is_run}
+use Rattle.pad_model.specs.Cell.{Cell, cells_at, clock_of, text_at}
+use Rattle.pad_model.specs.Checked.{is_name, is_checked, is_edit}
 use Rattle.pad_model.specs.History.{IsHistory, cells_of, clock_of_characters}
 use Rattle.pad_model.specs.Laws.{itself}
-use Rattle.pad_model.specs.Legal.{has_stamp, has_parent, IsTree}
+use Rattle.pad_model.specs.Legal.{has_stamp, has_parent}
 use Rattle.pad_model.specs.Log.{all_differ, is_valid}
-use Rattle.pad_model.specs.Operation.{Characters, characters_in}
+use Rattle.pad_model.specs.Operation.{characters_in, inserted_by}
 use Rattle.pad_model.specs.Visible.{visible, stamp_at, text_of}
 use Rattle.pad_model.specs.declared.who.Author.{Author}
 use Rattle.pad_model.specs.declared.op.Op.{Op}
 use Rattle.pad_model.specs.declared.op.OpName.{OpName}
+use Rattle.pad_model.specs.declared.op.Part.TheVariants.{Insert}
 use Rattle.pad_model.specs.declared.op.Run.{Run}
 use Rattle.pad_model.specs.declared.refusal.Refusal.{Refusal}
 use Rattle.pad_model.specs.declared.refusal.Refusal.TheVariants.{NoRevision, OutOfRange, Empty, TooMuch, PadFull, ClockFull, LogFull}
@@ -24,11 +25,10 @@ use Rattle.pad_model.proofs.Each.{each-imply, none_found}
 use Rattle.pad_model.proofs.Growth.{IsTree-history, IsHistory-take, IsHistory-push}
 use Rattle.pad_model.proofs.History.{length-cells_at, length-cells_of, cell_stamp_at-cells_of, text_at-cells_of}
 use Rattle.pad_model.proofs.Local.{clock_of-cells_of, stamp_at-inserted, has_parent-take, newest_joins}
-use Rattle.pad_core.specs.Kept.{refusal_by, limit_by, run_by, stamp_before}
+use Rattle.pad_core.specs.Kept.{refusal_by, run_by, stamp_before}
 use Rattle.pad_core.specs.declared.owned.Owned.{Owned}
-use Rattle.pad_core.specs.declared.event.PadReply.{PadReply}
 use Rattle.pad_core.specs.declared.event.PadReply.TheVariants.{Made, Shown}
-use Rattle.pad_core.specs.Machine.{Machine, IsPad, read_text, revision_of, IsOwned, owner_of, insert, next_name, characters_at, before_place, insert_refusal, made_run, op_of_run}
+use Rattle.pad_core.specs.Machine.{Machine, IsPad, read_text, revision_of, IsOwned, owner_of, insert, next_name, characters_at, before_place, insert_refusal, made_run, op_of}
 
 -- the refusals by the numbers that they look at
 nest : ℕ → ℕ → ℕ → ℕ → ℕ → ℕ → ℕ → Option Refusal
@@ -68,7 +68,7 @@ run_is replica log cells rev at text h kept =
     run : ℕ → ℕ → Option Stamp → List ℕ → Run
     run replica clock after text = record { first = record { counter = clock + 1; replica = replica }; after = after; text = text }
 
-unless : (b : Bool) (r : Refusal) (rest : Option Refusal) → cond b (Some r) rest ≡ None → (b ≡ false) × (rest ≡ None)
+pub unless : (b : Bool) (r : Refusal) (rest : Option Refusal) → cond b (Some r) rest ≡ None → (b ≡ false) × (rest ≡ None)
 unless true r rest e = absurd (cc)
 unless false r rest e = (refl, e)
 
@@ -81,7 +81,7 @@ pub record Allowed (rev at : ℕ) (text : List ℕ) (log : List Op) : Type 0 whe
   pub clock : clock_of_characters (characters_in log).inserted + length text ≤ MAX_COUNTER
   pub short : length log < MAX_OPERATIONS
 
-not_zero : (n : ℕ) → eqb n 0 ≡ false → 1 ≤ n
+pub not_zero : (n : ℕ) → eqb n 0 ≡ false → 1 ≤ n
 not_zero zero e = absurd (Rattle.std.proofs.lemmas.Bool.true≢false e)
 not_zero (suc n) e = omega arith
 
@@ -105,7 +105,7 @@ allowed rev at text log e =
 
 -- the operation of a local insertion is in the limits
 pub made_checked : (replica rev at : ℕ) (text author : List ℕ) (log : List Op) (name : OpName) → Allowed rev at text log → is_name author ≡ true → 1 ≤ replica → name.origin ≡ replica → name.number ≡ length log + 1 →
-    is_checked (op_of_run name author (made_run replica rev at text log)) ≡ true
+    is_checked (op_of name author (Insert (made_run replica rev at text log))) ≡ true
 made_checked replica rev at text author log name a named low origin number =
     let few : length text ≤ 10000 = a.few in
     let some : 1 ≤ length text = a.some in
@@ -139,7 +139,7 @@ front_there log rev zero h = refl
 front_there log rev (suc i) h = parent_there log rev (stamp_at (characters_at rev log) i) i h refl
 
 -- the operation of a local insertion fits its log
-pub made_valid : (replica rev at : ℕ) (text author : List ℕ) (log : List Op) (name : OpName) → IsHistory log → is_valid (op_of_run name author (made_run replica rev at text log)) log ≡ true
+pub made_valid : (replica rev at : ℕ) (text author : List ℕ) (log : List Op) (name : OpName) → IsHistory log → is_valid (op_of name author (Insert (made_run replica rev at text log))) log ≡ true
 made_valid replica rev at text author log name h =
     let first : Stamp = record { counter = clock_of_characters (characters_in log).inserted + 1; replica = replica } in
     let who : Author = record { name = author; origin = name.origin } in
@@ -156,7 +156,7 @@ pub insert_refused : (rev at : ℕ) (text : List ℕ) (m : Machine) (r : Refusal
 insert_refused rev at text m r e = rw e refl
 
 pub insert_made : (rev at : ℕ) (text : List ℕ) (m : Machine) → insert_refusal rev at text m.log ≡ None →
-    insert rev at text m ≡ (Ok (Made (length m.log + 1) (next_name m)), record m { log = m.log ++ op_of_run (next_name m) (owner_of m.owned) (made_run m.replica rev at text m.log) ∷ [] })
+    insert rev at text m ≡ (Ok (Made (length m.log + 1) (next_name m)), record m { log = m.log ++ op_of (next_name m) (owner_of m.owned) (Insert (made_run m.replica rev at text m.log)) ∷ [] })
 insert_made rev at text m e = rw e refl
 
 -- what the pad's parts know when an insertion is about to be made
@@ -168,29 +168,29 @@ pub record Ready (o : Option Owned) (replica : ℕ) (log : List Op) (rev at : �
 
 -- the operation that the parts make is in the limits and fits
 pub ready_checked : (o : Option Owned) (replica : ℕ) (log : List Op) (rev at : ℕ) (text author : List ℕ) (run : Run) (n : ℕ) → Ready o replica log rev at text → author ≡ owner_of o → run ≡ made_run replica rev at text log → n ≡ length log →
-    is_checked (op_of_run (record { origin = replica; number = n + 1 }) author run) ≡ true
+    is_checked (op_of (record { origin = replica; number = n + 1 }) author (Insert run)) ≡ true
 ready_checked o replica log rev at text author run n h is made count =
     let name : OpName = record { origin = replica; number = n + 1 } in
-    subst (λ r. is_checked (op_of_run name author r) ≡ true) (sym made)
+    subst (λ r. is_checked (op_of name author (Insert r)) ≡ true) (sym made)
     (made_checked replica rev at text author log name h.allows (subst (λ a. is_name a ≡ true) (sym is) h.named) h.low refl (ap (λ k. k + 1) count))
 
 pub ready_valid : (replica : ℕ) (log : List Op) (rev at : ℕ) (text author : List ℕ) (run : Run) (n : ℕ) → IsHistory log → run ≡ made_run replica rev at text log →
-    is_valid (op_of_run (record { origin = replica; number = n + 1 }) author run) log ≡ true
+    is_valid (op_of (record { origin = replica; number = n + 1 }) author (Insert run)) log ≡ true
 ready_valid replica log rev at text author run n h made =
     let name : OpName = record { origin = replica; number = n + 1 } in
-    subst (λ r. is_valid (op_of_run name author r) log ≡ true) (sym made) (made_valid replica rev at text author log name h)
+    subst (λ r. is_valid (op_of name author (Insert r)) log ≡ true) (sym made) (made_valid replica rev at text author log name h)
 
 -- the machine that the parts stand for, after the insertion
 pub made_machine : (o : Option Owned) (replica : ℕ) (log new : List Op) (rev at : ℕ) (text author : List ℕ) (run : Run) (n : ℕ) → author ≡ owner_of o → run ≡ made_run replica rev at text log → n ≡ length log →
-    insert_refusal rev at text log ≡ None → new ≡ log ++ op_of_run (record { origin = replica; number = n + 1 }) author run ∷ [] →
+    insert_refusal rev at text log ≡ None → new ≡ log ++ op_of (record { origin = replica; number = n + 1 }) author (Insert run) ∷ [] →
     insert rev at text (record { owned = o; replica = replica; log = log }) ≡ (Ok (Made (n + 1) (record { origin = replica; number = n + 1 })), record { owned = o; replica = replica; log = new })
 made_machine o replica log new rev at text author run n is made count none grown =
     let m : Machine = record { owned = o; replica = replica; log = log } in
     insert_made rev at text m none
     ∙ ap₂ (λ k l. (Ok (Made k (let w : OpName = record { origin = replica; number = k } in w)), (let x : Machine = record { owned = o; replica = replica; log = l } in x)))
     (ap (λ k. k + 1) (sym count))
-    (ap₂ (λ k a. log ++ op_of_run (let w : OpName = record { origin = replica; number = k + 1 } in w) a (made_run replica rev at text log) ∷ []) (sym count) (sym is)
-    ∙ ap (λ r. log ++ op_of_run (let w : OpName = record { origin = replica; number = n + 1 } in w) author r ∷ []) (sym made) ∙ sym grown)
+    (ap₂ (λ k a. log ++ op_of (let w : OpName = record { origin = replica; number = k + 1 } in w) a (Insert (made_run replica rev at text log)) ∷ []) (sym count) (sym is)
+    ∙ ap (λ r. log ++ op_of (let w : OpName = record { origin = replica; number = n + 1 } in w) author (Insert r) ∷ []) (sym made) ∙ sym grown)
 
 asked_is : (asked : Option ℕ) (m : Machine) (now rev : ℕ) → length m.log ≡ now → rev ≡ unwrap_or asked now → revision_of asked m ≡ rev
 asked_is None m now rev is named = is ∙ sym named
@@ -217,14 +217,49 @@ ready_from o replica log cells now rev at text p owned count none =
       history = p.history;
     }
 
--- a pad stays one when the insertion joins it
-pub IsPad-push : (o : Option Owned) (replica : ℕ) (log new : List Op) (cells grown : List Cell) (rev at : ℕ) (text : List ℕ) (op : Op) → IsPad o replica log cells → Allowed rev at text log → is_checked op ≡ true → is_valid op log ≡ true → new ≡ log ++ op ∷ [] → grown ≡ cells_of new → IsPad o replica new grown
-IsPad-push o replica log new cells grown rev at text op p a checked valid is kept =
+-- what an operation owes a log that takes it
+pub record Fits (op : Op) (log : List Op) : Type 0 where
+  pub checked : is_checked op ≡ true
+  pub edits : list_all is_edit op.parts ≡ true
+  pub valid : is_valid op log ≡ true
+  pub room : length (characters_in log).inserted + length (inserted_by op) ≤ MAX_CHARACTERS
+
+run_length : (first : Stamp) (p : Option Stamp) (text : List ℕ) (author : Author) → length (run_characters first p text author) ≡ length text
+run_length first p [] author = refl
+run_length first p (c ∷ text) author = ap suc (run_length (next first) (Some first) text author)
+
+-- the operation of a local insertion fits
+pub insert_fits : (o : Option Owned) (replica : ℕ) (log : List Op) (rev at : ℕ) (text author : List ℕ) (run : Run) (n : ℕ) (op : Op) → Ready o replica log rev at text → author ≡ owner_of o → run ≡ made_run replica rev at text log → n ≡ length log →
+    op ≡ op_of (record { origin = replica; number = n + 1 }) author (Insert run) → Fits op log
+insert_fits o replica log rev at text author run n op h is made count this =
+    subst (λ x. Fits x log) (sym this)
+    (record {
+      checked = ready_checked o replica log rev at text author run n h is made count;
+      edits = refl;
+      valid = ready_valid replica log rev at text author run n h.history made;
+      room = (
+          let who : Author = record { name = author; origin = replica } in
+          let long : length (run_characters run.first run.after run.text who ++ []) ≡ length text = ap length (Rattle.std.proofs.Common.append-nil (run_characters run.first run.after run.text who)) ∙ run_length run.first run.after run.text who ∙ ap (λ r. length r.text) made in
+          let room = h.allows.room in
+          omega arith
+          );
+    })
+
+-- a pad stays one when an operation that fits joins it
+pub IsPad-push : (o : Option Owned) (replica : ℕ) (log new : List Op) (cells grown : List Cell) (op : Op) → IsPad o replica log cells → Fits op log → length log < MAX_OPERATIONS → new ≡ log ++ op ∷ [] → grown ≡ cells_of new → IsPad o replica new grown
+IsPad-push o replica log new cells grown op p f low is kept =
     record {
       named = p.named;
       replica_low = p.replica_low;
       replica_high = p.replica_high;
-      history = subst IsHistory (sym is) (IsHistory-push log op p.history checked valid);
-      short = (let short : length log < MAX_OPERATIONS = a.short in let longer : length new ≡ length log + 1 = ap length is ∙ length-append log (op ∷ []) in omega arith);
+      history = subst IsHistory (sym is) (IsHistory-push log op p.history f.checked f.valid);
+      short = (let longer : length new ≡ length log + 1 = ap length is ∙ length-append log (op ∷ []) in omega arith);
+      room = (
+          let all : length (characters_in new).inserted ≡ length (characters_in log).inserted + length (inserted_by op) =
+          ap (λ l. length (flat_map inserted_by l)) is ∙ ap length (Rattle.std.proofs.lemmas.List.Concat.flat_map-append inserted_by log (op ∷ [])) ∙ length-append (flat_map inserted_by log) (inserted_by op ++ []) ∙ ap (λ l. length (flat_map inserted_by log) + length l) (Rattle.std.proofs.Common.append-nil (inserted_by op))
+          in
+          let room = f.room in
+          omega arith
+          );
       kept = kept;
     }

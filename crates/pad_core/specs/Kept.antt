@@ -33,3 +33,13 @@ stamp_before rev cells (suc i) = cell_stamp_at rev cells i
 abbrev pub run_by : ℕ → List Cell → ℕ → ℕ → List ℕ → Run
 run_by replica cells rev at text =
     record { first = record { counter = clock_of cells + 1; replica = replica }; after = stamp_before rev cells at; text = text }
+
+-- why a deletion is refused at a present revision, if it is
+abbrev pub delete_refusal_by : ℕ → List Cell → ℕ → ℕ → ℕ → Option Refusal
+delete_refusal_by now cells rev at len =
+    if nat_lt now rev then Some NoRevision
+    else if nat_lt (length (cells_at rev cells)) (at + len) then Some OutOfRange
+    else if len == 0 then Some Empty
+    else if nat_lt MAX_TEXT len then Some TooMuch
+    else if nat_le MAX_OPERATIONS now then Some LogFull
+    else None

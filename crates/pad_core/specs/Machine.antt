@@ -1,15 +1,16 @@
 -- The pad machine: a log of operations, and what it answers.
-use Rattle.std.specs.Prelude.{◌≡◌, ℕ, zero, suc, ◌+◌, ◌≤◌, Bool, true, false, not, ◌==◌, nat_lt, nat_le, if◌then◌else◌, List, [], ◌∷◌, ◌++◌, length, take, Option, Some, None, Result, Ok, Err, IsTrue, bytes_eq}
+use Rattle.std.specs.Prelude.{◌≡◌, ℕ, zero, suc, ◌+◌, ◌≤◌, Bool, false, not, ◌==◌, nat_lt, nat_le, if◌then◌else◌, List, [], ◌∷◌, ◌++◌, length, take, Option, Some, None, Result, Ok, Err, IsTrue, bytes_eq}
 use Rattle.pad_model.specs.Stamp.{Stamp}
 use Rattle.pad_model.specs.Cell.{Cell}
 use Rattle.pad_model.specs.Checked.{is_name}
 use Rattle.pad_model.specs.History.{IsHistory, cells_of, clock_of_characters}
-use Rattle.pad_model.specs.Operation.{Characters, characters_in}
-use Rattle.pad_model.specs.Visible.{visible, text_of, stamp_at}
+use Rattle.pad_model.specs.Operation.{Characters, characters_in, erased_by}
+use Rattle.pad_model.specs.Visible.{visible, text_of, stamp_at, spans_of, hidden_by}
 use Rattle.pad_model.specs.declared.op.OpName.{OpName}
 use Rattle.pad_model.specs.declared.op.Run.{Run}
 use Rattle.pad_model.specs.declared.op.Op.{Op}
-use Rattle.pad_model.specs.declared.op.Part.TheVariants.{Insert}
+use Rattle.pad_model.specs.declared.op.Part.{Part}
+use Rattle.pad_model.specs.declared.op.Part.TheVariants.{Insert, Delete}
 use Rattle.pad_model.specs.declared.who.Who.{Who}
 use Rattle.pad_model.specs.declared.who.Who.TheVariants.{Nobody, Author, Peer}
 use Rattle.pad_model.specs.declared.refusal.Refusal.{Refusal}
@@ -19,7 +20,7 @@ use Rattle.pad_core.specs.declared.owned.Owned.{Owned}
 use Rattle.pad_core.specs.declared.event.Act.{Act}
 use Rattle.pad_core.specs.declared.event.Act.TheVariants as act
 use Rattle.pad_core.specs.declared.event.PadReply.{PadReply}
-use Rattle.pad_core.specs.declared.event.PadReply.TheVariants.{Elsewhere, Made, Shown}
+use Rattle.pad_core.specs.declared.event.PadReply.TheVariants.{Elsewhere, Made, Changed, Shown}
 use Rattle.pad_core.specs.declared.event.Claim.{Claim}
 use Rattle.pad_core.specs.declared.event.Claim.TheVariants.{Created, Exists, Other}
 
@@ -37,9 +38,9 @@ now_of m = length m.log
 abbrev pub characters_at : ℕ → List Op → Characters
 characters_at rev log = characters_in (take rev log)
 
--- the operation of one run, made before any of another origin came
-abbrev pub op_of_run : OpName → List ℕ → Run → Op
-op_of_run name author run = record { name = name; seen = []; author = author; parts = Insert run ∷ [] }
+-- the operation of one part, made before any of another origin came
+abbrev pub op_of : OpName → List ℕ → Part → Op
+op_of name author part = record { name = name; seen = []; author = author; parts = part ∷ [] }
 
 -- a revision that a request names, or the present one
 abbrev pub revision_of : Option ℕ → Machine → ℕ
@@ -90,7 +91,27 @@ insert rev at text m = settle (insert_refusal rev at text m.log)
   where
     settle : Option Refusal → Result PadReply Refusal × Machine
     settle (Some refusal) = (Err refusal, m)
-    settle None = (Ok (Made (now_of m + 1) (next_name m)), record m { log = m.log ++ op_of_run (next_name m) (owner_of m.owned) (made_run m.replica rev at text m.log) ∷ [] })
+    settle None = (Ok (Made (now_of m + 1) (next_name m)), record m { log = m.log ++ op_of (next_name m) (owner_of m.owned) (Insert (made_run m.replica rev at text m.log)) ∷ [] })
+
+-- why a deletion is refused, if it is
+abbrev pub delete_refusal : ℕ → ℕ → ℕ → List Op → Option Refusal
+delete_refusal rev at len log =
+    if nat_lt (length log) rev then Some NoRevision
+    else if nat_lt (length (visible (characters_at rev log))) (at + len) then Some OutOfRange
+    else if len == 0 then Some Empty
+    else if nat_lt MAX_TEXT len then Some TooMuch
+    else if nat_le MAX_OPERATIONS (length log) then Some LogFull
+    else None
+
+-- a local deletion by the owner: it names what the revision shows there, and answers how many of these are still visible
+abbrev pub delete : ℕ → ℕ → ℕ → Machine → Result PadReply Refusal × Machine
+delete rev at len m = settle (delete_refusal rev at len m.log)
+  where
+    settle : Option Refusal → Result PadReply Refusal × Machine
+    settle (Some refusal) = (Err refusal, m)
+    settle None =
+        let op = op_of (next_name m) (owner_of m.owned) (Delete (spans_of (characters_at rev m.log) at len)) in
+        (Ok (Changed (now_of m + 1) (next_name m) (hidden_by (erased_by op) (characters_in m.log))), record m { log = m.log ++ op ∷ [] })
 
 -- whether a request comes with the owner's visit, which is 1
 abbrev pub is_visit : Option ℕ → Bool
@@ -111,6 +132,7 @@ turned_away (Some owned) pad (Author name) visit =
 -- what an act does
 abbrev pub act_step : Act → Machine → Result PadReply Refusal × Machine
 act_step (act.Insert rev at text) m = insert rev at text m
+act_step (act.Delete rev at len) m = delete rev at len m
 act_step (act.Text rev) m = read_text rev m
 
 -- one step of the pad machine: a reply and the next state
@@ -146,4 +168,5 @@ pub record IsPad (owned : Option Owned) (replica : ℕ) (log : List Op) (cells :
   pub replica_high : replica ≤ MAX_REPLICA
   pub history : IsHistory log
   pub short : length log ≤ MAX_OPERATIONS
+  pub room : length (characters_in log).inserted ≤ MAX_CHARACTERS
   pub kept : cells ≡ cells_of log

@@ -1,5 +1,5 @@
 -- A list of events on a pad.
-use Rattle.std.specs.Prelude.{◌≡◌, ℕ, List, [], ◌∷◌, Option, Result, Err, ◌≢◌}
+use Rattle.std.specs.Prelude.{◌≡◌, List, [], ◌∷◌, Result, Err, ◌≢◌}
 use Rattle.std.specs.List.{AllByRecursion}
 use Rattle.pad_model.specs.Answers.{Answers}
 use Rattle.pad_model.specs.declared.refusal.Refusal.{Refusal}

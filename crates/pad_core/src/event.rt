@@ -6,6 +6,8 @@ use pad_model::{OpName, Text, Who};
 pub enum Act {
     /// Inserts a text at a place of a revision, counted in characters.
     Insert { rev: u64, at: u64, text: Text },
+    /// Erases the `len` characters of a revision from a place on.
+    Delete { rev: u64, at: u64, len: u64 },
     /// Reads the text of a revision; None is the present one.
     Text { rev: Option<u64> },
 }
@@ -26,6 +28,8 @@ pub enum PadReply {
     Elsewhere,
     /// The operation has this name, and made the revision `now`.
     Made { now: u64, name: OpName },
+    /// The operation has this name, made the revision `now`, and hid so many characters that were visible.
+    Changed { now: u64, name: OpName, hidden: u64 },
     /// The text of a revision.
     Shown { now: u64, rev: u64, text: Text },
 }

@@ -2,6 +2,7 @@
 #![tactic(auto)]
 
 mod admit;
+mod delete;
 mod event;
 mod grow;
 mod insert;

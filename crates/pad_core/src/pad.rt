@@ -3,15 +3,16 @@ ghost use Rattle.std.specs.Prelude.{◌≡◌, ℕ, ◌+◌, ◌≤◌, [], leng
 ghost use Rattle.pad_model.specs.Answers.{Answers};
 ghost use Rattle.pad_model.specs.Checked.{is_name};
 ghost use Rattle.pad_model.specs.declared.limits.TheConstants.{MAX_REPLICA};
-ghost use Rattle.pad_core.specs.Machine.{claim as claimed, insert as inserted, read_text as text_read, name_of, owner_of};
+ghost use Rattle.pad_core.specs.Machine.{claim as claimed, delete as deleted, insert as inserted, read_text as text_read, name_of, owner_of};
 ghost use Rattle.pad_core.specs.Ran.{event_step, run as machine_run, Ran, FoundMemory};
 
 use crate::admit::{owner_name, turned_away};
+use crate::delete::refuse_delete;
 use crate::event::{Act, Claim, PadEvent, PadReply};
-use crate::grow::append_run;
+use crate::grow::{append, make_op};
 use crate::insert::{make_run, refuse_insert};
 use crate::owned::Owned;
-use pad_model::{Author, Op, OpName, Refusal, Sequence, Text};
+use pad_model::{Op, OpName, Part, Refusal, Sequence, Text};
 use std::alloc::Global;
 use std::marker::Model;
 
@@ -98,6 +99,7 @@ impl<S: Sequence> Pad<S> {
         }
         match event.act {
             Act::Insert { rev, at, text } => self.insert(alloc, *rev, *at, text),
+            Act::Delete { rev, at, len } => self.delete(alloc, *rev, *at, *len),
             Act::Text { rev } => self.read_text(alloc, *rev),
         }
     }
@@ -135,25 +137,45 @@ impl<S: Sequence> Pad<S> {
             return Err(refusal);
         }
         let run = make_run(&self.sequence, self.replica, rev, at, text)?;
-        let author = Author {
-            name: owner_name(&self.owned)?,
+        let name = OpName {
             origin: self.replica,
+            number: now + 1,
+        };
+        let author = owner_name(&self.owned)?;
+        let op = make_op(alloc, name, author, Part::Insert(run))?;
+        if let Err(refusal) = append(alloc, &mut self.sequence, &mut self.log, op) {
+            return Err(refusal);
+        }
+        Ok(PadReply::Made { now: now + 1, name })
+    }
+
+    fn delete(&mut self, alloc: Global, rev: u64, at: u64, len: u64) -> Result<PadReply, Refusal>
+        requires { IsSome self.old.owned }
+        ensures { Answers self.old (deleted rev at len self.old) result self.new }
+    {
+        let now = self.log.len() as u64;
+        if let Some(refusal) = refuse_delete(&self.sequence, now, rev, at, len) {
+            return Err(refusal);
+        }
+        let spans = match self.sequence.spans_at(alloc, rev, at, len) {
+            Ok(spans) => spans,
+            Err(refusal) => return Err(refusal),
         };
         let name = OpName {
             origin: self.replica,
             number: now + 1,
         };
-        if let Err(refusal) = append_run(
-            alloc,
-            &mut self.sequence,
-            &mut self.log,
+        let author = owner_name(&self.owned)?;
+        let op = make_op(alloc, name, author, Part::Delete(spans))?;
+        let hidden = match append(alloc, &mut self.sequence, &mut self.log, op) {
+            Ok(hidden) => hidden,
+            Err(refusal) => return Err(refusal),
+        };
+        Ok(PadReply::Changed {
+            now: now + 1,
             name,
-            run,
-            author,
-        ) {
-            return Err(refusal);
-        }
-        Ok(PadReply::Made { now: now + 1, name })
+            hidden,
+        })
     }
 
     fn read_text(&self, alloc: Global, asked: Option<u64>) -> Result<PadReply, Refusal>

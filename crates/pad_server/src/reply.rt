@@ -35,6 +35,13 @@ fn reply_value(alloc: Global, reply: &Reply) -> Result<Value, AllocError> {
             let number = name.number;
             json!(in alloc; {"name": [origin, number], "now": now, "ok": true})
         }
+        Reply::Pad(PadReply::Changed { now, name, hidden }) => {
+            let now = *now;
+            let origin = name.origin;
+            let number = name.number;
+            let hidden = *hidden;
+            json!(in alloc; {"hidden": hidden, "name": [origin, number], "now": now, "ok": true})
+        }
         Reply::Pad(PadReply::Shown { now, rev, text }) => {
             let now = *now;
             let rev = *rev;

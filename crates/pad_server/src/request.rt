@@ -27,6 +27,10 @@ pub fn read_request(alloc: Global, line: &[u8]) -> Result<Request, Refusal> {
             pad: owned(alloc, pad)?,
             act: read_insert(alloc, &value)?,
         }),
+        Some("delete") => Ok(Request::On {
+            pad: owned(alloc, pad)?,
+            act: read_delete(&value)?,
+        }),
         Some("text") => Ok(Request::On {
             pad: owned(alloc, pad)?,
             act: read_text(&value)?,
@@ -64,6 +68,14 @@ fn read_insert(alloc: Global, value: &Value) -> Result<Act, Refusal> {
         }),
         None => Err(Refusal::NotRequest),
     }
+}
+
+fn read_delete(value: &Value) -> Result<Act, Refusal> {
+    Ok(Act::Delete {
+        rev: number_field(value, "rev")?,
+        at: number_field(value, "at")?,
+        len: number_field(value, "len")?,
+    })
 }
 
 /// A revision that is absent or null is the present one.

@@ -2,11 +2,18 @@
 #![tactic(auto)]
 
 #[cfg(test)]
+mod comments;
+#[cfg(test)]
+mod converge;
+mod deletions;
+#[cfg(test)]
 mod names;
 #[cfg(test)]
 mod refusals;
 #[cfg(test)]
 mod sequences;
+#[cfg(test)]
+mod site;
 #[cfg(test)]
 mod solo;
 #[cfg(test)]

@@ -1,83 +1,28 @@
-//! Where runs go among the characters of others, in the plain sequence.
-ghost use Rattle.std.specs.Prelude.{IfOk};
-ghost use Rattle.std.specs.List.{AllByRecursion};
-ghost use Rattle.pad_model.specs.Cell.{IsBy};
-
-use block_seq::PlainSeq;
-use pad_model::{Author, MAX_COUNTER, MAX_TEXT, Name, Refusal, Run, Sequence, Stamp, Text};
+//! Operations in the plain sequence: where runs go, what deletions hide, what several parts do together.
+use crate::site::Sketch::{Erased, Typed};
+use crate::site::{Named, Site, Sketch, stamp_of};
+use pad_model::{Refusal, Sequence};
 use std::alloc::Global;
 use std::test::Fail;
 
-/// A text, the counter and replica of its first character, and those of the character in front of it, if any.
-#[derive(Clone, Copy)]
-struct Typed {
-    first: (u64, u16),
-    after: Option<(u64, u16)>,
-    text: &'static str,
-}
+const HELLO: Sketch = Typed((1, 1), None, "hello");
 
-const HELLO: Typed = Typed {
-    first: (1, 1),
-    after: None,
-    text: "hello",
-};
+const ABCD: Sketch = Typed((1, 1), None, "abcd");
 
-fn stamp_of(named: (u64, u16)) -> Result<Stamp, Refusal> {
-    Stamp::new(named.0, named.1)
-}
-
-fn run_of(alloc: Global, typed: &Typed) -> Result<Run, Refusal> {
-    let after = match typed.after {
-        None => None,
-        Some(named) => Some(stamp_of(named)?),
-    };
-    Ok(Run {
-        first: stamp_of(typed.first)?,
-        after,
-        text: Text::from_str(alloc, typed.text)?,
-    })
-}
-
-/// Inserts a text at revision 1.
-fn put<S: Sequence>(seq: &mut S, alloc: Global, typed: &Typed) -> Result<(), Refusal>
-    requires { AllByRecursion (IsBy 1) (S.cells seq.old) }
-    ensures { AllByRecursion (IsBy 1) (S.cells seq.new) }
-{
-    let run = run_of(alloc, typed)?;
-    let author = Author {
-        name: Name::from_str(alloc, "solo")?,
-        origin: run.first.replica(),
-    };
-    let len = run.text.len() as u64;
-    if len == 0 || MAX_TEXT < len || MAX_COUNTER - len < run.first.counter() {
-        return Err(Refusal::BadOp);
+/// What a site shows that took these operations, each of one part, by replica 1 or 2.
+fn text_of(alloc: Global, parts: &[(u16, Sketch)]) -> Result<String, Refusal> {
+    let mut site = Site::new(alloc)?;
+    for (origin, part) in parts {
+        site.take(alloc, *origin, &[*part])?;
     }
-    let _count = seq.cell_count();
-    seq.insert_run(alloc, &run, &author, 1)
-}
-
-/// The sequence into which the texts were inserted, one after the other.
-fn built(alloc: Global, texts: &[Typed]) -> Result<PlainSeq, Refusal>
-    ensures { IfOk result (λ seq. AllByRecursion (IsBy 1) seq) }
-{
-    let mut seq = PlainSeq::empty(alloc)?;
-    for typed in texts {
-        put(&mut seq, alloc, typed)?;
-    }
-    Ok(seq)
-}
-
-/// What the sequence shows into which the texts were inserted.
-fn text_of(alloc: Global, texts: &[Typed]) -> Result<String, Refusal> {
-    let seq = built(alloc, texts)?;
-    Ok(seq.text_at(alloc, 1)?.to_string(alloc)?)
+    site.text(alloc, site.rev())
 }
 
 /// The counters and replicas of all characters, in their order.
-fn stamps_of(alloc: Global, seq: &PlainSeq) -> Result<Vec<(u64, u16)>, Refusal> {
+fn stamps_of(alloc: Global, site: &Site) -> Result<Vec<Named>, Refusal> {
     let mut stamps = Vec::new(alloc);
-    for place in 0..seq.cell_count() {
-        if let Some(cell) = seq.cell_at(place) {
+    for place in 0..site.sequence().cell_count() {
+        if let Some(cell) = site.sequence().cell_at(place) {
             stamps.push((cell.stamp.counter(), cell.stamp.replica()))?;
         }
     }
@@ -85,121 +30,263 @@ fn stamps_of(alloc: Global, seq: &PlainSeq) -> Result<Vec<(u64, u16)>, Refusal> 
 }
 
 #[test]
-fn siblings_newest_first(rt: HostRuntime) -> Result<(), Fail> {
-    let a = Typed {
-        first: (1, 1),
-        after: None,
-        text: "a",
-    };
-    let b = Typed {
-        first: (1, 2),
-        after: None,
-        text: "b",
-    };
-    for texts in [[a, b], [b, a]] {
-        assert_eq!(rt; text_of(rt.alloc(), &texts)?.as_str(), "ba");
+fn newer_siblings_come_first(rt: HostRuntime) -> Result<(), Fail> {
+    let a = (1, Typed((1, 1), None, "a"));
+    let b = (2, Typed((1, 2), None, "b"));
+    let local = (1, Typed((7, 1), Some((2, 1)), "X"));
+    let remote = (2, Typed((6, 2), Some((2, 1)), "q"));
+    let cases: [(&[(u16, Sketch)], &str); 4] = [
+        (&[a, b], "ba"),
+        (&[b, a], "ba"),
+        (&[(1, HELLO), local, remote], "heXqllo"),
+        (&[(1, HELLO), remote, local], "heXqllo"),
+    ];
+    for (parts, want) in cases {
+        assert_eq!(rt; text_of(rt.alloc(), parts)?.as_str(), want);
     }
     Ok(())
 }
 
 #[test]
 fn a_run_between_the_characters_of_another(rt: HostRuntime) -> Result<(), Fail> {
-    let inside = Typed {
-        first: (3, 2),
-        after: Some((2, 1)),
-        text: "QR",
-    };
-    let texts = [HELLO, inside];
-    assert_eq!(rt; text_of(rt.alloc(), &texts)?.as_str(), "heQRllo");
-    let stamps = stamps_of(rt.alloc(), &built(rt.alloc(), &texts)?)?;
+    let mut site = Site::new(rt.alloc())?;
+    site.take(rt.alloc(), 1, &[HELLO])?;
+    site.take(rt.alloc(), 2, &[Typed((3, 2), Some((2, 1)), "QR")])?;
+    assert_eq!(rt; site.text(rt.alloc(), 2)?.as_str(), "heQRllo");
     assert_eq!(rt;
-        stamps.as_slice(),
+        stamps_of(rt.alloc(), &site)?.as_slice(),
         [(1, 1), (2, 1), (3, 2), (4, 2), (3, 1), (4, 1), (5, 1)].as_slice()
     );
     Ok(())
 }
 
 #[test]
-fn a_remote_run_goes_past_newer_siblings(rt: HostRuntime) -> Result<(), Fail> {
-    let local = Typed {
-        first: (7, 1),
-        after: Some((2, 1)),
-        text: "X",
-    };
-    let remote = Typed {
-        first: (6, 2),
-        after: Some((2, 1)),
-        text: "q",
-    };
-    assert_eq!(rt; text_of(rt.alloc(), &[HELLO, local])?.as_str(), "heXllo");
-    assert_eq!(rt;
-        text_of(rt.alloc(), &[HELLO, local, remote])?.as_str(),
-        "heXqllo"
-    );
-    Ok(())
-}
-
-/// What a text is answered behind `hello`, and the text after the answer.
-fn behind_hello(alloc: Global, typed: &Typed) -> Result<(Option<Refusal>, String), Refusal> {
-    let mut seq = built(alloc, &[HELLO])?;
-    let refused = put(&mut seq, alloc, typed).err();
-    Ok((refused, seq.text_at(alloc, 1)?.to_string(alloc)?))
-}
-
-#[test]
 fn what_does_not_fit_is_refused(rt: HostRuntime) -> Result<(), Fail> {
-    for (first, after, why) in [
-        ((7, 2), Some((6, 1)), "the character in front is missing"),
+    let cases: [(u16, &[Sketch], &str); 8] = [
         (
-            (5, 2),
-            Some((5, 1)),
+            2,
+            &[Typed((7, 2), Some((6, 1)), "ab")],
+            "the character in front is missing",
+        ),
+        (
+            2,
+            &[Typed((5, 2), Some((5, 1)), "ab")],
             "not newer than the character in front",
         ),
-        ((4, 2), Some((5, 1)), "older than the character in front"),
-        ((5, 1), Some((2, 1)), "not newer than all of its replica"),
-        ((4, 1), None, "older than one of its replica"),
-    ] {
-        let typed = Typed {
-            first,
-            after,
-            text: "ab",
-        };
-        let (refused, text) = behind_hello(rt.alloc(), &typed)?;
+        (
+            2,
+            &[Typed((4, 2), Some((5, 1)), "ab")],
+            "older than the character in front",
+        ),
+        (
+            1,
+            &[Typed((5, 1), Some((2, 1)), "ab")],
+            "not newer than all of its replica",
+        ),
+        (
+            1,
+            &[Typed((4, 1), None, "ab")],
+            "older than one of its replica",
+        ),
+        (
+            2,
+            &[Erased(&[((5, 1), 2)])],
+            "a character to erase is missing",
+        ),
+        (
+            2,
+            &[Typed((6, 2), Some((5, 1)), "ey"), Erased(&[((9, 1), 1)])],
+            "the second part does not fit",
+        ),
+        (
+            2,
+            &[
+                Typed((6, 2), Some((5, 1)), "e"),
+                Typed((7, 2), Some((6, 2)), "y"),
+            ],
+            "the second part fits what the first inserts",
+        ),
+    ];
+    for (origin, parts, why) in cases {
+        let mut site = Site::new(rt.alloc())?;
+        site.take(rt.alloc(), 1, &[HELLO])?;
+        let refused = site.take(rt.alloc(), origin, parts).err();
         assert_eq!(rt; refused, Some(Refusal::PeerFault), "{why}");
-        assert_eq!(rt; text.as_str(), "hello", "{why}");
+        assert_eq!(rt; site.text(rt.alloc(), u64::MAX)?.as_str(), "hello", "{why}");
+        assert_eq!(rt; site.sequence().cell_count(), 5, "{why}");
     }
     Ok(())
 }
 
 #[test]
-fn readers(rt: HostRuntime) -> Result<(), Fail> {
-    let seq = built(rt.alloc(), &[HELLO])?;
-    let numbers = [
-        seq.clock(),
-        seq.last_of(1),
-        seq.last_of(2),
-        seq.cell_count(),
-        seq.len_at(0),
-        seq.len_at(1),
+fn several_parts_are_one_revision(rt: HostRuntime) -> Result<(), Fail> {
+    let swap = [Erased(&[((2, 1), 3)]), Typed((6, 1), Some((4, 1)), "ey")];
+    let twice = [
+        Typed((6, 1), Some((5, 1)), "A"),
+        Typed((7, 1), Some((5, 1)), "B"),
     ];
-    assert_eq!(rt; numbers, [5, 5, 0, 5, 0, 5]);
-    assert!(rt; seq.has(stamp_of((3, 1))?));
-    assert!(rt; !seq.has(stamp_of((6, 1))?));
-    assert_eq!(rt; seq.stamp_at(1, 4), Some(stamp_of((5, 1))?));
-    assert_eq!(rt; seq.stamp_at(1, 5), None);
+    let remote = [Typed((6, 2), Some((5, 1)), "ey"), Erased(&[((1, 1), 1)])];
+    let cases: [(u16, &[Sketch], u64, &str); 3] = [
+        (1, &swap, 3, "heyo"),
+        (1, &twice, 0, "helloBA"),
+        (2, &remote, 1, "elloey"),
+    ];
+    for (origin, parts, hidden, text) in cases {
+        let mut site = Site::new(rt.alloc())?;
+        site.take(rt.alloc(), 1, &[HELLO])?;
+        assert_eq!(rt; site.take(rt.alloc(), origin, parts)?, hidden);
+        assert_eq!(rt; site.rev(), 2);
+        assert_eq!(rt; site.text(rt.alloc(), 2)?.as_str(), text);
+        assert_eq!(rt; site.text(rt.alloc(), 1)?.as_str(), "hello");
+    }
     Ok(())
 }
 
 #[test]
+fn delete_and_insert_concurrently(rt: HostRuntime) -> Result<(), Fail> {
+    let erased = (1, Erased(&[((2, 1), 2)]), 2);
+    let typed = (2, Typed((5, 2), Some((2, 1)), "X"), 0);
+    for (order, between) in [([erased, typed], "ad"), ([typed, erased], "abXcd")] {
+        let mut site = Site::new(rt.alloc())?;
+        site.take(rt.alloc(), 1, &[ABCD])?;
+        for (origin, part, hidden) in order {
+            assert_eq!(rt; site.take(rt.alloc(), origin, &[part])?, hidden);
+        }
+        for (rev, text) in [(0, ""), (1, "abcd"), (2, between), (3, "aXd")] {
+            assert_eq!(rt; site.text(rt.alloc(), rev)?.as_str(), text);
+        }
+        for (hidden, text) in [(1, "Xd"), (0, "Xd")] {
+            assert_eq!(rt;
+                site.take(rt.alloc(), 2, &[Erased(&[((1, 1), 1)])])?,
+                hidden
+            );
+            assert_eq!(rt; site.text(rt.alloc(), site.rev())?.as_str(), text);
+        }
+        assert_eq!(rt; site.text(rt.alloc(), 3)?.as_str(), "aXd");
+        assert_eq!(rt; site.sequence().len_at(4), 2);
+    }
+    Ok(())
+}
+
+#[test]
+fn a_deletion_may_name_what_is_dead(rt: HostRuntime) -> Result<(), Fail> {
+    let mut site = Site::new(rt.alloc())?;
+    site.take(rt.alloc(), 1, &[HELLO])?;
+    let spans: [(&'static [(Named, u64)], u64, &str); 3] = [
+        (&[((2, 1), 2)], 2, "hlo"),
+        (&[((1, 1), 4), ((4, 1), 1)], 2, "o"),
+        (&[((1, 1), 4)], 0, "o"),
+    ];
+    for (named, hidden, text) in spans {
+        assert_eq!(rt; site.take(rt.alloc(), 2, &[Erased(named)])?, hidden);
+        assert_eq!(rt; site.text(rt.alloc(), site.rev())?.as_str(), text);
+    }
+    let deaths = [Some(3), Some(2), Some(2), Some(3), None];
+    for (place, died) in (0..).zip(deaths) {
+        assert_eq!(rt; died_at(&site, place), Some(died));
+    }
+    Ok(())
+}
+
+/// When the character at a place was erased, if there is one and it was.
+fn died_at(site: &Site, place: u64) -> Option<Option<u64>> {
+    match site.sequence().cell_at(place) {
+        Some(cell) => Some(cell.died),
+        None => None,
+    }
+}
+
+/// `heXYllo`, of which replica 2 typed `XY`.
+fn of_two(alloc: Global) -> Result<Site, Refusal> {
+    let mut site = Site::new(alloc)?;
+    site.take(alloc, 1, &[HELLO])?;
+    site.take(alloc, 2, &[Typed((6, 2), Some((2, 1)), "XY")])?;
+    Ok(site)
+}
+
+#[test]
+fn readers(rt: HostRuntime) -> Result<(), Fail> {
+    let site = of_two(rt.alloc())?;
+    let seq = site.sequence();
+    let numbers = [
+        seq.clock(),
+        seq.last_of(1),
+        seq.last_of(2),
+        seq.last_of(3),
+        seq.cell_count(),
+        seq.len_at(0),
+        seq.len_at(1),
+        seq.len_at(2),
+    ];
+    assert_eq!(rt; numbers, [7, 5, 7, 0, 7, 0, 5, 7]);
+    let (x, l, none) = (stamp_of((6, 2))?, stamp_of((3, 1))?, stamp_of((6, 1))?);
+    assert_eq!(rt; (seq.has(x), seq.has(none)), (true, false));
+    assert_eq!(rt;
+        (seq.stamp_at(2, 2), seq.stamp_at(1, 2)),
+        (Some(x), Some(l))
+    );
+    assert_eq!(rt; seq.stamp_at(1, 5), None);
+    assert_eq!(rt; (seq.before(l, 1), seq.before(l, 2)), (Some(2), Some(4)));
+    assert_eq!(rt; (seq.through(x, 1), seq.through(x, 2)), (Some(2), Some(3)));
+    assert_eq!(rt; (seq.before(none, 2), seq.through(none, 2)), (None, None));
+    assert_eq!(rt; seq.stands_before(x, l), Some(true));
+    assert_eq!(rt; seq.stands_before(l, x), Some(false));
+    assert_eq!(rt; seq.stands_before(x, none), None);
+    Ok(())
+}
+
+#[test]
+fn runs_and_spans_are_the_longest(rt: HostRuntime) -> Result<(), Fail> {
+    let site = of_two(rt.alloc())?;
+    let runs = site.sequence().authors_at(rt.alloc(), 2)?;
+    let mut lengths = Vec::new(rt.alloc());
+    for run in runs.as_slice() {
+        lengths.push((run.author.origin, run.len))?;
+    }
+    assert_eq!(rt; lengths.as_slice(), [(1, 2), (2, 2), (1, 3)].as_slice());
+    assert_eq!(rt; site.sequence().authors_at(rt.alloc(), 1)?.len(), 1);
+    let cases: [(u64, u64, u64, &[(Named, u64)]); 4] = [
+        (2, 0, 7, &[((1, 1), 2), ((6, 2), 2), ((3, 1), 3)]),
+        (2, 3, 2, &[((7, 2), 1), ((3, 1), 1)]),
+        (1, 1, 4, &[((2, 1), 4)]),
+        (1, 5, 0, &[]),
+    ];
+    for (rev, at, len, want) in cases {
+        assert_eq!(rt; spans_of(rt.alloc(), &site, rev, at, len)?.as_slice(), want);
+    }
+    Ok(())
+}
+
+/// The spans of some characters by their numbers.
+fn spans_of(
+    alloc: Global,
+    site: &Site,
+    rev: u64,
+    at: u64,
+    len: u64,
+) -> Result<Vec<(Named, u64)>, Refusal> {
+    let seq = site.sequence();
+    let length = seq.len_at(rev);
+    if at > length || len > length - at {
+        return Err(Refusal::OutOfRange);
+    }
+    let mut named = Vec::new(alloc);
+    for span in seq.spans_at(alloc, rev, at, len)?.as_slice() {
+        named.push(((span.first.counter(), span.first.replica()), span.len))?;
+    }
+    Ok(named)
+}
+
+#[test]
 fn cells(rt: HostRuntime) -> Result<(), Fail> {
-    let seq = built(rt.alloc(), &[HELLO])?;
-    assert!(rt; seq.cell_at(5).is_none());
-    let Some(cell) = seq.cell_at(0) else {
+    let site = of_two(rt.alloc())?;
+    assert!(rt; site.sequence().cell_at(7).is_none());
+    let Some(cell) = site.sequence().cell_at(2) else {
         panic!(rt; "no cell");
     };
-    assert_eq!(rt; cell.stamp, stamp_of((1, 1))?);
-    assert_eq!(rt; cell.parent, None);
-    assert_eq!(rt; cell.character, 'h');
-    assert_eq!(rt; (cell.born, cell.died), (1, None));
+    assert_eq!(rt; cell.stamp, stamp_of((6, 2))?);
+    assert_eq!(rt; cell.parent, Some(stamp_of((2, 1))?));
+    assert_eq!(rt; (cell.character, cell.author.origin), ('X', 2));
+    assert_eq!(rt; (cell.born, cell.died), (2, None));
     Ok(())
 }

@@ -55,6 +55,14 @@ pub fn made(rt: &impl Abort, reply: &PadReply) -> (u64, OpName) {
     }
 }
 
+/// The revision, the name, and the number of characters hidden of a reply that says that one was made.
+pub fn changed(rt: &impl Abort, reply: &PadReply) -> (u64, OpName, u64) {
+    match reply {
+        PadReply::Changed { now, name, hidden } => (*now, *name, *hidden),
+        _ => panic!(rt; "no operation was made"),
+    }
+}
+
 /// The present revision and the revision shown of a reply that shows this text.
 pub fn shown(
     rt: &impl Abort,

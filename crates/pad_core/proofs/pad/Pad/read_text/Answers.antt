@@ -1,6 +1,4 @@
-use Rattle.std.proofs.Common.{◌≡◌, ◌≤◌, sym, ap, ◌∙◌, subst, refl, inr, arith, length, Ok}
-use Rattle.pad_model.specs.Answers.{Answers}
-use Rattle.pad_core.specs.Machine.{Machine, read_text}
+use Rattle.std.proofs.Common.{◌≡◌, sym, ap, inr, arith, length}
 use Rattle.pad_core.proofs.Made.{text_read}
 use Rattle.pad_core.proofs.pad.Pad.read_text.Goals as goal
 

@@ -1,6 +1,6 @@
-use Rattle.std.proofs.Common.{◌≡◌, ◌+◌, ◌<◌, ◌≤◌, ◌++◌, ◌∷◌, [], sym, ap, ◌∙◌, subst, arith, length, take, get_or, take_all}
+use Rattle.std.proofs.Common.{◌≡◌, ◌+◌, ◌++◌, ◌∷◌, [], sym, ap, ◌∙◌, subst, arith, take, take_all}
 use Rattle.std.proofs.lemmas.List.{take_more}
-use Rattle.pad_core.specs.Ran.{Ran, run}
+use Rattle.pad_core.specs.Ran.{Ran}
 use Rattle.pad_core.proofs.Runs.{Ran-push, Ran-machine}
 use Rattle.pad_core.proofs.pad.Pad.run.Goals as goal
 

@@ -1,4 +1,4 @@
-use Rattle.std.proofs.Common.{◌≡◌, ◌+◌, ◌≤◌, ◌-◌, take, length, vec_len, vec_capacity}
+use Rattle.std.proofs.Common.{◌+◌, ◌≤◌, ◌-◌, take, length, vec_len, vec_capacity}
 use Rattle.pad_core.specs.Ran.{Ran}
 use Rattle.pad_core.proofs.pad.Pad.run.Given as goal
 

@@ -1,0 +1,137 @@
+//! One server's copy of a text: operations go in, and its revisions count up.
+ghost use Rattle.std.specs.Prelude.{◌≡◌};
+
+use block_seq::PlainSeq;
+use pad_model::{
+    Author, Name, Op, OpName, Part, Refusal, Row, Run, Seen, Sequence, Span, Stamp, Text,
+};
+use std::alloc::Global;
+use std::marker::Model;
+
+/// A sequence, and how many operations it took.
+#[derive(Drop)]
+pub struct Site {
+    sequence: PlainSeq,
+    rev: u64,
+}
+
+impl Model for Site {
+    ghost use Rattle.std.specs.Prelude.{ℕ, List};
+    ghost use Rattle.std.specs.List.{AllByRecursion};
+    ghost use Rattle.pad_model.specs.Cell.{Cell, IsBy};
+
+    ghost Value = { List Cell };
+
+    ghost view = { λ s. s.sequence };
+
+    ghost invariant = { λ s. AllByRecursion (IsBy s.rev) s.sequence };
+}
+
+impl Site {
+    pub fn new(alloc: Global) -> Result<Site, Refusal> {
+        Ok(Site {
+            sequence: PlainSeq::empty(alloc)?,
+            rev: 0,
+        })
+    }
+
+    pub fn sequence(&self) -> &PlainSeq
+        ensures { result.now ≡ self.now }
+    {
+        &self.sequence
+    }
+
+    pub fn rev(&self) -> u64 {
+        self.rev
+    }
+
+    /// Takes an operation that only edits the text, and answers how many characters it hides.
+    pub fn deliver(&mut self, alloc: Global, op: &Op) -> Result<u64, Refusal> {
+        op.check()?;
+        if !op.is_edit() || self.rev == u64::MAX {
+            return Err(Refusal::BadOp);
+        }
+        let author = Author {
+            name: op.author.clone()?,
+            origin: op.name.origin,
+        };
+        let rev = self.rev + 1;
+        let _count = self.sequence.cell_count();
+        match self
+            .sequence
+            .apply(alloc, op.parts.as_slice(), &author, rev)
+        {
+            Ok(hidden) => {
+                self.rev = rev;
+                Ok(hidden)
+            }
+            Err(refusal) => Err(refusal),
+        }
+    }
+
+    /// Takes an operation of these parts by the replica of a number.
+    pub fn take(&mut self, alloc: Global, origin: u16, parts: &[Sketch]) -> Result<u64, Refusal> {
+        let op = op_of(alloc, origin, parts)?;
+        self.deliver(alloc, &op)
+    }
+
+    pub fn text(&self, alloc: Global, rev: u64) -> Result<String, Refusal> {
+        Ok(self.sequence.text_at(alloc, rev)?.to_string(alloc)?)
+    }
+}
+
+/// Counter and replica of a stamp.
+pub type Named = (u64, u16);
+
+/// A part by its numbers.
+#[derive(Clone, Copy)]
+pub enum Sketch {
+    /// The first stamp, the character in front, and the text.
+    Typed(Named, Option<Named>, &'static str),
+    /// First stamps and lengths of spans.
+    Erased(&'static [(Named, u64)]),
+}
+
+pub fn stamp_of(named: Named) -> Result<Stamp, Refusal> {
+    Stamp::new(named.0, named.1)
+}
+
+fn part_of(alloc: Global, sketch: &Sketch) -> Result<Part, Refusal> {
+    match sketch {
+        Sketch::Typed(first, after, text) => {
+            let after = match after {
+                None => None,
+                Some(named) => Some(stamp_of(*named)?),
+            };
+            Ok(Part::Insert(Run {
+                first: stamp_of(*first)?,
+                after,
+                text: Text::from_str(alloc, text)?,
+            }))
+        }
+        Sketch::Erased(named) => {
+            let mut spans = Row::new(alloc);
+            for (first, len) in *named {
+                spans.push(Span {
+                    first: stamp_of(*first)?,
+                    len: *len,
+                })?;
+            }
+            Ok(Part::Delete(spans))
+        }
+    }
+}
+
+/// The first operation of a replica, by its parts.
+pub fn op_of(alloc: Global, origin: u16, sketches: &[Sketch]) -> Result<Op, Refusal> {
+    let mut parts = Row::new(alloc);
+    for sketch in sketches {
+        parts.push(part_of(alloc, sketch)?)?;
+    }
+    Ok(Op {
+        name: OpName { origin, number: 1 },
+        seen: Seen::new(alloc),
+        author: Name::from_str(alloc, "ada")?,
+        parts,
+    })
+}

@@ -1,0 +1,38 @@
+//! The work of `crates/pad_bench` in plain Rust, over the same structures written for it alone. It reads and prints
+//! the same lines.
+mod dice;
+mod index;
+mod log;
+mod tree;
+
+use std::io;
+use std::process::ExitCode;
+
+fn counts(line: &str) -> Option<String> {
+    let words: Vec<&str> = line.split_whitespace().collect();
+    let [work, size, times] = words.as_slice() else {
+        return None;
+    };
+    let (Ok(size), Ok(times)) = (size.parse(), times.parse()) else {
+        return None;
+    };
+    match *work {
+        "insert" => Some(tree::insert(size, times)),
+        "iterate" => Some(tree::iterate(size, times)),
+        "locate" => Some(index::locate(size, times)),
+        "pull" => Some(log::pull(size, times)),
+        _ => None,
+    }
+}
+
+fn main() -> io::Result<ExitCode> {
+    for line in io::stdin().lines() {
+        let line = line?;
+        let Some(counts) = counts(&line) else {
+            eprintln!("twin: no such work: {line}");
+            return Ok(ExitCode::from(2));
+        };
+        println!("{line}: {counts}");
+    }
+    Ok(ExitCode::SUCCESS)
+}

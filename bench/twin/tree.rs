@@ -1,0 +1,227 @@
+//! A list of weighed items in a weight-balanced tree of boxes, with the balance of `crates/weight_tree`: the size and
+//! one of no side is more than three times that of its sibling.
+use crate::dice::Dice;
+use std::mem;
+
+trait Weigh {
+    fn weight(&self) -> u64;
+}
+
+struct Tree<T> {
+    root: Option<Box<Branch<T>>>,
+}
+
+struct Branch<T> {
+    item: T,
+    size: usize,
+    weight: u64,
+    height: usize,
+    left: Tree<T>,
+    right: Tree<T>,
+}
+
+impl<T: Weigh> Branch<T> {
+    fn sum_up(&mut self) {
+        self.size = self.left.len() + self.right.len() + 1;
+        self.weight = self.left.weight() + self.item.weight() + self.right.weight();
+        self.height = self.left.height().max(self.right.height()) + 1;
+    }
+}
+
+impl<T: Weigh> Tree<T> {
+    fn new() -> Self {
+        Tree { root: None }
+    }
+
+    fn len(&self) -> usize {
+        self.root.as_ref().map_or(0, |branch| branch.size)
+    }
+
+    fn weight(&self) -> u64 {
+        self.root.as_ref().map_or(0, |branch| branch.weight)
+    }
+
+    fn height(&self) -> usize {
+        self.root.as_ref().map_or(0, |branch| branch.height)
+    }
+
+    fn get(&self, rank: usize) -> &T {
+        let branch = self.root.as_ref().expect("the rank is in range");
+        let left = branch.left.len();
+        if rank < left {
+            branch.left.get(rank)
+        } else if rank == left {
+            &branch.item
+        } else {
+            branch.right.get(rank - left - 1)
+        }
+    }
+
+    fn insert(&mut self, rank: usize, item: T) {
+        match &mut self.root {
+            None => {
+                let weight = item.weight();
+                self.root = Some(Box::new(Branch {
+                    item,
+                    size: 1,
+                    weight,
+                    height: 1,
+                    left: Tree::new(),
+                    right: Tree::new(),
+                }));
+            }
+            Some(branch) => {
+                let left = branch.left.len();
+                if rank <= left {
+                    branch.left.insert(rank, item);
+                } else {
+                    branch.right.insert(rank - left - 1, item);
+                }
+                self.rebalance();
+            }
+        }
+    }
+
+    fn rebalance(&mut self) {
+        let Some(branch) = &mut self.root else { return };
+        let left = branch.left.len() + 1;
+        let right = branch.right.len() + 1;
+        if left > 3 * right {
+            if branch.left.inner_is_heavy(|side| (&side.left, &side.right)) {
+                branch.left.rotate_left();
+            }
+            self.rotate_right();
+        } else if right > 3 * left {
+            if branch
+                .right
+                .inner_is_heavy(|side| (&side.right, &side.left))
+            {
+                branch.right.rotate_right();
+            }
+            self.rotate_left();
+        } else {
+            branch.sum_up();
+        }
+    }
+
+    /// Whether the inner part of a heavy side is too heavy for a single rotation.
+    fn inner_is_heavy(&self, parts: impl Fn(&Branch<T>) -> (&Tree<T>, &Tree<T>)) -> bool {
+        self.root.as_ref().is_some_and(|side| {
+            let (outer, inner) = parts(side);
+            inner.len() + 1 >= 2 * (outer.len() + 1)
+        })
+    }
+
+    fn rotate_right(&mut self) {
+        let Some(mut below) = self.root.take() else {
+            return;
+        };
+        let Some(mut above) = below.left.root.take() else {
+            return;
+        };
+        mem::swap(&mut below.left, &mut above.right);
+        below.sum_up();
+        above.right.root = Some(below);
+        above.sum_up();
+        self.root = Some(above);
+    }
+
+    fn rotate_left(&mut self) {
+        let Some(mut below) = self.root.take() else {
+            return;
+        };
+        let Some(mut above) = below.right.root.take() else {
+            return;
+        };
+        mem::swap(&mut below.right, &mut above.left);
+        below.sum_up();
+        above.left.root = Some(below);
+        above.sum_up();
+        self.root = Some(above);
+    }
+
+    fn iter(&self) -> Iter<'_, T> {
+        let mut iter = Iter {
+            waiting: Vec::with_capacity(self.height()),
+        };
+        iter.descend(self);
+        iter
+    }
+}
+
+struct Iter<'a, T> {
+    waiting: Vec<&'a Branch<T>>,
+}
+
+impl<'a, T> Iter<'a, T> {
+    fn descend(&mut self, mut tree: &'a Tree<T>) {
+        while let Some(branch) = &tree.root {
+            self.waiting.push(branch);
+            tree = &branch.left;
+        }
+    }
+}
+
+impl<'a, T> Iterator for Iter<'a, T> {
+    type Item = &'a T;
+
+    fn next(&mut self) -> Option<&'a T> {
+        let branch = self.waiting.pop()?;
+        self.descend(&branch.right);
+        Some(&branch.item)
+    }
+}
+
+struct Stone {
+    number: u32,
+    weight: u32,
+}
+
+impl Weigh for Stone {
+    fn weight(&self) -> u64 {
+        u64::from(self.weight)
+    }
+}
+
+/// A tree of that many stones, each put at a random rank.
+fn grown(dice: &mut Dice, size: u32) -> Tree<Stone> {
+    let mut tree = Tree::new();
+    for number in 0..size {
+        let rank = dice.roll(number + 1) as usize;
+        let weight = dice.roll(10);
+        tree.insert(rank, Stone { number, weight });
+    }
+    tree
+}
+
+/// Grows trees, and looks at each at a thousand random ranks.
+pub fn insert(size: u32, times: u32) -> String {
+    let mut dice = Dice::new();
+    let (mut weight, mut levels, mut check) = (0, 0, 0u32);
+    for _ in 0..times {
+        let tree = grown(&mut dice, size);
+        weight += tree.weight();
+        levels += tree.height();
+        if size == 0 {
+            continue;
+        }
+        for _ in 0..1000 {
+            let stone = tree.get(dice.roll(size) as usize);
+            check = check.wrapping_mul(31).wrapping_add(stone.number);
+        }
+    }
+    format!("weight {weight}, levels {levels}, check {check}")
+}
+
+/// Goes over all items of one tree that many times.
+pub fn iterate(size: u32, times: u32) -> String {
+    let tree = grown(&mut Dice::new(), size);
+    let (mut items, mut check) = (0u64, 0u32);
+    for _ in 0..times {
+        for stone in tree.iter() {
+            items += 1;
+            check = check.wrapping_mul(31).wrapping_add(stone.number);
+        }
+    }
+    format!("items {items}, check {check}")
+}

@@ -1,0 +1,25 @@
+//! Numbers that are the same in each run and in the twin.
+ghost use Rattle.std.specs.Prelude.{◌<◌};
+
+// Knuth's linear congruential generator, of which the high bits are used.
+#[derive(Drop)]
+pub struct Dice {
+    state: u64,
+}
+
+impl Dice {
+    pub fn new() -> Dice {
+        Dice { state: 2026 }
+    }
+
+    pub fn roll(&mut self, bound: u32) -> u32
+        requires { 0 < bound }
+        ensures { result < bound }
+    {
+        self.state = self
+            .state
+            .wrapping_mul(6_364_136_223_846_793_005)
+            .wrapping_add(1_442_695_040_888_963_407);
+        (self.state >> 32) as u32 % bound
+    }
+}

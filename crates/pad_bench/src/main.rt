@@ -1,0 +1,51 @@
+//! Does the work of benchmarks and prints what it counted, never a time: `bench/run` at the top takes those.
+//!
+//! A line of its input names the work, its size, and how often the part is done that is timed. Plain Rust in
+//! `bench/twin` does the same work and prints the same.
+#![tactic(auto)]
+
+mod dice;
+mod index;
+mod pull;
+mod tree;
+
+use pad_model::Refusal;
+use std::alloc::Global;
+use std::io;
+use std::process::ExitCode;
+
+// The counts of the work that a line names, or none where there is no such work.
+fn counts(alloc: Global, line: &str) -> Result<Option<String>, Refusal> {
+    let words: Vec<&str> = line.split_whitespace().collect(alloc)?;
+    let [work, size, times] = words.as_slice() else {
+        return Ok(None);
+    };
+    let (Ok(size), Ok(times)) = (size.parse::<u32>(), times.parse::<u32>()) else {
+        return Ok(None);
+    };
+    match *work {
+        "insert" => Ok(Some(tree::insert(alloc, size, times)?)),
+        "iterate" => Ok(Some(tree::iterate(alloc, size, times)?)),
+        "locate" => Ok(Some(index::locate(alloc, size, times)?)),
+        "pull" => Ok(Some(pull::pull(alloc, size, times)?)),
+        _ => Ok(None),
+    }
+}
+
+fn main(rt: HostRuntime) -> io::Result<ExitCode> {
+    for line in rt.lines(rt.alloc()) {
+        let line = line?;
+        match counts(rt.alloc(), line.as_str()) {
+            Ok(Some(counts)) => println!(rt; "{line}: {counts}")?,
+            Ok(None) => {
+                eprintln!(rt; "pad_bench: no such work: {line}")?;
+                return Ok(ExitCode::from(2));
+            }
+            Err(refusal) => {
+                eprintln!(rt; "pad_bench: {} {}", refusal.code(), refusal.name())?;
+                return Ok(ExitCode::FAILURE);
+            }
+        }
+    }
+    Ok(ExitCode::SUCCESS)
+}

@@ -5,6 +5,7 @@
 mod comments;
 #[cfg(test)]
 mod converge;
+#[cfg(test)]
 mod deletions;
 #[cfg(test)]
 mod names;

@@ -8,9 +8,9 @@ use Rattle.std.proofs.lemmas.List.Sums.{prefix_len-le-length}
 use Rattle.std.proofs.lemmas.List.Sorted.{IsPermutation-insert}
 use Rattle.pad_model.proofs.Newer.{split}
 use Rattle.pad_model.specs.Cell.{Cell}
-use Rattle.pad_model.specs.Log.{same_name}
+use Rattle.pad_model.specs.Log.{precedes, same_name}
 use Rattle.pad_model.specs.declared.op.OpName.{OpName}
-use Rattle.anchors.specs.Comments.{precedes, is_comment, place_of, with_comment, earlier, resolved_at, with_resolution, born_by, is_resolved, has_both, range_in, range_between, shown, comments_at, AreHeld}
+use Rattle.anchors.specs.Comments.{is_comment, place_of, with_comment, earlier, resolved_at, with_resolution, born_by, is_resolved, has_both, range_in, range_between, shown, comments_at, AreHeld}
 use Rattle.anchors.specs.declared.comment.Comment.{Comment}
 use Rattle.anchors.specs.declared.show.Shown.{Shown}
 

@@ -11,12 +11,12 @@ use Rattle.std.specs.Option.{IfSome, IfNone}
 use Rattle.pad_model.proofs.Newer.{split}
 use Rattle.pad_model.proofs.Each.{each-imply}
 use Rattle.pad_model.specs.Cell.{Cell}
-use Rattle.pad_model.specs.Log.{same_name}
+use Rattle.pad_model.specs.Log.{precedes, same_name}
 use Rattle.pad_model.specs.declared.limits.TheConstants.{MAX_COMMENTS}
 use Rattle.pad_model.specs.declared.op.OpName.{OpName}
-use Rattle.anchors.specs.Comments.{precedes, IsByName, is_comment, comment_of, place_of, with_comment, resolved_at, with_resolution, born_by, has_both, IsBook, AreHeld}
+use Rattle.anchors.specs.Comments.{IsByName, is_comment, comment_of, place_of, with_comment, resolved_at, with_resolution, born_by, has_both, IsBook, AreHeld}
 use Rattle.anchors.specs.declared.comment.Comment.{Comment}
-use Rattle.anchors.proofs.Names.{precedes-trans, same-precedes, follows, precedes-other}
+use Rattle.pad_model.proofs.Names.{precedes-trans, same-precedes, follows, precedes-other}
 
 each_get : {A : Type 0} (P : A → Type 0) (xs : List A) (k : ℕ) (d : A) → AllByRecursion P xs → k < length xs → P (get_or xs k d)
 each_get P [] k d h lt = absurd (omega arith)

@@ -3,7 +3,7 @@ use Rattle.std.specs.Prelude.{◌≡◌, ℕ, ◌≤◌, ◌-◌, Bool, true, fa
 use Rattle.std.specs.List.{AllByRecursion, insert, list_any, prefix_len}
 use Rattle.pad_model.specs.Cell.{Cell, character_of, shown_at}
 use Rattle.pad_model.specs.Legal.{has_stamp}
-use Rattle.pad_model.specs.Log.{same_name}
+use Rattle.pad_model.specs.Log.{precedes, same_name}
 use Rattle.pad_model.specs.Stamp.{Stamp}
 use Rattle.pad_model.specs.Visible.{Range, shown_before, shown_through}
 use Rattle.pad_model.specs.declared.op.OpName.{OpName}
@@ -12,10 +12,6 @@ use Rattle.pad_model.specs.declared.refusal.Refusal.{Refusal}
 use Rattle.pad_model.specs.declared.refusal.Refusal.TheVariants.{Memory, CommentsFull}
 use Rattle.anchors.specs.declared.comment.Comment.{Comment}
 use Rattle.anchors.specs.declared.show.Shown.{Shown}
-
--- a name stands before another: its origin is smaller, or the origins are equal and its number is
-abbrev pub precedes : OpName → OpName → Bool
-precedes a b = nat_lt a.origin b.origin || (a.origin == b.origin && nat_lt a.number b.number)
 
 -- the names rise
 abbrev pub IsByName : List Comment → Type 0

@@ -2,24 +2,17 @@
 ghost use Rattle.std.specs.Prelude.{◌≡◌, ◌≤◌, ◌<◌, length, slice_get, IfSome, IfNone, true, false};
 ghost use Rattle.std.specs.Option.{IsSomeAnd};
 ghost use Rattle.pad_model.specs.Log.{same_name};
-ghost use Rattle.anchors.specs.Comments.{precedes, place_of as place_in, is_comment, comment_of, IsByName};
+ghost use Rattle.anchors.specs.Comments.{place_of as place_in, is_comment, comment_of, IsByName};
 
 use crate::comment::Comment;
 use pad_model::OpName;
-
-/// Whether a name stands before another: by origin, then by number.
-fn precedes(a: OpName, b: OpName) -> bool
-    ensures { result ≡ precedes a b }
-{
-    a.origin < b.origin || (a.origin == b.origin && a.number < b.number)
-}
 
 /// How many comments stand before a name.
 pub fn place_of(comments: &[Comment], name: OpName) -> usize
     requires { IsByName comments.now }
     ensures { result ≡ place_in name comments.now }
 {
-    comments.partition_point(|comment| precedes(comment.name, name))
+    comments.partition_point(|comment| comment.name.precedes(name))
 }
 
 /// Where the comment of a name stands, if there is one.

@@ -7,30 +7,31 @@ use Rattle.pad_model.specs.declared.op.OpName.{OpName}
 use Rattle.pad_model.proofs.Each.{each-imply, each_fails}
 use Rattle.pad_model.proofs.Filters.{each-filter}
 use Rattle.pad_model.proofs.Newer.{split}
-use Rattle.holdback.specs.Held.{comes_before, IsRising, has_name, is_held, with_held, without}
+use Rattle.holdback.specs.Held.{IsRising, has_name, is_held, with_held, without}
+use Rattle.pad_model.specs.Log.{precedes}
 use Rattle.holdback.specs.Inside.{IsHold}
 use Rattle.holdback.specs.declared.held.TheConstants.{MAX_HELD}
-use Rattle.holdback.proofs.Names.{before-trans, before-total}
+use Rattle.pad_model.proofs.Names.{precedes-trans, precedes-other}
 use Rattle.holdback.proofs.Places.{all_kept}
 
 each_with : (P : Op → Type 0) (held : List Op) (op : Op) → P op → AllByRecursion P held → AllByRecursion P (with_held op held)
 each_with P [] op p h = (p, tt)
 each_with P (x ∷ held) op p h =
-    split (comes_before x.name op.name) (λ e. rw e (h.0, each_with P held op p h.1)) (λ e. rw e (p, h))
+    split (precedes x.name op.name) (λ e. rw e (h.0, each_with P held op p h.1)) (λ e. rw e (p, h))
 
 pub rising_with : (held : List Op) (op : Op) → IsRising held → is_held op.name held ≡ false → IsRising (with_held op held)
 rising_with [] op r new = (tt, tt)
 rising_with (x ∷ held) op r new =
     let apart = or_parts (has_name op.name x) (is_held op.name held) new in
-    split (comes_before x.name op.name)
-    (λ e. rw e (each_with (λ later. comes_before x.name later.name ≡ true) held op e r.0, rising_with held op r.1 apart.1))
+    split (precedes x.name op.name)
+    (λ e. rw e (each_with (λ later. precedes x.name later.name ≡ true) held op e r.0, rising_with held op r.1 apart.1))
     (λ e.
-    let lt = before-total x.name op.name e apart.0 in
-    rw e ((lt, each-imply (λ later. comes_before x.name later.name ≡ true) (λ later. comes_before op.name later.name ≡ true) (λ later more. before-trans op.name x.name later.name lt more) held r.0), r))
+    let lt = precedes-other x.name op.name e apart.0 in
+    rw e ((lt, each-imply (λ later. precedes x.name later.name ≡ true) (λ later. precedes op.name later.name ≡ true) (λ later more. precedes-trans op.name x.name later.name lt more) held r.0), r))
 
 length_with : (held : List Op) (op : Op) → length (with_held op held) ≡ length held + 1
 length_with [] op = refl
-length_with (x ∷ held) op = split (comes_before x.name op.name) (λ e. rw e (omega (arith, length_with held op))) (λ e. rw e (omega arith))
+length_with (x ∷ held) op = split (precedes x.name op.name) (λ e. rw e (omega (arith, length_with held op))) (λ e. rw e (omega arith))
 
 pub hold_with : (held : List Op) (op : Op) → IsHold held → is_held op.name held ≡ false → length held < MAX_HELD → IsHold (with_held op held)
 hold_with held op hold new lt = record { rising = rising_with held op hold.rising new; few = omega (arith, length_with held op) }
@@ -38,7 +39,7 @@ hold_with held op hold new lt = record { rising = rising_with held op hold.risin
 rising_filter : (t : Op → Bool) (held : List Op) → IsRising held → IsRising (filter t held)
 rising_filter t [] r = tt
 rising_filter t (x ∷ held) r =
-    split (t x) (λ e. rw e (each-filter (λ later. comes_before x.name later.name ≡ true) t held r.0, rising_filter t held r.1)) (λ e. rw e (rising_filter t held r.1))
+    split (t x) (λ e. rw e (each-filter (λ later. precedes x.name later.name ≡ true) t held r.0, rising_filter t held r.1)) (λ e. rw e (rising_filter t held r.1))
 
 filter_shorter : (t : Op → Bool) (held : List Op) → length (filter t held) ≤ length held
 filter_shorter t [] = omega arith

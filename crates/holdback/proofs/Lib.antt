@@ -1,5 +1,4 @@
 pub mod Kept
 pub mod Members
-pub mod Names
 pub mod Next
 pub mod Places

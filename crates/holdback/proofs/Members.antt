@@ -6,13 +6,14 @@ use Rattle.std.proofs.lemmas.List.Sorted.{IsPermutation-insert, IsPermutation-sy
 use Rattle.pad_model.specs.declared.op.Op.{Op}
 use Rattle.pad_model.specs.declared.op.OpName.{OpName}
 use Rattle.pad_model.proofs.Newer.{split}
-use Rattle.holdback.specs.Held.{comes_before, IsRising, has_name, with_held, without}
+use Rattle.holdback.specs.Held.{IsRising, has_name, with_held, without}
+use Rattle.pad_model.specs.Log.{precedes}
 use Rattle.holdback.proofs.Places.{same_op, all_kept, others_behind_it}
 
 place_with : (op : Op) (held : List Op) → (k : ℕ) × (insert held k op ≡ with_held op held)
 place_with op [] = (0, refl)
 place_with op (x ∷ held) =
-    split (comes_before x.name op.name)
+    split (precedes x.name op.name)
     (λ e. let rest = place_with op held in (suc rest.0, ap (λ xs. x ∷ xs) rest.1 ∙ sym (cond-true _ _ _ e)))
     (λ e. (0, sym (cond-false _ _ _ e)))
 

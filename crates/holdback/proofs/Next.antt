@@ -8,9 +8,10 @@ use Rattle.pad_model.specs.declared.seen.Counted.{Counted}
 use Rattle.pad_model.specs.Seen.{count_in}
 use Rattle.pad_model.proofs.Each.{each-imply}
 use Rattle.pad_model.proofs.Newer.{split}
-use Rattle.holdback.specs.Held.{comes_before, IsRising, has_name, is_ready}
+use Rattle.holdback.specs.Held.{IsRising, has_name, is_ready}
+use Rattle.pad_model.specs.Log.{precedes}
 use Rattle.holdback.specs.Next.{NoneIsReady, IsNext}
-use Rattle.holdback.proofs.Names.{before-true, before_other}
+use Rattle.pad_model.proofs.Names.{precedes-cases, same-precedes}
 use Rattle.holdback.proofs.Places.{same_op}
 
 own_name : (op : Op) → has_name op.name op ≡ true
@@ -32,8 +33,8 @@ named_first t (x ∷ held) op r is =
     (λ e. let same = same_op x op (sym (cond-true _ _ _ e) ∙ is) in subst (λ o. find (has_name o.name) (x ∷ held) ≡ Some o) same (cond-true _ _ _ (own_name x)))
     (λ e.
     let later : find t held ≡ Some op = sym (cond-false _ _ _ e) ∙ is in
-    let lt = (found_has (λ o. comes_before x.name o.name ≡ true) t held op r.0 later).0 in
-    cond-false _ _ _ (before_other x.name op.name lt) ∙ named_first t held op r.1 later)
+    let lt = (found_has (λ o. precedes x.name o.name ≡ true) t held op r.0 later).0 in
+    cond-false _ _ _ (same-precedes x.name op.name lt) ∙ named_first t held op r.1 later)
 
 -- a ready operation is the next of its origin, so two of one origin have one number
 ready_number : (seen : List Counted) (op : Op) → is_ready seen op ≡ true → op.name.number ≡ count_in seen op.name.origin + 1
@@ -45,8 +46,8 @@ IsLeast seen held name = AllByRecursion (λ op. is_ready seen op ≡ true → (h
 least_first : (seen : List Counted) (x : Op) (held : List Op) → IsRising (x ∷ held) → is_ready seen x ≡ true → IsLeast seen (x ∷ held) x.name
 least_first seen x held r e = (
   λ _. inl (own_name x),
-  each-imply (λ later. comes_before x.name later.name ≡ true) (λ op. is_ready seen op ≡ true → (has_name x.name op ≡ true) ⊎ (x.name.origin < op.name.origin))
-      (λ later lt ready. elim (before-true x.name later.name lt) [
+  each-imply (λ later. precedes x.name later.name ≡ true) (λ op. is_ready seen op ≡ true → (has_name x.name op ≡ true) ⊎ (x.name.origin < op.name.origin))
+      (λ later lt ready. elim (precedes-cases x.name later.name lt) [
         | inl less ↦ inr less
         | inr same ↦ absurd (omega (arith, same.1, ready_number seen x e, ready_number seen later ready, ap (count_in seen) same.0))
       ]) held r.0,

@@ -7,9 +7,10 @@ use Rattle.std.proofs.lemmas.Bool.{or_left, or_right, or_from, cond-true, cond-f
 use Rattle.pad_model.specs.declared.op.Op.{Op}
 use Rattle.pad_model.specs.declared.op.OpName.{OpName}
 use Rattle.pad_model.proofs.Each.{each-imply, none_found}
-use Rattle.holdback.specs.Held.{comes_before, IsRising, has_name, is_held, with_held, without}
+use Rattle.holdback.specs.Held.{IsRising, has_name, is_held, with_held, without}
+use Rattle.pad_model.specs.Log.{precedes}
 use Rattle.holdback.specs.Inside.{IsParted, IsAt, IsGapFor}
-use Rattle.holdback.proofs.Names.{before-trans, before_other, after_other, before-total, before_same}
+use Rattle.pad_model.proofs.Names.{precedes-trans, same-precedes, same-follows, precedes-other, precedes-alike}
 
 each_at : {A : Type 0} (P : A → Type 0) (xs : List A) (k : ℕ) (d : A) → AllByRecursion P xs → k < length xs → P (get_or xs k d)
 each_at P [] k d h lt = absurd (omega arith)
@@ -17,11 +18,11 @@ each_at P (x ∷ xs) zero d h lt = h.0
 each_at P (x ∷ xs) (suc k) d h lt = each_at P xs k d h.1 (omega arith)
 
 -- those that come before a name stand before the others
-pub partitioned : (held : List Op) (name : OpName) → IsRising held → IsPartitionedBy (λ op. comes_before op.name name) held
+pub partitioned : (held : List Op) (name : OpName) → IsRising held → IsPartitionedBy (λ op. precedes op.name name) held
 partitioned [] name r i j d le lt e = absurd (omega arith)
 partitioned (x ∷ held) name r zero zero d le lt e = e
 partitioned (x ∷ held) name r zero (suc j) d le lt e =
-    before-trans x.name (get_or held j d).name name (each_at (λ later. comes_before x.name later.name ≡ true) held j d r.0 (omega arith)) e
+    precedes-trans x.name (get_or held j d).name name (each_at (λ later. precedes x.name later.name ≡ true) held j d r.0 (omega arith)) e
 partitioned (x ∷ held) name r (suc i) zero d le lt e = absurd (omega arith)
 partitioned (x ∷ held) name r (suc i) (suc j) d le lt e = partitioned held name r.1 i j d (omega arith) (omega arith) e
 
@@ -33,15 +34,15 @@ parted_tail x held name place parts = record {
 }
 
 -- none of those behind has the name of what stands before them
-others_behind : (x : Op) (held : List Op) (name : OpName) → IsRising (x ∷ held) → comes_before name x.name ≡ true → AllByRecursion (λ op. has_name name op ≡ false) (x ∷ held)
+others_behind : (x : Op) (held : List Op) (name : OpName) → IsRising (x ∷ held) → precedes name x.name ≡ true → AllByRecursion (λ op. has_name name op ≡ false) (x ∷ held)
 others_behind x held name r e = (
-  after_other x.name name e,
-  each-imply (λ later. comes_before x.name later.name ≡ true) (λ op. has_name name op ≡ false) (λ later lt. after_other later.name name (before-trans name x.name later.name e lt)) held r.0,
+  same-follows x.name name e,
+  each-imply (λ later. precedes x.name later.name ≡ true) (λ op. has_name name op ≡ false) (λ later lt. same-follows later.name name (precedes-trans name x.name later.name e lt)) held r.0,
 )
 
 pub others_behind_it : (x : Op) (held : List Op) (name : OpName) → IsRising (x ∷ held) → has_name name x ≡ true → AllByRecursion (λ op. has_name name op ≡ false) held
 others_behind_it x held name r e =
-    each-imply (λ later. comes_before x.name later.name ≡ true) (λ op. has_name name op ≡ false) (λ later lt. after_other later.name name (before_same x.name name later.name e lt)) held r.0
+    each-imply (λ later. precedes x.name later.name ≡ true) (λ op. has_name name op ≡ false) (λ later lt. same-follows later.name name (precedes-alike x.name name later.name e lt)) held r.0
 
 pub all_kept : (held : List Op) (name : OpName) → AllByRecursion (λ op. has_name name op ≡ false) held → without name held ≡ held
 all_kept [] name h = refl
@@ -58,9 +59,9 @@ fits (x ∷ held) op (suc place) parts =
 absent : (held : List Op) (name : OpName) (place : ℕ) → IsRising held → IsParted held name place → ((x : Op) → slice_get held place ≡ Some x → has_name name x ≡ false) → is_held name held ≡ false
 absent [] name place r parts other = refl
 absent (x ∷ held) name zero r parts other =
-    none_found (has_name name) (x ∷ held) (others_behind x held name r (before-total x.name name (parts.behind 0 x (omega arith) (omega arith)) (other x refl)))
+    none_found (has_name name) (x ∷ held) (others_behind x held name r (precedes-other x.name name (parts.behind 0 x (omega arith) (omega arith)) (other x refl)))
 absent (x ∷ held) name (suc place) r parts other =
-    or_from _ _ (before_other x.name name (parts.before 0 x (omega arith) (omega arith))) (absent held name place r.1 (parted_tail x held name place parts) other)
+    or_from _ _ (same-precedes x.name name (parts.before 0 x (omega arith) (omega arith))) (absent held name place r.1 (parted_tail x held name place parts) other)
 
 pub gap_at : (held : List Op) (name : OpName) (place : ℕ) → IsRising held → IsParted held name place → ((x : Op) → slice_get held place ≡ Some x → has_name name x ≡ false) → IsGapFor held name place
 gap_at held name place r parts other = record {
@@ -80,7 +81,7 @@ found (x ∷ held) name zero op r parts is e =
       cond-false _ _ _ (ap not own) ∙ all_kept held name (others_behind_it x held name r own),
     )
 found (x ∷ held) name (suc place) op r parts is e =
-    let other = before_other x.name name (parts.before 0 x (omega arith) (omega arith)) in
+    let other = same-precedes x.name name (parts.before 0 x (omega arith) (omega arith)) in
     let rest = found held name place op r.1 (parted_tail x held name place parts) is e in (
       or_right (has_name name x) _ rest.0,
       cond-false _ _ _ other ∙ rest.1,

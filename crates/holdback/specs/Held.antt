@@ -1,7 +1,7 @@
 -- Operations that wait for others, and when one may be delivered (causal delivery).
 use Rattle.std.specs.Prelude.{◌≡◌, ◌+◌, Bool, not, ◌&&◌, ◌||◌, ◌==◌, nat_lt, nat_le, if◌then◌else◌, true, List, [], ◌∷◌, filter}
 use Rattle.std.specs.List.{AllByRecursion, list_any, list_all}
-use Rattle.pad_model.specs.Log.{same_name}
+use Rattle.pad_model.specs.Log.{precedes, same_name}
 use Rattle.pad_model.specs.Seen.{count_in}
 use Rattle.pad_model.specs.declared.op.Op.{Op}
 use Rattle.pad_model.specs.declared.op.OpName.{OpName}
@@ -27,19 +27,15 @@ has_name name op = same_name op.name name
 abbrev pub is_held : OpName → List Op → Bool
 is_held name held = list_any (has_name name) held
 
--- whether a name comes before another: its origin is less, or the origins are one and its number is less
-abbrev pub comes_before : OpName → OpName → Bool
-comes_before a b = nat_lt a.origin b.origin || (a.origin == b.origin && nat_lt a.number b.number)
-
 -- the names rise
 abbrev pub IsRising : List Op → Type 0
 IsRising [] = Unit {0}
-IsRising (op ∷ held) = AllByRecursion (λ later. comes_before op.name later.name ≡ true) held × IsRising held
+IsRising (op ∷ held) = AllByRecursion (λ later. precedes op.name later.name ≡ true) held × IsRising held
 
 -- with one more operation, at its place by name
 abbrev pub with_held : Op → List Op → List Op
 with_held op [] = op ∷ []
-with_held op (first ∷ held) = if comes_before first.name op.name then first ∷ with_held op held else op ∷ first ∷ held
+with_held op (first ∷ held) = if precedes first.name op.name then first ∷ with_held op held else op ∷ first ∷ held
 
 -- without the operation of this name
 abbrev pub without : OpName → List Op → List Op

@@ -3,7 +3,8 @@ use Rattle.std.specs.Prelude.{◌≡◌, ℕ, ◌≤◌, ◌<◌, true, false, L
 use Rattle.std.specs.List.{AllWithin, find, insert, remove}
 use Rattle.pad_model.specs.declared.op.Op.{Op}
 use Rattle.pad_model.specs.declared.op.OpName.{OpName}
-use Rattle.holdback.specs.Held.{comes_before, IsRising, has_name, is_held, with_held, without}
+use Rattle.holdback.specs.Held.{IsRising, has_name, is_held, with_held, without}
+use Rattle.pad_model.specs.Log.{precedes}
 use Rattle.holdback.specs.declared.held.TheConstants.{MAX_HELD}
 
 -- the names rise, and there are no more than may be held
@@ -14,8 +15,8 @@ pub record IsHold (held : List Op) : Type 0 where
 -- the operations before a place come before a name, and those from it on do not
 pub record IsParted (held : List Op) (name : OpName) (place : ℕ) : Type 0 where
   pub in_range : place ≤ length held
-  pub before : AllWithin (λ op. comes_before op.name name ≡ true) held 0 place
-  pub behind : AllWithin (λ op. comes_before op.name name ≡ false) held place (length held)
+  pub before : AllWithin (λ op. precedes op.name name ≡ true) held 0 place
+  pub behind : AllWithin (λ op. precedes op.name name ≡ false) held place (length held)
 
 -- the operation with a name stands at a place
 pub record IsAt (held : List Op) (name : OpName) (place : ℕ) : Type 0 where

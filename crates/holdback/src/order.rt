@@ -1,5 +1,5 @@
 ghost use Rattle.std.specs.Prelude.{◌≡◌, IfOk, IfErr};
-ghost use Rattle.holdback.specs.Held.{comes_before, IsRising};
+ghost use Rattle.holdback.specs.Held.{IsRising};
 ghost use Rattle.holdback.specs.Inside.{IsParted, IsAt, IsGapFor};
 
 use pad_model::{Op, OpName};
@@ -22,11 +22,5 @@ fn place_for(held: &[Op], name: OpName) -> usize
     requires { IsRising held.now }
     ensures { IsParted held.now name result }
 {
-    held.partition_point(|op| comes_before(op.name, name))
-}
-
-fn comes_before(a: OpName, b: OpName) -> bool
-    ensures { result ≡ comes_before a b }
-{
-    a.origin < b.origin || (a.origin == b.origin && a.number < b.number)
+    held.partition_point(|op| op.name.precedes(name))
 }

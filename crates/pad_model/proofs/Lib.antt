@@ -13,6 +13,7 @@ pub mod InTurn
 pub mod Local
 pub mod Maps
 pub mod Members
+pub mod Names
 pub mod Newer
 pub mod Parts
 pub mod Places

@@ -52,7 +52,7 @@ run_may_join-cells_of log first p t =
     ∙ sym (run_may_join-permutation itself (characters_in log).inserted (map character_of (cells_of log)) first p (cells_of-permutation log t))
 
 -- the greatest counter is an upper bound, and the least one
-greatest_least : {A : Type 0} (at : A → Character) (xs : List A) (a b : ℕ) → a ≤ b → AllByRecursion (λ x. (at x).stamp.counter ≤ b) xs → fold (λ most x. max most (at x).stamp.counter) a xs ≤ b
+pub greatest_least : {A : Type 0} (at : A → Character) (xs : List A) (a b : ℕ) → a ≤ b → AllByRecursion (λ x. (at x).stamp.counter ≤ b) xs → fold (λ most x. max most (at x).stamp.counter) a xs ≤ b
 greatest_least at [] a b h all = h
 greatest_least at (x ∷ xs) a b h all = greatest_least at xs (max a (at x).stamp.counter) b (let l : (at x).stamp.counter ≤ b = all.0 in omega arith) all.1
 

@@ -62,7 +62,8 @@ op_low op h =
     let all = and_parts _ _ parts in
     parts_low op.name.origin (author_of op) op.parts (and_parts _ _ (and_parts _ _ all.0).0).1
 
-low_continues : (before more : List Op) → Continues before more → AllByRecursion IsLow (flat_map inserted_by more)
+-- no character of a history has a counter above the limit
+pub low_continues : (before more : List Op) → Continues before more → AllByRecursion IsLow (flat_map inserted_by more)
 low_continues before [] h = tt
 low_continues before (op ∷ more) h = each-append IsLow (inserted_by op) (flat_map inserted_by more) (op_low op h.0) (low_continues (before ++ op ∷ []) more h.2)
 

@@ -35,6 +35,10 @@ stands_before at (x ∷ xs) a b = if same_stamp (at x).stamp a then same_stamp a
 abbrev pub same_name : OpName → OpName → Bool
 same_name a b = a.origin == b.origin && a.number == b.number
 
+-- whether a name stands before another: its origin is smaller, or the origins are equal and its number is
+abbrev pub precedes : OpName → OpName → Bool
+precedes a b = nat_lt a.origin b.origin || (a.origin == b.origin && nat_lt a.number b.number)
+
 -- whether a part is a comment
 abbrev pub is_comment_part : Part → Bool
 is_comment_part (Insert run) = false

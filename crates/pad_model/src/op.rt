@@ -1,6 +1,7 @@
 ghost use Rattle.std.specs.Prelude.{◌↔◌, ◌≡◌, false, IsTrue, MatchResult};
 ghost use Rattle.std.specs.List.{list_all};
 ghost use Rattle.pad_model.specs.Checked.{is_edit, is_checked};
+ghost use Rattle.pad_model.specs.Log.{precedes};
 
 use crate::check::{are_edits, is_checked};
 use crate::name::Name;
@@ -16,6 +17,15 @@ use std::alloc::AllocError;
 pub struct OpName {
     pub origin: u16,
     pub number: u64,
+}
+
+impl OpName {
+    /// Whether it stands before another name: by origin, then by number.
+    pub fn precedes(self, other: OpName) -> bool
+        ensures { result ≡ precedes self other }
+    {
+        self.origin < other.origin || (self.origin == other.origin && self.number < other.number)
+    }
 }
 
 /// The characters with the stamps `first`, and the `len - 1` that follow it on the same replica.

@@ -5,7 +5,7 @@ ghost use Rattle.pad_model.specs.Answers.{Answers};
 ghost use Rattle.pad_model.specs.Cell.{Cell, IsBy, IsInOrder, cells_at, cell_stamp_at, character_of, clock_of, last_of, delete_spans as delete_cells, insert_run as insert_cells, before_at, through_at, is_before, text_at as cells_text, runs_at, spans_at as cells_spans};
 ghost use Rattle.pad_model.specs.Checked.{is_run, is_span, is_edit, are_parts};
 ghost use Rattle.pad_model.specs.Legal.{has_stamp};
-ghost use Rattle.pad_model.specs.Parts.{apply as apply_parts};
+ghost use Rattle.pad_model.specs.Parts.{apply as apply_parts, part_fits};
 ghost use Rattle.pad_model.specs.Views.{IsViewOf};
 
 use crate::op::{Part, Run, Span};
@@ -74,6 +74,11 @@ pub trait Sequence: Drop {
         requires edits { IsTrue (list_all is_edit parts.now) }
         requires latest { AllByRecursion (IsBy rev) (cells self.old) }
         ensures { Answers (cells self.old) (apply_parts rev parts.now author.now (cells self.old)) result (cells self.new) };
+
+    /// Whether each part of one operation of an origin fits what stands there, as `apply` wants it.
+    fn fits(&self, parts: &[Part], origin: u16) -> bool
+        requires checked { IsTrue (are_parts origin parts.now) }
+        ensures { result ≡ list_all (part_fits character_of (cells self.now)) parts.now };
 
     /// How many characters are visible.
     fn len_at(&self, rev: u64) -> u64

@@ -1,6 +1,6 @@
 use Rattle.std.proofs.Common.{rules}
 use Rattle.std.proofs.lemmas.List.Sorted.{IsPartitionPoint-from_clause}
-use Rattle.anchors.specs.Comments.{precedes}
+use Rattle.pad_model.specs.Log.{precedes}
 use Rattle.anchors.proofs.Sorted.{prefix-parted, parted_by_name}
 use Rattle.anchors.proofs.find.place_of.Goals as goal
 

@@ -1,6 +1,7 @@
 use Rattle.std.proofs.Common.{length, ap, ◌∙◌, arith}
 use Rattle.std.proofs.lemmas.List.Sums.{prefix_len-le-length}
-use Rattle.anchors.specs.Comments.{precedes, is_comment}
+use Rattle.anchors.specs.Comments.{is_comment}
+use Rattle.pad_model.specs.Log.{precedes}
 use Rattle.anchors.proofs.Sorted.{book-with_comment}
 use Rattle.anchors.proofs.book.CommentBook.add.Goals as goal
 

@@ -1,9 +1,9 @@
 -- The order of names.
-use Rattle.std.proofs.Common.{◌≡◌, true, false, arith}
+use Rattle.std.proofs.Common.{◌≡◌, ◌<◌, ◌⊎◌, inl, inr, true, false, arith, ltb-true}
+use Rattle.std.proofs.lemmas.Bool.{or_cases, and_parts, eqb-true}
 use Rattle.std.proofs.lemmas.Bool.Decides.{nat_tests}
-use Rattle.pad_model.specs.Log.{same_name}
+use Rattle.pad_model.specs.Log.{precedes, same_name}
 use Rattle.pad_model.specs.declared.op.OpName.{OpName}
-use Rattle.anchors.specs.Comments.{precedes}
 
 -- the order goes on along a chain
 pub precedes-trans : (a b c : OpName) → precedes a b ≡ true → precedes b c ≡ true → precedes a c ≡ true
@@ -31,3 +31,15 @@ precedes-other a b p q = grind (arith, nat_tests)
 -- what follows a name that is no smaller than another is not that one
 pub follows : (first later name : OpName) → precedes first name ≡ false → precedes first later ≡ true → same_name later name ≡ false
 follows first later name stops h = grind (arith, nat_tests)
+
+-- a name that stands behind another stands behind each one that is the same
+pub precedes-alike : (a b c : OpName) → same_name a b ≡ true → precedes a c ≡ true → precedes b c ≡ true
+precedes-alike a b c e p = grind (arith, nat_tests)
+
+-- what it means that a name stands before another
+pub precedes-cases : (a b : OpName) → precedes a b ≡ true → (a.origin < b.origin) ⊎ ((a.origin ≡ b.origin) × (a.number < b.number))
+precedes-cases a b e =
+    elim (or_cases _ _ e) [
+      | inl p ↦ inl (ltb-true _ _ p)
+      | inr q ↦ let parts = and_parts _ _ q in inr (eqb-true _ _ parts.0, ltb-true _ _ parts.1)
+    ]

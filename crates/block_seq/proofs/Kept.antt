@@ -11,16 +11,16 @@ use Rattle.pad_model.specs.Scan.{put}
 use Rattle.pad_model.specs.declared.who.Author.{Author}
 use Rattle.pad_model.specs.declared.op.Run.{Run}
 use Rattle.pad_model.proofs.Each.{each-append, each-imply, each-permutation}
-use Rattle.pad_model.proofs.Maps.{filter-map, list_any-map, map-map, put-map, run_may_join-map}
+use Rattle.pad_model.proofs.Maps.{filter-map, IsTree-of_map, list_any-map, map-map, put-map, run_may_join-map}
 use Rattle.pad_model.proofs.Places.{spliced, place_in, put-spliced}
 use Rattle.pad_model.proofs.Rising.{IsDistinct-nil}
 use Rattle.pad_model.proofs.Scan.{put-permutation}
 use Rattle.pad_model.proofs.Cells.{with_run-put, IsInOrder-with_run}
-use Rattle.std.specs.List.{list_all}
+use Rattle.std.specs.List.{IsDistinct, list_all}
 use Rattle.pad_model.specs.Stamp.{same_stamp}
-use Rattle.pad_model.specs.Legal.{has_stamp}
+use Rattle.pad_model.specs.Legal.{has_stamp, same_item}
 use Rattle.pad_model.specs.Log.{has_spans}
-use Rattle.pad_model.specs.Operation.{stamps_from, span_stamps}
+use Rattle.pad_model.specs.Operation.{span_stamps}
 use Rattle.pad_model.specs.declared.refusal.Refusal.TheVariants.{PeerFault}
 use Rattle.pad_model.specs.Cell.{is_hidden_by, without_spans, delete_spans}
 use Rattle.pad_model.specs.declared.op.Span.{Span}
@@ -177,16 +177,6 @@ IsPlain-erased authors rev spans cells new p e =
 pub hidden-cells_of : (authors : List Author) (spans : List Span) (cells : List PlainCell) → count_by (is_hidden_by spans) (cells_of authors cells) ≡ count_by (kept_hidden spans) cells
 hidden-cells_of authors spans cells = Rattle.std.proofs.lemmas.List.Folds.fold-map (λ a x. a + cond (is_hidden_by spans x) 1 0) (cell_of authors) 0 cells
 
--- the rest of a span behind a character that is there
-pub span_step : (t : Stamp → Bool) (first : Stamp) (len place : ℕ) → place < len → t (record first { counter = first.counter + place }) ≡ true →
-    list_all t (stamps_from (record first { counter = first.counter + (place + 1) }) (len - (place + 1))) ≡ list_all t (stamps_from (record first { counter = first.counter + place }) (len - place))
-span_step t first len place h e =
-    let split_off : len - place ≡ suc (len - (place + 1)) = omega arith in
-    let behind : first.counter + (place + 1) ≡ first.counter + place + 1 = omega arith in
-    sym (ap (λ n. list_all t (stamps_from (let s : Stamp = record { counter = first.counter + place; replica = first.replica } in s) n)) split_off
-    ∙ ap (λ b. b && list_all t (stamps_from (let s : Stamp = record { counter = first.counter + place + 1; replica = first.replica } in s) (len - (place + 1)))) e
-    ∙ ap (λ k. list_all t (stamps_from (let s : Stamp = record { counter = k; replica = first.replica } in s) (len - (place + 1)))) (sym behind))
-
 -- two stamps that are there, or not both
 pub unless_both : {A : Type 0} (b s t : Bool) (x : Option A) → s ≡ true → t ≡ b → b ≡ false → None ≡ cond (s && t) x None
 unless_both b s t x e f g = rw (e, f, g) refl
@@ -196,6 +186,10 @@ unless_first b s t x e g = rw (e, g) refl
 
 pub where_both : {A : Type 0} (s t : Bool) (x y : A) → s ≡ true → t ≡ true → x ≡ y → Some x ≡ cond (s && t) (Some y) None
 where_both s t x y e f h = rw (e, f) (ap Some h)
+
+-- no two kept cells have one stamp
+pub distinct_kept : (authors : List Author) (cells kept : List PlainCell) → IsPlain authors cells → kept ≡ cells → IsDistinct (same_item kept_character) kept
+distinct_kept authors cells kept p same = subst (IsDistinct (same_item kept_character)) (sym same) (IsTree-of_map (cell_of authors) character_of cells p.order.tree).distinct
 
 -- whether the stamps of spans are among what the kept cells stand for
 pub has_spans-view : (authors : List Author) (cells kept : List PlainCell) (now : List Cell) (spans : List Span) (b : Bool) → cells_of authors cells ≡ now → kept ≡ cells → b ≡ has_spans kept_character kept spans → has_spans character_of now spans ≡ b

@@ -1,15 +1,15 @@
 //! Erasing cells of the plain sequence by spans of stamps.
 ghost use Rattle.std.specs.Prelude.{◌≡◌, ℕ, ◌+◌, ◌≤◌, ◌<◌, ◌&&◌, IsTrue, length, map, count_by, flat_map, is_none, take};
-ghost use Rattle.std.specs.List.{list_all, list_any};
+ghost use Rattle.std.specs.List.{IsDistinct, list_all, list_any};
 ghost use Rattle.pad_model.specs.Checked.{is_span};
-ghost use Rattle.pad_model.specs.Legal.{has_stamp};
+ghost use Rattle.pad_model.specs.Legal.{has_stamp, same_item};
 ghost use Rattle.pad_model.specs.Log.{has_spans as holds_spans};
 ghost use Rattle.pad_model.specs.Operation.{span_stamps};
 ghost use Rattle.pad_model.specs.Visible.{is_erased};
 ghost use Rattle.pad_model.proofs.Erase.{in_span};
 ghost use Rattle.block_seq.specs.Plain.{kept_character, is_hidden_by, erased_at};
 
-use crate::place::{PlainCell, has};
+use crate::place::PlainCell;
 use pad_model::{Span, Stamp};
 
 /// Whether a stamp is one of a span's.
@@ -36,22 +36,26 @@ fn any_covers(spans: &[Span], stamp: Stamp) -> bool
     spans.iter().any(|span| covers(span, stamp))
 }
 
-/// Whether each character of a span is among the cells.
+/// How many cells have a stamp of a span.
+fn count_covered(cells: &[PlainCell], span: &Span) -> usize
+    ensures { result ≡ count_by (λ c. in_span span.now.first span.now.len c.stamp) cells.now }
+{
+    cells.iter().filter(|cell| covers(span, cell.stamp)).count()
+}
+
+/// Whether each character of a span is among the cells: no two have one stamp, so counting those in the span tells.
 fn has_span(cells: &[PlainCell], span: &Span) -> bool
-    requires { IsTrue (is_span span.now) }
+    requires checked { IsTrue (is_span span.now) }
+    requires distinct { IsDistinct (same_item kept_character) cells.now }
     ensures { result ≡ list_all (λ s. has_stamp kept_character cells.now s) (span_stamps span.now) }
 {
-    for place in 0..span.len {
-        if !has(cells, span.first.plus(place)) {
-            return false;
-        }
-    }
-    true
+    count_covered(cells, span) as u64 == span.len
 }
 
 /// Whether each character of some spans is among the cells.
 pub fn has_spans(cells: &[PlainCell], spans: &[Span]) -> bool
-    requires { IsTrue (list_all is_span spans.now) }
+    requires checked { IsTrue (list_all is_span spans.now) }
+    requires distinct { IsDistinct (same_item kept_character) cells.now }
     ensures { result ≡ holds_spans kept_character cells.now spans.now }
 {
     for span in spans {

@@ -1,7 +1,8 @@
 //! The insertions and deletions of one operation, made at once in the plain sequence.
 ghost use Rattle.std.specs.Prelude.{◌≡◌, ◌+◌, ◌≤◌, IsTrue, fold, map, sum_by, count_by, vec_len, vec_capacity};
-ghost use Rattle.std.specs.List.{list_all};
+ghost use Rattle.std.specs.List.{IsDistinct, list_all};
 ghost use Rattle.pad_model.specs.Checked.{is_span, part_size};
+ghost use Rattle.pad_model.specs.Legal.{same_item};
 ghost use Rattle.pad_model.specs.Parts.{part_fits, part_spans, spans_in};
 ghost use Rattle.pad_model.specs.declared.limits.TheConstants.{MAX_TEXT};
 ghost use Rattle.block_seq.specs.Plain.{kept_character, is_hidden_by, erased_at};
@@ -14,7 +15,8 @@ use pad_model::Part;
 
 /// Whether an insertion or a deletion fits the cells.
 fn fits(cells: &[PlainCell], part: &Part) -> bool
-    requires { IsTrue (are_part_spans part.now) }
+    requires checked { IsTrue (are_part_spans part.now) }
+    requires distinct { IsDistinct (same_item kept_character) cells.now }
     ensures { result ≡ part_fits kept_character cells.now part.now }
 {
     match part {
@@ -26,7 +28,8 @@ fn fits(cells: &[PlainCell], part: &Part) -> bool
 
 /// Whether each part fits the cells as they stand.
 pub fn each_fits(cells: &[PlainCell], parts: &[Part]) -> bool
-    requires { IsTrue (list_all are_part_spans parts.now) }
+    requires checked { IsTrue (list_all are_part_spans parts.now) }
+    requires distinct { IsDistinct (same_item kept_character) cells.now }
     ensures { result ≡ list_all (part_fits kept_character cells.now) parts.now }
 {
     for part in parts {

@@ -98,6 +98,10 @@ impl Sequence for PlainSeq {
         Ok(hidden as u64)
     }
 
+    fn fits(&self, parts: &[Part], _origin: u16) -> bool {
+        each_fits(self.cells.as_slice(), parts)
+    }
+
     fn len_at(&self, rev: u64) -> u64 {
         count_shown(self.cells.as_slice(), rev) as u64
     }

@@ -6,11 +6,14 @@ use Rattle.pad_model.specs.Parts.{part_fits, spans_in, with_parts}
 use Rattle.pad_model.proofs.Exits.{answers_memory}
 use Rattle.block_seq.specs.Plain.{IsPlain, cells_of, is_hidden_by, erased_at}
 use Rattle.block_seq.proofs.Applied.{runs_checked, spans_checked, length-inserts_in, parts_fit-view, parts_joined, apply-fault, apply-full, apply-ok}
-use Rattle.block_seq.proofs.Kept.{length-cells_of, grown, hidden-cells_of}
+use Rattle.block_seq.proofs.Kept.{distinct_kept, length-cells_of, grown, hidden-cells_of}
 use Rattle.block_seq.proofs.plain.PlainSeqSequence.apply.Goals as goal
 
-pub each_fits-requires : goal.each_fits-requires
-each_fits-requires c = spans_checked c.args.author.now.origin c.args.parts.now c.requires.checked
+pub each_fits-requires-clause-distinct : goal.each_fits-requires-clause-distinct
+each_fits-requires-clause-distinct c = distinct_kept c.self.inside.authors.items c.self.inside.cells.items c.as_slice.result.now c.self.invariant c.as_slice.ensures.value
+
+pub each_fits-requires-clause-checked : goal.each_fits-requires-clause-checked
+each_fits-requires-clause-checked c = spans_checked c.args.author.now.origin c.args.parts.now c.requires.checked
 
 pub returns-then-not-each_fits : goal.returns-then-not-each_fits
 returns-then-not-each_fits c =

@@ -2,8 +2,11 @@ use Rattle.std.proofs.Common.{length, map, ap, ◌∙◌, inr}
 use Rattle.std.proofs.lemmas.List.{with_items_is, length-map}
 use Rattle.std.specs.List.{count_by}
 use Rattle.block_seq.specs.Plain.{erased_at, is_hidden_by}
-use Rattle.block_seq.proofs.Kept.{has_spans-view, delete-fault, delete-done, IsPlain-erased}
+use Rattle.block_seq.proofs.Kept.{distinct_kept, has_spans-view, delete-fault, delete-done, IsPlain-erased}
 use Rattle.block_seq.proofs.plain.PlainSeqSequence.delete_spans.Goals as goal
+
+pub has_spans-requires-clause-distinct : goal.has_spans-requires-clause-distinct
+has_spans-requires-clause-distinct c = distinct_kept c.self.inside.authors.items c.self.inside.cells.items c.as_slice.result.now c.self.invariant c.as_slice.ensures.value
 
 pub returns-then-not-has_spans : goal.returns-then-not-has_spans
 returns-then-not-has_spans c =

@@ -1,265 +1,218 @@
--- A local insertion that is not refused is in the limits and fits its log.
-use Rattle.std.proofs.Common.{◌≡◌, ℕ, zero, suc, ◌+◌, ◌<◌, ◌≤◌, Bool, true, false, not, ◌&&◌, cond, eqb, leb, ltb, List, [], ◌∷◌, ◌++◌, length, take, Option, Some, None, Result, Ok, Err, refl, sym, ap, ap₂, ◌∙◌, subst, arith, IsSome, unwrap_or, flat_map, length-append, le-ltb, le-leb, leb-true, leb-false, ltb-false, eq-eqb}
-use Rattle.std.proofs.lemmas.Bool.{and_from, and_parts, or_left, both_ways}
-use Rattle.std.specs.List.{list_all, AllByRecursion}
-use Rattle.pad_model.specs.Stamp.{Stamp, same_stamp}
-use Rattle.pad_model.specs.Character.{Character, next, run_characters}
-use Rattle.pad_model.specs.Cell.{Cell, cells_at, clock_of, text_at}
-use Rattle.pad_model.specs.Checked.{is_name, is_checked, is_edit}
-use Rattle.pad_model.specs.History.{IsHistory, cells_of, clock_of_characters}
+-- The operation of changes that are not refused is in the limits, and fits its log.
+use Rattle.std.proofs.Common.{◌≡◌, inl, inr, ℕ, zero, suc, ◌+◌, ◌<◌, ◌≤◌, true, false, ◌&&◌, leb, List, [], ◌∷◌, ◌++◌, length, take, sum_by, count_by, Option, Some, None, Result, Ok, Err, refl, sym, ap, ap₂, ◌∙◌, arith, flat_map, append-nil, append_assoc, length-append, le-ltb, le-leb, eq-eqb, ltb-false}
+use Rattle.std.proofs.lemmas.Bool.{and_from, or_right, lt-leb}
+use Rattle.std.proofs.lemmas.List.Sums.{sum_by-cons}
+use Rattle.std.specs.List.{list_all, list_any, AllByRecursion}
+use Rattle.pad_model.specs.Answers.{Answers}
+use Rattle.pad_model.specs.Stamp.{Stamp}
+use Rattle.pad_model.specs.Character.{next, run_characters}
+use Rattle.pad_model.specs.Checked.{is_name, is_checked, is_edit, is_part, part_size, counters_rise, are_parts}
+use Rattle.pad_model.specs.History.{IsHistory, clock_of_characters}
 use Rattle.pad_model.specs.Laws.{itself}
-use Rattle.pad_model.specs.Legal.{has_stamp, has_parent}
-use Rattle.pad_model.specs.Log.{all_differ, is_valid}
-use Rattle.pad_model.specs.Operation.{characters_in, inserted_by}
-use Rattle.pad_model.specs.Visible.{visible, stamp_at, text_of}
-use Rattle.pad_model.specs.declared.who.Author.{Author}
+use Rattle.pad_model.specs.Legal.{has_parent}
+use Rattle.pad_model.specs.Log.{part_is_valid, is_valid, is_comment, is_comment_part}
+use Rattle.pad_model.specs.Operation.{Characters, part_inserts, inserted_by, characters_in, erased_by}
+use Rattle.pad_model.specs.Seen.{count_in}
+use Rattle.pad_model.specs.Visible.{visible, stamp_at, hidden_by}
+use Rattle.pad_model.specs.declared.limits.TheConstants.{MAX_TEXT, MAX_PARTS, MAX_CHARACTERS, MAX_COUNTER, MAX_OPERATIONS, MAX_NUMBER, MAX_COMMENTS}
 use Rattle.pad_model.specs.declared.op.Op.{Op}
 use Rattle.pad_model.specs.declared.op.OpName.{OpName}
-use Rattle.pad_model.specs.declared.op.Part.TheVariants.{Insert}
-use Rattle.pad_model.specs.declared.op.Run.{Run}
+use Rattle.pad_model.specs.declared.op.Part.{Part}
+use Rattle.pad_model.specs.declared.op.Part.TheVariants as part
 use Rattle.pad_model.specs.declared.refusal.Refusal.{Refusal}
-use Rattle.pad_model.specs.declared.refusal.Refusal.TheVariants.{NoRevision, OutOfRange, Empty, TooMuch, PadFull, ClockFull, LogFull}
-use Rattle.pad_model.specs.declared.limits.TheConstants.{MAX_TEXT, MAX_CHARACTERS, MAX_COUNTER, MAX_OPERATIONS}
-use Rattle.pad_model.proofs.Newer.{split, same_stamp-true}
-use Rattle.pad_model.proofs.Each.{each-imply, none_found}
-use Rattle.pad_model.proofs.Growth.{IsTree-history, IsHistory-take, IsHistory-push}
-use Rattle.pad_model.proofs.History.{length-cells_at, length-cells_of, cell_stamp_at-cells_of, text_at-cells_of}
-use Rattle.pad_model.proofs.Local.{clock_of-cells_of, stamp_at-inserted, has_parent-take, newest_joins}
-use Rattle.pad_core.specs.Kept.{refusal_by, run_by, stamp_before}
-use Rattle.pad_core.specs.declared.owned.Owned.{Owned}
-use Rattle.pad_core.specs.declared.event.PadReply.TheVariants.{Made, Shown}
-use Rattle.pad_core.specs.Machine.{Machine, IsPad, read_text, revision_of, IsOwned, owner_of, insert, next_name, characters_at, before_place, insert_refusal, made_run, op_of}
+use Rattle.pad_model.specs.declared.refusal.Refusal.TheVariants.{Memory}
+use Rattle.pad_model.specs.declared.who.Author.{Author}
+use Rattle.pad_model.proofs.Growth.{IsTree-history, IsHistory-take}
+use Rattle.pad_model.proofs.Local.{stamp_at-inserted, has_parent-take, newest_joins}
+use Rattle.pad_model.proofs.Parts.{inserts_differ}
+use Rattle.pad_model.proofs.Stretch.{has_spans-stretch, spans_of-checked, spans_of-len, spans_of-some}
+use Rattle.pad_core.specs.Counts.{characters_at, vector_of, next_name, op_of}
+use Rattle.pad_core.specs.Delivered.{delivery_refusal}
+use Rattle.pad_core.specs.Edits.{before_place, is_outside, size_of, growth_of, is_blank, edit_refusal, edited, part_from, parts_from, made_parts}
+use Rattle.pad_core.specs.declared.act.Change.{Change}
+use Rattle.pad_core.specs.declared.act.Change.TheVariants.{Insert, Delete}
+use Rattle.pad_core.specs.declared.edit.Edited.{Edited}
+use Rattle.pad_core.proofs.Allowed.{allowed}
+use Rattle.pad_core.proofs.Counted.{count_in-le-length}
+use Rattle.pad_core.proofs.Others.{not_zero, others_checked}
 
--- the refusals by the numbers that they look at
-nest : ℕ → ℕ → ℕ → ℕ → ℕ → ℕ → ℕ → Option Refusal
-nest now shown total clock rev at len =
-    cond (ltb now rev) (Some NoRevision)
-    (cond (ltb shown at) (Some OutOfRange)
-    (cond (eqb len 0) (Some Empty)
-    (cond (ltb MAX_TEXT len) (Some TooMuch)
-    (cond (ltb MAX_CHARACTERS (total + len)) (Some PadFull)
-    (cond (ltb MAX_COUNTER (clock + len)) (Some ClockFull)
-    (cond (leb MAX_OPERATIONS now) (Some LogFull) None))))))
+-- an operation of an author is in the limits where its parts are
+pub op_checked : (own : ℕ) (author : List ℕ) (parts : List Part) (log : List Op) → IsHistory log → length log < MAX_OPERATIONS → is_name author ≡ true → 1 ≤ own → are_parts own parts ≡ true → is_checked (op_of own author parts log) ≡ true
+op_checked own author parts log h short named low fit =
+    let few = count_in-le-length log own in
+    let number = count_in (vector_of log) own + 1 in
+    and_from _ _ (and_from _ _ (and_from _ _ (and_from _ _ named (le-leb 1 own low)) (and_from _ _ (le-leb 1 number (omega arith)) (le-leb number MAX_NUMBER (omega arith)))) (others_checked log own h (omega arith))) fit
 
--- what the cells refuse, the log refuses
-pub refusal_is : (log : List Op) (cells : List Cell) (now rev at : ℕ) (text : List ℕ) → IsHistory log → cells ≡ cells_of log → now ≡ length log → refusal_by now cells rev at text ≡ insert_refusal rev at text log
-unfolding nest
-refusal_is log cells now rev at text h kept is =
-    let whole = IsTree-history log h in
-    let part = IsTree-history (take rev log) (IsHistory-take log rev h) in
-    let shown : length (cells_at rev cells) ≡ length (visible (characters_at rev log)) = ap (λ l. length (cells_at rev l)) kept ∙ length-cells_at log rev whole part in
-    let total : length cells ≡ length (characters_in log).inserted = ap length kept ∙ length-cells_of log whole in
-    let clock : clock_of cells ≡ clock_of_characters (characters_in log).inserted = ap clock_of kept ∙ clock_of-cells_of log whole in
-    ap (λ n. nest n (length (cells_at rev cells)) (length cells) (clock_of cells) rev at (length text)) is
-    ∙ ap (λ n. nest (length log) n (length cells) (clock_of cells) rev at (length text)) shown
-    ∙ ap (λ n. nest (length log) (length (visible (characters_at rev log))) n (clock_of cells) rev at (length text)) total
-    ∙ ap (λ n. nest (length log) (length (visible (characters_at rev log))) (length (characters_in log).inserted) n rev at (length text)) clock
+-- the part of one change is in the limits
+part_checked : (own counter : ℕ) (log : List Op) (rev : ℕ) (change : Change) → IsHistory log → is_outside (length (visible (characters_at rev log))) change ≡ false → is_blank change ≡ false →
+    size_of change ≤ MAX_TEXT → counter + growth_of change ≤ MAX_COUNTER + 1 → is_part own (part_from counter own (characters_at rev log) change) ≡ true
+part_checked own counter log rev (Insert at text) h out blank few clock =
+    and_from _ _ (and_from _ _ (and_from _ _ (le-leb 1 (length text) (not_zero (length text) blank)) (le-leb (length text) MAX_TEXT few)) (eq-eqb own own refl)) (le-leb (counter + length text) (MAX_COUNTER + 1) clock)
+part_checked own counter log rev (Delete at len) h out blank few clock =
+    let within : at + len ≤ length (visible (characters_at rev log)) = ltb-false (length (visible (characters_at rev log))) (at + len) out in
+    and_from _ _ (le-leb 1 _ (spans_of-some (characters_at rev log) at len within (not_zero len blank))) (spans_of-checked (take rev log) at len (IsHistory-take log rev h))
 
-in_front : (log : List Op) (rev at : ℕ) → IsHistory log → stamp_before rev (cells_of log) at ≡ before_place (characters_at rev log) at
-in_front log rev zero h = refl
-in_front log rev (suc i) h = cell_stamp_at-cells_of log rev i (IsTree-history log h) (IsTree-history (take rev log) (IsHistory-take log rev h))
+-- and so is each part
+parts_checked : (own counter : ℕ) (log : List Op) (rev : ℕ) (changes : List Change) → IsHistory log → AllByRecursion (λ change. is_outside (length (visible (characters_at rev log))) change ≡ false) changes → AllByRecursion (λ change. is_blank change ≡ false) changes →
+    sum_by size_of changes ≤ MAX_TEXT → counter + sum_by growth_of changes ≤ MAX_COUNTER + 1 → list_all (is_part own) (parts_from counter own (characters_at rev log) changes) ≡ true
+parts_checked own counter log rev [] h out filled few clock = refl
+parts_checked own counter log rev (change ∷ changes) h out filled few clock =
+    let all = sum_by-cons size_of change changes in
+    let grown = sum_by-cons growth_of change changes in
+    and_from _ _ (part_checked own counter log rev change h out.0 filled.0 (omega arith) (omega arith))
+    (parts_checked own (counter + growth_of change) log rev changes h out.1 filled.1 (omega arith) (omega arith))
 
--- the run that the cells give is the one that the log gives
-pub run_is : (replica : ℕ) (log : List Op) (cells : List Cell) (rev at : ℕ) (text : List ℕ) → IsHistory log → cells ≡ cells_of log → run_by replica cells rev at text ≡ made_run replica rev at text log
-run_is replica log cells rev at text h kept =
-    ap (λ l. run_by replica l rev at text) kept
-    ∙ ap₂ (λ n p. run replica n p text) (clock_of-cells_of log (IsTree-history log h)) (in_front log rev at h)
-  where
-    run : ℕ → ℕ → Option Stamp → List ℕ → Run
-    run replica clock after text = record { first = record { counter = clock + 1; replica = replica }; after = after; text = text }
+part_edits : (own counter : ℕ) (log : List Op) (rev : ℕ) (change : Change) → is_edit (part_from counter own (characters_at rev log) change) ≡ true
+part_edits own counter log rev (Insert at text) = refl
+part_edits own counter log rev (Delete at len) = refl
 
-pub unless : (b : Bool) (r : Refusal) (rest : Option Refusal) → cond b (Some r) rest ≡ None → (b ≡ false) × (rest ≡ None)
-unless true r rest e = absurd (cc)
-unless false r rest e = (refl, e)
+-- the parts only insert and erase
+pub parts_edit : (own counter : ℕ) (log : List Op) (rev : ℕ) (changes : List Change) → list_all is_edit (parts_from counter own (characters_at rev log) changes) ≡ true
+parts_edit own counter log rev [] = refl
+parts_edit own counter log rev (change ∷ changes) = and_from _ _ (part_edits own counter log rev change) (parts_edit own (counter + growth_of change) log rev changes)
 
--- what an insertion that is not refused keeps to
-pub record Allowed (rev at : ℕ) (text : List ℕ) (log : List Op) : Type 0 where
-  pub known : rev ≤ length log
-  pub some : 1 ≤ length text
-  pub few : length text ≤ MAX_TEXT
-  pub room : length (characters_in log).inserted + length text ≤ MAX_CHARACTERS
-  pub clock : clock_of_characters (characters_in log).inserted + length text ≤ MAX_COUNTER
-  pub short : length log < MAX_OPERATIONS
+-- so none of them is a comment
+no_comment : (parts : List Part) → list_all is_edit parts ≡ true → list_any is_comment_part parts ≡ false
+no_comment [] e = refl
+no_comment (part.Insert run ∷ parts) e = no_comment parts e
+no_comment (part.Delete spans ∷ parts) e = no_comment parts e
+no_comment (part.Comment first last text ∷ parts) e = absurd (Rattle.std.proofs.lemmas.Bool.false≢true e)
+no_comment (part.Resolve comment ∷ parts) e = absurd (Rattle.std.proofs.lemmas.Bool.false≢true e)
 
-pub not_zero : (n : ℕ) → eqb n 0 ≡ false → 1 ≤ n
-not_zero zero e = absurd (Rattle.std.proofs.lemmas.Bool.true≢false e)
-not_zero (suc n) e = omega arith
+-- there is one for each change
+parts_count : (own counter : ℕ) (log : List Op) (rev : ℕ) (changes : List Change) → length (parts_from counter own (characters_at rev log) changes) ≡ length changes
+parts_count own counter log rev [] = refl
+parts_count own counter log rev (change ∷ changes) = ap suc (parts_count own (counter + growth_of change) log rev changes)
 
-pub allowed : (rev at : ℕ) (text : List ℕ) (log : List Op) → insert_refusal rev at text log ≡ None → Allowed rev at text log
-allowed rev at text log e =
-    let a = unless _ _ _ e in
-    let b = unless _ _ _ a.1 in
-    let c = unless _ _ _ b.1 in
-    let d = unless _ _ _ c.1 in
-    let f = unless _ _ _ d.1 in
-    let g = unless _ _ _ f.1 in
-    let h = unless _ _ _ g.1 in
-    record {
-      known = ltb-false (length log) rev a.0;
-      some = not_zero (length text) c.0;
-      few = ltb-false MAX_TEXT (length text) d.0;
-      room = ltb-false MAX_CHARACTERS (length (characters_in log).inserted + length text) f.0;
-      clock = ltb-false MAX_COUNTER (clock_of_characters (characters_in log).inserted + length text) g.0;
-      short = leb-false MAX_OPERATIONS (length log) h.0;
-    }
+part_size_is : (own counter : ℕ) (log : List Op) (rev : ℕ) (change : Change) → is_outside (length (visible (characters_at rev log))) change ≡ false → part_size (part_from counter own (characters_at rev log) change) ≡ size_of change
+part_size_is own counter log rev (Insert at text) out = refl
+part_size_is own counter log rev (Delete at len) out = spans_of-len (characters_at rev log) at len (ltb-false (length (visible (characters_at rev log))) (at + len) out)
 
--- the operation of a local insertion is in the limits
-pub made_checked : (replica rev at : ℕ) (text author : List ℕ) (log : List Op) (name : OpName) → Allowed rev at text log → is_name author ≡ true → 1 ≤ replica → name.origin ≡ replica → name.number ≡ length log + 1 →
-    is_checked (op_of name author (Insert (made_run replica rev at text log))) ≡ true
-made_checked replica rev at text author log name a named low origin number =
-    let few : length text ≤ 10000 = a.few in
-    let some : 1 ≤ length text = a.some in
-    let clock : clock_of_characters (characters_in log).inserted + length text ≤ 281474976710656 = a.clock in
-    let short : length log < 200000 = a.short in
-    let low_origin : 1 ≤ name.origin = omega arith in
-    rw (named, le-leb 1 name.origin low_origin, number, origin, le-leb 1 (length log + 1) (omega arith), le-leb (length log + 1) 200000 (omega arith), le-leb 1 (length text) some, le-leb (length text) 10000 few, eq-eqb replica replica refl, le-leb (clock_of_characters (characters_in log).inserted + 1 + length text) 281474976710657 (omega arith), le-leb 0 (clock_of_characters (characters_in log).inserted + 1) (omega arith)) (le-leb (0 + length text) 10000 (omega arith))
+-- they insert and erase as many characters as the changes
+parts_size : (own counter : ℕ) (log : List Op) (rev : ℕ) (changes : List Change) → AllByRecursion (λ change. is_outside (length (visible (characters_at rev log))) change ≡ false) changes →
+    sum_by part_size (parts_from counter own (characters_at rev log) changes) ≡ sum_by size_of changes
+parts_size own counter log rev [] out = refl
+parts_size own counter log rev (change ∷ changes) out =
+    sum_by-cons part_size (part_from counter own (characters_at rev log) change) (parts_from (counter + growth_of change) own (characters_at rev log) changes)
+    ∙ ap₂ (λ a b. a + b) (part_size_is own counter log rev change out.0) (parts_size own (counter + growth_of change) log rev changes out.1)
+    ∙ sym (sum_by-cons size_of change changes)
 
-run_above : (first : Stamp) (p : Option Stamp) (text : List ℕ) (author : Author) (least : ℕ) → least < first.counter → AllByRecursion (λ c. least < c.stamp.counter) (run_characters first p text author)
-run_above first p [] author least h = tt
-run_above first p (c ∷ text) author least h = (h, run_above (next first) (Some first) text author least (omega arith))
+-- their counters rise
+parts_rise : (own floor counter : ℕ) (log : List Op) (rev : ℕ) (changes : List Change) → floor ≤ counter → counters_rise floor (parts_from counter own (characters_at rev log) changes) ≡ true
+parts_rise own floor counter log rev [] l = refl
+parts_rise own floor counter log rev (Insert at text ∷ changes) l = and_from _ _ (le-leb floor counter l) (parts_rise own (counter + length text) (counter + length text) log rev changes (omega arith))
+parts_rise own floor counter log rev (Delete at len ∷ changes) l = parts_rise own floor (counter + 0) log rev changes (omega arith)
 
--- the characters of a run have stamps of their own
-pub run_differs : (first : Stamp) (p : Option Stamp) (text : List ℕ) (author : Author) → all_differ (run_characters first p text author) ≡ true
-run_differs first p [] author = refl
-run_differs first p (c ∷ text) author =
-    let rest = run_characters (next first) (Some first) text author in
-    let fresh : has_stamp itself rest first ≡ false =
-    none_found (λ x. same_stamp x.stamp first) rest
-    (each-imply (λ (x : Character). first.counter < x.stamp.counter) (λ x. same_stamp x.stamp first ≡ false)
-    (λ x l. split (same_stamp x.stamp first) (λ e. let same : x.stamp.counter ≡ first.counter = ap (λ s. s.counter) (same_stamp-true x.stamp first e) in absurd (omega arith)) (λ e. e)) rest (run_above (next first) (Some first) text author first.counter (omega arith)))
-    in
-    and_from _ _ (ap not fresh) (run_differs (next first) (Some first) text author)
+-- a run has a character for each of its text
+run_length : (first : Stamp) (p : Option Stamp) (text : List ℕ) (author : Author) → length (run_characters first p text author) ≡ length text
+run_length first p [] author = refl
+run_length first p (c ∷ text) author = ap suc (run_length (next first) (Some first) text author)
+
+part_grows : (own counter : ℕ) (author : Author) (log : List Op) (rev : ℕ) (change : Change) → length (part_inserts author (part_from counter own (characters_at rev log) change)) ≡ growth_of change
+part_grows own counter author log rev (Insert at text) = run_length (record { counter = counter; replica = own }) (before_place (characters_at rev log) at) text author
+part_grows own counter author log rev (Delete at len) = refl
+
+-- they insert as many characters as the changes
+parts_grow : (own counter : ℕ) (author : Author) (log : List Op) (rev : ℕ) (changes : List Change) → length (flat_map (part_inserts author) (parts_from counter own (characters_at rev log) changes)) ≡ sum_by growth_of changes
+parts_grow own counter author log rev [] = refl
+parts_grow own counter author log rev (change ∷ changes) =
+    length-append (part_inserts author (part_from counter own (characters_at rev log) change)) (flat_map (part_inserts author) (parts_from (counter + growth_of change) own (characters_at rev log) changes))
+    ∙ ap₂ (λ a b. a + b) (part_grows own counter author log rev change) (parts_grow own (counter + growth_of change) author log rev changes)
+    ∙ sym (sum_by-cons growth_of change changes)
 
 parent_there : (log : List Op) (rev : ℕ) (o : Option Stamp) (i : ℕ) → IsHistory log → stamp_at (characters_at rev log) i ≡ o → has_parent itself (characters_in log).inserted o ≡ true
 parent_there log rev None i h e = refl
 parent_there log rev (Some s) i h e = has_parent-take log rev (Some s) (stamp_at-inserted (characters_at rev log) i s (IsTree-history (take rev log) (IsHistory-take log rev h)) e)
 
-front_there : (log : List Op) (rev at : ℕ) → IsHistory log → has_parent itself (characters_in log).inserted (before_place (characters_at rev log) at) ≡ true
+-- the character in front of a place was inserted, or there is none
+pub front_there : (log : List Op) (rev at : ℕ) → IsHistory log → has_parent itself (characters_in log).inserted (before_place (characters_at rev log) at) ≡ true
 front_there log rev zero h = refl
 front_there log rev (suc i) h = parent_there log rev (stamp_at (characters_at rev log) i) i h refl
 
--- the operation of a local insertion fits its log
-pub made_valid : (replica rev at : ℕ) (text author : List ℕ) (log : List Op) (name : OpName) → IsHistory log → is_valid (op_of name author (Insert (made_run replica rev at text log))) log ≡ true
-made_valid replica rev at text author log name h =
-    let first : Stamp = record { counter = clock_of_characters (characters_in log).inserted + 1; replica = replica } in
-    let who : Author = record { name = author; origin = name.origin } in
-    let cs = run_characters first (before_place (characters_at rev log) at) text who in
-    let joins = newest_joins (characters_in log).inserted first (before_place (characters_at rev log) at) (omega arith) (front_there log rev at h) in
-    and_from _ _ (and_from _ _ joins refl) (subst (λ l. all_differ l ≡ true) (sym (Rattle.std.proofs.Common.append-nil cs)) (run_differs first (before_place (characters_at rev log) at) text who))
+part_valid : (own counter : ℕ) (log : List Op) (rev : ℕ) (change : Change) → IsHistory log → clock_of_characters (characters_in log).inserted < counter → part_is_valid (part_from counter own (characters_at rev log) change) log ≡ true
+part_valid own counter log rev (Insert at text) h l = newest_joins (characters_in log).inserted (record { counter = counter; replica = own }) (before_place (characters_at rev log) at) l (front_there log rev at h)
+part_valid own counter log rev (Delete at len) h l = has_spans-stretch log rev at len h
 
-pub named_owner : (o : Option Owned) → IsOwned o → IsSome o → is_name (owner_of o) ≡ true
-named_owner None h e = absurd (Rattle.std.proofs.lemmas.Bool.false≢true e)
-named_owner (Some owned) h e = h.1
+-- each part fits what stands there
+parts_valid : (own counter : ℕ) (log : List Op) (rev : ℕ) (changes : List Change) → IsHistory log → clock_of_characters (characters_in log).inserted < counter → list_all (λ part. part_is_valid part log) (parts_from counter own (characters_at rev log) changes) ≡ true
+parts_valid own counter log rev [] h l = refl
+parts_valid own counter log rev (change ∷ changes) h l = and_from _ _ (part_valid own counter log rev change h l) (parts_valid own (counter + growth_of change) log rev changes h (omega arith))
 
--- what an insertion leaves, by its refusal
-pub insert_refused : (rev at : ℕ) (text : List ℕ) (m : Machine) (r : Refusal) → insert_refusal rev at text m.log ≡ Some r → insert rev at text m ≡ (Err r, m)
-insert_refused rev at text m r e = rw e refl
+-- the operation of changes that are not refused is in the limits
+pub edit_checked : (own rev : ℕ) (author : List ℕ) (changes : List Change) (log : List Op) → edit_refusal rev changes log ≡ None → IsHistory log → is_name author ≡ true → 1 ≤ own → is_checked (op_of own author (made_parts own rev changes log) log) ≡ true
+edit_checked own rev author changes log none h named low =
+    let a = allowed rev changes log none in
+    let from = clock_of_characters (characters_in log).inserted + 1 in
+    let count : length (made_parts own rev changes log) ≡ length changes = parts_count own from log rev changes in
+    let size : sum_by part_size (made_parts own rev changes log) ≡ sum_by size_of changes = parts_size own from log rev changes a.within in
+    let some = a.some in
+    let most = a.parts in
+    let few = a.few in
+    let clock = a.grows.clock in
+    op_checked own author (made_parts own rev changes log) log h a.grows.short named low
+    (and_from _ _ (and_from _ _ (and_from _ _ (and_from _ _ (and_from _ _ (le-leb 1 (length (made_parts own rev changes log)) (omega arith)) (le-leb (length (made_parts own rev changes log)) MAX_PARTS (omega arith)))
+    (or_right _ _ (parts_edit own from log rev changes)))
+    (parts_checked own from log rev changes h a.within a.filled few (omega arith)))
+    (parts_rise own 0 from log rev changes (omega arith)))
+    (le-leb (sum_by part_size (made_parts own rev changes log)) MAX_TEXT (omega arith)))
 
-pub insert_made : (rev at : ℕ) (text : List ℕ) (m : Machine) → insert_refusal rev at text m.log ≡ None →
-    insert rev at text m ≡ (Ok (Made (length m.log + 1) (next_name m)), record m { log = m.log ++ op_of (next_name m) (owner_of m.owned) (Insert (made_run m.replica rev at text m.log)) ∷ [] })
-insert_made rev at text m e = rw e refl
+-- once the part of the first change that is left is made, those of the others are left
+pub parts_step : (own counter next : ℕ) (set : Characters) (before after all : List Part) (one : Part) (left more : List Change) (change : Change) → before ++ parts_from counter own set left ≡ all → left ≡ change ∷ more →
+    after ≡ before ++ one ∷ [] → one ≡ part_from counter own set change → next ≡ counter + growth_of change → after ++ parts_from next own set more ≡ all
+parts_step own counter next set before after all one left more change so_far is pushed made grown =
+    ap₂ (λ (parts : List Part) n. parts ++ parts_from n own set more) pushed grown
+    ∙ append_assoc before (one ∷ []) (parts_from (counter + growth_of change) own set more)
+    ∙ ap (λ (p : Part). before ++ p ∷ parts_from (counter + growth_of change) own set more) made
+    ∙ ap (λ changes. before ++ parts_from counter own set changes) (sym is)
+    ∙ so_far
 
--- what the pad's parts know when an insertion is about to be made
-pub record Ready (o : Option Owned) (replica : ℕ) (log : List Op) (rev at : ℕ) (text : List ℕ) : Type 0 where
-  pub allows : Allowed rev at text log
-  pub named : is_name (owner_of o) ≡ true
-  pub low : 1 ≤ replica
-  pub history : IsHistory log
+-- where none is left, all are made
+pub parts_done : (own counter : ℕ) (set : Characters) (before all : List Part) (left : List Change) → before ++ parts_from counter own set left ≡ all → left ≡ [] → before ≡ all
+parts_done own counter set before all left so_far is = sym (append-nil before) ∙ ap (λ changes. before ++ parts_from counter own set changes) (sym is) ∙ so_far
 
--- the operation that the parts make is in the limits and fits
-pub ready_checked : (o : Option Owned) (replica : ℕ) (log : List Op) (rev at : ℕ) (text author : List ℕ) (run : Run) (n : ℕ) → Ready o replica log rev at text → author ≡ owner_of o → run ≡ made_run replica rev at text log → n ≡ length log →
-    is_checked (op_of (record { origin = replica; number = n + 1 }) author (Insert run)) ≡ true
-ready_checked o replica log rev at text author run n h is made count =
-    let name : OpName = record { origin = replica; number = n + 1 } in
-    subst (λ r. is_checked (op_of name author (Insert r)) ≡ true) (sym made)
-    (made_checked replica rev at text author log name h.allows (subst (λ a. is_name a ≡ true) (sym is) h.named) h.low refl (ap (λ k. k + 1) count))
+-- an operation that fits and passes no limit is not refused
+pub delivered : (op : Op) (log : List Op) → is_valid op log ≡ true → length (characters_in log).inserted + length (inserted_by op) ≤ MAX_CHARACTERS → length log < MAX_OPERATIONS → (is_comment op && leb MAX_COMMENTS (count_by is_comment log)) ≡ false → delivery_refusal op log ≡ None
+delivered op log valid room short silent =
+    rw (valid, le-ltb MAX_CHARACTERS (length (characters_in log).inserted + length (inserted_by op)) room, lt-leb MAX_OPERATIONS (length log) short, silent) refl
 
-pub ready_valid : (replica : ℕ) (log : List Op) (rev at : ℕ) (text author : List ℕ) (run : Run) (n : ℕ) → IsHistory log → run ≡ made_run replica rev at text log →
-    is_valid (op_of (record { origin = replica; number = n + 1 }) author (Insert run)) log ≡ true
-ready_valid replica log rev at text author run n h made =
-    let name : OpName = record { origin = replica; number = n + 1 } in
-    subst (λ r. is_valid (op_of name author (Insert r)) log ≡ true) (sym made) (made_valid replica rev at text author log name h)
+-- it fits, and passes no limit
+pub edit_fits : (own rev : ℕ) (author : List ℕ) (changes : List Change) (log : List Op) → edit_refusal rev changes log ≡ None → IsHistory log → delivery_refusal (op_of own author (made_parts own rev changes log) log) log ≡ None
+edit_fits own rev author changes log none h =
+    let a = allowed rev changes log none in
+    let who : Author = record { name = author; origin = own } in
+    let from = clock_of_characters (characters_in log).inserted + 1 in
+    let grown : length (flat_map (part_inserts who) (made_parts own rev changes log)) ≡ sum_by growth_of changes = parts_grow own from who log rev changes in
+    let room = a.grows.room in
+    delivered (op_of own author (made_parts own rev changes log) log) log
+    (and_from _ _ (parts_valid own from log rev changes h (omega arith)) (inserts_differ who 0 (made_parts own rev changes log) (parts_rise own 0 from log rev changes (omega arith))))
+    (omega arith) a.grows.short (ap (λ b. b && leb MAX_COMMENTS (count_by is_comment log)) (no_comment (made_parts own rev changes log) (parts_edit own from log rev changes)))
 
--- the machine that the parts stand for, after the insertion
-pub made_machine : (o : Option Owned) (replica : ℕ) (log new : List Op) (rev at : ℕ) (text author : List ℕ) (run : Run) (n : ℕ) → author ≡ owner_of o → run ≡ made_run replica rev at text log → n ≡ length log →
-    insert_refusal rev at text log ≡ None → new ≡ log ++ op_of (record { origin = replica; number = n + 1 }) author (Insert run) ∷ [] →
-    insert rev at text (record { owned = o; replica = replica; log = log }) ≡ (Ok (Made (n + 1) (record { origin = replica; number = n + 1 })), record { owned = o; replica = replica; log = new })
-made_machine o replica log new rev at text author run n is made count none grown =
-    let m : Machine = record { owned = o; replica = replica; log = log } in
-    insert_made rev at text m none
-    ∙ ap₂ (λ k l. (Ok (Made k (let w : OpName = record { origin = replica; number = k } in w)), (let x : Machine = record { owned = o; replica = replica; log = l } in x)))
-    (ap (λ k. k + 1) (sym count))
-    (ap₂ (λ k a. log ++ op_of (let w : OpName = record { origin = replica; number = k + 1 } in w) a (Insert (made_run replica rev at text log)) ∷ []) (sym count) (sym is)
-    ∙ ap (λ r. log ++ op_of (let w : OpName = record { origin = replica; number = n + 1 } in w) author (Insert r) ∷ []) (sym made) ∙ sym grown)
+-- the answer of a ledger as an edit's
+abbrev answered : OpName → Result ℕ Refusal × List Op → Result Edited Refusal × List Op
+answered name (Ok hidden, log) = (Ok (record { name = name; hidden = hidden }), log)
+answered name (Err refusal, log) = (Err refusal, log)
 
-asked_is : (asked : Option ℕ) (m : Machine) (now rev : ℕ) → length m.log ≡ now → rev ≡ unwrap_or asked now → revision_of asked m ≡ rev
-asked_is None m now rev is named = is ∙ sym named
-asked_is (Some r) m now rev is named = sym named
+no_memory : (n : ℕ) → (let r : Result ℕ Refusal = Ok n in r) ≡ Err Memory → ⊥
+no_memory n q = cc
 
--- a reading of a revision that is there
-pub text_read : (log : List Op) (cells : List Cell) (m : Machine) (asked : Option ℕ) (now rev : ℕ) (text : List ℕ) → IsHistory log → cells ≡ cells_of log → m.log ≡ log → now ≡ length log → rev ≡ unwrap_or asked now → rev ≤ now → text ≡ text_at rev cells →
-    read_text asked m ≡ (Ok (Shown now rev text), m)
-text_read log cells m asked now rev text h kept is count named there shown =
-    let now_is : length m.log ≡ now = ap length is ∙ sym count in
-    let rev_is : revision_of asked m ≡ rev = asked_is asked m now rev now_is named in
-    let text_is : text_of (characters_at rev m.log) ≡ text =
-    ap (λ l. text_of (characters_at rev l)) is ∙ sym (text_at-cells_of log rev (IsTree-history log h) (IsTree-history (take rev log) (IsHistory-take log rev h))) ∙ ap (text_at rev) (sym kept) ∙ sym shown
-    in
-    rw (rev_is, now_is, le-ltb now rev there, text_is) refl
+-- where nothing is refused, the operation is made
+edit_made : (own rev : ℕ) (author : List ℕ) (changes : List Change) (log : List Op) → edit_refusal rev changes log ≡ None →
+    edited own author rev changes log ≡ answered (next_name own log) (Ok (hidden_by (erased_by (op_of own author (made_parts own rev changes log) log)) (characters_in log)), log ++ op_of own author (made_parts own rev changes log) log ∷ [])
+edit_made own rev author changes log none = rw none refl
 
--- what the parts of a pad know where an insertion is not refused
-pub ready_from : (o : Option Owned) (replica : ℕ) (log : List Op) (cells : List Cell) (now rev at : ℕ) (text : List ℕ) → IsPad o replica log cells → IsSome o → now ≡ length log → refusal_by now cells rev at text ≡ None → Ready o replica log rev at text
-ready_from o replica log cells now rev at text p owned count none =
-    record {
-      allows = allowed rev at text log (sym (refusal_is log cells now rev at text p.history p.kept count) ∙ none);
-      named = named_owner o p.named owned;
-      low = p.replica_low;
-      history = p.history;
-    }
+-- what is refused is not made
+pub edit_refused : (own rev : ℕ) (author : List ℕ) (changes : List Change) (log : List Op) (refusal : Refusal) → edit_refusal rev changes log ≡ Some refusal → edited own author rev changes log ≡ (Err refusal, log)
+edit_refused own rev author changes log refusal e = rw e refl
 
--- what an operation owes a log that takes it
-pub record Fits (op : Op) (log : List Op) : Type 0 where
-  pub checked : is_checked op ≡ true
-  pub edits : list_all is_edit op.parts ≡ true
-  pub valid : is_valid op log ≡ true
-  pub room : length (characters_in log).inserted + length (inserted_by op) ≤ MAX_CHARACTERS
+-- the operation of the parts that are made
+pub op_made : (own rev : ℕ) (author : List ℕ) (changes : List Change) (log : List Op) (parts : List Part) (op : Op) → parts ≡ made_parts own rev changes log → op ≡ op_of own author parts log → op ≡ op_of own author (made_parts own rev changes log) log
+op_made own rev author changes log parts op made is = is ∙ ap (λ (ps : List Part). op_of own author ps log) made
 
-run_length : (first : Stamp) (p : Option Stamp) (text : List ℕ) (author : Author) → length (run_characters first p text author) ≡ length text
-run_length first p [] author = refl
-run_length first p (c ∷ text) author = ap suc (run_length (next first) (Some first) text author)
-
--- the operation of a local insertion fits
-pub insert_fits : (o : Option Owned) (replica : ℕ) (log : List Op) (rev at : ℕ) (text author : List ℕ) (run : Run) (n : ℕ) (op : Op) → Ready o replica log rev at text → author ≡ owner_of o → run ≡ made_run replica rev at text log → n ≡ length log →
-    op ≡ op_of (record { origin = replica; number = n + 1 }) author (Insert run) → Fits op log
-insert_fits o replica log rev at text author run n op h is made count this =
-    subst (λ x. Fits x log) (sym this)
-    (record {
-      checked = ready_checked o replica log rev at text author run n h is made count;
-      edits = refl;
-      valid = ready_valid replica log rev at text author run n h.history made;
-      room = (
-          let who : Author = record { name = author; origin = replica } in
-          let long : length (run_characters run.first run.after run.text who ++ []) ≡ length text = ap length (Rattle.std.proofs.Common.append-nil (run_characters run.first run.after run.text who)) ∙ run_length run.first run.after run.text who ∙ ap (λ r. length r.text) made in
-          let room = h.allows.room in
-          omega arith
-          );
-    })
-
--- a pad stays one when an operation that fits joins it
-pub IsPad-push : (o : Option Owned) (replica : ℕ) (log new : List Op) (cells grown : List Cell) (op : Op) → IsPad o replica log cells → Fits op log → length log < MAX_OPERATIONS → new ≡ log ++ op ∷ [] → grown ≡ cells_of new → IsPad o replica new grown
-IsPad-push o replica log new cells grown op p f low is kept =
-    record {
-      named = p.named;
-      replica_low = p.replica_low;
-      replica_high = p.replica_high;
-      history = subst IsHistory (sym is) (IsHistory-push log op p.history f.checked f.valid);
-      short = (let longer : length new ≡ length log + 1 = ap length is ∙ length-append log (op ∷ []) in omega arith);
-      room = (
-          let all : length (characters_in new).inserted ≡ length (characters_in log).inserted + length (inserted_by op) =
-          ap (λ l. length (flat_map inserted_by l)) is ∙ ap length (Rattle.std.proofs.lemmas.List.Concat.flat_map-append inserted_by log (op ∷ [])) ∙ length-append (flat_map inserted_by log) (inserted_by op ++ []) ∙ ap (λ l. length (flat_map inserted_by log) + length l) (Rattle.std.proofs.Common.append-nil (inserted_by op))
-          in
-          let room = f.room in
-          omega arith
-          );
-      kept = kept;
-    }
+-- what a ledger answers to the operation is what the edit answers
+pub edit_answers : (own rev : ℕ) (author : List ℕ) (changes : List Change) (log new : List Op) (op : Op) (hidden : ℕ) → edit_refusal rev changes log ≡ None → op ≡ op_of own author (made_parts own rev changes log) log →
+    Answers log (Ok (hidden_by (erased_by op) (characters_in log)), log ++ op ∷ []) (Ok hidden) new → Answers log (edited own author rev changes log) (Ok (record { name = op.name; hidden = hidden })) new
+edit_answers own rev author changes log new op hidden none made (inl h) = absurd (no_memory hidden h.0)
+edit_answers own rev author changes log new op hidden none made (inr h) =
+    inr (edit_made own rev author changes log none
+    ∙ ap (λ (o : Op). answered o.name (Ok (hidden_by (erased_by o) (characters_in log)), log ++ o ∷ [])) (sym made)
+    ∙ ap (answered op.name) h)

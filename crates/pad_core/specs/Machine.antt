@@ -1,172 +1,199 @@
--- The pad machine: a log of operations, and what it answers.
-use Rattle.std.specs.Prelude.{◌≡◌, ℕ, zero, suc, ◌+◌, ◌≤◌, Bool, false, not, ◌==◌, nat_lt, nat_le, if◌then◌else◌, List, [], ◌∷◌, ◌++◌, length, take, Option, Some, None, Result, Ok, Err, IsTrue, bytes_eq}
-use Rattle.pad_model.specs.Stamp.{Stamp}
-use Rattle.pad_model.specs.Cell.{Cell}
-use Rattle.pad_model.specs.Checked.{is_name}
-use Rattle.pad_model.specs.History.{IsHistory, cells_of, clock_of_characters}
-use Rattle.pad_model.specs.Operation.{Characters, characters_in, erased_by}
-use Rattle.pad_model.specs.Visible.{visible, text_of, stamp_at, spans_of, hidden_by}
-use Rattle.pad_model.specs.declared.op.OpName.{OpName}
-use Rattle.pad_model.specs.declared.op.Run.{Run}
+-- The pad machine: one pad. An event goes in, a reply and the next state come out.
+use Rattle.std.specs.Prelude.{◌≡◌, ℕ, ◌+◌, ◌≤◌, Bool, true, false, not, if◌then◌else◌, List, [], length, Option, Some, None, Result, Ok, Err, IsTrue, bytes_eq, unwrap_or}
+use Rattle.std.specs.List.{AllByRecursion}
+use Rattle.pad_model.specs.Checked.{is_name, is_checked}
 use Rattle.pad_model.specs.declared.op.Op.{Op}
-use Rattle.pad_model.specs.declared.op.Part.{Part}
-use Rattle.pad_model.specs.declared.op.Part.TheVariants.{Insert, Delete}
 use Rattle.pad_model.specs.declared.who.Who.{Who}
 use Rattle.pad_model.specs.declared.who.Who.TheVariants.{Nobody, Author, Peer}
+use Rattle.pad_model.specs.declared.who.Version.{Version}
 use Rattle.pad_model.specs.declared.refusal.Refusal.{Refusal}
-use Rattle.pad_model.specs.declared.refusal.Refusal.TheVariants.{NoSession, NoPad, NotJoined, Denied, NoRevision, OutOfRange, Empty, TooMuch, PadFull, ClockFull, LogFull}
-use Rattle.pad_model.specs.declared.limits.TheConstants.{MAX_REPLICA, MAX_TEXT, MAX_CHARACTERS, MAX_COUNTER, MAX_OPERATIONS}
+use Rattle.pad_model.specs.declared.refusal.Refusal.TheVariants.{NoSession, NotPeer, NoPad, BadName, NotJoined, Joined, Denied}
+use Rattle.pad_model.specs.declared.limits.TheConstants.{MAX_REPLICA}
+use Rattle.rights.specs.Rights.{Rights, may}
+use Rattle.rights.specs.declared.right.Right.TheVariants as right
+use Rattle.sessions.specs.Presence.{Presence, is_joined_by, joined}
+use Rattle.pad_core.specs.Edits.{insert, delete, edit}
+use Rattle.pad_core.specs.Exchange.{read_vector, pull, push}
+use Rattle.pad_core.specs.Grants.{grant, read_rights}
+use Rattle.pad_core.specs.Notes.{comment, resolve}
+use Rattle.pad_core.specs.Presence.{join, leave, put_caret, read_who}
+use Rattle.pad_core.specs.Reads.{read_text, read_runs, read_comments, read_revs, read_entries}
+use Rattle.pad_core.specs.declared.admit.Need.{Need}
+use Rattle.pad_core.specs.declared.admit.Need.TheVariants.{NewVisit, AnyVisit, Visit, PeerSession}
 use Rattle.pad_core.specs.declared.owned.Owned.{Owned}
-use Rattle.pad_core.specs.declared.event.Act.{Act}
-use Rattle.pad_core.specs.declared.event.Act.TheVariants as act
-use Rattle.pad_core.specs.declared.event.PadReply.{PadReply}
-use Rattle.pad_core.specs.declared.event.PadReply.TheVariants.{Elsewhere, Made, Changed, Shown}
+use Rattle.pad_core.specs.declared.act.Act.{Act}
+use Rattle.pad_core.specs.declared.act.Act.TheVariants as act
+use Rattle.pad_core.specs.declared.reply.PadReply.{PadReply}
+use Rattle.pad_core.specs.declared.reply.PadReply.TheVariants as reply
 use Rattle.pad_core.specs.declared.event.Claim.{Claim}
 use Rattle.pad_core.specs.declared.event.Claim.TheVariants.{Created, Exists, Other}
 
--- a pad: its name and owner, if it has them, its server's replica number, and its operations in the order of delivery
+-- a pad: its name and rights, if it has them, its server's replica number, its operations in the order of delivery, those that wait for others, and who is present
 pub record Machine : Type 0 where
   pub owned : Option Owned
   pub replica : ℕ
   pub log : List Op
+  pub held : List Op
+  pub presence : Presence
 
 -- the revision that the last operation made
 abbrev pub now_of : Machine → ℕ
 now_of m = length m.log
 
--- what the first operations of a log insert and erase
-abbrev pub characters_at : ℕ → List Op → Characters
-characters_at rev log = characters_in (take rev log)
+-- what an act takes of who does it
+abbrev pub need_of : Act → Need
+need_of act.Join = NewVisit
+need_of act.Leave = AnyVisit
+need_of (act.Insert rev at text) = Visit right.Write
+need_of (act.Delete rev at len) = Visit right.Write
+need_of (act.Edit rev changes) = Visit right.Write
+need_of (act.Comment rev at len text) = Visit right.Comment
+need_of (act.Resolve resolved) = Visit right.Comment
+need_of (act.Text rev) = Visit right.Read
+need_of (act.Runs rev) = Visit right.Read
+need_of (act.Comments rev) = Visit right.Read
+need_of act.Revs = Visit right.Read
+need_of (act.Entries from count) = Visit right.Read
+need_of (act.Caret rev at) = Visit right.Read
+need_of act.Who = Visit right.Read
+need_of (act.Grant author given) = Visit right.Own
+need_of act.Rights = Visit right.Read
+need_of act.Vector = PeerSession
+need_of (act.Push op) = PeerSession
+need_of (act.Pull seen max) = PeerSession
 
--- the operation of one part, made before any of another origin came
-abbrev pub op_of : OpName → List ℕ → Part → Op
-op_of name author part = record { name = name; seen = []; author = author; parts = part ∷ [] }
+-- whether an act names an author by what is no name
+abbrev pub names_badly : Act → Bool
+names_badly (act.Grant author given) = not (is_name author)
+names_badly other = false
 
--- a revision that a request names, or the present one
-abbrev pub revision_of : Option ℕ → Machine → ℕ
-revision_of None m = now_of m
-revision_of (Some rev) m = rev
-
--- a reading of the text
-abbrev pub read_text : Option ℕ → Machine → Result PadReply Refusal × Machine
-read_text asked m =
-    let rev = revision_of asked m in
-    if nat_lt (now_of m) rev then (Err NoRevision, m) else (Ok (Shown (now_of m) rev (text_of (characters_at rev m.log))), m)
-
--- the character in front of a place, or the start
-abbrev pub before_place : Characters → ℕ → Option Stamp
-before_place set zero = None
-before_place set (suc i) = stamp_at set i
-
--- why an insertion is refused, if it is
-abbrev pub insert_refusal : ℕ → ℕ → List ℕ → List Op → Option Refusal
-insert_refusal rev at text log =
-    let inserted = (characters_in log).inserted in
-    if nat_lt (length log) rev then Some NoRevision
-    else if nat_lt (length (visible (characters_at rev log))) at then Some OutOfRange
-    else if length text == 0 then Some Empty
-    else if nat_lt MAX_TEXT (length text) then Some TooMuch
-    else if nat_lt MAX_CHARACTERS (length inserted + length text) then Some PadFull
-    else if nat_lt MAX_COUNTER (clock_of_characters inserted + length text) then Some ClockFull
-    else if nat_le MAX_OPERATIONS (length log) then Some LogFull
+-- why a visit does not suit, if so: it is present and the author's, and who joins has none
+abbrev pub visit_refusal : Presence → List ℕ → Option ℕ → Bool → Option Refusal
+visit_refusal p name None joins = if joins then None else Some NotJoined
+visit_refusal p name (Some visit) joins =
+    if not (is_joined_by visit name p.present) then Some NotJoined
+    else if joins then Some Joined
     else None
 
--- the run of a local insertion: newer than all characters, behind the one in front of its place
-abbrev pub made_run : ℕ → ℕ → ℕ → List ℕ → List Op → Run
-made_run replica rev at text log =
-    record { first = record { counter = clock_of_characters (characters_in log).inserted + 1; replica = replica }; after = before_place (characters_at rev log) at; text = text }
+-- the first refusal, if any, and else the one of the right
+abbrev pub or_denied : Option Refusal → Bool → Option Refusal
+or_denied (Some refusal) may = Some refusal
+or_denied None may = if may then None else Some Denied
 
--- the name of the next local operation
-abbrev pub next_name : Machine → OpName
-next_name m = record { origin = m.replica; number = length m.log + 1 }
+-- why an author may not do what takes this, if so
+abbrev pub need_refusal : Rights → Presence → List ℕ → Option ℕ → Need → Option Refusal
+need_refusal book p name visit NewVisit = or_denied (visit_refusal p name visit true) (may book name right.Read)
+need_refusal book p name visit AnyVisit = visit_refusal p name visit false
+need_refusal book p name visit (Visit least) = or_denied (visit_refusal p name visit false) (may book name least)
+need_refusal book p name visit PeerSession = Some NotPeer
 
--- the owner of a pad, nobody where it is unnamed
-abbrev pub owner_of : Option Owned → List ℕ
-owner_of None = []
-owner_of (Some owned) = owned.owner
+-- the same of an act, before the act itself is looked at
+abbrev pub author_refusal : Rights → Presence → List ℕ → Option ℕ → Act → Option Refusal
+author_refusal book p name visit act = if names_badly act then Some BadName else need_refusal book p name visit (need_of act)
 
--- a local insertion by the owner
-abbrev pub insert : ℕ → ℕ → List ℕ → Machine → Result PadReply Refusal × Machine
-insert rev at text m = settle (insert_refusal rev at text m.log)
+-- what nobody is refused with
+abbrev pub nobody_refusal : Need → Refusal
+nobody_refusal NewVisit = NoSession
+nobody_refusal AnyVisit = NoSession
+nobody_refusal (Visit least) = NoSession
+nobody_refusal PeerSession = NotPeer
+
+-- an act that changes the log alone
+abbrev pub on_log : Machine → Result PadReply Refusal × List Op → Result PadReply Refusal × Machine
+on_log m done = (done.0, record m { log = done.1 })
+
+-- an act that changes who is present
+abbrev pub on_presence : Machine → Result PadReply Refusal × Presence → Result PadReply Refusal × Machine
+on_presence m done = (done.0, record m { presence = done.1 })
+
+-- an act that changes the rights
+abbrev pub on_rights : Owned → Machine → Result PadReply Refusal × Rights → Result PadReply Refusal × Machine
+on_rights owned m done = (done.0, record m { owned = Some (record owned { rights = done.1 }) })
+
+-- an act that changes the log and what is held
+abbrev pub on_delivery : Machine → Result PadReply Refusal × (List Op × List Op) → Result PadReply Refusal × Machine
+on_delivery m done = (done.0, record m { log = done.1.0; held = done.1.1 })
+
+-- what an author's act does
+abbrev pub author_act : Owned → List ℕ → ℕ → Act → Machine → Result PadReply Refusal × Machine
+author_act owned name visit act.Join m = on_presence m (join (now_of m) name m.presence)
+author_act owned name visit act.Leave m = on_presence m (leave (now_of m) visit m.presence)
+author_act owned name visit (act.Insert rev at text) m = on_log m (insert m.replica name rev at text m.log)
+author_act owned name visit (act.Delete rev at len) m = on_log m (delete m.replica name rev at len m.log)
+author_act owned name visit (act.Edit rev changes) m = on_log m (edit m.replica name rev changes m.log)
+author_act owned name visit (act.Comment rev at len text) m = on_log m (comment m.replica name rev at len text m.log)
+author_act owned name visit (act.Resolve resolved) m = on_log m (resolve m.replica name resolved m.log)
+author_act owned name visit (act.Text rev) m = (read_text rev m.log, m)
+author_act owned name visit (act.Runs rev) m = (read_runs rev m.log, m)
+author_act owned name visit (act.Comments rev) m = (read_comments rev m.log, m)
+author_act owned name visit act.Revs m = (read_revs m.log, m)
+author_act owned name visit (act.Entries from count) m = (read_entries from count m.log, m)
+author_act owned name visit (act.Caret rev at) m = on_presence m (put_caret rev at visit m.log m.presence)
+author_act owned name visit act.Who m = (read_who m.replica m.log m.presence, m)
+author_act owned name visit (act.Grant author given) m = on_rights owned m (grant (now_of m) author given owned.rights)
+author_act owned name visit act.Rights m = (read_rights (now_of m) owned.rights, m)
+author_act owned name visit other m = (Err NotPeer, m)
+
+-- what a peer's act does
+abbrev pub peer_act : Version → Act → Machine → Result PadReply Refusal × Machine
+peer_act version act.Vector m = (read_vector version m.log, m)
+peer_act version (act.Push op) m = on_delivery m (push m.replica op (m.log, m.held))
+peer_act version (act.Pull seen max) m = (pull version seen max m.log, m)
+peer_act version other m = (Err NoSession, m)
+
+-- an author's act, where nothing speaks against it
+abbrev pub author_step : Owned → List ℕ → Option ℕ → Act → Machine → Result PadReply Refusal × Machine
+author_step owned name visit act m = unless_refused (author_refusal owned.rights m.presence name visit act)
   where
-    settle : Option Refusal → Result PadReply Refusal × Machine
-    settle (Some refusal) = (Err refusal, m)
-    settle None = (Ok (Made (now_of m + 1) (next_name m)), record m { log = m.log ++ op_of (next_name m) (owner_of m.owned) (Insert (made_run m.replica rev at text m.log)) ∷ [] })
+    unless_refused : Option Refusal → Result PadReply Refusal × Machine
+    unless_refused (Some refusal) = (Err refusal, m)
+    unless_refused None = author_act owned name (unwrap_or visit 0) act m
 
--- why a deletion is refused, if it is
-abbrev pub delete_refusal : ℕ → ℕ → ℕ → List Op → Option Refusal
-delete_refusal rev at len log =
-    if nat_lt (length log) rev then Some NoRevision
-    else if nat_lt (length (visible (characters_at rev log))) (at + len) then Some OutOfRange
-    else if len == 0 then Some Empty
-    else if nat_lt MAX_TEXT len then Some TooMuch
-    else if nat_le MAX_OPERATIONS (length log) then Some LogFull
-    else None
+-- what somebody does on a pad that has a name
+abbrev pub session_step : Owned → Who → Option ℕ → Act → Machine → Result PadReply Refusal × Machine
+session_step owned Nobody visit act m = (Err (nobody_refusal (need_of act)), m)
+session_step owned (Author name) visit act m = author_step owned name visit act m
+session_step owned (Peer number version) visit act m = peer_act version act m
 
--- a local deletion by the owner: it names what the revision shows there, and answers how many of these are still visible
-abbrev pub delete : ℕ → ℕ → ℕ → Machine → Result PadReply Refusal × Machine
-delete rev at len m = settle (delete_refusal rev at len m.log)
-  where
-    settle : Option Refusal → Result PadReply Refusal × Machine
-    settle (Some refusal) = (Err refusal, m)
-    settle None =
-        let op = op_of (next_name m) (owner_of m.owned) (Delete (spans_of (characters_at rev m.log) at len)) in
-        (Ok (Changed (now_of m + 1) (next_name m) (hidden_by (erased_by op) (characters_in m.log))), record m { log = m.log ++ op ∷ [] })
-
--- whether a request comes with the owner's visit, which is 1
-abbrev pub is_visit : Option ℕ → Bool
-is_visit None = false
-is_visit (Some visit) = visit == 1
-
--- what is answered before an act is looked at, if anything: only the owner, with its visit, may do anything yet
-abbrev pub turned_away : Option Owned → List ℕ → Who → Option ℕ → Option (Result PadReply Refusal)
-turned_away None pad who visit = Some (Err NoPad)
-turned_away (Some owned) pad Nobody visit = if not (bytes_eq owned.name pad) then Some (Ok Elsewhere) else Some (Err NoSession)
-turned_away (Some owned) pad (Peer number version) visit = if not (bytes_eq owned.name pad) then Some (Ok Elsewhere) else Some (Err NoSession)
-turned_away (Some owned) pad (Author name) visit =
-    if not (bytes_eq owned.name pad) then Some (Ok Elsewhere)
-    else if not (is_visit visit) then Some (Err NotJoined)
-    else if not (bytes_eq name owned.owner) then Some (Err Denied)
-    else None
-
--- what an act does
-abbrev pub act_step : Act → Machine → Result PadReply Refusal × Machine
-act_step (act.Insert rev at text) m = insert rev at text m
-act_step (act.Delete rev at len) m = delete rev at len m
-act_step (act.Text rev) m = read_text rev m
-
--- one step of the pad machine: a reply and the next state
+-- one step of the pad machine: a reply and the next state. A pad without a name, or of another one, answers so whatever is asked
 abbrev pub step : List ℕ → Who → Option ℕ → Act → Machine → Result PadReply Refusal × Machine
-step pad who visit it m = admitted (turned_away m.owned pad who visit)
+step pad who visit act m = at_pad m.owned
   where
-    admitted : Option (Result PadReply Refusal) → Result PadReply Refusal × Machine
-    admitted (Some reply) = (reply, m)
-    admitted None = act_step it m
+    at_pad : Option Owned → Result PadReply Refusal × Machine
+    at_pad None = (Err NoPad, m)
+    at_pad (Some owned) = if not (bytes_eq owned.name pad) then (Ok reply.Elsewhere, m) else session_step owned who visit act m
 
 -- the name of a pad, if it has one
 abbrev pub name_of : Option Owned → Option (List ℕ)
 name_of None = None
 name_of (Some owned) = Some owned.name
 
--- a claim of a pad for a name and an owner
+-- nobody is present, and nobody was
+abbrev pub nobody_present : Presence
+nobody_present = record { given = 0; present = [] }
+
+-- a claim of a pad for a name and an owner, who is then present
 abbrev pub claim : List ℕ → List ℕ → Machine → Result Claim Refusal × Machine
 claim name owner m = claim_of m.owned
   where
     claim_of : Option Owned → Result Claim Refusal × Machine
-    claim_of None = (Ok (Created 1), record m { owned = Some (record { name = name; owner = owner }) })
+    claim_of None =
+        (Ok (Created (m.presence.given + 1)), record m { owned = Some (record { name = name; rights = record { owner = owner; grants = [] } }); presence = joined owner m.presence })
     claim_of (Some owned) = if bytes_eq owned.name name then (Ok Exists, m) else (Ok Other, m)
 
--- an owner's name is well formed
-abbrev pub IsOwned : Option Owned → Type 0
-IsOwned None = Unit {0}
-IsOwned (Some owned) = IsTrue (is_name owned.name) × IsTrue (is_name owned.owner)
+-- an author was admitted to an act
+abbrev pub IsAdmitted : Option Owned → Presence → List ℕ → Option ℕ → Act → Type 0
+IsAdmitted None p name visit act = ⊥
+IsAdmitted (Some owned) p name visit act = author_refusal owned.rights p name visit act ≡ None
 
--- what a pad keeps: a history in the limits, and a sequence of just its cells
-pub record IsPad (owned : Option Owned) (replica : ℕ) (log : List Op) (cells : List Cell) : Type 0 where
-  pub named : IsOwned owned
+-- a pad without a name was never joined; on one with a name, whoever has a right has a name that an author can have
+abbrev pub IsOwned : Option Owned → Presence → Type 0
+IsOwned None presence = presence ≡ nobody_present
+IsOwned (Some owned) presence = IsTrue (is_name owned.rights.owner) × AllByRecursion (λ e. IsTrue (is_name e.0)) owned.rights.grants
+
+-- what a pad keeps beside its log: a replica number in the limits, and held operations in theirs
+pub record IsPad (owned : Option Owned) (replica : ℕ) (held : List Op) (presence : Presence) : Type 0 where
+  pub named : IsOwned owned presence
   pub replica_low : 1 ≤ replica
   pub replica_high : replica ≤ MAX_REPLICA
-  pub history : IsHistory log
-  pub short : length log ≤ MAX_OPERATIONS
-  pub room : length (characters_in log).inserted ≤ MAX_CHARACTERS
-  pub kept : cells ≡ cells_of log
+  pub waiting : AllByRecursion (λ op. IsTrue (is_checked op)) held

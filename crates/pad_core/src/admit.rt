@@ -1,41 +1,121 @@
-//! Who may act on a pad.
-ghost use Rattle.std.specs.Prelude.{◌≡◌, IsSome, IfOk};
-ghost use Rattle.pad_core.specs.Machine.{turned_away as is_turned_away, is_visit, owner_of};
+//! Who may do what: the order of refusals before an act itself is looked at.
+ghost use Rattle.std.specs.Prelude.{◌≡◌, true, false};
+ghost use Rattle.pad_core.specs.Machine.{author_refusal as author_refused, need_of as needed, need_refusal, nobody_refusal as nobody_refused, visit_refusal as visit_refused, names_badly as is_badly_named};
 
-use crate::event::{PadEvent, PadReply};
-use crate::owned::Owned;
-use pad_model::{Name, Refusal, Who};
-use std::alloc::AllocError;
+use crate::act::Act;
+use pad_model::{Name, Refusal};
+use rights::{Right, RightsBook};
+use sessions::PresenceBook;
 
-/// What is answered before the act is looked at, if anything.
-pub fn turned_away(owned: &Option<Owned>, event: &PadEvent<'_>) -> Option<Result<PadReply, Refusal>>
-    ensures { result ≡ is_turned_away owned.now event.now.pad.now event.now.who.now event.now.visit }
-{
-    let Some(owned) = owned else {
-        return Some(Err(Refusal::NoPad));
-    };
-    if !owned.name.is(event.pad) {
-        return Some(Ok(PadReply::Elsewhere));
-    }
-    let Who::Author(name) = event.who else {
-        return Some(Err(Refusal::NoSession));
-    };
-    if event.visit != Some(1) {
-        return Some(Err(Refusal::NotJoined));
-    }
-    if name != &owned.owner {
-        return Some(Err(Refusal::Denied));
-    }
-    None
+/// What an act takes of who does it.
+#[derive(Clone, Copy, Debug, PartialEq, Eq)]
+pub enum Need {
+    /// An author without a visit who may read.
+    NewVisit,
+    /// An author's visit.
+    AnyVisit,
+    /// An author's visit, and a right.
+    Visit(Right),
+    /// A peer's session.
+    PeerSession,
 }
 
-/// The owner's name.
-pub fn owner_name(owned: &Option<Owned>) -> Result<Name, AllocError>
-    requires { IsSome owned.now }
-    ensures { IfOk result (λ name. name ≡ owner_of owned.now) }
+/// What an act takes.
+pub fn need_of(act: &Act) -> Need
+    ensures { result ≡ needed act.now }
 {
-    match owned {
-        None => unreachable!(),
-        Some(owned) => owned.owner.clone(),
+    match act {
+        Act::Join => Need::NewVisit,
+        Act::Leave => Need::AnyVisit,
+        Act::Insert { .. } | Act::Delete { .. } | Act::Edit { .. } => Need::Visit(Right::Write),
+        Act::Comment { .. } | Act::Resolve { .. } => Need::Visit(Right::Comment),
+        Act::Text { .. }
+        | Act::Runs { .. }
+        | Act::Comments { .. }
+        | Act::Revs
+        | Act::Entries { .. }
+        | Act::Caret { .. }
+        | Act::Who
+        | Act::Rights => Need::Visit(Right::Read),
+        Act::Grant { .. } => Need::Visit(Right::Own),
+        Act::Vector | Act::Push { .. } | Act::Pull { .. } => Need::PeerSession,
+    }
+}
+
+/// Why an author may not do an act, if so. The first that holds is the answer.
+pub fn author_refusal(
+    rights: &RightsBook,
+    presence: &PresenceBook,
+    name: &Name,
+    visit: Option<u64>,
+    act: &Act,
+) -> Option<Refusal>
+    ensures { result ≡ author_refused rights.now presence.now name.now visit act.now }
+{
+    if names_badly(act) {
+        return Some(Refusal::BadName);
+    }
+    refuse_need(rights, presence, name, visit, need_of(act))
+}
+
+/// What nobody is refused with.
+pub fn nobody_refusal(need: Need) -> Refusal
+    ensures { result ≡ nobody_refused need }
+{
+    match need {
+        Need::PeerSession => Refusal::NotPeer,
+        Need::NewVisit | Need::AnyVisit | Need::Visit(_) => Refusal::NoSession,
+    }
+}
+
+/// Whether an act names an author by what is no name.
+fn names_badly(act: &Act) -> bool
+    ensures { result ≡ is_badly_named act.now }
+{
+    match act {
+        Act::Grant { author, .. } => !author.is_well_formed(),
+        _ => false,
+    }
+}
+
+fn refuse_need(
+    rights: &RightsBook,
+    presence: &PresenceBook,
+    name: &Name,
+    visit: Option<u64>,
+    need: Need,
+) -> Option<Refusal>
+    ensures { result ≡ need_refusal rights.now presence.now name.now visit need }
+{
+    let (joins, right) = match need {
+        Need::NewVisit => (true, Some(Right::Read)),
+        Need::AnyVisit => (false, None),
+        Need::Visit(right) => (false, Some(right)),
+        Need::PeerSession => return Some(Refusal::NotPeer),
+    };
+    if let Some(refusal) = visit_refusal(presence, name, visit, joins) {
+        return Some(refusal);
+    }
+    match right {
+        Some(right) if !rights.may(name, right) => Some(Refusal::Denied),
+        _ => None,
+    }
+}
+
+/// Why a visit does not suit, if so.
+fn visit_refusal(
+    presence: &PresenceBook,
+    name: &Name,
+    visit: Option<u64>,
+    joins: bool,
+) -> Option<Refusal>
+    ensures { result ≡ visit_refused presence.now name.now visit joins }
+{
+    match visit {
+        None if joins => None,
+        None => Some(Refusal::NotJoined),
+        Some(visit) if !presence.holds(visit, name.as_str()) => Some(Refusal::NotJoined),
+        Some(_) if joins => Some(Refusal::Joined),
+        Some(_) => None,
     }
 }

@@ -1,14 +1,28 @@
 //! The pad machine: one pad, for any sequence of characters. An event goes in, a reply and the next state come out.
 #![tactic(auto)]
 
+mod act;
 mod admit;
-mod delete;
+mod edit;
+mod enter;
 mod event;
-mod grow;
-mod insert;
+mod exchange;
+mod grants;
+mod judge;
+pub mod laws;
+mod ledger;
+mod note;
 mod owned;
 mod pad;
+mod presence;
+mod push;
+mod reads;
+mod reply;
 
-pub use event::{Act, Claim, PadEvent, PadReply};
+pub use act::{Act, Change};
+pub use event::{Claim, PadEvent};
+pub use exchange::MAX_PULL;
 pub use owned::Owned;
 pub use pad::Pad;
+pub use reads::MAX_ENTRIES;
+pub use reply::{Entry, Kind, PadReply, Present, Pushed};

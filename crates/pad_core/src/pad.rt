@@ -1,28 +1,41 @@
 //! One pad.
-ghost use Rattle.std.specs.Prelude.{◌≡◌, ℕ, ◌+◌, ◌≤◌, [], length, IsTrue, IsSome, IfOk, None, MatchResult, option_map};
+ghost use Rattle.std.specs.Prelude.{◌≡◌, ◌⊎◌, ℕ, ◌+◌, ◌≤◌, List, [], length, IsTrue, IfOk, OnOk, Some, None, Err, MatchResult, option_map, unwrap_or};
 ghost use Rattle.pad_model.specs.Answers.{Answers};
 ghost use Rattle.pad_model.specs.Checked.{is_name};
 ghost use Rattle.pad_model.specs.declared.limits.TheConstants.{MAX_REPLICA};
-ghost use Rattle.pad_core.specs.Machine.{claim as claimed, delete as deleted, insert as inserted, read_text as text_read, name_of, owner_of};
-ghost use Rattle.pad_core.specs.Ran.{event_step, run as machine_run, Ran, FoundMemory};
+ghost use Rattle.pad_model.specs.declared.op.Op.{Op};
+ghost use Rattle.pad_core.specs.Delivered.{IsDelivered};
+ghost use Rattle.pad_core.specs.Laws.{HaveSame, ShowSame};
+ghost use Rattle.pad_core.specs.Machine.{IsAdmitted, author_act as author_acted, author_step as author_stepped, claim as claimed, name_of, nobody_present, peer_act as peer_acted};
+ghost use Rattle.pad_core.specs.Ran.{IsCutShort, Stepped, run as machine_run, Ran, FoundMemory};
 
-use crate::admit::{owner_name, turned_away};
-use crate::delete::refuse_delete;
-use crate::event::{Act, Claim, PadEvent, PadReply};
-use crate::grow::{append, make_op};
-use crate::insert::{make_run, refuse_insert};
+use crate::act::Act;
+use crate::admit::{author_refusal, need_of, nobody_refusal};
+use crate::edit::{delete, edit, insert};
+use crate::event::{Claim, PadEvent};
+use crate::exchange::{pull, read_vector};
+use crate::grants::{grant, read_rights};
+use crate::ledger::Ledger;
+use crate::note::{comment, resolve};
 use crate::owned::Owned;
-use pad_model::{Op, OpName, Part, Refusal, Sequence, Text};
+use crate::presence::{join, leave, put_caret, read_who};
+use crate::push::push;
+use crate::reads::{read_comments, read_entries, read_revs, read_runs, read_text};
+use crate::reply::PadReply;
+use holdback::Hold;
+use pad_model::{Name, Refusal, Sequence, Version, Who};
+use sessions::PresenceBook;
 use std::alloc::Global;
 use std::marker::Model;
 
-/// A pad: its name and owner once it is claimed, its operations, and the sequence of their characters.
+/// A pad: its name and rights once it is claimed, its operations and those that wait for others, and who is present.
 #[derive(Drop)]
 pub struct Pad<S: Sequence> {
     owned: Option<Owned>,
     replica: u16,
-    log: Vec<Op>,
-    sequence: S,
+    ledger: Ledger<S>,
+    held: Hold,
+    presence: PresenceBook,
 }
 
 impl<S: Sequence> Model for Pad<S> {
@@ -30,23 +43,24 @@ impl<S: Sequence> Model for Pad<S> {
 
     ghost Value = { Machine };
 
-    ghost view = { λ p. record { owned = p.owned; replica = p.replica; log = p.log.items } };
+    ghost view = { λ p. record { owned = p.owned; replica = p.replica; log = p.ledger; held = p.held; presence = p.presence } };
 
-    ghost invariant = { λ p. IsPad p.owned p.replica p.log.items (S.cells p.sequence) };
+    ghost invariant = { λ p. IsPad p.owned p.replica p.held p.presence };
 }
 
 impl<S: Sequence> Pad<S> {
     /// A pad without a name on the server with this replica number.
     pub fn new(alloc: Global, replica: u16) -> Result<Pad<S>, Refusal>
         requires { 1 ≤ replica }
-        ensures { MatchResult result (λ pad. pad ≡ record { owned = None; replica = replica; log = [] }) (λ e. e ≡ Refusal.Memory) }
+        ensures { MatchResult result (λ pad. pad ≡ record { owned = None; replica = replica; log = []; held = []; presence = nobody_present }) (λ e. e ≡ Refusal.Memory) }
     {
-        match S::empty(alloc) {
-            Ok(sequence) => Ok(Pad {
+        match Ledger::new(alloc) {
+            Ok(ledger) => Ok(Pad {
                 owned: None,
                 replica,
-                log: Vec::new(alloc),
-                sequence,
+                ledger,
+                held: Hold::new(alloc),
+                presence: PresenceBook::new(alloc),
             }),
             Err(refusal) => Err(refusal),
         }
@@ -64,13 +78,13 @@ impl<S: Sequence> Pad<S> {
 
     /// The revision that the last operation made: how many there are.
     pub fn revision(&self) -> u64
-        ensures { result ≡ length self.now.log }
+        ensures value { result ≡ length self.now.log }
+        ensures delivered { IsDelivered self.now.log }
     {
-        let operations = self.log.len();
-        operations as u64
+        self.ledger.len()
     }
 
-    /// Gives a pad without a name this name and owner. Both are well formed.
+    /// Gives a pad without a name this name and owner, who is then present. Both are well formed.
     pub fn claim(&mut self, alloc: Global, name: &str, owner: &str) -> Result<Claim, Refusal>
         requires name { IsTrue (is_name name.now) }
         requires owner { IsTrue (is_name owner.now) }
@@ -83,24 +97,34 @@ impl<S: Sequence> Pad<S> {
                 Claim::Other
             });
         }
-        match Owned::new(alloc, name, owner) {
-            Ok(owned) => self.owned = Some(owned),
+        let owned = match Owned::new(alloc, name, owner) {
+            Ok(owned) => owned,
             Err(refusal) => return Err(refusal),
+        };
+        match self.presence.join(alloc, owner) {
+            Ok(visit) => {
+                self.owned = Some(owned);
+                Ok(Claim::Created { visit })
+            }
+            Err(refusal) => Err(refusal),
         }
-        Ok(Claim::Created { visit: 1 })
     }
 
-    /// Answers an event and makes its changes, or finds no memory and changes nothing.
+    /// Answers an event and makes its changes, or finds no memory and changes nothing. A push that found no memory in
+    /// its release has made the steps before.
     pub fn step(&mut self, alloc: Global, event: &PadEvent<'_>) -> Result<PadReply, Refusal>
-        ensures { Answers self.old (event_step event.now self.old) result self.new }
+        ensures { Stepped self.old event.now result self.new }
     {
-        if let Some(reply) = turned_away(&self.owned, event) {
-            return reply;
+        let Some(owned) = &self.owned else {
+            return Err(Refusal::NoPad);
+        };
+        if !owned.name.is(event.pad) {
+            return Ok(PadReply::Elsewhere);
         }
-        match event.act {
-            Act::Insert { rev, at, text } => self.insert(alloc, *rev, *at, text),
-            Act::Delete { rev, at, len } => self.delete(alloc, *rev, *at, *len),
-            Act::Text { rev } => self.read_text(alloc, *rev),
+        match event.who {
+            Who::Nobody => Err(nobody_refusal(need_of(event.act))),
+            Who::Author(name) => self.author_step(alloc, name, event.visit, event.act),
+            Who::Peer { version, .. } => self.peer_act(alloc, *version, event.act),
         }
     }
 
@@ -116,6 +140,9 @@ impl<S: Sequence> Pad<S> {
 
         // The replies and the pad are the machine's, where no event met want of memory.
         ensures machine { IfOk result (λ replies. FoundMemory replies.items → machine_run events.now self.old ≡ (replies.items, self.new)) }
+
+        // What the pad shows then depends on the set of its operations alone: any other pad with the same ones shows the same.
+        ensures alike { OnOk result ((other : List Op) → IsDelivered other → HaveSame self.new.log other → ShowSame self.new.log other) }
     {
         let mut replies = match Vec::with_capacity(alloc, events.len()) {
             Ok(replies) => replies,
@@ -125,70 +152,86 @@ impl<S: Sequence> Pad<S> {
             let reply = self.step(alloc, event);
             replies.push_reserved(reply);
         }
+        let _now = self.revision();
         Ok(replies)
     }
 
-    fn insert(&mut self, alloc: Global, rev: u64, at: u64, text: &Text) -> Result<PadReply, Refusal>
-        requires { IsSome self.old.owned }
-        ensures { Answers self.old (inserted rev at text.now self.old) result self.new }
+    /// An author's act, where nothing speaks against it.
+    fn author_step(
+        &mut self,
+        alloc: Global,
+        name: &Name,
+        visit: Option<u64>,
+        act: &Act,
+    ) -> Result<PadReply, Refusal>
+        ensures { (owned : _) → self.old.owned ≡ Some owned → Answers self.old (author_stepped owned name.now visit act.now self.old) result self.new }
     {
-        let now = self.log.len() as u64;
-        if let Some(refusal) = refuse_insert(&self.sequence, now, rev, at, text) {
-            return Err(refusal);
-        }
-        let run = make_run(&self.sequence, self.replica, rev, at, text)?;
-        let name = OpName {
-            origin: self.replica,
-            number: now + 1,
+        let Some(owned) = &self.owned else {
+            return Err(Refusal::NoPad);
         };
-        let author = owner_name(&self.owned)?;
-        let op = make_op(alloc, name, author, Part::Insert(run))?;
-        if let Err(refusal) = append(alloc, &mut self.sequence, &mut self.log, op) {
+        if let Some(refusal) = author_refusal(&owned.rights, &self.presence, name, visit, act) {
             return Err(refusal);
         }
-        Ok(PadReply::Made { now: now + 1, name })
+        self.author_act(alloc, name, visit, act)
     }
 
-    fn delete(&mut self, alloc: Global, rev: u64, at: u64, len: u64) -> Result<PadReply, Refusal>
-        requires { IsSome self.old.owned }
-        ensures { Answers self.old (deleted rev at len self.old) result self.new }
+    /// What an author may do, it does.
+    fn author_act(
+        &mut self,
+        alloc: Global,
+        name: &Name,
+        visit: Option<u64>,
+        act: &Act,
+    ) -> Result<PadReply, Refusal>
+        requires { IsAdmitted self.old.owned self.old.presence name.now visit act.now }
+        ensures { (owned : _) → self.old.owned ≡ Some owned → Answers self.old (author_acted owned name.now (unwrap_or visit 0) act.now self.old) result self.new }
     {
-        let now = self.log.len() as u64;
-        if let Some(refusal) = refuse_delete(&self.sequence, now, rev, at, len) {
-            return Err(refusal);
+        let visit = visit.unwrap_or(0);
+        let ledger = &mut self.ledger;
+        match act {
+            Act::Join => join(alloc, &mut self.presence, ledger.len(), name),
+            Act::Leave => leave(&mut self.presence, ledger.len(), visit),
+            Act::Caret { rev, at } => put_caret(ledger, &mut self.presence, visit, *rev, *at),
+            Act::Who => read_who(alloc, ledger, &self.presence, self.replica),
+            Act::Insert { rev, at, text } => {
+                insert(alloc, ledger, self.replica, name, *rev, *at, text)
+            }
+            Act::Delete { rev, at, len } => {
+                delete(alloc, ledger, self.replica, name, *rev, *at, *len)
+            }
+            Act::Edit { rev, changes } => {
+                edit(alloc, ledger, self.replica, name, *rev, changes.as_slice())
+            }
+            Act::Comment { rev, at, len, text } => {
+                comment(alloc, ledger, self.replica, name, *rev, *at, *len, text)
+            }
+            Act::Resolve { comment } => resolve(alloc, ledger, self.replica, name, *comment),
+            Act::Text { rev } => read_text(alloc, ledger, *rev),
+            Act::Runs { rev } => read_runs(alloc, ledger, *rev),
+            Act::Comments { rev } => read_comments(alloc, ledger, *rev),
+            Act::Revs => read_revs(ledger),
+            Act::Entries { from, count } => read_entries(alloc, ledger, *from, *count),
+            Act::Grant { author, right } => match &mut self.owned {
+                Some(owned) => grant(&mut owned.rights, ledger.len(), author, *right),
+                None => Err(Refusal::NoPad),
+            },
+            Act::Rights => match &self.owned {
+                Some(owned) => read_rights(alloc, &owned.rights, ledger.len()),
+                None => Err(Refusal::NoPad),
+            },
+            Act::Vector | Act::Push { .. } | Act::Pull { .. } => Err(Refusal::NotPeer),
         }
-        let spans = match self.sequence.spans_at(alloc, rev, at, len) {
-            Ok(spans) => spans,
-            Err(refusal) => return Err(refusal),
-        };
-        let name = OpName {
-            origin: self.replica,
-            number: now + 1,
-        };
-        let author = owner_name(&self.owned)?;
-        let op = make_op(alloc, name, author, Part::Delete(spans))?;
-        let hidden = match append(alloc, &mut self.sequence, &mut self.log, op) {
-            Ok(hidden) => hidden,
-            Err(refusal) => return Err(refusal),
-        };
-        Ok(PadReply::Changed {
-            now: now + 1,
-            name,
-            hidden,
-        })
     }
 
-    fn read_text(&self, alloc: Global, asked: Option<u64>) -> Result<PadReply, Refusal>
-        ensures { Answers self.now (text_read asked self.now) result self.now }
+    /// A peer's act.
+    fn peer_act(&mut self, alloc: Global, version: Version, act: &Act) -> Result<PadReply, Refusal>
+        ensures { Answers self.old (peer_acted version act.now self.old) result self.new ⊎ ((result ≡ Err Refusal.Memory) × IsCutShort act.now self.old self.new) }
     {
-        let now = self.log.len() as u64;
-        let rev = asked.unwrap_or(now);
-        if now < rev {
-            return Err(Refusal::NoRevision);
-        }
-        match self.sequence.text_at(alloc, rev) {
-            Ok(text) => Ok(PadReply::Shown { now, rev, text }),
-            Err(refusal) => Err(refusal),
+        match act {
+            Act::Vector => read_vector(&self.ledger, version),
+            Act::Push { op } => push(alloc, &mut self.ledger, &mut self.held, self.replica, op),
+            Act::Pull { seen, max } => pull(alloc, &self.ledger, version, seen, *max),
+            _ => Err(Refusal::NoSession),
         }
     }
 }

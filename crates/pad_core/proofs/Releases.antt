@@ -1,0 +1,146 @@
+-- A release step by step: what it takes out, and where it stands still.
+use Rattle.std.proofs.Common.{◌≡◌, ℕ, zero, suc, ◌+◌, ◌-◌, ◌≤◌, Bool, true, false, not, cond, inl, inr, List, [], ◌∷◌, ◌++◌, length, Ok, Option, Some, None, option_map, IsTrue, refl, sym, ap, ap₂, ◌∙◌, subst, arith}
+use Rattle.std.specs.List.{AllByRecursion, find}
+use Rattle.pad_model.specs.Answers.{Answers}
+use Rattle.pad_model.specs.Checked.{is_checked}
+use Rattle.pad_model.specs.declared.op.Op.{Op}
+use Rattle.pad_model.specs.declared.op.OpName.{OpName}
+use Rattle.pad_model.specs.declared.seen.Counted.{Counted}
+use Rattle.pad_model.specs.declared.refusal.Refusal.{Refusal}
+use Rattle.pad_model.proofs.Newer.{split}
+use Rattle.holdback.specs.Held.{IsRising, has_name, is_ready, with_held, without}
+use Rattle.pad_model.specs.Log.{precedes}
+use Rattle.holdback.proofs.Next.{named_first}
+use Rattle.pad_core.specs.Counts.{vector_of}
+use Rattle.pad_core.specs.Delivered.{delivery_refusal}
+use Rattle.pad_core.specs.Exchange.{Delivery, release, settle, steps, taken_out}
+
+-- each held operation is in its limits
+abbrev pub AreChecked : List Op → Type 0
+AreChecked held = AllByRecursion (λ op. IsTrue (is_checked op)) held
+
+-- so is one that is found
+pub found_checked : (t : Op → Bool) (held : List Op) (op : Op) → AreChecked held → find t held ≡ Some op → IsTrue (is_checked op)
+found_checked t [] op h e = absurd (cc)
+found_checked t (x ∷ held) op h e =
+    split (t x)
+    (λ yes. let here : Some x ≡ Some op = sym (ap (λ b. cond b (Some x) (find t held)) yes) ∙ e in subst (λ o. IsTrue (is_checked o)) (same_some x op here) h.0)
+    (λ no. found_checked t held op h.1 (sym (ap (λ b. cond b (Some x) (find t held)) no) ∙ e))
+  where
+    same_some : (a b : Op) → Some a ≡ Some b → a ≡ b
+    same_some a b q = cc
+
+either_checked : (b : Bool) (x : Op) (rest : List Op) → IsTrue (is_checked x) → AreChecked rest → AreChecked (cond b (x ∷ rest) rest)
+either_checked true x rest one h = (one, h)
+either_checked false x rest one h = h
+
+-- and those that stay
+pub without_checked : (name : OpName) (held : List Op) → AreChecked held → AreChecked (without name held)
+without_checked name [] h = tt
+without_checked name (x ∷ held) h = either_checked (not (has_name name x)) x (without name held) h.0 (without_checked name held h.1)
+
+placed_checked : (b : Bool) (x op : Op) (held rest : List Op) → IsTrue (is_checked op) → AreChecked (x ∷ held) → AreChecked rest → AreChecked (cond b (x ∷ rest) (op ∷ x ∷ held))
+placed_checked true x op held rest one h r = (h.0, r)
+placed_checked false x op held rest one h r = (one, h)
+
+-- and those with one more
+pub with_checked : (op : Op) (held : List Op) → IsTrue (is_checked op) → AreChecked held → AreChecked (with_held op held)
+with_checked op [] one h = (one, tt)
+with_checked op (x ∷ held) one h = placed_checked (precedes x.name op.name) x op held (with_held op held) one h (with_checked op held one h.1)
+
+some_none : (name : OpName) → Some name ≡ None → ⊥
+some_none name q = cc
+
+-- the operation that the name of the next one finds is the next one
+pub next_found : (seen : List Counted) (held : List Op) (name : OpName) (op : Op) → IsRising held → Some name ≡ option_map (λ (o : Op). o.name) (find (is_ready seen) held) → Some op ≡ find (has_name name) held →
+    (find (is_ready seen) held ≡ Some op) × (op.name ≡ name)
+next_found seen held name op rising next found = at (find (is_ready seen) held) refl
+  where
+    same_some : (a b : Op) → Some a ≡ Some b → a ≡ b
+    same_some a b q = cc
+
+    same_name : (a b : OpName) → Some a ≡ Some b → a ≡ b
+    same_name a b q = cc
+
+    at : (r : Option Op) → find (is_ready seen) held ≡ r → (find (is_ready seen) held ≡ Some op) × (op.name ≡ name)
+    at None e = absurd (some_none name (next ∙ ap (option_map (λ (o : Op). o.name)) e))
+    at (Some x) e =
+        let named : name ≡ x.name = same_name name x.name (next ∙ ap (option_map (λ (o : Op). o.name)) e) in
+        let it : op ≡ x = same_some op x (found ∙ ap (λ n. find (has_name n) held) named ∙ named_first (is_ready seen) held x rising e) in
+        (e ∙ ap Some (sym it), ap (λ (o : Op). o.name) it ∙ sym named)
+
+-- the same where it is read by the counts of a log, and copied
+pub next_is : (log held : List Op) (seen : List Counted) (name : OpName) (lent op : Op) → seen ≡ vector_of log → IsRising held → Some name ≡ option_map (λ (o : Op). o.name) (find (is_ready seen) held) → Some lent ≡ find (has_name name) held → op ≡ lent →
+    (find (is_ready (vector_of log)) held ≡ Some op) × (op.name ≡ name)
+next_is log held seen name lent op counts rising next found copied =
+    next_found (vector_of log) held name op rising (next ∙ ap (λ (v : List Counted). option_map (λ (o : Op). o.name) (find (is_ready v) held)) counts) (ap Some copied ∙ found)
+
+-- a step takes the operation that is found
+pub release_found : (d : Delivery) (op : Op) (r : Option Refusal) → find (is_ready (vector_of d.log)) d.held ≡ Some op → delivery_refusal op d.log ≡ r → release d ≡ taken_out op r d
+release_found d op r found refused = rw (found) (ap (λ x. taken_out op x d) refused)
+
+-- and stands still where there is none
+pub release_idle : (d : Delivery) → find (is_ready (vector_of d.log)) d.held ≡ None → release d ≡ d
+release_idle d none = rw (none) refl
+
+-- what an append that is answered leaves
+pub appended_ok : (old new grown : List Op) (n k : ℕ) → Answers old (Ok n, grown) (Ok k) new → new ≡ grown
+appended_ok old new grown n k (inl h) = absurd (cc)
+appended_ok old new grown n k (inr h) = sym (ap (λ p. p.1) h)
+
+-- where a step stands still, all further ones do
+pub steps_idle : (n k : ℕ) (d : Delivery) → release (steps n d) ≡ steps n d → steps (k + n) d ≡ steps n d
+steps_idle n zero d still = let same : 0 + n ≡ n = omega arith in ap (λ (m : ℕ). steps m d) same
+steps_idle n (suc k) d still =
+    let one : suc k + n ≡ suc (k + n) = omega arith in
+    ap (λ (m : ℕ). steps m d) one ∙ ap release (steps_idle n k d still) ∙ still
+
+-- an operation that is refused is taken out and counted as dropped
+pub drops : (log held rest : List Op) (a b : ℕ) (name : OpName) (op : Op) (r : Refusal) → find (is_ready (vector_of log)) held ≡ Some op → op.name ≡ name → delivery_refusal op log ≡ Some r → rest ≡ without name held →
+    (let d : Delivery = record { log = log; held = rest; released = a; dropped = b + 1 } in d) ≡ release (record { log = log; held = held; released = a; dropped = b })
+drops log held rest a b name op r found named refused left =
+    ap (λ (l : List Op). (let d : Delivery = record { log = log; held = l; released = a; dropped = b + 1 } in d)) (left ∙ ap (λ (n : OpName). without n held) (sym named))
+    ∙ sym (release_found (record { log = log; held = held; released = a; dropped = b }) op (Some r) found refused)
+
+-- one that is not is delivered
+pub delivers : (log more held rest : List Op) (a b : ℕ) (name : OpName) (op : Op) → find (is_ready (vector_of log)) held ≡ Some op → op.name ≡ name → delivery_refusal op log ≡ None → rest ≡ without name held → more ≡ log ++ op ∷ [] →
+    (let d : Delivery = record { log = more; held = rest; released = a + 1; dropped = b } in d) ≡ release (record { log = log; held = held; released = a; dropped = b })
+delivers log more held rest a b name op found named allowed left grown =
+    ap₂ (λ (m l : List Op). (let d : Delivery = record { log = m; held = l; released = a + 1; dropped = b } in d)) grown (left ∙ ap (λ (n : OpName). without n held) (sym named))
+    ∙ sym (release_found (record { log = log; held = held; released = a; dropped = b }) op None found allowed)
+
+taken_few : (op : Op) (r : Option Refusal) (d : Delivery) → (taken_out op r d).released + (taken_out op r d).dropped ≤ d.released + d.dropped + 1
+taken_few op None d = omega arith
+taken_few op (Some refusal) d = omega arith
+
+release_few : (d : Delivery) → (release d).released + (release d).dropped ≤ d.released + d.dropped + 1
+release_few d = at (find (is_ready (vector_of d.log)) d.held) refl
+  where
+    at : (r : Option Op) → find (is_ready (vector_of d.log)) d.held ≡ r → (release d).released + (release d).dropped ≤ d.released + d.dropped + 1
+    at None e = subst (λ (x : Delivery). x.released + x.dropped ≤ d.released + d.dropped + 1) (sym (release_idle d e)) (omega arith)
+    at (Some op) e = subst (λ (x : Delivery). x.released + x.dropped ≤ d.released + d.dropped + 1) (sym (release_found d op (delivery_refusal op d.log) e refl)) (taken_few op (delivery_refusal op d.log) d)
+
+-- each step takes out one operation at most
+pub steps_few : (n : ℕ) (d : Delivery) → (steps n d).released + (steps n d).dropped ≤ d.released + d.dropped + n
+steps_few zero d = omega arith
+steps_few (suc n) d = let one = release_few (steps n d) in let rest = steps_few n d in omega arith
+
+-- one more step
+pub step_more : (n : ℕ) (u d new : Delivery) → d ≡ steps n u → new ≡ release d → new ≡ steps (n + 1) u
+step_more n u d new at step = let one : suc n ≡ n + 1 = omega arith in step ∙ ap release at ∙ ap (λ (m : ℕ). steps m u) one
+
+-- so many steps take so few out
+pub few_at : (n : ℕ) (u d : Delivery) → d ≡ steps n u → d.released + d.dropped ≤ u.released + u.dropped + n
+few_at n u d at = subst (λ (x : Delivery). x.released + x.dropped ≤ u.released + u.dropped + n) (sym at) (steps_few n u)
+
+-- a release that stands still is settled
+pub settled_idle : (n : ℕ) (u d new : Delivery) → d ≡ steps n u → find (is_ready (vector_of d.log)) d.held ≡ None → new ≡ release d → n ≤ length u.held → new ≡ settle u
+settled_idle n u d new at none step most =
+    let still : release d ≡ d = release_idle d none in
+    let there : release (steps n u) ≡ steps n u = subst (λ x. release x ≡ x) at still in
+    let count : length u.held - n + n ≡ length u.held = omega arith in
+    step ∙ still ∙ at ∙ sym (steps_idle n (length u.held - n) u there) ∙ ap (λ (m : ℕ). steps m u) count
+
+-- so is one of as many steps as were held
+pub settled_all : (n : ℕ) (u d : Delivery) → d ≡ steps n u → n ≡ length u.held → d ≡ settle u
+settled_all n u d at all = at ∙ ap (λ (m : ℕ). steps m u) all

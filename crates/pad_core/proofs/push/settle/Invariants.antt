@@ -1,0 +1,12 @@
+use Rattle.std.proofs.Common.{◌≡◌}
+use Rattle.pad_core.specs.Exchange.{steps, unsettled}
+use Rattle.pad_core.specs.Released.{delivery}
+use Rattle.pad_core.proofs.Releases.{AreChecked}
+use Rattle.pad_core.proofs.push.settle.Given as goal
+
+-- as many steps were made as were counted
+abbrev pub invariant-loop-n : goal.invariant-loop-n
+invariant-loop-n g l = record {
+  done : delivery l.released l.ledger l.held ≡ steps l._n (unsettled (l.initial.ledger, l.initial.held));
+  checked : AreChecked l.held;
+}

@@ -1,0 +1,117 @@
+-- What servers tell each other of a pad: causal delivery.
+use Rattle.std.specs.Prelude.{◌≡◌, ℕ, zero, suc, ◌+◌, Bool, true, not, ◌||◌, ◌==◌, nat_lt, nat_le, if◌then◌else◌, List, [], ◌∷◌, ◌++◌, length, Option, Some, None, Result, Ok, Err, IsOk}
+use Rattle.std.specs.List.{find}
+use Rattle.pad_model.specs.Checked.{is_checked}
+use Rattle.pad_model.specs.OldWire.{op_in_v1, seen_in_v1}
+use Rattle.pad_model.specs.declared.op.Op.{Op}
+use Rattle.pad_model.specs.declared.seen.Counted.{Counted}
+use Rattle.pad_model.specs.declared.who.Version.{Version}
+use Rattle.pad_model.specs.declared.who.Version.TheVariants.{One, Two}
+use Rattle.pad_model.specs.declared.refusal.Refusal.{Refusal}
+use Rattle.pad_model.specs.declared.refusal.Refusal.TheVariants.{BadOp, PeerFault, HoldFull, OldPeer, Empty, TooMuch}
+use Rattle.holdback.specs.Held.{is_covered, is_held, is_ready, with_held, without}
+use Rattle.holdback.specs.declared.held.TheConstants.{MAX_HELD}
+use Rattle.revisions.specs.Log.{missing}
+use Rattle.pad_core.specs.Counts.{vector_of}
+use Rattle.pad_core.specs.Delivered.{delivery_refusal}
+use Rattle.pad_core.specs.declared.exchange.TheConstants.{MAX_PULL}
+use Rattle.pad_core.specs.declared.reply.Pushed.{Pushed}
+use Rattle.pad_core.specs.declared.reply.Pushed.TheVariants.{Repeat, Held, Delivered}
+use Rattle.pad_core.specs.declared.reply.PadReply.{PadReply}
+use Rattle.pad_core.specs.declared.reply.PadReply.TheVariants as reply
+
+-- whether a vector can be told to a peer
+abbrev pub can_tell : Version → List Counted → Bool
+can_tell One seen = seen_in_v1 seen
+can_tell Two seen = true
+
+-- the counts of the operations, which an old peer may not be able to read
+abbrev pub read_vector : Version → List Op → Result PadReply Refusal
+read_vector version log = if can_tell version (vector_of log) then Ok (reply.Vector (length log) (vector_of log)) else Err OldPeer
+
+-- operations up to the first that an old peer cannot read
+abbrev pub sayable : List Op → List Op
+sayable [] = []
+sayable (op ∷ ops) = if op_in_v1 op then op ∷ sayable ops else []
+
+-- what a peer is given of the operations that it lacks: an old one nothing from the first on that it cannot read
+abbrev pub given : Version → List Op → Result (List Op) Refusal
+given Two ops = Ok ops
+given One [] = Ok []
+given One (op ∷ ops) = if op_in_v1 op then Ok (op ∷ sayable ops) else Err OldPeer
+
+-- the first operations that a peer lacks
+abbrev pub pull : Version → List Counted → ℕ → List Op → Result PadReply Refusal
+pull version seen most log =
+    if most == 0 then Err Empty
+    else if nat_lt MAX_PULL most then Err TooMuch
+    else told (given version (missing log seen most))
+  where
+    told : Result (List Op) Refusal → Result PadReply Refusal
+    told (Ok ops) = Ok (reply.Pulled (length log) ops)
+    told (Err refusal) = Err refusal
+
+-- a log, what is held back, and how many held operations were delivered and dropped so far
+pub record Delivery : Type 0 where
+  pub log : List Op
+  pub held : List Op
+  pub released : ℕ
+  pub dropped : ℕ
+
+-- the operation is taken out of what is held: delivered, or dropped where it would be refused
+abbrev pub taken_out : Op → Option Refusal → Delivery → Delivery
+taken_out op None d = record d { log = d.log ++ op ∷ []; held = without op.name d.held; released = d.released + 1 }
+taken_out op (Some refusal) d = record d { held = without op.name d.held; dropped = d.dropped + 1 }
+
+-- one step of a release takes the ready operation of the least origin; held operations stand by name
+abbrev pub release : Delivery → Delivery
+release d = take_ready (find (is_ready (vector_of d.log)) d.held)
+  where
+    take_ready : Option Op → Delivery
+    take_ready None = d
+    take_ready (Some op) = taken_out op (delivery_refusal op d.log) d
+
+-- some steps of a release
+abbrev pub steps : ℕ → Delivery → Delivery
+steps zero d = d
+steps (suc n) d = release (steps n d)
+
+-- a release goes on while an operation is ready, which is as often as there are held ones at most
+abbrev pub settle : Delivery → Delivery
+settle d = steps (length d.held) d
+
+-- a release that begins
+abbrev pub unsettled : List Op × List Op → Delivery
+unsettled now = record { log = now.0; held = now.1; released = 0; dropped = 0 }
+
+-- the log and what is held, after some steps
+abbrev pub both_of : Delivery → List Op × List Op
+both_of d = (d.log, d.held)
+
+-- an operation that is ready is delivered, unless it is refused
+abbrev pub delivered : Op → Option Refusal → List Op → List Op → Result Pushed Refusal × (List Op × List Op)
+delivered op (Some refusal) log held = (Err refusal, (log, held))
+delivered op None log held = (Ok Delivered, (log ++ op ∷ [], held))
+
+-- what becomes of a pushed operation before the release, and the log and what is held then
+abbrev pub received : ℕ → Op → List Op × List Op → Result Pushed Refusal × (List Op × List Op)
+received own op (log, held) =
+    if not (is_checked op) then (Err BadOp, (log, held))
+    else if is_covered (vector_of log) op.name || is_held op.name held then (Ok Repeat, (log, held))
+    else if op.name.origin == own then (Err PeerFault, (log, held))
+    else if is_ready (vector_of log) op then delivered op (delivery_refusal op log) log held
+    else if nat_le MAX_HELD (length held) then (Err HoldFull, (log, held))
+    else (Ok Held, (log, with_held op held))
+
+-- the release after a state, and the answer
+abbrev pub settled : Result Pushed Refusal × (List Op × List Op) → Result PadReply Refusal × (List Op × List Op)
+settled (Err refusal, now) = (Err refusal, now)
+settled (Ok state, now) = let d = settle (unsettled now) in (Ok (reply.Pushed (length d.log) state d.released d.dropped), both_of d)
+
+-- a pushed operation
+abbrev pub push : ℕ → Op → List Op × List Op → Result PadReply Refusal × (List Op × List Op)
+push own op now = settled (received own op now)
+
+-- a push was received, and its release stopped after some steps
+abbrev pub Stopped : ℕ → Op → List Op × List Op → List Op × List Op → Type 0
+Stopped own op old new = IsOk (received own op old).0 × (n : ℕ) × (new ≡ both_of (steps n (unsettled (received own op old).1)))

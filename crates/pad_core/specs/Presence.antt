@@ -1,0 +1,41 @@
+-- Who is present on a pad, and where their carets stand.
+use Rattle.std.specs.Prelude.{ℕ, ◌+◌, nat_lt, if◌then◌else◌, List, length, map, Option, Some, None, Result, Ok, Err}
+use Rattle.pad_model.specs.Operation.{characters_in}
+use Rattle.pad_model.specs.Visible.{visible, caret_of}
+use Rattle.pad_model.specs.declared.op.Op.{Op}
+use Rattle.pad_model.specs.declared.refusal.Refusal.{Refusal}
+use Rattle.pad_model.specs.declared.refusal.Refusal.TheVariants.{NoRevision, OutOfRange}
+use Rattle.sessions.specs.Presence.{Presence, join_refusal, joined, left, with_caret}
+use Rattle.sessions.specs.declared.presence.Visit.{Visit}
+use Rattle.pad_core.specs.Counts.{characters_at}
+use Rattle.pad_core.specs.Edits.{before_place}
+use Rattle.pad_core.specs.declared.reply.Present.{Present}
+use Rattle.pad_core.specs.declared.reply.PadReply.{PadReply}
+use Rattle.pad_core.specs.declared.reply.PadReply.TheVariants.{Joined, Done, Who}
+
+-- one more visit
+abbrev pub join : ℕ → List ℕ → Presence → Result PadReply Refusal × Presence
+join now author p = unless_refused (join_refusal p)
+  where
+    unless_refused : Option Refusal → Result PadReply Refusal × Presence
+    unless_refused (Some refusal) = (Err refusal, p)
+    unless_refused None = (Ok (Joined now (p.given + 1)), joined author p)
+
+-- the end of a visit
+abbrev pub leave : ℕ → ℕ → Presence → Result PadReply Refusal × Presence
+leave now visit p = (Ok (Done now), record p { present = left visit p.present })
+
+-- the caret of a visit, behind the character in front of a place of a revision
+abbrev pub put_caret : ℕ → ℕ → ℕ → List Op → Presence → Result PadReply Refusal × Presence
+put_caret rev at visit log p =
+    if nat_lt (length log) rev then (Err NoRevision, p)
+    else if nat_lt (length (visible (characters_at rev log))) at then (Err OutOfRange, p)
+    else (Ok (Done (length log)), record p { present = with_caret (before_place (characters_at rev log) at) visit p.present })
+
+-- a visit as it is shown: its caret is at a place of the present text
+abbrev pub shown_visit : ℕ → List Op → Visit → Present
+shown_visit own log visit = record { visit = visit.number; author = record { name = visit.author; origin = own }; caret = caret_of (characters_in log) visit.caret }
+
+-- the visits, in order of joining
+abbrev pub read_who : ℕ → List Op → Presence → Result PadReply Refusal
+read_who own log p = Ok (Who (length log) (map (shown_visit own log) p.present))

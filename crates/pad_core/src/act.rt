@@ -1,0 +1,93 @@
+//! What a pad is asked.
+use pad_model::{Name, Op, OpName, Row, Seen, Text};
+use rights::Right;
+
+/// One change of an edit, at a place of its revision.
+#[derive(Debug, Drop)]
+pub enum Change {
+    /// Inserts a text.
+    Insert { at: u64, text: Text },
+    /// Erases `len` characters.
+    Delete { at: u64, len: u64 },
+}
+
+/// What somebody does on a pad. Places and lengths count the characters of the revision that is named.
+#[derive(Debug, Drop)]
+pub enum Act {
+    /// Is present with one more visit.
+    Join,
+    /// Ends the visit.
+    Leave,
+    /// Inserts a text at a place of a revision.
+    Insert {
+        rev: u64,
+        at: u64,
+        text: Text,
+    },
+    /// Erases the `len` characters of a revision from a place on.
+    Delete {
+        rev: u64,
+        at: u64,
+        len: u64,
+    },
+    /// Makes several changes of a revision at once. Each refers to the revision as it is.
+    Edit {
+        rev: u64,
+        changes: Row<Change>,
+    },
+    /// Comments on the `len` characters of a revision from a place on.
+    Comment {
+        rev: u64,
+        at: u64,
+        len: u64,
+        text: Text,
+    },
+    /// Resolves a comment.
+    Resolve {
+        comment: OpName,
+    },
+    /// Reads the text of a revision; None is the present one.
+    Text {
+        rev: Option<u64>,
+    },
+    /// Reads who wrote the text of a revision.
+    Runs {
+        rev: Option<u64>,
+    },
+    /// Reads the comments of a revision.
+    Comments {
+        rev: Option<u64>,
+    },
+    /// Reads how long the pad is.
+    Revs,
+    /// Reads what made up to `count` revisions from one on.
+    Entries {
+        from: u64,
+        count: u64,
+    },
+    /// Puts the visit's caret behind the character in front of a place.
+    Caret {
+        rev: u64,
+        at: u64,
+    },
+    /// Reads who is present.
+    Who,
+    /// Gives an author a right, or takes it away (None).
+    Grant {
+        author: Name,
+        right: Option<Right>,
+    },
+    /// Reads who has which right.
+    Rights,
+    /// Tells a peer what was delivered.
+    Vector,
+    /// Takes an operation from a peer.
+    Push {
+        op: Op,
+    },
+    /// Gives a peer the first operations that it lacks.
+    Pull {
+        seen: Seen,
+        max: u64,
+    },
+}

@@ -1,0 +1,337 @@
+//! What authors insert and erase.
+ghost use Rattle.std.specs.Prelude.{◌≡◌, ℕ, ◌+◌, ◌≤◌, ◌<◌, ◌||◌, ◌==◌, nat_lt, false, [], ◌∷◌, length, sum_by, min, IfOk, IsTrue, None, MatchResult};
+ghost use Rattle.std.specs.List.{list_any, list_all};
+ghost use Rattle.pad_model.specs.Answers.{Answers};
+ghost use Rattle.pad_model.specs.Checked.{is_name};
+ghost use Rattle.pad_model.specs.History.{clock_of_characters};
+ghost use Rattle.pad_model.specs.Operation.{characters_in};
+ghost use Rattle.pad_model.specs.Stamp.{IsInLimits};
+ghost use Rattle.pad_model.specs.Visible.{visible};
+ghost use Rattle.pad_model.specs.declared.limits.TheConstants.{MAX_COUNTER, MAX_PARTS, MAX_REPLICA, MAX_TEXT};
+ghost use Rattle.pad_core.specs.Counts.{characters_at, op_of, next_name as name_next};
+ghost use Rattle.pad_core.specs.Delivered.{IsDelivered};
+ghost use Rattle.pad_core.specs.Edits.{before_place, delete as deleted, edit as many_edited, edit_refusal, edited, growth_refusal, part_from, growth_of as change_growth, insert as inserted, is_outside as lies_outside, is_blank as does_nothing, made_parts, size_of as change_size};
+
+use crate::act::Change;
+use crate::ledger::Ledger;
+use crate::reply::PadReply;
+use pad_model::{
+    MAX_CHARACTERS, MAX_COUNTER, MAX_OPERATIONS, MAX_PARTS, MAX_TEXT, Name, Op, OpName, Part,
+    Refusal, Row, Run, Sequence, Stamp, Text,
+};
+use std::alloc::{AllocError, Global};
+
+/// An edit that was made: its name, and how many visible characters it hides.
+#[derive(Clone, Copy, Debug, PartialEq, Eq)]
+pub struct Edited {
+    pub name: OpName,
+    pub hidden: u64,
+}
+
+/// Inserts a text at a place of a revision.
+pub fn insert<S: Sequence>(
+    alloc: Global,
+    ledger: &mut Ledger<S>,
+    replica: u16,
+    author: &Name,
+    rev: u64,
+    at: u64,
+    text: &Text,
+) -> Result<PadReply, Refusal>
+    requires replica { 1 ≤ replica }
+    requires author { IsTrue (is_name author.now) }
+    ensures { Answers ledger.old (inserted replica author.now rev at text.now ledger.old) result ledger.new }
+{
+    let text = text.clone()?;
+    let changes = [Change::Insert { at, text }];
+    match make_edit(alloc, ledger, replica, author, rev, changes.as_slice()) {
+        Ok(edit) => Ok(PadReply::Made {
+            now: ledger.len(),
+            name: edit.name,
+        }),
+        Err(refusal) => Err(refusal),
+    }
+}
+
+/// Erases some characters that a revision shows.
+pub fn delete<S: Sequence>(
+    alloc: Global,
+    ledger: &mut Ledger<S>,
+    replica: u16,
+    author: &Name,
+    rev: u64,
+    at: u64,
+    len: u64,
+) -> Result<PadReply, Refusal>
+    requires replica { 1 ≤ replica }
+    requires author { IsTrue (is_name author.now) }
+    ensures { Answers ledger.old (deleted replica author.now rev at len ledger.old) result ledger.new }
+{
+    let changes = [Change::Delete { at, len }];
+    edit(alloc, ledger, replica, author, rev, changes.as_slice())
+}
+
+/// Makes several changes of a revision as one operation.
+pub fn edit<S: Sequence>(
+    alloc: Global,
+    ledger: &mut Ledger<S>,
+    replica: u16,
+    author: &Name,
+    rev: u64,
+    changes: &[Change],
+) -> Result<PadReply, Refusal>
+    requires replica { 1 ≤ replica }
+    requires author { IsTrue (is_name author.now) }
+    ensures { Answers ledger.old (many_edited replica author.now rev changes.now ledger.old) result ledger.new }
+{
+    match make_edit(alloc, ledger, replica, author, rev, changes) {
+        Ok(edit) => Ok(PadReply::Changed {
+            now: ledger.len(),
+            name: edit.name,
+            hidden: edit.hidden,
+        }),
+        Err(refusal) => Err(refusal),
+    }
+}
+
+/// Makes the operation of some changes and delivers it, unless it is refused.
+fn make_edit<S: Sequence>(
+    alloc: Global,
+    ledger: &mut Ledger<S>,
+    replica: u16,
+    author: &Name,
+    rev: u64,
+    changes: &[Change],
+) -> Result<Edited, Refusal>
+    requires replica { 1 ≤ replica }
+    requires author { IsTrue (is_name author.now) }
+    ensures { Answers ledger.old (edited replica author.now rev changes.now ledger.old) result ledger.new }
+{
+    if let Some(refusal) = refuse_edit(ledger, rev, changes) {
+        return Err(refusal);
+    }
+    let parts = match make_parts(alloc, ledger, replica, rev, changes) {
+        Ok(parts) => parts,
+        Err(refusal) => return Err(refusal),
+    };
+    let op = make_op(ledger, replica, author, parts)?;
+    let name = op.name;
+    match ledger.append(alloc, op) {
+        Ok(hidden) => Ok(Edited { name, hidden }),
+        Err(refusal) => Err(refusal),
+    }
+}
+
+/// The name of the next operation of a replica.
+pub fn next_name<S: Sequence>(ledger: &Ledger<S>, replica: u16) -> OpName
+    ensures { result ≡ name_next replica ledger.now }
+{
+    // No count is above the number of operations, which its contract bounds.
+    let _operations = ledger.len();
+    OpName {
+        origin: replica,
+        number: ledger.seen().count(replica) + 1,
+    }
+}
+
+/// The next operation of an author on this replica.
+pub fn make_op<S: Sequence>(
+    ledger: &Ledger<S>,
+    replica: u16,
+    author: &Name,
+    parts: Row<Part>,
+) -> Result<Op, Refusal>
+    ensures { MatchResult result (λ op. op ≡ op_of replica author.now parts ledger.now) (λ e. e ≡ Refusal.Memory) }
+{
+    let mut seen = ledger.seen().clone()?;
+    seen.set(replica, 0)?;
+    Ok(Op {
+        name: next_name(ledger, replica),
+        seen,
+        author: author.clone()?,
+        parts,
+    })
+}
+
+/// Why changes of a revision are refused, if they are. The first that holds is the answer.
+fn refuse_edit<S: Sequence>(ledger: &Ledger<S>, rev: u64, changes: &[Change]) -> Option<Refusal>
+    ensures value { result ≡ edit_refusal rev changes.now ledger.now }
+    ensures sound { IsDelivered ledger.now }
+{
+    if ledger.len() < rev {
+        return Some(Refusal::NoRevision);
+    }
+    let shown = ledger.len_at(rev);
+    if is_any_outside(shown, changes) {
+        return Some(Refusal::OutOfRange);
+    }
+    if are_idle(changes) {
+        return Some(Refusal::Empty);
+    }
+    if are_too_much(changes) {
+        return Some(Refusal::TooMuch);
+    }
+    refuse_growth(ledger, total_growth(changes))
+}
+
+fn is_any_outside(shown: u64, changes: &[Change]) -> bool
+    ensures { result ≡ list_any (lies_outside shown) changes.now }
+{
+    changes.iter().any(|change| is_outside(shown, change))
+}
+
+/// Whether there is no change, or one that does nothing.
+fn are_idle(changes: &[Change]) -> bool
+    ensures { result ≡ (length changes.now == 0 || list_any does_nothing changes.now) }
+{
+    changes.is_empty() || is_any_blank(changes)
+}
+
+fn is_any_blank(changes: &[Change]) -> bool
+    ensures { result ≡ list_any does_nothing changes.now }
+{
+    changes.iter().any(is_blank)
+}
+
+fn are_too_much(changes: &[Change]) -> bool
+    ensures { result ≡ (nat_lt MAX_PARTS (length changes.now) || nat_lt MAX_TEXT (sum_by change_size changes.now)) }
+{
+    MAX_PARTS < changes.len() as u64 || MAX_TEXT < total_size(changes)
+}
+
+/// The limit of the pad that so many more characters would pass, if any.
+fn refuse_growth<S: Sequence>(ledger: &Ledger<S>, growth: u64) -> Option<Refusal>
+    requires { growth ≤ MAX_TEXT }
+    ensures { result ≡ growth_refusal growth ledger.now }
+{
+    let now = ledger.len();
+    if MAX_CHARACTERS < ledger.cell_count() + growth {
+        return Some(Refusal::PadFull);
+    }
+    if MAX_COUNTER < ledger.clock() + growth {
+        return Some(Refusal::ClockFull);
+    }
+    if MAX_OPERATIONS <= now {
+        return Some(Refusal::LogFull);
+    }
+    None
+}
+
+fn is_outside(shown: u64, change: &Change) -> bool
+    ensures { result ≡ lies_outside shown change.now }
+{
+    match change {
+        Change::Insert { at, .. } => shown < *at,
+        Change::Delete { at, len } => shown < *at || shown - *at < *len,
+    }
+}
+
+fn is_blank(change: &Change) -> bool
+    ensures { result ≡ does_nothing change.now }
+{
+    size_of(change) == 0
+}
+
+fn size_of(change: &Change) -> u64
+    ensures { result ≡ change_size change.now }
+{
+    match change {
+        Change::Insert { text, .. } => text.len() as u64,
+        Change::Delete { len, .. } => *len,
+    }
+}
+
+/// How many characters the changes insert or erase together, or u64::MAX where they are more.
+fn total_size(changes: &[Change]) -> u64
+    ensures { result ≡ min (sum_by change_size changes.now) u64.MAX }
+{
+    changes
+        .iter()
+        .fold(0, |total, change| total.saturating_add(size_of(change)))
+}
+
+fn growth_of(change: &Change) -> u64
+    ensures { result ≡ change_growth change.now }
+{
+    match change {
+        Change::Insert { text, .. } => text.len() as u64,
+        Change::Delete { .. } => 0,
+    }
+}
+
+/// How many characters the changes insert together, or u64::MAX where they are more.
+fn total_growth(changes: &[Change]) -> u64
+    ensures { result ≡ min (sum_by change_growth changes.now) u64.MAX }
+{
+    changes
+        .iter()
+        .fold(0, |total, change| total.saturating_add(growth_of(change)))
+}
+
+/// The parts of the changes: each refers to the revision, and each insertion is newer than what stands in the pad and
+/// than the one before it.
+fn make_parts<S: Sequence>(
+    alloc: Global,
+    ledger: &Ledger<S>,
+    replica: u16,
+    rev: u64,
+    changes: &[Change],
+) -> Result<Row<Part>, Refusal>
+    requires replica { 1 ≤ replica }
+    requires allowed { edit_refusal rev changes.now ledger.now ≡ None }
+    ensures { MatchResult result (λ parts. parts ≡ made_parts replica rev changes.now ledger.now) (λ e. e ≡ Refusal.Memory) }
+{
+    let mut counter = ledger.clock() + 1;
+    let mut parts = Row::new(alloc);
+    for change in changes {
+        let part = make_part(alloc, ledger, replica, counter, rev, change)?;
+        parts.push(part)?;
+        counter += growth_of(change);
+    }
+    Ok(parts)
+}
+
+fn make_part<S: Sequence>(
+    alloc: Global,
+    ledger: &Ledger<S>,
+    replica: u16,
+    counter: u64,
+    rev: u64,
+    change: &Change,
+) -> Result<Part, Refusal>
+    requires replica { 1 ≤ replica }
+    requires counter { 1 ≤ counter }
+    requires clock { counter + change_growth change.now ≤ MAX_COUNTER + 1 }
+    requires within { lies_outside (length (visible (characters_at rev ledger.now))) change.now ≡ false }
+    requires filled { does_nothing change.now ≡ false }
+    ensures { MatchResult result (λ part. part ≡ part_from counter replica (characters_at rev ledger.now) change.now) (λ e. e ≡ Refusal.Memory) }
+{
+    Ok(match change {
+        Change::Insert { at, text } => Part::Insert(Run {
+            first: first_stamp(counter, replica),
+            after: stamp_before(ledger, rev, *at),
+            text: text.clone()?,
+        }),
+        Change::Delete { at, len } => Part::Delete(ledger.spans_at(alloc, rev, *at, *len)?),
+    })
+}
+
+fn first_stamp(counter: u64, replica: u16) -> Stamp
+    requires { IsInLimits counter replica }
+    ensures { result ≡ record { counter = counter; replica = replica } }
+{
+    match Stamp::new(counter, replica) {
+        Ok(stamp) => stamp,
+        Err(_) => unreachable!(),
+    }
+}
+
+/// The stamp of the character in front of a place of a revision; None is the start.
+pub fn stamp_before<S: Sequence>(ledger: &Ledger<S>, rev: u64, at: u64) -> Option<Stamp>
+    ensures { result ≡ before_place (characters_at rev ledger.now) at }
+{
+    match at {
+        0 => None,
+        _ => ledger.stamp_at(rev, at - 1),
+    }
+}

@@ -1,0 +1,75 @@
+//! What one more operation changes beside the log.
+ghost use Rattle.std.specs.Prelude.{◌≡◌, ◌+◌, true, IsTrue, IfErr, OnOk, MatchResult, None};
+ghost use Rattle.pad_model.specs.Checked.{is_checked};
+ghost use Rattle.pad_model.specs.History.{cells_of};
+ghost use Rattle.pad_model.specs.Operation.{author_of as writer_of};
+ghost use Rattle.pad_model.specs.Seen.{count_in};
+ghost use Rattle.pad_core.specs.Book.{book_of, entered, may_enter};
+ghost use Rattle.pad_core.specs.Counts.{vector_of};
+ghost use Rattle.pad_core.specs.Delivered.{Enters, IsDelivered, delivery_refusal};
+
+use anchors::CommentBook;
+use pad_model::{Author, Op, Part, Refusal, Sequence};
+use revisions::OpLog;
+use std::alloc::Global;
+
+/// Makes the changes of the next operation of a log, or finds no memory and makes none. The answer is how many visible
+/// characters it hides.
+pub fn enter<S: Sequence>(
+    alloc: Global,
+    sequence: &mut S,
+    comments: &mut CommentBook,
+    log: &OpLog,
+    op: &Op,
+) -> Result<u64, Refusal>
+    requires delivered { IsDelivered log.now.operations }
+    requires kept { S.cells sequence.old ≡ cells_of log.now.operations }
+    requires commented { comments.old ≡ book_of log.now.operations }
+    requires checked { IsTrue (is_checked op.now) }
+    requires next { op.now.name.number ≡ count_in (vector_of log.now.operations) op.now.name.origin + 1 }
+    requires allowed { delivery_refusal op.now log.now.operations ≡ None }
+    ensures { Enters log.now.operations op.now (S.cells sequence.old, comments.old) result (S.cells sequence.new, comments.new) }
+{
+    let author = author_of(op)?;
+    let rev = log.len() + 1;
+    if op.is_edit() {
+        return sequence.apply(alloc, op.parts.as_slice(), &author, rev);
+    }
+    // What is no edit has one part.
+    if let Some(part) = op.parts.get(0) {
+        enter_note(alloc, comments, op, part, &author, rev)?;
+    }
+    Ok(0)
+}
+
+/// Enters a comment or a resolution into the book.
+fn enter_note(
+    alloc: Global,
+    comments: &mut CommentBook,
+    op: &Op,
+    part: &Part,
+    author: &Author,
+    rev: u64,
+) -> Result<(), Refusal>
+    requires author { author.now ≡ writer_of op.now }
+    requires fits { may_enter op.now.name comments.old part.now ≡ true }
+    ensures ok { OnOk result (comments.new ≡ entered rev op.now comments.old part.now) }
+    ensures err { IfErr result (λ e. (e ≡ Refusal.Memory) × (comments.new ≡ comments.old)) }
+{
+    match part {
+        Part::Comment { first, last, text } => {
+            comments.add(alloc, op.name, *first, *last, author, text, rev)
+        }
+        Part::Resolve { comment } => comments.resolve(*comment, rev),
+        Part::Insert(_) | Part::Delete(_) => Ok(()),
+    }
+}
+
+fn author_of(op: &Op) -> Result<Author, Refusal>
+    ensures { MatchResult result (λ author. author ≡ writer_of op.now) (λ e. e ≡ Refusal.Memory) }
+{
+    Ok(Author {
+        name: op.author.clone()?,
+        origin: op.name.origin,
+    })
+}

@@ -1,0 +1,101 @@
+//! What a peer is told and given.
+ghost use Rattle.std.specs.Prelude.{◌≡◌, IfOk};
+ghost use Rattle.pad_core.specs.Exchange.{can_tell as can_be_told, given, sayable, pull as pulled, read_vector as vector_read};
+ghost use Rattle.pad_model.specs.declared.who.Version.TheVariants.{One};
+ghost use Rattle.pad_core.specs.Reads.{Tells};
+
+use crate::ledger::Ledger;
+use crate::reply::PadReply;
+use pad_model::{Op, Refusal, Row, Seen, Sequence, Version, op_in_v1, seen_in_v1};
+use std::alloc::{AllocError, Global};
+
+/// How many operations one pull gives at most.
+pub const MAX_PULL: u64 = 4;
+
+/// How many operations of each origin were delivered.
+pub fn read_vector<S: Sequence>(ledger: &Ledger<S>, version: Version) -> Result<PadReply, Refusal>
+    ensures { Tells (vector_read version ledger.now) result }
+{
+    let seen = ledger.seen();
+    if !can_tell(version, seen) {
+        return Err(Refusal::OldPeer);
+    }
+    let seen = seen.clone()?;
+    Ok(PadReply::Vector {
+        now: ledger.len(),
+        seen,
+    })
+}
+
+/// Whether a vector can be told to a peer.
+fn can_tell(version: Version, seen: &Seen) -> bool
+    ensures { result ≡ can_be_told version seen.now }
+{
+    match version {
+        Version::One => seen_in_v1(seen),
+        Version::Two => true,
+    }
+}
+
+/// The first operations that a peer lacks; an old peer gets none from the first on that it cannot read.
+pub fn pull<S: Sequence>(
+    alloc: Global,
+    ledger: &Ledger<S>,
+    version: Version,
+    seen: &Seen,
+    max: u64,
+) -> Result<PadReply, Refusal>
+    ensures { Tells (pulled version seen.now max ledger.now) result }
+{
+    if max == 0 {
+        return Err(Refusal::Empty);
+    }
+    if MAX_PULL < max {
+        return Err(Refusal::TooMuch);
+    }
+    let missing = match ledger.missing(alloc, seen, max) {
+        Ok(missing) => missing,
+        Err(refusal) => return Err(refusal),
+    };
+    match give(alloc, version, missing) {
+        Ok(ops) => Ok(PadReply::Pulled {
+            now: ledger.len(),
+            ops,
+        }),
+        Err(refusal) => Err(refusal),
+    }
+}
+
+/// What a peer is given of the operations that it lacks.
+fn give(alloc: Global, version: Version, missing: Row<Op>) -> Result<Row<Op>, Refusal>
+    ensures { Tells (given version missing) result }
+{
+    match version {
+        Version::Two => Ok(missing),
+        Version::One => give_old(alloc, missing.as_slice()),
+    }
+}
+
+/// What an old peer is given of the operations that it lacks.
+fn give_old(alloc: Global, missing: &[Op]) -> Result<Row<Op>, Refusal>
+    ensures { Tells (given One missing.now) result }
+{
+    match missing.first() {
+        Some(first) if !op_in_v1(first) => Err(Refusal::OldPeer),
+        _ => Ok(Row::from_vec(copy_sayable(alloc, missing)?)),
+    }
+}
+
+/// Copies of the operations up to the first that an old peer cannot read.
+fn copy_sayable(alloc: Global, ops: &[Op]) -> Result<Vec<Op>, AllocError>
+    ensures { IfOk result (λ copies. copies.items ≡ sayable ops.now) }
+{
+    let mut copies = Vec::new(alloc);
+    for op in ops {
+        if !op_in_v1(op) {
+            return Ok(copies);
+        }
+        copies.push(op.clone()?)?;
+    }
+    Ok(copies)
+}

@@ -1,0 +1,35 @@
+//! Who has which right.
+ghost use Rattle.std.specs.Prelude.{◌≡◌};
+ghost use Rattle.pad_model.specs.Answers.{Answers};
+ghost use Rattle.pad_core.specs.Grants.{grant as granted, read_rights as rights_read};
+ghost use Rattle.pad_core.specs.Reads.{Tells};
+
+use crate::reply::PadReply;
+use pad_model::{Name, Refusal};
+use rights::{Right, RightsBook};
+use std::alloc::Global;
+
+/// Gives an author a right, or takes it away (None).
+pub fn grant(
+    rights: &mut RightsBook,
+    now: u64,
+    author: &Name,
+    right: Option<Right>,
+) -> Result<PadReply, Refusal>
+    ensures { Answers rights.old (granted now author.now right rights.old) result rights.new }
+{
+    match rights.grant(author, right) {
+        Ok(()) => Ok(PadReply::Done { now }),
+        Err(refusal) => Err(refusal),
+    }
+}
+
+/// All names with their rights.
+pub fn read_rights(alloc: Global, rights: &RightsBook, now: u64) -> Result<PadReply, Refusal>
+    ensures { Tells (rights_read now rights.now) result }
+{
+    match rights.list(alloc) {
+        Ok(rights) => Ok(PadReply::Rights { now, rights }),
+        Err(refusal) => Err(refusal),
+    }
+}

@@ -1,0 +1,7 @@
+//! Laws of the definitions, each the contract of a function that does nothing.
+ghost use Rattle.pad_core.specs.Laws.{SameSetLaw};
+
+/// What a pad shows depends on the set of its operations alone: strong eventual consistency (Shapiro and others 2011).
+pub fn same_set_law()
+    ensures { SameSetLaw }
+{}

@@ -1,0 +1,221 @@
+//! The operations that were delivered, and what they show.
+ghost use Rattle.std.specs.Prelude.{◌≡◌, ℕ, ◌+◌, ◌≤◌, [], ◌∷◌, ◌++◌, length, take, count_by, Option, None, Ok, IsTrue, IfErr, MatchResult};
+ghost use Rattle.pad_model.specs.Answers.{Answers};
+ghost use Rattle.pad_model.specs.Checked.{is_checked};
+ghost use Rattle.pad_model.specs.History.{clock_of_characters};
+ghost use Rattle.pad_model.specs.Log.{is_comment};
+ghost use Rattle.pad_model.specs.Operation.{characters_in, erased_by};
+ghost use Rattle.pad_model.specs.Seen.{count_in};
+ghost use Rattle.pad_model.specs.Visible.{caret_of, hidden_by, runs_of, spans_of, stamp_at, text_of, visible};
+ghost use Rattle.revisions.specs.Log.{entries as entries_of, missing as missing_of};
+ghost use Rattle.pad_core.specs.Comments.{comments_of};
+ghost use Rattle.pad_core.specs.Counts.{characters_at, vector_of};
+ghost use Rattle.pad_core.specs.Delivered.{IsDelivered, delivery_refusal};
+ghost use Rattle.pad_core.specs.Notes.{has_comment as is_commented};
+
+use crate::enter::enter;
+use crate::judge::{count_inserted, is_comment, is_valid};
+use anchors::{CommentBook, Shown};
+use pad_model::{
+    AuthorRun, MAX_CHARACTERS, MAX_COMMENTS, MAX_OPERATIONS, Op, OpName, Refusal, Row, Seen,
+    Sequence, Span, Stamp, Text,
+};
+use revisions::OpLog;
+use std::alloc::Global;
+use std::marker::Model;
+
+/// The delivered operations of a pad in order of delivery, with the characters, counts and comments that follow from them.
+#[derive(Drop)]
+pub struct Ledger<S: Sequence> {
+    log: OpLog,
+    seen: Seen,
+    comments: CommentBook,
+    sequence: S,
+}
+
+impl<S: Sequence> Model for Ledger<S> {
+    ghost use Rattle.std.specs.Prelude.{List};
+    ghost use Rattle.pad_model.specs.declared.op.Op.{Op};
+    ghost use Rattle.pad_core.specs.Delivered.{IsLedger};
+
+    ghost Value = { List Op };
+
+    ghost view = { λ l. l.log.operations };
+
+    ghost invariant = { λ l. IsLedger l.log.operations l.seen l.comments (S.cells l.sequence) };
+}
+
+impl<S: Sequence> Ledger<S> {
+    /// No operation was delivered yet.
+    pub fn new(alloc: Global) -> Result<Ledger<S>, Refusal>
+        ensures { MatchResult result (λ ledger. ledger ≡ []) (λ e. e ≡ Refusal.Memory) }
+    {
+        match S::empty(alloc) {
+            Ok(sequence) => Ok(Ledger {
+                log: OpLog::new(alloc),
+                seen: Seen::new(alloc),
+                comments: CommentBook::new(alloc),
+                sequence,
+            }),
+            Err(refusal) => Err(refusal),
+        }
+    }
+
+    /// How many operations there are, which is the present revision.
+    pub fn len(&self) -> u64
+        ensures value { result ≡ length self.now }
+        ensures sound { IsDelivered self.now }
+    {
+        self.log.len()
+    }
+
+    /// How many operations of each origin there are.
+    pub fn seen(&self) -> &Seen
+        ensures { result.now ≡ vector_of self.now }
+    {
+        &self.seen
+    }
+
+    /// How many characters there are, those that are erased included.
+    pub fn cell_count(&self) -> u64
+        ensures { result ≡ length (characters_in self.now).inserted }
+    {
+        self.sequence.cell_count()
+    }
+
+    /// The greatest counter of a character, or 0.
+    pub fn clock(&self) -> u64
+        ensures { result ≡ clock_of_characters (characters_in self.now).inserted }
+    {
+        self.sequence.clock()
+    }
+
+    /// How many characters a revision shows.
+    pub fn len_at(&self, rev: u64) -> u64
+        ensures { result ≡ length (visible (characters_at rev self.now)) }
+    {
+        self.sequence.len_at(rev)
+    }
+
+    /// The stamp of the character that a revision shows at a place, from 0.
+    pub fn stamp_at(&self, rev: u64, place: u64) -> Option<Stamp>
+        ensures { result ≡ stamp_at (characters_at rev self.now) place }
+    {
+        self.sequence.stamp_at(rev, place)
+    }
+
+    /// The stamps of the `len` characters that a revision shows from a place on.
+    pub fn spans_at(&self, alloc: Global, rev: u64, at: u64, len: u64) -> Result<Row<Span>, Refusal>
+        requires { at + len ≤ length (visible (characters_at rev self.now)) }
+        ensures { MatchResult result (λ spans. spans ≡ spans_of (characters_at rev self.now) at len) (λ e. e ≡ Refusal.Memory) }
+    {
+        self.sequence.spans_at(alloc, rev, at, len)
+    }
+
+    /// The text of a revision.
+    pub fn text_at(&self, alloc: Global, rev: u64) -> Result<Text, Refusal>
+        ensures { MatchResult result (λ text. text ≡ text_of (characters_at rev self.now)) (λ e. e ≡ Refusal.Memory) }
+    {
+        self.sequence.text_at(alloc, rev)
+    }
+
+    /// Who wrote the text of a revision.
+    pub fn runs_at(&self, alloc: Global, rev: u64) -> Result<Row<AuthorRun>, Refusal>
+        ensures { MatchResult result (λ runs. runs ≡ runs_of (characters_at rev self.now)) (λ e. e ≡ Refusal.Memory) }
+    {
+        self.sequence.authors_at(alloc, rev)
+    }
+
+    /// How many visible characters stand before a caret behind this character.
+    pub fn caret_place(&self, caret: Option<Stamp>) -> u64
+        ensures { result ≡ caret_of (characters_in self.now) caret }
+    {
+        let Some(stamp) = caret else {
+            return 0;
+        };
+        let now = self.log.len();
+        match self.sequence.through(stamp, now) {
+            Some(place) => place,
+            None => self.sequence.len_at(now),
+        }
+    }
+
+    /// The comments of a revision, by name.
+    pub fn comments_at(&self, alloc: Global, rev: u64) -> Result<Row<Shown>, Refusal>
+        ensures { MatchResult result (λ rows. rows ≡ comments_of (take rev self.now)) (λ e. e ≡ Refusal.Memory) }
+    {
+        self.comments.list_at(alloc, &self.sequence, rev)
+    }
+
+    /// Whether a name is a comment's.
+    pub fn has_comment(&self, name: OpName) -> bool
+        ensures { result ≡ is_commented name self.now }
+    {
+        self.comments.has(name)
+    }
+
+    /// How many comments there are.
+    pub fn comment_count(&self) -> u64
+        ensures { result ≡ count_by is_comment self.now }
+    {
+        self.comments.len()
+    }
+
+    /// The operations that made the revisions `from` to `from + count - 1`, as far as there are any.
+    pub fn entries(&self, from: u64, count: u64) -> &[Op]
+        requires { 1 ≤ from }
+        ensures { result.now ≡ entries_of self.now from count }
+    {
+        self.log.entries(from, count)
+    }
+
+    /// Copies of the first `max` operations that `seen` does not cover.
+    pub fn missing(&self, alloc: Global, seen: &Seen, max: u64) -> Result<Row<Op>, Refusal>
+        ensures { MatchResult result (λ row. row ≡ missing_of self.now seen.now max) (λ e. e ≡ Refusal.Memory) }
+    {
+        self.log.missing(alloc, seen, max)
+    }
+
+    /// Why an operation cannot be delivered, if so: it does not fit what stands here, or the pad has no room for it.
+    pub fn refusal_of(&self, op: &Op) -> Option<Refusal>
+        requires { IsTrue (is_checked op.now) }
+        ensures { result ≡ delivery_refusal op.now self.now }
+    {
+        if !is_valid(&self.sequence, &self.comments, op) {
+            return Some(Refusal::PeerFault);
+        }
+        if MAX_CHARACTERS < self.sequence.cell_count() + count_inserted(op) {
+            return Some(Refusal::PadFull);
+        }
+        if MAX_OPERATIONS <= self.log.len() {
+            return Some(Refusal::LogFull);
+        }
+        if is_comment(op) && MAX_COMMENTS <= self.comments.len() {
+            return Some(Refusal::CommentsFull);
+        }
+        None
+    }
+
+    /// Delivers an operation: the next of its origin, that nothing speaks against. The answer is how many visible
+    /// characters it hides.
+    pub fn append(&mut self, alloc: Global, op: Op) -> Result<u64, Refusal>
+        requires checked { IsTrue (is_checked op) }
+        requires next { op.name.number ≡ count_in (vector_of self.old) op.name.origin + 1 }
+        requires allowed { delivery_refusal op self.old ≡ None }
+        ensures { Answers self.old (Ok (hidden_by (erased_by op) (characters_in self.old)), self.old ++ op ∷ []) result self.new }
+    {
+        self.log.reserve()?;
+        let mut seen = self.seen.clone()?;
+        seen.advance(op.name.origin)?;
+        let hidden = enter(
+            alloc,
+            &mut self.sequence,
+            &mut self.comments,
+            &self.log,
+            &op,
+        )?;
+        self.seen = seen;
+        self.log.push(op);
+        Ok(hidden)
+    }
+}

@@ -1,0 +1,151 @@
+//! What authors comment, and what they resolve.
+ghost use Rattle.std.specs.Prelude.{◌≡◌, ◌+◌, ◌≤◌, ◌<◌, [], ◌∷◌, length, IsTrue, None, Some, MatchResult};
+ghost use Rattle.pad_model.specs.Answers.{Answers};
+ghost use Rattle.pad_model.specs.Checked.{is_checked, is_name};
+ghost use Rattle.pad_model.specs.Visible.{stamp_at, visible};
+ghost use Rattle.pad_core.specs.Counts.{characters_at, op_of};
+ghost use Rattle.pad_core.specs.Delivered.{IsDelivered, delivery_refusal};
+ghost use Rattle.pad_core.specs.Notes.{comment as commented, comment_parts, comment_refusal, noted, resolve as resolved, resolve_refusal};
+
+use crate::edit::make_op;
+use crate::ledger::Ledger;
+use crate::reply::PadReply;
+use pad_model::{
+    MAX_COMMENT, MAX_COMMENTS, MAX_OPERATIONS, Name, OpName, Part, Refusal, Row, Sequence, Stamp,
+    Text,
+};
+use std::alloc::Global;
+
+/// Comments on the `len` characters that a revision shows from a place on.
+pub fn comment<S: Sequence>(
+    alloc: Global,
+    ledger: &mut Ledger<S>,
+    replica: u16,
+    author: &Name,
+    rev: u64,
+    at: u64,
+    len: u64,
+    text: &Text,
+) -> Result<PadReply, Refusal>
+    requires replica { 1 ≤ replica }
+    requires author { IsTrue (is_name author.now) }
+    ensures { Answers ledger.old (commented replica author.now rev at len text.now ledger.old) result ledger.new }
+{
+    if let Some(refusal) = refuse_comment(ledger, rev, at, len, text) {
+        return Err(refusal);
+    }
+    let part = match make_comment(ledger, rev, at, len, text) {
+        Ok(part) => part,
+        Err(refusal) => return Err(refusal),
+    };
+    note(alloc, ledger, replica, author, part)
+}
+
+/// Resolves a comment.
+pub fn resolve<S: Sequence>(
+    alloc: Global,
+    ledger: &mut Ledger<S>,
+    replica: u16,
+    author: &Name,
+    comment: OpName,
+) -> Result<PadReply, Refusal>
+    requires replica { 1 ≤ replica }
+    requires author { IsTrue (is_name author.now) }
+    ensures { Answers ledger.old (resolved replica author.now comment ledger.old) result ledger.new }
+{
+    if !ledger.has_comment(comment) {
+        return Err(Refusal::NoComment);
+    }
+    if MAX_OPERATIONS <= ledger.len() {
+        return Err(Refusal::LogFull);
+    }
+    note(alloc, ledger, replica, author, Part::Resolve { comment })
+}
+
+/// Makes the operation of one comment or resolution and delivers it.
+fn note<S: Sequence>(
+    alloc: Global,
+    ledger: &mut Ledger<S>,
+    replica: u16,
+    author: &Name,
+    part: Part,
+) -> Result<PadReply, Refusal>
+    requires checked { IsTrue (is_checked (op_of replica author.now (part ∷ []) ledger.old)) }
+    requires allowed { delivery_refusal (op_of replica author.now (part ∷ []) ledger.old) ledger.old ≡ None }
+    ensures { Answers ledger.old (noted None replica author.now (part ∷ []) ledger.old) result ledger.new }
+{
+    let mut parts = Row::new(alloc);
+    parts.push(part)?;
+    let op = make_op(ledger, replica, author, parts)?;
+    let name = op.name;
+    match ledger.append(alloc, op) {
+        Ok(_) => Ok(PadReply::Made {
+            now: ledger.len(),
+            name,
+        }),
+        Err(refusal) => Err(refusal),
+    }
+}
+
+/// Why a comment is refused, if it is. The first that holds is the answer.
+fn refuse_comment<S: Sequence>(
+    ledger: &Ledger<S>,
+    rev: u64,
+    at: u64,
+    len: u64,
+    text: &Text,
+) -> Option<Refusal>
+    ensures value { result ≡ comment_refusal rev at len text.now ledger.now }
+    ensures sound { IsDelivered ledger.now }
+{
+    if ledger.len() < rev {
+        return Some(Refusal::NoRevision);
+    }
+    let shown = ledger.len_at(rev);
+    if shown < at || shown - at < len {
+        return Some(Refusal::OutOfRange);
+    }
+    if len == 0 || text.is_empty() {
+        return Some(Refusal::Empty);
+    }
+    if MAX_COMMENT < text.len() as u64 {
+        return Some(Refusal::TooMuch);
+    }
+    if MAX_OPERATIONS <= ledger.len() {
+        return Some(Refusal::LogFull);
+    }
+    if MAX_COMMENTS <= ledger.comment_count() {
+        return Some(Refusal::CommentsFull);
+    }
+    None
+}
+
+/// The part of a comment: it keeps the stamps of its first and its last character.
+fn make_comment<S: Sequence>(
+    ledger: &Ledger<S>,
+    rev: u64,
+    at: u64,
+    len: u64,
+    text: &Text,
+) -> Result<Part, Refusal>
+    requires sound { IsDelivered ledger.now }
+    requires allowed { comment_refusal rev at len text.now ledger.now ≡ None }
+    ensures { MatchResult result (λ part. comment_parts (characters_at rev ledger.now) at len text.now ≡ part ∷ []) (λ e. e ≡ Refusal.Memory) }
+{
+    Ok(Part::Comment {
+        first: shown_stamp(ledger, rev, at),
+        last: shown_stamp(ledger, rev, at + len - 1),
+        text: text.clone()?,
+    })
+}
+
+/// The stamp of a character that a revision shows.
+fn shown_stamp<S: Sequence>(ledger: &Ledger<S>, rev: u64, place: u64) -> Stamp
+    requires { place < length (visible (characters_at rev ledger.now)) }
+    ensures { stamp_at (characters_at rev ledger.now) place ≡ Some result }
+{
+    match ledger.stamp_at(rev, place) {
+        Some(stamp) => stamp,
+        None => unreachable!(),
+    }
+}

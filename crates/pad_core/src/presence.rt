@@ -1,0 +1,117 @@
+//! Who is present, and where their carets stand.
+ghost use Rattle.std.specs.Prelude.{◌≡◌, IfOk, length, map, true};
+ghost use Rattle.std.specs.List.{list_any};
+ghost use Rattle.pad_model.specs.Answers.{Answers};
+ghost use Rattle.sessions.specs.Presence.{has_number};
+ghost use Rattle.pad_core.specs.Reads.{Tells};
+ghost use Rattle.pad_core.specs.Presence.{join as joined, leave as left, put_caret as caret_put, read_who as who_read, shown_visit};
+
+use crate::edit::stamp_before;
+use crate::ledger::Ledger;
+use crate::reply::{PadReply, Present};
+use pad_model::{Author, Name, Refusal, Row, Sequence};
+use sessions::{PresenceBook, Visit};
+use std::alloc::{AllocError, Global};
+
+/// One more visit of an author.
+pub fn join(
+    alloc: Global,
+    presence: &mut PresenceBook,
+    now: u64,
+    author: &Name,
+) -> Result<PadReply, Refusal>
+    ensures { Answers presence.old (joined now author.now presence.old) result presence.new }
+{
+    match presence.join(alloc, author.as_str()) {
+        Ok(visit) => Ok(PadReply::Joined { now, visit }),
+        Err(refusal) => Err(refusal),
+    }
+}
+
+/// The end of a visit.
+pub fn leave(presence: &mut PresenceBook, now: u64, visit: u64) -> Result<PadReply, Refusal>
+    requires { list_any (has_number visit) presence.old.present ≡ true }
+    ensures { left now visit presence.old ≡ (result, presence.new) }
+{
+    match presence.leave(visit) {
+        Ok(()) => Ok(PadReply::Done { now }),
+        Err(refusal) => Err(refusal),
+    }
+}
+
+/// Puts a caret behind the character in front of a place of a revision.
+pub fn put_caret<S: Sequence>(
+    ledger: &Ledger<S>,
+    presence: &mut PresenceBook,
+    visit: u64,
+    rev: u64,
+    at: u64,
+) -> Result<PadReply, Refusal>
+    requires { list_any (has_number visit) presence.old.present ≡ true }
+    ensures { caret_put rev at visit ledger.now presence.old ≡ (result, presence.new) }
+{
+    let now = ledger.len();
+    if now < rev {
+        return Err(Refusal::NoRevision);
+    }
+    if ledger.len_at(rev) < at {
+        return Err(Refusal::OutOfRange);
+    }
+    match presence.caret(visit, stamp_before(ledger, rev, at)) {
+        Ok(()) => Ok(PadReply::Done { now }),
+        Err(refusal) => Err(refusal),
+    }
+}
+
+/// Who is present, in order of joining.
+pub fn read_who<S: Sequence>(
+    alloc: Global,
+    ledger: &Ledger<S>,
+    presence: &PresenceBook,
+    replica: u16,
+) -> Result<PadReply, Refusal>
+    ensures { Tells (who_read replica ledger.now presence.now) result }
+{
+    let visits = match presence.who(alloc) {
+        Ok(visits) => visits,
+        Err(refusal) => return Err(refusal),
+    };
+    let who = show(alloc, ledger, replica, visits.as_slice())?;
+    Ok(PadReply::Who {
+        now: ledger.len(),
+        who: Row::from_vec(who),
+    })
+}
+
+/// Visits as they are shown.
+fn show<S: Sequence>(
+    alloc: Global,
+    ledger: &Ledger<S>,
+    replica: u16,
+    visits: &[Visit],
+) -> Result<Vec<Present>, AllocError>
+    ensures { IfOk result (λ who. who.items ≡ map (shown_visit replica ledger.now) visits.now) }
+{
+    let mut who = Vec::new(alloc);
+    for visit in visits {
+        who.push(show_visit(ledger, replica, visit)?)?;
+    }
+    Ok(who)
+}
+
+fn show_visit<S: Sequence>(
+    ledger: &Ledger<S>,
+    replica: u16,
+    visit: &Visit,
+) -> Result<Present, AllocError>
+    ensures { IfOk result (λ present. present ≡ shown_visit replica ledger.now visit.now) }
+{
+    Ok(Present {
+        visit: visit.number,
+        author: Author {
+            name: visit.author.clone()?,
+            origin: replica,
+        },
+        caret: ledger.caret_place(visit.caret),
+    })
+}

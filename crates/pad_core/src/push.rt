@@ -1,0 +1,170 @@
+//! A pushed operation, and the release of those that waited for it.
+ghost use Rattle.std.specs.Prelude.{◌≡◌, ◌⊎◌, ℕ, ◌+◌, ◌<◌, ◌||◌, List, IsTrue, Ok, Err, None, IfOk, IfErr, OnOk, false};
+ghost use Rattle.std.specs.List.{AllByRecursion, find};
+ghost use Rattle.holdback.specs.Held.{is_covered, is_held, is_ready};
+ghost use Rattle.pad_model.specs.declared.op.Op.{Op};
+ghost use Rattle.pad_core.specs.Counts.{vector_of};
+ghost use Rattle.pad_core.specs.Delivered.{delivery_refusal};
+ghost use Rattle.pad_model.specs.Answers.{Answers};
+ghost use Rattle.pad_model.specs.Checked.{is_checked};
+ghost use Rattle.pad_core.specs.Exchange.{both_of, delivered, push as pushed, received, release as released_one, settle as settled_from, steps, unsettled, Stopped};
+ghost use Rattle.pad_core.specs.Released.{delivery};
+
+use crate::ledger::Ledger;
+use crate::reply::{PadReply, Pushed};
+use holdback::{Hold, Offer};
+use pad_model::{Op, OpName, Refusal, Sequence};
+use std::alloc::Global;
+
+/// What a release did with held operations.
+#[derive(Clone, Copy, Debug, PartialEq, Eq)]
+pub struct Released {
+    pub delivered: u64,
+    pub dropped: u64,
+}
+
+/// Takes an operation from a peer, and releases what waited. A release that finds no memory keeps what it delivered,
+/// and the operation that it could not deliver stays held.
+pub fn push<S: Sequence>(
+    alloc: Global,
+    ledger: &mut Ledger<S>,
+    held: &mut Hold,
+    replica: u16,
+    op: &Op,
+) -> Result<PadReply, Refusal>
+    requires held { AllByRecursion (λ op. IsTrue (is_checked op)) held.old }
+    ensures answer { Answers (ledger.old, held.old) (pushed replica op.now (ledger.old, held.old)) result (ledger.new, held.new) ⊎ ((result ≡ Err Refusal.Memory) × Stopped replica op.now (ledger.old, held.old) (ledger.new, held.new)) }
+    ensures held { AllByRecursion (λ op. IsTrue (is_checked op)) held.new }
+{
+    let state = match receive(alloc, ledger, held, replica, op) {
+        Ok(state) => state,
+        Err(refusal) => return Err(refusal),
+    };
+    match settle(alloc, ledger, held) {
+        Ok(released) => Ok(PadReply::Pushed {
+            now: ledger.len(),
+            state,
+            released: released.delivered,
+            dropped: released.dropped,
+        }),
+        Err(refusal) => Err(refusal),
+    }
+}
+
+/// Delivers an operation, holds it back or knows it already, unless it is refused.
+fn receive<S: Sequence>(
+    alloc: Global,
+    ledger: &mut Ledger<S>,
+    held: &mut Hold,
+    replica: u16,
+    op: &Op,
+) -> Result<Pushed, Refusal>
+    requires held { AllByRecursion (λ op. IsTrue (is_checked op)) held.old }
+    ensures answer { Answers (ledger.old, held.old) (received replica op.now (ledger.old, held.old)) result (ledger.new, held.new) }
+    ensures held { AllByRecursion (λ op. IsTrue (is_checked op)) held.new }
+{
+    op.check()?;
+    if is_known(ledger, held, op.name) {
+        return Ok(Pushed::Repeat);
+    }
+    if op.name.origin == replica {
+        return Err(Refusal::PeerFault);
+    }
+    let op = op.clone()?;
+    match held.offer(op, ledger.seen()) {
+        Ok(Offer::Ready(op)) => deliver(alloc, ledger, op),
+        Ok(Offer::Held) => Ok(Pushed::Held),
+        Ok(Offer::Repeat) => Ok(Pushed::Repeat),
+        Err(refusal) => Err(refusal),
+    }
+}
+
+/// Whether an operation was delivered or is held.
+fn is_known<S: Sequence>(ledger: &Ledger<S>, held: &Hold, name: OpName) -> bool
+    ensures { result ≡ (is_covered (vector_of ledger.now) name || is_held name held.now) }
+{
+    if ledger.seen().covers(name) {
+        return true;
+    }
+    match held.get(name) {
+        Some(_) => true,
+        None => false,
+    }
+}
+
+/// Delivers an operation that is ready, unless it is refused.
+fn deliver<S: Sequence>(alloc: Global, ledger: &mut Ledger<S>, op: Op) -> Result<Pushed, Refusal>
+    requires checked { IsTrue (is_checked op) }
+    requires ready { IsTrue (is_ready (vector_of ledger.old) op) }
+    ensures { (held : List Op) → Answers (ledger.old, held) (delivered op (delivery_refusal op ledger.old) ledger.old held) result (ledger.new, held) }
+{
+    if let Some(refusal) = ledger.refusal_of(&op) {
+        return Err(refusal);
+    }
+    match ledger.append(alloc, op) {
+        Ok(_) => Ok(Pushed::Delivered),
+        Err(refusal) => Err(refusal),
+    }
+}
+
+/// Releases held operations while one is ready.
+fn settle<S: Sequence>(
+    alloc: Global,
+    ledger: &mut Ledger<S>,
+    held: &mut Hold,
+) -> Result<Released, Refusal>
+    requires held { AllByRecursion (λ op. IsTrue (is_checked op)) held.old }
+    ensures ok { IfOk result (λ released. delivery released ledger.new held.new ≡ settled_from (unsettled (ledger.old, held.old))) }
+    ensures memory { IfErr result (λ e. (e ≡ Refusal.Memory) × (n : ℕ) × ((ledger.new, held.new) ≡ both_of (steps n (unsettled (ledger.old, held.old))))) }
+    ensures held { AllByRecursion (λ op. IsTrue (is_checked op)) held.new }
+{
+    let mut released = Released {
+        delivered: 0,
+        dropped: 0,
+    };
+    for _n in 0..held.len() {
+        match release(alloc, ledger, held, &mut released) {
+            Ok(true) => {}
+            Ok(false) => return Ok(released),
+            Err(refusal) => return Err(refusal),
+        }
+    }
+    Ok(released)
+}
+
+/// Takes the ready operation of the least origin out: it is delivered, or dropped where it is refused. The answer is
+/// whether there was one.
+fn release<S: Sequence>(
+    alloc: Global,
+    ledger: &mut Ledger<S>,
+    held: &mut Hold,
+    released: &mut Released,
+) -> Result<bool, Refusal>
+    requires held { AllByRecursion (λ op. IsTrue (is_checked op)) held.old }
+    requires few { released.old.delivered + released.old.dropped < u64.MAX }
+    ensures ok { OnOk result (delivery released.new ledger.new held.new ≡ released_one (delivery released.old ledger.old held.old)) }
+    ensures settled { result ≡ Ok false → find (is_ready (vector_of ledger.old)) held.old ≡ None }
+    ensures memory { IfErr result (λ e. (e ≡ Refusal.Memory) × (delivery released.new ledger.new held.new ≡ delivery released.old ledger.old held.old)) }
+    ensures held { AllByRecursion (λ op. IsTrue (is_checked op)) held.new }
+{
+    let Some(name) = held.next_ready(ledger.seen()) else {
+        return Ok(false);
+    };
+    let op = match held.get(name) {
+        Some(op) => op.clone()?,
+        None => return Ok(false),
+    };
+    if let Some(_refusal) = ledger.refusal_of(&op) {
+        held.take(name);
+        released.dropped += 1;
+        return Ok(true);
+    }
+    match ledger.append(alloc, op) {
+        Ok(_) => {
+            held.take(name);
+            released.delivered += 1;
+            Ok(true)
+        }
+        Err(refusal) => Err(refusal),
+    }
+}

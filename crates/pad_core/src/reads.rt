@@ -1,0 +1,148 @@
+//! What authors read of a pad's log.
+ghost use Rattle.std.specs.Prelude.{◌≡◌, ℕ, ◌+◌, ◌≤◌, IfOk, length, MatchResult};
+ghost use Rattle.pad_core.specs.Reads.{Tells, entries_from, entry_of, kind_of as kind, read_comments as comments_read, read_entries as entries_read, read_revs as revs_read, read_runs as runs_read, read_text as text_read};
+
+use crate::ledger::Ledger;
+use crate::reply::{Entry, Kind, PadReply};
+use pad_model::{Author, Op, Part, Refusal, Row, Sequence};
+use std::alloc::{AllocError, Global};
+
+/// How many revisions one request may list.
+pub const MAX_ENTRIES: u64 = 100;
+
+/// The text of a revision.
+pub fn read_text<S: Sequence>(
+    alloc: Global,
+    ledger: &Ledger<S>,
+    asked: Option<u64>,
+) -> Result<PadReply, Refusal>
+    ensures { Tells (text_read asked ledger.now) result }
+{
+    let now = ledger.len();
+    let rev = asked.unwrap_or(now);
+    if now < rev {
+        return Err(Refusal::NoRevision);
+    }
+    match ledger.text_at(alloc, rev) {
+        Ok(text) => Ok(PadReply::Text { now, rev, text }),
+        Err(refusal) => Err(refusal),
+    }
+}
+
+/// Who wrote the text of a revision.
+pub fn read_runs<S: Sequence>(
+    alloc: Global,
+    ledger: &Ledger<S>,
+    asked: Option<u64>,
+) -> Result<PadReply, Refusal>
+    ensures { Tells (runs_read asked ledger.now) result }
+{
+    let now = ledger.len();
+    let rev = asked.unwrap_or(now);
+    if now < rev {
+        return Err(Refusal::NoRevision);
+    }
+    match ledger.runs_at(alloc, rev) {
+        Ok(runs) => Ok(PadReply::Runs { now, rev, runs }),
+        Err(refusal) => Err(refusal),
+    }
+}
+
+/// The comments of a revision.
+pub fn read_comments<S: Sequence>(
+    alloc: Global,
+    ledger: &Ledger<S>,
+    asked: Option<u64>,
+) -> Result<PadReply, Refusal>
+    ensures { Tells (comments_read asked ledger.now) result }
+{
+    let now = ledger.len();
+    let rev = asked.unwrap_or(now);
+    if now < rev {
+        return Err(Refusal::NoRevision);
+    }
+    match ledger.comments_at(alloc, rev) {
+        Ok(comments) => Ok(PadReply::Comments { now, rev, comments }),
+        Err(refusal) => Err(refusal),
+    }
+}
+
+/// How long the pad is, with and without what was erased.
+pub fn read_revs<S: Sequence>(ledger: &Ledger<S>) -> Result<PadReply, Refusal>
+    ensures { result ≡ revs_read ledger.now }
+{
+    let now = ledger.len();
+    Ok(PadReply::Revs {
+        now,
+        cells: ledger.cell_count(),
+        length: ledger.len_at(now),
+    })
+}
+
+/// What made some revisions.
+pub fn read_entries<S: Sequence>(
+    alloc: Global,
+    ledger: &Ledger<S>,
+    from: u64,
+    count: u64,
+) -> Result<PadReply, Refusal>
+    ensures { Tells (entries_read from count ledger.now) result }
+{
+    let now = ledger.len();
+    if from == 0 || now + 1 < from {
+        return Err(Refusal::NoRevision);
+    }
+    if count == 0 {
+        return Err(Refusal::Empty);
+    }
+    if MAX_ENTRIES < count {
+        return Err(Refusal::TooMuch);
+    }
+    let entries = list(alloc, from, ledger.entries(from, count))?;
+    Ok(PadReply::Entries {
+        now,
+        entries: Row::from_vec(entries),
+    })
+}
+
+/// The entries of operations, the first of which made the revision `from`.
+fn list(alloc: Global, from: u64, ops: &[Op]) -> Result<Vec<Entry>, AllocError>
+    requires { from + length ops.now ≤ u64.MAX }
+    ensures { IfOk result (λ entries. entries.items ≡ entries_from from ops.now) }
+{
+    let mut entries = Vec::new(alloc);
+    let mut rev = from;
+    for op in ops {
+        entries.push(entry_of(rev, op)?)?;
+        rev += 1;
+    }
+    Ok(entries)
+}
+
+fn entry_of(rev: u64, op: &Op) -> Result<Entry, AllocError>
+    ensures { IfOk result (λ entry. entry ≡ entry_of rev op.now) }
+{
+    Ok(Entry {
+        rev,
+        name: op.name,
+        author: Author {
+            name: op.author.clone()?,
+            origin: op.name.origin,
+        },
+        kind: kind_of(op.parts.as_slice()),
+    })
+}
+
+fn kind_of(parts: &[Part]) -> Kind
+    ensures { result ≡ kind parts.now }
+{
+    if parts.len() != 1 {
+        return Kind::Edit;
+    }
+    match &parts[0] {
+        Part::Insert(_) => Kind::Insert,
+        Part::Delete(_) => Kind::Delete,
+        Part::Comment { .. } => Kind::Comment,
+        Part::Resolve { .. } => Kind::Resolve,
+    }
+}

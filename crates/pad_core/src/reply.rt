@@ -1,0 +1,127 @@
+//! What a pad answers.
+use anchors::Shown;
+use pad_model::{Author, AuthorRun, Op, OpName, Row, Seen, Text};
+use rights::Grant;
+
+/// What an operation does, in a word.
+#[derive(Clone, Copy, Debug, PartialEq, Eq)]
+pub enum Kind {
+    Insert,
+    Delete,
+    Comment,
+    Resolve,
+    /// Several insertions and deletions.
+    Edit,
+}
+
+/// The operation that made a revision.
+#[derive(Debug, PartialEq, Drop)]
+pub struct Entry {
+    pub rev: u64,
+    pub name: OpName,
+    pub author: Author,
+    pub kind: Kind,
+}
+
+/// Somebody who is present.
+#[derive(Debug, PartialEq, Drop)]
+pub struct Present {
+    pub visit: u64,
+    pub author: Author,
+    /// How many visible characters stand before the caret.
+    pub caret: u64,
+}
+
+/// What became of a pushed operation.
+#[derive(Clone, Copy, Debug, PartialEq, Eq)]
+pub enum Pushed {
+    /// It was delivered or held before.
+    Repeat,
+    /// It waits for others.
+    Held,
+    /// It was delivered.
+    Delivered,
+}
+
+/// What a pad answers. `now` is the present revision, after the act.
+#[derive(Debug, Drop)]
+pub enum PadReply {
+    /// The pad has another name.
+    Elsewhere,
+    /// The visit has this number.
+    Joined {
+        now: u64,
+        visit: u64,
+    },
+    /// It is done.
+    Done {
+        now: u64,
+    },
+    /// The operation has this name, and made the revision `now`.
+    Made {
+        now: u64,
+        name: OpName,
+    },
+    /// The operation has this name, made the revision `now`, and hid so many characters that were visible.
+    Changed {
+        now: u64,
+        name: OpName,
+        hidden: u64,
+    },
+    /// The text of a revision.
+    Text {
+        now: u64,
+        rev: u64,
+        text: Text,
+    },
+    /// Who wrote the text of a revision.
+    Runs {
+        now: u64,
+        rev: u64,
+        runs: Row<AuthorRun>,
+    },
+    /// The comments of a revision, by name.
+    Comments {
+        now: u64,
+        rev: u64,
+        comments: Row<Shown>,
+    },
+    /// How many characters there are with those that are erased, and how many are visible.
+    Revs {
+        now: u64,
+        cells: u64,
+        length: u64,
+    },
+    /// What made some revisions.
+    Entries {
+        now: u64,
+        entries: Row<Entry>,
+    },
+    /// Who is present, in order of joining.
+    Who {
+        now: u64,
+        who: Row<Present>,
+    },
+    /// Who has which right: the creator first, then by first grant.
+    Rights {
+        now: u64,
+        rights: Row<Grant>,
+    },
+    /// How many operations of each origin were delivered.
+    Vector {
+        now: u64,
+        seen: Seen,
+    },
+    /// What became of a pushed operation, how many held ones were delivered, and how many of these were dropped.
+    Pushed {
+        now: u64,
+        state: Pushed,
+        released: u64,
+        dropped: u64,
+    },
+    /// The first operations that a peer lacks.
+    Pulled {
+        now: u64,
+        ops: Row<Op>,
+    },
+}

@@ -42,7 +42,7 @@ fn reply_value(alloc: Global, reply: &Reply) -> Result<Value, AllocError> {
             let hidden = *hidden;
             json!(in alloc; {"hidden": hidden, "name": [origin, number], "now": now, "ok": true})
         }
-        Reply::Pad(PadReply::Shown { now, rev, text }) => {
+        Reply::Pad(PadReply::Text { now, rev, text }) => {
             let now = *now;
             let rev = *rev;
             let text = text.to_string(alloc)?;
@@ -50,5 +50,19 @@ fn reply_value(alloc: Global, reply: &Reply) -> Result<Value, AllocError> {
             json!(in alloc; {"now": now, "ok": true, "rev": rev, "text": text})
         }
         Reply::Pad(PadReply::Elsewhere) => refusal_value(alloc, Refusal::NoPad),
+        // No request of this program asks for these.
+        Reply::Pad(
+            PadReply::Joined { .. }
+            | PadReply::Done { .. }
+            | PadReply::Runs { .. }
+            | PadReply::Comments { .. }
+            | PadReply::Revs { .. }
+            | PadReply::Entries { .. }
+            | PadReply::Who { .. }
+            | PadReply::Rights { .. }
+            | PadReply::Vector { .. }
+            | PadReply::Pushed { .. }
+            | PadReply::Pulled { .. },
+        ) => refusal_value(alloc, Refusal::NotRequest),
     }
 }

@@ -1,4 +1,4 @@
-//! Tests that need several crates.
+//! Tests of sequences, stamps, names and comment books that need several crates.
 #![tactic(auto)]
 
 #[cfg(test)]
@@ -6,18 +6,10 @@ mod comments;
 #[cfg(test)]
 mod converge;
 #[cfg(test)]
-mod deletions;
-#[cfg(test)]
 mod names;
-#[cfg(test)]
-mod refusals;
 #[cfg(test)]
 mod sequences;
 #[cfg(test)]
 mod site;
 #[cfg(test)]
-mod solo;
-#[cfg(test)]
 mod stamps;
-#[cfg(test)]
-mod worked;

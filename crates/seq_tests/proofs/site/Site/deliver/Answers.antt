@@ -1,8 +1,8 @@
 use Rattle.std.proofs.Common.{◌≡◌, true, sym, subst}
 use Rattle.std.proofs.lemmas.Bool.{and_parts}
 use Rattle.pad_model.specs.Checked.{are_parts}
-use Rattle.pad_tests.proofs.ByRevision.{taken_by}
-use Rattle.pad_tests.proofs.site.Site.deliver.Goals as goal
+use Rattle.seq_tests.proofs.ByRevision.{taken_by}
+use Rattle.seq_tests.proofs.site.Site.deliver.Goals as goal
 
 pub invariant_of-self : goal.invariant_of-self
 invariant_of-self c =

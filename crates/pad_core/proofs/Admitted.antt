@@ -29,7 +29,7 @@ not_denied (Some x) b e = absurd (cc)
 not_denied None true e = (refl, refl)
 not_denied None false e = absurd (cc)
 
-number_there : (visit : ℕ) (name : List ℕ) (present : List Visit) → is_joined_by visit name present ≡ true → list_any (has_number visit) present ≡ true
+pub number_there : (visit : ℕ) (name : List ℕ) (present : List Visit) → is_joined_by visit name present ≡ true → list_any (has_number visit) present ≡ true
 number_there visit name [] e = e
 number_there visit name (v ∷ present) e =
     split (has_number visit v)

@@ -98,6 +98,19 @@ nobody_refusal AnyVisit = NoSession
 nobody_refusal (Visit least) = NoSession
 nobody_refusal PeerSession = NotPeer
 
+-- whether a session is of the kind that an act takes
+abbrev pub suits : Who → Need → Bool
+suits Nobody need = false
+suits (Author name) PeerSession = false
+suits (Author name) other = true
+suits (Peer number version) PeerSession = true
+suits (Peer number version) other = false
+
+-- why a session cannot do an act on any pad, if so
+abbrev pub session_refusal : Who → Act → Option Refusal
+session_refusal who act =
+    if not (suits who (need_of act)) then Some (nobody_refusal (need_of act)) else if names_badly act then Some BadName else None
+
 -- an act that changes the log alone
 abbrev pub on_log : Machine → Result PadReply Refusal × List Op → Result PadReply Refusal × Machine
 on_log m done = (done.0, record m { log = done.1 })

@@ -5,7 +5,7 @@ use Rattle.pad_model.specs.Visible.{visible, caret_of}
 use Rattle.pad_model.specs.declared.op.Op.{Op}
 use Rattle.pad_model.specs.declared.refusal.Refusal.{Refusal}
 use Rattle.pad_model.specs.declared.refusal.Refusal.TheVariants.{NoRevision, OutOfRange}
-use Rattle.sessions.specs.Presence.{Presence, join_refusal, joined, left, with_caret}
+use Rattle.sessions.specs.Presence.{Presence, is_joined_by, join_refusal, joined, left, with_caret}
 use Rattle.sessions.specs.declared.presence.Visit.{Visit}
 use Rattle.pad_core.specs.Counts.{characters_at}
 use Rattle.pad_core.specs.Edits.{before_place}
@@ -24,6 +24,10 @@ join now author p = unless_refused (join_refusal p)
 -- the end of a visit
 abbrev pub leave : ℕ → ℕ → Presence → Result PadReply Refusal × Presence
 leave now visit p = (Ok (Done now), record p { present = left visit p.present })
+
+-- the end of a visit where it is present and this author's, and else nothing
+abbrev pub departed : List ℕ → ℕ → Presence → Presence
+departed author visit p = if is_joined_by visit author p.present then record p { present = left visit p.present } else p
 
 -- the caret of a visit, behind the character in front of a place of a revision
 abbrev pub put_caret : ℕ → ℕ → ℕ → List Op → Presence → Result PadReply Refusal × Presence

@@ -1,6 +1,9 @@
 //! What a pad is asked.
+ghost use Rattle.std.specs.Prelude.{◌≡◌};
+
 use pad_model::{Name, Op, OpName, Row, Seen, Text};
 use rights::Right;
+use std::alloc::AllocError;
 
 /// One change of an edit, at a place of its revision.
 #[derive(Debug, Drop)]
@@ -90,4 +93,71 @@ pub enum Act {
         seen: Seen,
         max: u64,
     },
+}
+
+impl Clone for Change {
+    ghost is_clone = { λ s t. t ≡ s };
+
+    fn clone(&self) -> Result<Change, AllocError> {
+        Ok(match self {
+            Change::Insert { at, text } => Change::Insert {
+                at: *at,
+                text: text.clone()?,
+            },
+            Change::Delete { at, len } => Change::Delete { at: *at, len: *len },
+        })
+    }
+}
+
+impl Clone for Act {
+    ghost is_clone = { λ s t. t ≡ s };
+
+    fn clone(&self) -> Result<Act, AllocError> {
+        Ok(match self {
+            Act::Join => Act::Join,
+            Act::Leave => Act::Leave,
+            Act::Insert { rev, at, text } => Act::Insert {
+                rev: *rev,
+                at: *at,
+                text: text.clone()?,
+            },
+            Act::Delete { rev, at, len } => Act::Delete {
+                rev: *rev,
+                at: *at,
+                len: *len,
+            },
+            Act::Edit { rev, changes } => Act::Edit {
+                rev: *rev,
+                changes: changes.clone()?,
+            },
+            Act::Comment { rev, at, len, text } => Act::Comment {
+                rev: *rev,
+                at: *at,
+                len: *len,
+                text: text.clone()?,
+            },
+            Act::Resolve { comment } => Act::Resolve { comment: *comment },
+            Act::Text { rev } => Act::Text { rev: *rev },
+            Act::Runs { rev } => Act::Runs { rev: *rev },
+            Act::Comments { rev } => Act::Comments { rev: *rev },
+            Act::Revs => Act::Revs,
+            Act::Entries { from, count } => Act::Entries {
+                from: *from,
+                count: *count,
+            },
+            Act::Caret { rev, at } => Act::Caret { rev: *rev, at: *at },
+            Act::Who => Act::Who,
+            Act::Grant { author, right } => Act::Grant {
+                author: author.clone()?,
+                right: *right,
+            },
+            Act::Rights => Act::Rights,
+            Act::Vector => Act::Vector,
+            Act::Push { op } => Act::Push { op: op.clone()? },
+            Act::Pull { seen, max } => Act::Pull {
+                seen: seen.clone()?,
+                max: *max,
+            },
+        })
+    }
 }

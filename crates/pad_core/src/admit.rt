@@ -1,9 +1,9 @@
 //! Who may do what: the order of refusals before an act itself is looked at.
 ghost use Rattle.std.specs.Prelude.{◌≡◌, true, false};
-ghost use Rattle.pad_core.specs.Machine.{author_refusal as author_refused, need_of as needed, need_refusal, nobody_refusal as nobody_refused, visit_refusal as visit_refused, names_badly as is_badly_named};
+ghost use Rattle.pad_core.specs.Machine.{author_refusal as author_refused, need_of as needed, need_refusal, nobody_refusal as nobody_refused, session_refusal as session_refused, suits, visit_refusal as visit_refused, names_badly as is_badly_named};
 
 use crate::act::Act;
-use pad_model::{Name, Refusal};
+use pad_model::{Name, Refusal, Who};
 use rights::{Right, RightsBook};
 use sessions::PresenceBook;
 
@@ -65,6 +65,33 @@ pub fn nobody_refusal(need: Need) -> Refusal
     match need {
         Need::PeerSession => Refusal::NotPeer,
         Need::NewVisit | Need::AnyVisit | Need::Visit(_) => Refusal::NoSession,
+    }
+}
+
+/// Why a session cannot do an act on any pad, if so: it is not of the kind that the act takes, or the act names an author
+/// by what is no name.
+pub fn session_refusal(who: &Who, act: &Act) -> Option<Refusal>
+    ensures { result ≡ session_refused who.now act.now }
+{
+    let need = need_of(act);
+    if !suits(who, need) {
+        return Some(nobody_refusal(need));
+    }
+    if names_badly(act) {
+        Some(Refusal::BadName)
+    } else {
+        None
+    }
+}
+
+/// Whether a session is of the kind that an act takes.
+fn suits(who: &Who, need: Need) -> bool
+    ensures { result ≡ suits who.now need }
+{
+    match who {
+        Who::Nobody => false,
+        Who::Author(_) => need != Need::PeerSession,
+        Who::Peer { .. } => need == Need::PeerSession,
     }
 }
 

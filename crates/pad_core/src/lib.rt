@@ -18,11 +18,14 @@ mod presence;
 mod push;
 mod reads;
 mod reply;
+mod request;
 
 pub use act::{Act, Change};
+pub use admit::session_refusal;
 pub use event::{Claim, PadEvent};
 pub use exchange::MAX_PULL;
 pub use owned::Owned;
 pub use pad::Pad;
 pub use reads::MAX_ENTRIES;
-pub use reply::{Entry, Kind, PadReply, Present, Pushed};
+pub use reply::{Entry, Kind, PadReply, Present, Pushed, Reply};
+pub use request::Request;

@@ -6,7 +6,8 @@ ghost use Rattle.pad_model.specs.declared.limits.TheConstants.{MAX_REPLICA};
 ghost use Rattle.pad_model.specs.declared.op.Op.{Op};
 ghost use Rattle.pad_core.specs.Delivered.{IsDelivered};
 ghost use Rattle.pad_core.specs.Laws.{HaveSame, ShowSame};
-ghost use Rattle.pad_core.specs.Machine.{IsAdmitted, author_act as author_acted, author_step as author_stepped, claim as claimed, name_of, nobody_present, peer_act as peer_acted};
+ghost use Rattle.pad_core.specs.declared.act.Act.{Act};
+ghost use Rattle.pad_core.specs.Machine.{IsAdmitted, author_act as author_acted, author_step as author_stepped, claim as claimed, name_of, nobody_present, peer_act as peer_acted, step as machine_step};
 ghost use Rattle.pad_core.specs.Ran.{IsCutShort, Stepped, run as machine_run, Ran, FoundMemory};
 
 use crate::act::Act;
@@ -18,7 +19,7 @@ use crate::grants::{grant, read_rights};
 use crate::ledger::Ledger;
 use crate::note::{comment, resolve};
 use crate::owned::Owned;
-use crate::presence::{join, leave, put_caret, read_who};
+use crate::presence::{depart, join, leave, put_caret, read_who};
 use crate::push::push;
 use crate::reads::{read_comments, read_entries, read_revs, read_runs, read_text};
 use crate::reply::PadReply;
@@ -128,6 +129,21 @@ impl<S: Sequence> Pad<S> {
         }
     }
 
+    /// Ends a visit where it is present and this session's; else it does nothing. It takes no memory.
+    pub fn depart(&mut self, pad: &str, who: &Who, visit: u64)
+        ensures { self.new ≡ (machine_step pad.now who.now (Some visit) Act.Leave self.old).1 }
+    {
+        let Some(owned) = &self.owned else {
+            return;
+        };
+        if !owned.name.is(pad) {
+            return;
+        }
+        if let Who::Author(name) = who {
+            self.author_leaves(name, visit);
+        }
+    }
+
     /// Answers a list of events, one after the other.
     ///
     /// The room for the replies is taken first; without it nothing is done.
@@ -173,6 +189,13 @@ impl<S: Sequence> Pad<S> {
             return Err(refusal);
         }
         self.author_act(alloc, name, visit, act)
+    }
+
+    /// Ends an author's visit, if it is one.
+    fn author_leaves(&mut self, name: &Name, visit: u64)
+        ensures { (owned : _) → self.old.owned ≡ Some owned → self.new ≡ (author_stepped owned name.now (Some visit) Act.Leave self.old).1 }
+    {
+        depart(&mut self.presence, name, visit);
     }
 
     /// What an author may do, it does.

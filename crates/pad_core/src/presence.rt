@@ -4,7 +4,7 @@ ghost use Rattle.std.specs.List.{list_any};
 ghost use Rattle.pad_model.specs.Answers.{Answers};
 ghost use Rattle.sessions.specs.Presence.{has_number};
 ghost use Rattle.pad_core.specs.Reads.{Tells};
-ghost use Rattle.pad_core.specs.Presence.{join as joined, leave as left, put_caret as caret_put, read_who as who_read, shown_visit};
+ghost use Rattle.pad_core.specs.Presence.{join as joined, leave as left, put_caret as caret_put, departed, read_who as who_read, shown_visit};
 
 use crate::edit::stamp_before;
 use crate::ledger::Ledger;
@@ -36,6 +36,16 @@ pub fn leave(presence: &mut PresenceBook, now: u64, visit: u64) -> Result<PadRep
     match presence.leave(visit) {
         Ok(()) => Ok(PadReply::Done { now }),
         Err(refusal) => Err(refusal),
+    }
+}
+
+/// Ends a visit where it is present and this author's; else it does nothing.
+#[tactic(auto, using(crate::proofs::Admitted::number_there))]
+pub fn depart(presence: &mut PresenceBook, author: &Name, visit: u64)
+    ensures { presence.new ≡ departed author.now visit presence.old }
+{
+    if presence.holds(visit, author.as_str()) {
+        let _left = presence.leave(visit);
     }
 }
 

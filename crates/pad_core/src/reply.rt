@@ -1,6 +1,6 @@
-//! What a pad answers.
+//! What a pad answers, and what a server answers.
 use anchors::Shown;
-use pad_model::{Author, AuthorRun, Op, OpName, Row, Seen, Text};
+use pad_model::{Author, AuthorRun, Op, OpName, Row, Seen, Text, Version};
 use rights::Grant;
 
 /// What an operation does, in a word.
@@ -124,4 +124,17 @@ pub enum PadReply {
         now: u64,
         ops: Row<Op>,
     },
+}
+
+/// What a server answers to a session.
+#[derive(Debug, Drop)]
+pub enum Reply {
+    /// The session is this author's now.
+    Hello { author: Author },
+    /// The session is a peer's now: the replica number of this server, and the version that the peer can read.
+    Peer { replica: u16, version: Version },
+    /// What the pad answers. A pad that was created answers that its creator joined.
+    Pad(PadReply),
+    /// The session has left its pads, and is nobody's.
+    Ended,
 }

@@ -1,5 +1,5 @@
 //! A session: whose it is, and the pads that it has joined.
-ghost use Rattle.std.specs.Prelude.{◌≡◌, ◌+◌, ◌≤◌, [], ◌∷◌, ◌++◌, not, drop, filter, slice_get, option_copied, IfErr, IsOk, OnOk};
+ghost use Rattle.std.specs.Prelude.{◌≡◌, ◌≢◌, ◌↔◌, IsTrue, ◌+◌, ◌≤◌, [], ◌∷◌, ◌++◌, not, drop, filter, slice_get, option_copied, IfErr, IsOk, OnOk};
 ghost use Rattle.std.specs.List.{find};
 ghost use Rattle.pad_model.specs.declared.refusal.Refusal.{Refusal};
 ghost use Rattle.pad_model.specs.declared.who.Who.{Who};
@@ -67,6 +67,13 @@ impl Session {
         ensures { option_copied result ≡ find (is_of pad.now) self.now.rooms }
     {
         self.rooms.iter().find(|room| room.pad.is(pad))
+    }
+
+    /// Whether it has joined a pad that it has not left.
+    pub fn has_rooms(&self) -> bool
+        ensures { IsTrue result ↔ (self.now.rooms ≢ []) }
+    {
+        !self.rooms.is_empty()
     }
 
     /// Makes memory for one more room.

@@ -17,6 +17,16 @@ impl Model for Word {
     ghost view = { λ w. string_bytes w.text };
 }
 
+impl Clone for Word {
+    ghost is_clone = { λ s t. t ≡ s };
+
+    fn clone(&self) -> Result<Word, AllocError> {
+        Ok(Word {
+            text: self.text.clone()?,
+        })
+    }
+}
+
 impl Word {
     pub fn from_str(alloc: Global, text: &str) -> Result<Word, AllocError>
         ensures { IfOk result (λ w. w ≡ text.now) }

@@ -1,0 +1,59 @@
+//! What a session asks of its server.
+ghost use Rattle.std.specs.Prelude.{◌≡◌};
+
+use crate::act::Act;
+use pad_model::{Name, Version};
+use sessions::Word;
+use std::alloc::AllocError;
+
+/// What a session asks of its server.
+#[derive(Debug, Drop)]
+pub enum Request {
+    /// Begins an author's session.
+    Hello {
+        name: Name,
+        token: Word,
+    },
+    /// Begins a peer's session. A number that no replica can have is no account's.
+    Peer {
+        number: u64,
+        token: Word,
+        version: Version,
+    },
+    /// Creates a pad, and is present on it.
+    Create {
+        pad: Name,
+    },
+    /// Does an act on a pad.
+    On {
+        pad: Name,
+        act: Act,
+    },
+}
+
+impl Clone for Request {
+    ghost is_clone = { λ s t. t ≡ s };
+
+    fn clone(&self) -> Result<Request, AllocError> {
+        Ok(match self {
+            Request::Hello { name, token } => Request::Hello {
+                name: name.clone()?,
+                token: token.clone()?,
+            },
+            Request::Peer {
+                number,
+                token,
+                version,
+            } => Request::Peer {
+                number: *number,
+                token: token.clone()?,
+                version: *version,
+            },
+            Request::Create { pad } => Request::Create { pad: pad.clone()? },
+            Request::On { pad, act } => Request::On {
+                pad: pad.clone()?,
+                act: act.clone()?,
+            },
+        })
+    }
+}

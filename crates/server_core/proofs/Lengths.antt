@@ -1,0 +1,60 @@
+-- A step leaves as many cells as there were.
+use Rattle.std.proofs.Common.{◌≡◌, inl, inr, ℕ, ◌+◌, Bool, true, false, List, [], ◌∷◌, length, Option, Some, None, Result, Ok, Err, refl, sym, ap, ◌∙◌, subst}
+use Rattle.std.specs.List.{slice_get, slice_set}
+use Rattle.std.proofs.lemmas.List.{length-set}
+use Rattle.pad_model.proofs.Newer.{split}
+use Rattle.pad_model.specs.declared.who.Who.{Who}
+use Rattle.sessions.specs.Accounts.{Accounts}
+use Rattle.sessions.specs.declared.session.Room.{Room}
+use Rattle.pad_core.specs.Machine.{Machine}
+use Rattle.pad_core.specs.declared.request.Request.{Request}
+use Rattle.server_core.specs.Actor.{Actor}
+use Rattle.server_core.specs.AtCell.{RowAnswer, row_answer}
+use Rattle.server_core.specs.Served.{Acted, FoundNone, IsTaskCut}
+use Rattle.server_core.specs.Steps.{actor_step, goes_on, leave_first, left_room, move, scanned}
+use Rattle.server_core.specs.declared.step.Moved.{Moved}
+use Rattle.server_core.specs.declared.step.Step.{Step}
+use Rattle.server_core.specs.declared.step.Step.TheVariants.{Ask, Move, Look, Relay, End}
+use Rattle.server_core.specs.declared.task.Task.{Task}
+use Rattle.server_core.specs.declared.task.Task.TheVariants.{Resting, Scanning, Leaving}
+
+by_cell : (who : Who) (request : Request) (cell : ℕ) (rooms : List Room) (cells : List Machine) (o : Option Machine) → slice_get cells cell ≡ o → length (row_answer who request cell rooms cells).2 ≡ length cells
+by_cell who request cell rooms cells None e = rw e refl
+by_cell who request cell rooms cells (Some m) e = rw e (length-set cells cell _)
+
+scanned-cells : (request : Request) (cell : ℕ) (a : Actor) (done : RowAnswer) → (scanned request cell a done).2 ≡ done.2
+scanned-cells request cell a done = split (goes_on done.0 cell (length done.2)) (λ e. rw e refl) (λ e. rw e refl)
+
+left-cells : (who : Who) (room : Room) (cells : List Machine) (o : Option Machine) → slice_get cells room.cell ≡ o → length (left_room who room cells) ≡ length cells
+left-cells who room cells None e = rw e refl
+left-cells who room cells (Some m) e = rw e (length-set cells room.cell _)
+
+leave-cells : (a : Actor) (rooms : List Room) (cells : List Machine) → length (leave_first a rooms cells).2 ≡ length cells
+leave-cells a [] cells = refl
+leave-cells a (room ∷ rooms) cells = left-cells a.who room cells (slice_get cells room.cell) refl
+
+move-cells : (task : Task) (a : Actor) (cells : List Machine) → length (move task a cells).2 ≡ length cells
+move-cells Resting a cells = refl
+move-cells (Scanning request cell) a cells =
+    ap length (scanned-cells request cell a (row_answer a.who request cell a.rooms cells)) ∙ by_cell a.who request cell a.rooms cells (slice_get cells cell) refl
+move-cells Leaving a cells = leave-cells a a.rooms cells
+
+-- a step leaves as many cells
+pub step-cells : (replica : ℕ) (accounts : Accounts) (step : Step) (a : Actor) (cells : List Machine) → length (actor_step replica accounts step a cells).2 ≡ length cells
+step-cells replica accounts (Ask request) a cells = refl
+step-cells replica accounts Move a cells = move-cells a.task a cells
+step-cells replica accounts (Look cell) a cells = refl
+step-cells replica accounts (Relay number) a cells = refl
+step-cells replica accounts End a cells = refl
+
+cut-cells : (task : Task) (cells after : List Machine) → IsTaskCut task cells after → length after ≡ length cells
+cut-cells Resting cells after h = absurd h
+cut-cells (Scanning request cell) cells after (name, act, old, new, on, there, cut, e) = ap length e ∙ length-set cells cell new
+cut-cells Leaving cells after h = absurd h
+
+-- also where it finds no memory
+pub acted-cells : (replica : ℕ) (accounts : Accounts) (step : Step) (a : Actor) (cells : List Machine) (answer : Moved) (new : Actor) (after : List Machine) →
+    Acted cells a (actor_step replica accounts step a cells) answer new after → length after ≡ length cells
+acted-cells replica accounts step a cells answer new after (inl v) = sym (ap (λ d. length d.2) v) ∙ step-cells replica accounts step a cells
+acted-cells replica accounts step a cells answer new after (inr (refused, same, inl kept)) = ap length kept
+acted-cells replica accounts step a cells answer new after (inr (refused, same, inr cut)) = cut-cells a.task cells after cut

@@ -1,0 +1,7 @@
+pub mod Lengths
+pub mod NameRuns
+pub mod NameSteps
+pub mod Named
+pub mod Own
+pub mod Rows
+pub mod Served

@@ -1,0 +1,61 @@
+-- Steps of a server.
+use Rattle.std.proofs.Common.{◌≡◌, inl, inr, ℕ, ◌<◌, ◌≤◌, List, [], ◌∷◌, ◌++◌, length, Option, Some, None, refl, sym, ap, ◌∙◌, subst}
+use Rattle.std.specs.List.{AllByRecursion, Contains, slice_get, slice_set, slice_index_or}
+use Rattle.std.proofs.lemmas.List.Elements.{All-contains, All-from_recursion}
+use Rattle.std.proofs.lemmas.Option.{slice_get-get_or, slice_get_past}
+use Rattle.pad_model.specs.declared.refusal.Refusal.TheVariants.{Memory}
+use Rattle.pad_core.specs.Machine.{Machine}
+use Rattle.server_core.specs.Actor.{Actor}
+use Rattle.server_core.specs.Machine.{Server, server_step, run, with_actor}
+use Rattle.server_core.specs.Served.{Acted, FoundMemory, Ran, Served, StepFoundNone}
+use Rattle.server_core.specs.Steps.{actor_step}
+use Rattle.server_core.specs.declared.step.Moved.{Moved}
+use Rattle.server_core.specs.declared.step.Moved.TheVariants.{Idle, Refused}
+use Rattle.server_core.specs.declared.step.Step.{Step}
+
+-- what an actor does is what the server does
+pub served : (old s : Server) (at : ℕ) (step : Step) (a d : Actor) (row : List Machine) (answer : Moved) (actor : Actor) (cells : List Machine) → s ≡ old → at < length s.actors →
+    a ≡ slice_index_or s.actors at d → row ≡ s.cells → Acted row a (actor_step s.replica s.accounts step a row) answer actor cells →
+    Served old at step answer (record s { actors = slice_set s.actors at actor; cells = cells })
+served old s at step a d row answer actor cells view low is_a is_row v =
+    subst (λ k. Served k at step answer (record s { actors = slice_set s.actors at actor; cells = cells })) view (by_case (subst (λ k. Acted k (slice_index_or s.actors at d) (actor_step s.replica s.accounts step (slice_index_or s.actors at d) k) answer actor cells) is_row
+    (subst (λ k. Acted row k (actor_step s.replica s.accounts step k row) answer actor cells) is_a v)))
+  where
+    by_case : Acted s.cells (slice_index_or s.actors at d) (actor_step s.replica s.accounts step (slice_index_or s.actors at d) s.cells) answer actor cells →
+        Served s at step answer (record s { actors = slice_set s.actors at actor; cells = cells })
+    by_case (inl v) = inl (rw (slice_get-get_or s.actors at d low) (ap (λ done. with_actor at s done) v))
+    by_case (inr n) = inr (rw (slice_get-get_or s.actors at d low) (actor, cells, n, refl))
+
+-- an actor that was not opened does nothing
+pub not_opened : (s : Server) (at : ℕ) (step : Step) → length s.actors ≤ at → Served s at step Idle s
+not_opened s at step past = inl (rw (slice_get_past s.actors at past) refl)
+
+-- a run goes on by one step
+pub Ran-push : (s now next : Server) (events : List (ℕ × Step)) (answers : List Moved) (event : ℕ × Step) (answer : Moved) →
+    Ran s events answers now → Served now event.0 event.1 answer next → Ran s (events ++ event ∷ []) (answers ++ answer ∷ []) next
+Ran-push s now next [] [] event answer r a = (next, subst (λ k. Served k event.0 event.1 answer next) r a, refl)
+Ran-push s now next [] (x ∷ answers) event answer r a = absurd r
+Ran-push s now next (e ∷ events) [] event answer r a = absurd r
+Ran-push s now next (e ∷ events) (x ∷ answers) event answer r a = (r.0, r.1, Ran-push r.0 now next events answers event answer r.2 a)
+
+told_memory : (s next : Server) (at : ℕ) (o : Option Actor) (answer : Moved) → StepFoundNone s at o answer next → answer ≡ Refused Memory
+told_memory s next at None answer n = absurd n
+told_memory s next at (Some a) answer n = n.2.0
+
+found : (s next : Server) (at : ℕ) (step : Step) (answer : Moved) → Served s at step answer next → (answer ≡ Refused Memory → ⊥) → server_step at step s ≡ (answer, next)
+found s next at step answer (inl h) no_memory = h
+found s next at step answer (inr h) no_memory = absurd (no_memory (told_memory s next at (slice_get s.actors at) answer h))
+
+-- a run that met no want of memory is the machine's
+pub Ran-machine : (s new : Server) (events : List (ℕ × Step)) (answers : List Moved) → Ran s events answers new → FoundMemory answers → run events s ≡ (answers, new)
+Ran-machine s new [] [] r f = ap (λ k. ([], k)) (sym r)
+Ran-machine s new [] (x ∷ answers) r f = absurd r
+Ran-machine s new (e ∷ events) [] r f = absurd r
+Ran-machine s new (e ∷ events) (x ∷ answers) r f =
+    let one : server_step e.0 e.1 s ≡ (x, r.0) = found s r.0 e.0 e.1 x r.1 f.0 in
+    let rest = Ran-machine r.0 new events answers r.2 f.1 in
+    ap (λ k. (k.0 ∷ (run events k.1).0, (run events k.1).1)) one ∙ ap (λ k. (x ∷ k.0, k.1)) rest
+
+-- what holds of each holds of one of them
+pub each_has : {X : Type 0} (P : X → Type 0) (xs : List X) (x : X) → AllByRecursion P xs → Contains xs x → P x
+each_has P xs x each there = All-contains P xs x (All-from_recursion P xs each) there

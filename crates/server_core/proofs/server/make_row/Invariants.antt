@@ -1,0 +1,8 @@
+use Rattle.std.proofs.Common.{◌≡◌, ◌∷◌, []}
+use Rattle.std.specs.List.{repeat}
+use Rattle.server_core.specs.Machine.{unnamed}
+use Rattle.server_core.proofs.server.make_row.Given as goal
+
+-- the cells so far
+abbrev pub invariant-loop : goal.invariant-loop
+invariant-loop g l = l.cells.items ≡ repeat l.counter (unnamed l.fn.replica ∷ [])

@@ -1,0 +1,8 @@
+pub mod Actor
+pub mod AtCell
+pub mod Machine
+pub mod Names
+pub mod Opening
+pub mod Rooms
+pub mod Served
+pub mod Steps

@@ -1,0 +1,57 @@
+-- The server machine: any list of steps of any actors.
+use Rattle.std.specs.Prelude.{ℕ, ◌≤◌, nat_le, if◌then◌else◌, List, [], ◌∷◌, ◌++◌, length, slice_get, slice_set, Option, Some, None, Result, Ok, Err}
+use Rattle.std.specs.List.{repeat}
+use Rattle.pad_model.specs.declared.refusal.Refusal.{Refusal}
+use Rattle.pad_model.specs.declared.refusal.Refusal.TheVariants.{ActorsFull}
+use Rattle.sessions.specs.Accounts.{Accounts}
+use Rattle.pad_core.specs.Machine.{Machine, nobody_present}
+use Rattle.server_core.specs.Actor.{Actor, nobody}
+use Rattle.server_core.specs.Steps.{actor_step}
+use Rattle.server_core.specs.declared.limits.TheConstants.{MAX_CELLS, MAX_ACTORS}
+use Rattle.server_core.specs.declared.step.Moved.{Moved}
+use Rattle.server_core.specs.declared.step.Moved.TheVariants.{Idle}
+use Rattle.server_core.specs.declared.step.Step.{Step}
+
+-- a server: its replica number, who may log in, its row of cells, and who asks
+pub record Server : Type 0 where
+  pub replica : ℕ
+  pub accounts : Accounts
+  pub cells : List Machine
+  pub actors : List Actor
+
+-- a cell without a name
+abbrev pub unnamed : ℕ → Machine
+unnamed replica = record { owned = None; replica = replica; log = []; held = []; presence = nobody_present }
+
+-- a row of cells without names, and nobody who asks
+abbrev pub new_server : ℕ → ℕ → Accounts → Server
+new_server replica cells accounts = record { replica = replica; accounts = accounts; cells = repeat cells (unnamed replica ∷ []); actors = [] }
+
+-- a row is no longer than it may be
+abbrev pub IsRow : List Machine → Type 0
+IsRow cells = length cells ≤ MAX_CELLS
+
+-- one more actor, by its number
+abbrev pub with_newcomer : Server → Result ℕ Refusal × Server
+with_newcomer s =
+    if nat_le MAX_ACTORS (length s.actors) then (Err ActorsFull, s)
+    else (Ok (length s.actors), record s { actors = s.actors ++ nobody ∷ [] })
+
+-- the server after an actor's step
+abbrev pub with_actor : ℕ → Server → Moved × Actor × List Machine → Moved × Server
+with_actor at s done = (done.0, record s { actors = slice_set s.actors at done.1; cells = done.2 })
+
+-- one step of the server machine, by an actor that was opened
+abbrev pub server_step : ℕ → Step → Server → Moved × Server
+server_step at step s = by_actor (slice_get s.actors at)
+  where
+    by_actor : Option Actor → Moved × Server
+    by_actor None = (Idle, s)
+    by_actor (Some a) = with_actor at s (actor_step s.replica s.accounts step a s.cells)
+
+-- what the actors are told at a list of steps, and the server after them
+abbrev pub run : List (ℕ × Step) → Server → List Moved × Server
+run [] s = ([], s)
+run (event ∷ events) s =
+    let done = server_step event.0 event.1 s in
+    (done.0 ∷ (run events done.1).0, (run events done.1).1)

@@ -1,0 +1,33 @@
+-- What becomes of the names of a row.
+use Rattle.std.specs.Prelude.{◌≡◌, ◌≢◌, ℕ, List, [], ◌∷◌, map, slice_get, Option, Some, None}
+use Rattle.std.specs.List.{AllByRecursion, repeat}
+use Rattle.sessions.specs.Accounts.{Accounts}
+use Rattle.pad_core.specs.Machine.{Machine, name_of}
+use Rattle.server_core.specs.Actor.{nobody}
+use Rattle.server_core.specs.Machine.{Server, new_server, run}
+use Rattle.server_core.specs.declared.step.Step.{Step}
+
+-- the name of each cell, if it has one
+abbrev pub names_of : List Machine → List (Option (List ℕ))
+names_of cells = map (λ m. name_of m.owned) cells
+
+-- the cells with a name are the first ones, and no two have the same
+abbrev pub AreNamedInTurn : List (Option (List ℕ)) → Type 0
+AreNamedInTurn [] = Unit {0}
+AreNamedInTurn (None ∷ names) = AllByRecursion (λ name. name ≡ None) names
+AreNamedInTurn (Some name ∷ names) = AllByRecursion (λ other. other ≢ Some name) names × AreNamedInTurn names
+
+-- a cell that has a name keeps it
+abbrev pub NamesStay : List (Option (List ℕ)) → List (Option (List ℕ)) → Type 0
+NamesStay old new = (cell : ℕ) → (name : List ℕ) → slice_get old cell ≡ Some (Some name) → slice_get new cell ≡ Some (Some name)
+
+-- a new server whose actors are opened
+abbrev pub opened_server : ℕ → ℕ → Accounts → ℕ → Server
+opened_server replica cells accounts actors = record (new_server replica cells accounts) { actors = repeat actors (nobody ∷ []) }
+
+-- after any steps of any actors the names are in turn, and stay whatever steps follow
+abbrev pub NamesLaw : Type 0
+NamesLaw =
+    (replica cells actors : ℕ) → (accounts : Accounts) → (steps more : List (ℕ × Step)) →
+    let s : Server = (run steps (opened_server replica cells accounts actors)).1 in
+    AreNamedInTurn (names_of s.cells) × NamesStay (names_of s.cells) (names_of (run more s).1.cells)

@@ -1,0 +1,61 @@
+-- How a session becomes an author's or a peer's, and what a request takes of its session.
+use Rattle.std.specs.Prelude.{ℕ, Bool, true, false, not, ◌&&◌, nat_lt, if◌then◌else◌, List, Option, Some, None, Result, Ok, Err}
+use Rattle.pad_model.specs.Checked.{is_name, is_within}
+use Rattle.pad_model.specs.declared.limits.TheConstants.{MAX_REPLICA, OLD_REPLICA}
+use Rattle.pad_model.specs.declared.refusal.Refusal.{Refusal}
+use Rattle.pad_model.specs.declared.refusal.Refusal.TheVariants.{NoSession, BadToken, HaveSession, BadName, OldPeer}
+use Rattle.pad_model.specs.declared.who.Version.{Version}
+use Rattle.pad_model.specs.declared.who.Version.TheVariants.{One, Two}
+use Rattle.pad_model.specs.declared.who.Who.{Who}
+use Rattle.pad_model.specs.declared.who.Who.TheVariants as who
+use Rattle.sessions.specs.Accounts.{Accounts, is_author, is_peer}
+use Rattle.pad_core.specs.Machine.{session_refusal}
+use Rattle.pad_core.specs.declared.act.Act.{Act}
+use Rattle.pad_core.specs.declared.reply.Reply.{Reply}
+use Rattle.pad_core.specs.declared.reply.Reply.TheVariants as reply
+
+-- whether a session is nobody's
+abbrev pub is_nobody : Who → Bool
+is_nobody who.Nobody = true
+is_nobody other = false
+
+-- whether a session is an author's
+abbrev pub is_of_author : Who → Bool
+is_of_author (who.Author name) = true
+is_of_author other = false
+
+-- an author logs in: with a name that an author can have, and its token
+abbrev pub hello : ℕ → Accounts → List ℕ → List ℕ → Who → Result Reply Refusal × Who
+hello replica accounts name token old =
+    if not (is_nobody old) then (Err HaveSession, old)
+    else if not (is_name name && is_author name token accounts) then (Err BadToken, old)
+    else (Ok (reply.Hello (record { name = name; origin = replica })), who.Author name)
+
+-- whether a peer of this version cannot be told of a server with this number
+abbrev pub is_unsayable : ℕ → Version → Bool
+is_unsayable replica One = nat_lt OLD_REPLICA replica
+is_unsayable replica Two = false
+
+-- a peer logs in: with a number that a replica can have, and its token
+abbrev pub peer : ℕ → Accounts → ℕ → List ℕ → Version → Who → Result Reply Refusal × Who
+peer replica accounts number token version old =
+    if not (is_nobody old) then (Err HaveSession, old)
+    else if not (is_within number MAX_REPLICA && is_peer number token accounts) then (Err BadToken, old)
+    else if is_unsayable replica version then (Err OldPeer, old)
+    else (Ok (reply.Peer replica version), who.Peer number version)
+
+-- a session becomes a peer's by itself, without a token, as for exchange with that peer
+abbrev pub relay : ℕ → ℕ → Who → Result Reply Refusal × Who
+relay replica number old = if not (is_nobody old) then (Err HaveSession, old) else (Ok (reply.Peer replica Two), who.Peer number Two)
+
+-- why a creation is refused before it comes to a cell, if so
+abbrev pub create_refusal : Who → List ℕ → Option Refusal
+create_refusal who pad = if not (is_of_author who) then Some NoSession else if not (is_name pad) then Some BadName else None
+
+-- why an act is refused before it comes to a cell, if so: by its session, or by the name of the pad
+abbrev pub act_refusal : Who → List ℕ → Act → Option Refusal
+act_refusal who pad act = or_by_name (session_refusal who act)
+  where
+    or_by_name : Option Refusal → Option Refusal
+    or_by_name (Some refusal) = Some refusal
+    or_by_name None = if not (is_name pad) then Some BadName else None

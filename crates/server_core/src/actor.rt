@@ -1,0 +1,102 @@
+//! An actor: a session, and what it is doing.
+ghost use Rattle.std.specs.Prelude.{◌≡◌, ◌⊎◌, ◌≤◌, length};
+ghost use Rattle.pad_model.specs.declared.refusal.Refusal.TheVariants as refusal;
+ghost use Rattle.server_core.specs.Actor.{is_busy as busy, nobody};
+ghost use Rattle.server_core.specs.Served.{Acted};
+ghost use Rattle.server_core.specs.Steps.{actor_step as stepped, name_at};
+ghost use Rattle.server_core.specs.declared.limits.TheConstants.{MAX_CELLS};
+ghost use Rattle.server_core.specs.declared.step.Moved.TheVariants as moved;
+
+use crate::ask::{ask, tell};
+use crate::leave::end;
+use crate::limits::MAX_CELLS;
+use crate::opening::relay;
+use crate::scan::go_on;
+use crate::step::{Moved, Step};
+use crate::task::Task;
+use pad_core::Pad;
+use pad_model::{Name, Refusal, Sequence};
+use sessions::{Accounts, Session};
+use std::alloc::Global;
+use std::marker::Model;
+
+/// A session, and what it is doing.
+#[derive(Drop)]
+pub struct Actor {
+    session: Session,
+    task: Task,
+}
+
+impl Model for Actor {
+    ghost use Rattle.server_core.specs.Actor.{Actor, actor_of};
+    ghost use Rattle.server_core.specs.Rooms.{IsSoundTask};
+
+    ghost Value = { Actor };
+
+    ghost view = { λ a. actor_of a.session a.task };
+
+    ghost invariant = { λ a. IsSoundTask a.task };
+}
+
+impl Actor {
+    /// Nobody, who does nothing. It takes no memory yet.
+    pub fn new(alloc: Global) -> Actor
+        ensures { result ≡ nobody }
+    {
+        Actor {
+            session: Session::new(alloc),
+            task: Task::Resting,
+        }
+    }
+
+    /// Makes one step, on a row of cells.
+    pub fn step<S: Sequence>(
+        &mut self,
+        alloc: Global,
+        replica: u16,
+        accounts: &Accounts,
+        cells: &mut [Pad<S>],
+        step: &Step,
+    ) -> Moved
+        requires { length cells.old ≤ MAX_CELLS }
+        ensures { Acted cells.old self.old (stepped replica accounts.now step.now self.old cells.old) result self.new cells.new }
+    {
+        match step {
+            Step::Move => go_on(alloc, cells, &mut self.session, &mut self.task),
+            Step::End => end(&mut self.session, &mut self.task),
+            Step::Ask(_) | Step::Look(_) | Step::Relay(_) if is_busy(&self.task) => {
+                Moved::Refused(Refusal::Busy)
+            }
+            Step::Ask(request) => {
+                let (session, task) = (&mut self.session, &mut self.task);
+                ask(alloc, replica, accounts, session, task, request)
+            }
+            Step::Look(cell) => look(alloc, cells, *cell),
+            Step::Relay(number) => tell(relay(replica, *number, &mut self.session)),
+        }
+    }
+}
+
+/// Whether a scan or an end is under way.
+fn is_busy(task: &Task) -> bool
+    ensures { result ≡ busy task.now }
+{
+    !matches!(task, Task::Resting)
+}
+
+/// The name of a cell.
+fn look<S: Sequence>(alloc: Global, cells: &[Pad<S>], cell: u32) -> Moved
+    ensures { (moved.Named (name_at cell cells.now) ≡ result) ⊎ (result ≡ moved.Refused refusal.Memory) }
+{
+    let name = match cells.get(cell as usize) {
+        Some(pad) => pad.name(),
+        None => None,
+    };
+    match name {
+        None => Moved::Named(None),
+        Some(name) => match Name::from_str(alloc, name) {
+            Ok(name) => Moved::Named(Some(name)),
+            Err(_) => Moved::Refused(Refusal::Memory),
+        },
+    }
+}

@@ -1,0 +1,20 @@
+//! The server machine: a row of cells, each with a pad or without a name, and actors that ask for pads by name.
+//!
+//! An actor's step goes in, what the actor is told comes out. It is one thread's: no step waits.
+#![tactic(auto)]
+
+mod actor;
+mod ask;
+mod at_cell;
+pub mod laws;
+mod leave;
+mod limits;
+mod opening;
+mod scan;
+mod server;
+mod step;
+mod task;
+
+pub use limits::{MAX_ACTORS, MAX_CELLS};
+pub use server::Server;
+pub use step::{Moved, Step};

@@ -1,0 +1,7 @@
+//! How many there can be.
+
+/// Cells of a server.
+pub const MAX_CELLS: u32 = 64;
+
+/// Actors of a server, over its life.
+pub const MAX_ACTORS: u32 = 1_024;

@@ -1,0 +1,127 @@
+//! How a session becomes an author's or a peer's, and what a request takes of its session.
+ghost use Rattle.std.specs.Prelude.{◌≡◌};
+ghost use Rattle.pad_model.specs.Answers.{Answers};
+ghost use Rattle.server_core.specs.Opening.{hello as author_opened, peer as peer_opened, relay as relay_opened, is_nobody, is_of_author, is_unsayable, create_refusal as create_refused, act_refusal as act_refused};
+
+use pad_core::{Act, Reply, session_refusal};
+use pad_model::{Author, Name, OLD_REPLICA, Refusal, Version, Who};
+use sessions::{Accounts, Session, Word};
+use std::alloc::Global;
+
+/// An author logs in.
+pub fn hello(
+    alloc: Global,
+    replica: u16,
+    accounts: &Accounts,
+    name: &Name,
+    token: &Word,
+    session: &mut Session,
+) -> Result<Reply, Refusal>
+    ensures who { Answers session.old.who (author_opened replica accounts.now name.now token.now session.old.who) result session.new.who }
+    ensures rooms { session.new.rooms ≡ session.old.rooms }
+{
+    if !is_nobody(session.who()) {
+        return Err(Refusal::HaveSession);
+    }
+    if !(name.is_well_formed() && accounts.author(name.as_str(), token.as_str())) {
+        return Err(Refusal::BadToken);
+    }
+    let author = Author {
+        name: name.clone()?,
+        origin: replica,
+    };
+    session.set(Who::Author(name.clone()?));
+    Ok(Reply::Hello { author })
+}
+
+/// A peer logs in. A number that no replica can have is no peer's.
+pub fn peer(
+    replica: u16,
+    accounts: &Accounts,
+    number: u64,
+    token: &Word,
+    version: Version,
+    session: &mut Session,
+) -> Result<Reply, Refusal>
+    ensures who { peer_opened replica accounts.now number token.now version session.old.who ≡ (result, session.new.who) }
+    ensures rooms { session.new.rooms ≡ session.old.rooms }
+{
+    if !is_nobody(session.who()) {
+        return Err(Refusal::HaveSession);
+    }
+    let Ok(known) = u16::try_from(number) else {
+        return Err(Refusal::BadToken);
+    };
+    if known == 0 || !accounts.peer(number, token.as_str()) {
+        return Err(Refusal::BadToken);
+    }
+    if is_unsayable(replica, version) {
+        return Err(Refusal::OldPeer);
+    }
+    session.set(Who::Peer {
+        number: known,
+        version,
+    });
+    Ok(Reply::Peer { replica, version })
+}
+
+/// Makes a session that of a peer, for exchange with it.
+pub fn relay(replica: u16, number: u16, session: &mut Session) -> Result<Reply, Refusal>
+    ensures who { relay_opened replica number session.old.who ≡ (result, session.new.who) }
+    ensures rooms { session.new.rooms ≡ session.old.rooms }
+{
+    let taken = !is_nobody(session.who());
+    if taken {
+        return Err(Refusal::HaveSession);
+    }
+    let version = Version::Two;
+    session.set(Who::Peer { number, version });
+    Ok(Reply::Peer { replica, version })
+}
+
+/// Why a creation is refused before it comes to a cell, if so.
+pub fn create_refusal(who: &Who, pad: &Name) -> Option<Refusal>
+    ensures { result ≡ create_refused who.now pad.now }
+{
+    if !is_of_author(who) {
+        return Some(Refusal::NoSession);
+    }
+    if !pad.is_well_formed() {
+        return Some(Refusal::BadName);
+    }
+    None
+}
+
+/// Why an act is refused before it comes to a cell, if so.
+pub fn act_refusal(who: &Who, pad: &Name, act: &Act) -> Option<Refusal>
+    ensures { result ≡ act_refused who.now pad.now act.now }
+{
+    match session_refusal(who, act) {
+        Some(refusal) => Some(refusal),
+        None if !pad.is_well_formed() => Some(Refusal::BadName),
+        None => None,
+    }
+}
+
+/// Whether a session is nobody's.
+pub fn is_nobody(who: &Who) -> bool
+    ensures { result ≡ is_nobody who.now }
+{
+    matches!(who, Who::Nobody)
+}
+
+fn is_of_author(who: &Who) -> bool
+    ensures { result ≡ is_of_author who.now }
+{
+    matches!(who, Who::Author(_))
+}
+
+/// Whether a peer of this version cannot be told of a server with this number.
+fn is_unsayable(replica: u16, version: Version) -> bool
+    ensures { result ≡ is_unsayable replica version }
+{
+    match version {
+        Version::One => replica > OLD_REPLICA,
+        Version::Two => false,
+    }
+}

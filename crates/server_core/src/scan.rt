@@ -1,0 +1,97 @@
+//! The scan of a row: a request goes from cell to cell until one answers it.
+ghost use Rattle.std.specs.Prelude.{◌≡◌, ◌≤◌, length};
+ghost use Rattle.server_core.specs.Actor.{actor_of};
+ghost use Rattle.server_core.specs.AtCell.{past_row as row_passed, row_answer as row_answered};
+ghost use Rattle.server_core.specs.Rooms.{IsAsked, IsSoundTask};
+ghost use Rattle.server_core.specs.Served.{Acted, RowVisited};
+ghost use Rattle.server_core.specs.Steps.{concluded, goes_on as going_on, move as moved_on};
+ghost use Rattle.server_core.specs.declared.limits.TheConstants.{MAX_CELLS};
+
+use crate::at_cell::request_at;
+use crate::leave::leave_first;
+use crate::limits::MAX_CELLS;
+use crate::step::Moved;
+use crate::task::Task;
+use pad_core::{Pad, Reply, Request};
+use pad_model::{Refusal, Sequence};
+use sessions::Session;
+use std::alloc::Global;
+
+/// Goes on with what is under way, by one cell.
+pub fn go_on<S: Sequence>(
+    alloc: Global,
+    cells: &mut [Pad<S>],
+    session: &mut Session,
+    task: &mut Task,
+) -> Moved
+    requires row { length cells.old ≤ MAX_CELLS }
+    requires sound { IsSoundTask task.old }
+    ensures acted { Acted cells.old (actor_of session.old task.old) (moved_on task.old (actor_of session.old task.old) cells.old) result (actor_of session.new task.new) cells.new }
+    ensures sound { IsSoundTask task.new }
+{
+    match task {
+        Task::Resting => Moved::Idle,
+        Task::Leaving => leave_first(cells, session, task),
+        Task::Scanning { request, cell } => {
+            let place = *cell;
+            let answer = answer_at(alloc, cells, place, session, request);
+            if goes_on(&answer, place, cells.len()) {
+                *cell = place + 1;
+                return Moved::Scanning;
+            }
+            let moved = conclude(answer, request);
+            *task = Task::Resting;
+            moved
+        }
+    }
+}
+
+/// A request at a place of the row. None: the pad there has another name.
+fn answer_at<S: Sequence>(
+    alloc: Global,
+    cells: &mut [Pad<S>],
+    place: u32,
+    session: &mut Session,
+    request: &Request,
+) -> Result<Option<Reply>, Refusal>
+    requires { IsAsked request.now }
+    ensures who { session.new.who ≡ session.old.who }
+    ensures visited { RowVisited request.now place session.old.rooms cells.old (row_answered session.old.who request.now place session.old.rooms cells.old) result session.new.rooms cells.new }
+{
+    let index = place as usize;
+    if index >= cells.len() {
+        return Err(past_row(request));
+    }
+    request_at(alloc, &mut cells[index], place, session, request)
+}
+
+/// Whether the cell had another name, and there is one behind it.
+fn goes_on(answer: &Result<Option<Reply>, Refusal>, place: u32, count: usize) -> bool
+    ensures { result ≡ going_on answer.now place count }
+{
+    match answer {
+        Ok(None) => u64::from(place) + 1 < count as u64,
+        _ => false,
+    }
+}
+
+/// How a scan ends: with the answer of its cell, or past the row.
+fn conclude(answer: Result<Option<Reply>, Refusal>, request: &Request) -> Moved
+    ensures { result ≡ concluded request.now answer }
+{
+    match answer {
+        Ok(None) => Moved::Refused(past_row(request)),
+        Ok(Some(reply)) => Moved::Done(reply),
+        Err(refusal) => Moved::Refused(refusal),
+    }
+}
+
+/// How a request ends that finds no cell.
+fn past_row(request: &Request) -> Refusal
+    ensures { result ≡ row_passed request.now }
+{
+    match request {
+        Request::Create { .. } => Refusal::NoSlot,
+        _ => Refusal::NoPad,
+    }
+}

@@ -1,0 +1,137 @@
+//! The server: a row of cells, and actors.
+ghost use Rattle.std.specs.Prelude.{◌≡◌, ◌≤◌, [], ◌∷◌, List, length, Contains, IfOk, OnOk, MatchResult};
+ghost use Rattle.std.specs.List.{AllByRecursion, repeat};
+ghost use Rattle.pad_model.specs.Answers.{Answers};
+ghost use Rattle.pad_model.specs.declared.op.Op.{Op};
+ghost use Rattle.pad_model.specs.declared.refusal.Refusal.{Refusal};
+ghost use Rattle.server_core.specs.declared.limits.TheConstants.{MAX_CELLS};
+ghost use Rattle.pad_core.specs.Delivered.{IsDelivered};
+ghost use Rattle.pad_core.specs.Laws.{HaveSame, ShowSame};
+ghost use Rattle.pad_core.specs.Machine.{Machine};
+ghost use Rattle.server_core.specs.Machine.{new_server, with_newcomer, run as machine_run, unnamed};
+ghost use Rattle.server_core.specs.Served.{FoundMemory, Ran, Served};
+
+use crate::actor::Actor;
+use crate::limits::{MAX_ACTORS, MAX_CELLS};
+use crate::step::{Moved, Step};
+use pad_core::Pad;
+use pad_model::{Refusal, Sequence};
+use sessions::Accounts;
+use std::alloc::Global;
+use std::marker::Model;
+
+/// A row of cells, who may log in, and the actors that ask.
+#[derive(Drop)]
+pub struct Server<S: Sequence> {
+    replica: u16,
+    accounts: Accounts,
+    cells: Vec<Pad<S>>,
+    actors: Vec<Actor>,
+}
+
+impl<S: Sequence> Model for Server<S> {
+    ghost use Rattle.server_core.specs.Machine.{Server, IsRow};
+
+    ghost Value = { Server };
+
+    ghost view = { λ s. record { replica = s.replica; accounts = s.accounts; cells = s.cells.items; actors = s.actors.items } };
+
+    ghost invariant = { λ s. IsRow s.cells.items };
+}
+
+impl<S: Sequence> Server<S> {
+    /// A server with this replica number, with a row of cells without names, and no actors.
+    pub fn new(
+        alloc: Global,
+        replica: u16,
+        cells: u32,
+        accounts: Accounts,
+    ) -> Result<Server<S>, Refusal>
+        requires replica { 1 ≤ replica }
+        requires cells { cells ≤ MAX_CELLS }
+        ensures { MatchResult result (λ server. server ≡ new_server replica cells accounts) (λ e. e ≡ Refusal.Memory) }
+    {
+        Ok(Server {
+            replica,
+            accounts,
+            cells: make_row(alloc, replica, cells)?,
+            actors: Vec::new(alloc),
+        })
+    }
+
+    /// How many cells there are.
+    pub fn cells(&self) -> u32
+        ensures { result ≡ length self.now.cells }
+    {
+        self.cells.len() as u32
+    }
+
+    /// One more actor, by its number, from 0. It is nobody until it logs in.
+    pub fn open(&mut self, alloc: Global) -> Result<u32, Refusal>
+        ensures { Answers self.old (with_newcomer self.old) result self.new }
+    {
+        let count = self.actors.len();
+        if count >= MAX_ACTORS as usize {
+            return Err(Refusal::ActorsFull);
+        }
+        self.actors.push(Actor::new(alloc))?;
+        Ok(count as u32)
+    }
+
+    /// Makes one step of an actor that was opened.
+    pub fn step(&mut self, alloc: Global, actor: u32, step: &Step) -> Moved
+        ensures { Served self.old actor step.now result self.new }
+    {
+        let index = actor as usize;
+        if index >= self.actors.len() {
+            return Moved::Idle;
+        }
+        let cells = self.cells.as_mut_slice();
+        self.actors[index].step(alloc, self.replica, &self.accounts, cells, step)
+    }
+
+    /// Makes a list of steps, one after the other.
+    ///
+    /// The room for what the actors are told is taken first; without it nothing is done.
+    pub fn run(&mut self, alloc: Global, steps: &[(u32, Step)]) -> Result<Vec<Moved>, Refusal>
+        ensures ran { MatchResult result (λ answers. Ran self.old steps.now answers.items self.new) (λ e. (e ≡ Refusal.Memory) × (self.new ≡ self.old)) }
+
+        // What the actors are told and the server are the machine's, where no step met want of memory.
+        ensures machine { IfOk result (λ answers. FoundMemory answers.items → machine_run steps.now self.old ≡ (answers.items, self.new)) }
+
+        // What a pad shows then depends on the set of its operations alone: any other log of a pad with the same ones shows the same.
+        ensures alike { OnOk result ((m : Machine) → Contains self.new.cells m → (other : List Op) → IsDelivered other → HaveSame m.log other → ShowSame m.log other) }
+    {
+        let mut answers = match Vec::with_capacity(alloc, steps.len()) {
+            Ok(answers) => answers,
+            Err(_) => return Err(Refusal::Memory),
+        };
+        for event in steps {
+            let answer = self.step(alloc, event.0, &event.1);
+            answers.push_reserved(answer);
+        }
+        know_delivered(self.cells.as_slice());
+        Ok(answers)
+    }
+}
+
+/// Nothing; it tells contracts that the log of each cell is one of delivered operations.
+fn know_delivered<S: Sequence>(cells: &[Pad<S>])
+    ensures { AllByRecursion (λ m. IsDelivered m.log) cells.now }
+{
+    for cell in cells {
+        let _now = cell.revision();
+    }
+}
+
+/// Cells without names.
+fn make_row<S: Sequence>(alloc: Global, replica: u16, count: u32) -> Result<Vec<Pad<S>>, Refusal>
+    requires { 1 ≤ replica }
+    ensures { MatchResult result (λ cells. cells.items ≡ repeat count (unnamed replica ∷ [])) (λ e. e ≡ Refusal.Memory) }
+{
+    let mut cells = Vec::new(alloc);
+    for _ in 0..count {
+        cells.push(Pad::new(alloc, replica)?)?;
+    }
+    Ok(cells)
+}

@@ -1,0 +1,4 @@
+pub mod Feeds
+pub mod InOrder
+pub mod Taken
+pub mod Written

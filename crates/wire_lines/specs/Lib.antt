@@ -1,0 +1,9 @@
+pub mod Buffer
+pub mod Causes
+pub mod Device
+pub mod Devices
+pub mod Faults
+pub mod Inside
+pub mod Lines
+pub mod Reader
+pub mod Served

@@ -1,0 +1,42 @@
+-- What a reader of lines has before it, and what it gives of that.
+use Rattle.std.specs.Prelude.{◌≡◌, ℕ, true, false, List, [], ⊤, Option, None, Some, Result, Ok, Err}
+use Rattle.wire_lines.specs.Lines.{first_line, behind_line, is_too_long}
+use Rattle.wire_lines.specs.Buffer.{ahead}
+use Rattle.wire_lines.specs.declared.fault.Fault.{Fault}
+use Rattle.wire_lines.specs.declared.lines.Lines.{Lines}
+use Rattle.wire_lines.specs.declared.lines.Line.{Line}
+use Rattle.wire_lines.specs.declared.lines.Line.TheVariants as line
+use Rattle.wire_lines.specs.declared.buffer.Found.TheVariants as found
+
+-- the reader behind the lines
+abbrev pub source_of : {R : Type 0} → Lines R → R
+source_of lines = lines.source
+
+-- the bytes that are to come, where they are known
+abbrev pub lines_ahead : {R : Type 0} → (R → Option (List ℕ)) → Lines R → Option (List ℕ)
+lines_ahead remaining lines = ahead lines.buffer (remaining lines.source)
+
+-- the fault that is answered from now on
+abbrev pub fault_of : {R : Type 0} → Lines R → Option Fault
+fault_of lines = lines.buffer.fault
+
+-- a line is the first of the bytes that are to come, is too long, or there is none
+abbrev pub IsFirst : Line → List ℕ → Type 0
+IsFirst (line.Text text) bytes = (is_too_long bytes ≡ false) × (text.now ≡ first_line bytes)
+IsFirst line.TooLong bytes = is_too_long bytes ≡ true
+IsFirst line.End bytes = bytes ≡ []
+
+-- what is answered is the first line of the bytes, where they are known, or a fault
+abbrev pub GivesLine : Option (List ℕ) → Result Line Fault → Type 0
+GivesLine None answer = ⊤
+GivesLine (Some bytes) (Err fault) = ⊤
+GivesLine (Some bytes) (Ok line) = IsFirst line bytes
+
+-- a line was taken off, and nothing else of the bytes is lost
+abbrev pub IsAnswered : Result Line Fault → Option (List ℕ) → Option (List ℕ) → Type 0
+IsAnswered answer None new = ⊤
+IsAnswered answer (Some bytes) None = ⊥
+IsAnswered (Ok (line.Text text)) (Some bytes) (Some rest) = rest ≡ behind_line bytes
+IsAnswered (Ok line.TooLong) (Some bytes) (Some rest) = rest ≡ bytes
+IsAnswered (Ok line.End) (Some bytes) (Some rest) = rest ≡ bytes
+IsAnswered (Err fault) (Some bytes) (Some rest) = rest ≡ bytes

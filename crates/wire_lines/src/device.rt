@@ -1,0 +1,62 @@
+//! What a reader and a writer may do: cut, be interrupted, fail.
+ghost use Rattle.std.specs.Prelude.{◌≡◌, ℕ, ◌≤◌, List, Option, IfOk, length};
+ghost use Rattle.std.specs.Io.KnownBytes.{Keeps, ReadConsumes, WriteAppends};
+ghost use Rattle.wire_lines.specs.Device.{after_read, after_write, after_flush};
+
+/// Why a read gave nothing.
+#[derive(Clone, Copy, Debug, PartialEq, Eq)]
+pub enum ReadError {
+    /// It may be tried again.
+    Interrupted,
+    /// The reader failed.
+    Failed,
+}
+
+/// A writer failed.
+#[derive(Clone, Copy, Debug, PartialEq, Eq)]
+pub struct WriteError;
+
+/// Bytes that come in.
+pub trait Source {
+    /// The bytes that reads will give from here on, where they are known.
+    ghost remaining: { Self → Option (List ℕ) };
+
+    /// How many calls have failed, as far as a `u64` counts.
+    ghost failures: { Self → ℕ };
+
+    /// Reads once. 0 bytes come only at the end, or where the buffer has no room.
+    fn read(&mut self, buffer: &mut [u8]) -> Result<usize, ReadError>
+        ensures bound { IfOk result (λ count. count ≤ length buffer.new) }
+        ensures bytes { ReadConsumes (remaining self.old) (remaining self.new) result buffer.new }
+        ensures failures { failures self.new ≡ after_read result (failures self.old) };
+}
+
+/// Bytes that go out.
+pub trait Sink {
+    /// The bytes that were written, where they are known.
+    ghost contents: { Self → Option (List ℕ) };
+
+    /// How many calls have failed or taken no byte of some, as far as a `u64` counts.
+    ghost failures: { Self → ℕ };
+
+    /// Writes once, as many bytes as it takes.
+    fn write(&mut self, bytes: &[u8]) -> Result<usize, WriteError>
+        ensures bound { IfOk result (λ count. count ≤ length bytes.now) }
+        ensures bytes { WriteAppends (contents self.old) (contents self.new) result bytes.now }
+        ensures failures { failures self.new ≡ after_write result bytes.now (failures self.old) };
+
+    /// Sends on what was written.
+    fn flush(&mut self) -> Result<(), WriteError>
+        ensures bytes { Keeps (contents self.old) (contents self.new) }
+        ensures failures { failures self.new ≡ after_flush result (failures self.old) };
+}
+
+impl<S: Source> Source for &mut S {
+    ghost remaining = { λ s. S.remaining s.now };
+
+    ghost failures = { λ s. S.failures s.now };
+
+    fn read(&mut self, buffer: &mut [u8]) -> Result<usize, ReadError> {
+        Source::read(&mut **self, buffer)
+    }
+}

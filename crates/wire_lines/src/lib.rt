@@ -1,0 +1,25 @@
+//! Bytes as lines, and lines as bytes: readers and writers that may cut, interrupt or fail.
+//!
+//! It stands on std alone. It knows no JSON: a line is bytes.
+#![tactic(auto)]
+
+mod buffer;
+mod device;
+mod fault;
+mod feed;
+pub mod laws;
+mod lines;
+mod memory;
+mod std_device;
+#[cfg(test)]
+mod tests;
+mod write;
+
+pub use buffer::{Found, LineBuffer, MAX_READS};
+pub use device::{ReadError, Sink, Source, WriteError};
+pub use fault::Fault;
+pub use feed::MAX_LINE;
+pub use lines::{Line, Lines};
+pub use memory::{Input, Output};
+pub use std_device::Std;
+pub use write::write_all;

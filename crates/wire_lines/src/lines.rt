@@ -1,0 +1,59 @@
+//! A reader, line by line.
+ghost use Rattle.std.specs.Prelude.{◌≡◌, None, IfOk, IfErr};
+ghost use Rattle.std.specs.Result.{result_err};
+ghost use Rattle.std.specs.Borrow.{sem};
+ghost use Rattle.std.specs.Io.BufRead.{Rests};
+ghost use Rattle.wire_lines.specs.Reader.{lines_ahead, fault_of, source_of, GivesLine, IsAnswered};
+ghost use Rattle.wire_lines.specs.contracts.lines.Lines.{the_row};
+ghost use Rattle.wire_lines.specs.declared.fault.Fault.TheVariants.{Memory};
+
+use crate::buffer::{Found, LineBuffer};
+use crate::device::Source;
+use crate::fault::Fault;
+use std::alloc::Global;
+
+/// What comes next.
+#[derive(Clone, Copy, Debug, PartialEq, Eq)]
+pub enum Line<'a> {
+    /// A line, without its end.
+    Text(&'a [u8]),
+    /// A line of more than `MAX_LINE` bytes. It is answered again from then on.
+    TooLong,
+    /// No more lines.
+    End,
+}
+
+/// The lines of a reader, which may be lent.
+#[derive(Drop)]
+pub struct Lines<R> {
+    source: R,
+    buffer: LineBuffer,
+}
+
+impl<R: Source> Lines<R> {
+    /// Nothing is read yet. Where there is no memory the reader is dropped.
+    pub fn new(alloc: Global, source: R) -> Result<Lines<R>, Fault>
+    where
+        R: Drop,
+        ensures source { IfOk result (λ lines. source_of lines ≡ source) }
+        ensures bytes { IfOk result (λ lines. lines_ahead R.remaining lines ≡ R.remaining source) }
+        ensures fault { IfOk result (λ lines. fault_of lines ≡ None) }
+        ensures err { IfErr result (λ fault. fault ≡ Memory) }
+    {
+        let buffer = LineBuffer::new(alloc)?;
+        Ok(Lines { source, buffer })
+    }
+
+    /// The next line. After a line that is too long, or a fault, it answers that again.
+    pub fn next(&mut self) -> Result<Line<'_>, Fault>
+        ensures line { GivesLine (lines_ahead R.remaining self.old) result }
+        ensures* after_borrow { sem 𝓛 (Rests (the_row R.row) self.entry (λ new.
+            IsAnswered result (lines_ahead R.remaining self.old) (lines_ahead R.remaining new) × (fault_of new ≡ result_err result))) }
+    {
+        match self.buffer.find_line(&mut self.source)? {
+            Found::Text => Ok(Line::Text(self.buffer.line())),
+            Found::TooLong => Ok(Line::TooLong),
+            Found::End => Ok(Line::End),
+        }
+    }
+}

@@ -1,0 +1,171 @@
+//! Devices over memory, for tests: they cut, are interrupted, or fail at a chosen call.
+ghost use Rattle.std.specs.Prelude.{◌≡◌, ◌+◌, ◌≤◌, ◌<◌, [], Some, min, length, take, drop};
+ghost use Rattle.wire_lines.specs.Device.{one_more};
+
+use crate::device::{ReadError, Sink, Source, WriteError};
+use std::alloc::Global;
+
+/// A reader over bytes in memory.
+#[derive(Drop)]
+pub struct Input<'a> {
+    rest: &'a [u8],
+    piece: usize,
+    is_interrupted: bool,
+    fails_at: u64,
+    calls: u64,
+    failures: u64,
+    ghost some: { 0 < piece },
+}
+
+impl<'a> Input<'a> {
+    ghost use Rattle.wire_lines.specs.Devices.{input_rest};
+
+    /// It gives as many bytes as there is room for, and doesn't fail.
+    pub fn new(bytes: &'a [u8]) -> Input<'a>
+        ensures { input_rest result ≡ bytes.now }
+    {
+        Input {
+            rest: bytes,
+            piece: usize::MAX,
+            is_interrupted: false,
+            fails_at: 0,
+            calls: 0,
+            failures: 0,
+        }
+    }
+
+    /// One read gives so many bytes at most.
+    pub fn in_pieces(mut self, piece: usize) -> Input<'a>
+        requires { 0 < piece }
+        ensures { input_rest result ≡ input_rest self.entry }
+    {
+        self.piece = piece;
+        self
+    }
+
+    /// Each read is interrupted once before it gives its bytes.
+    pub fn interrupted(mut self) -> Input<'a>
+        ensures { input_rest result ≡ input_rest self.entry }
+    {
+        self.is_interrupted = true;
+        self
+    }
+
+    /// A read fails, counted from 1.
+    pub fn failing_at(mut self, call: u64) -> Input<'a>
+        ensures { input_rest result ≡ input_rest self.entry }
+    {
+        self.fails_at = call;
+        self
+    }
+}
+
+impl Source for Input<'_> {
+    ghost remaining = { λ i. Some i.rest.now };
+
+    ghost failures = { λ i. i.failures };
+
+    fn read(&mut self, buffer: &mut [u8]) -> Result<usize, ReadError> {
+        self.calls = one_more(self.calls);
+        if self.calls == self.fails_at {
+            self.failures = one_more(self.failures);
+            return Err(ReadError::Failed);
+        }
+        if self.is_interrupted && self.calls % 2 == 1 {
+            return Err(ReadError::Interrupted);
+        }
+        let count = self.piece.min(self.rest.len()).min(buffer.len());
+        copy_front(self.rest, buffer, count);
+        self.rest = &self.rest[count..];
+        Ok(count)
+    }
+}
+
+// Writes a front of the bytes over the front of the buffer.
+fn copy_front(bytes: &[u8], buffer: &mut [u8], count: usize)
+    requires bytes { count ≤ length bytes.now }
+    requires room { count ≤ length buffer.old }
+    ensures { take count buffer.new ≡ take count bytes.now }
+{
+    buffer[..count].copy_from_slice(&bytes[..count]);
+}
+
+// One more, where there is one.
+fn one_more(calls: u64) -> u64
+    ensures { result ≡ one_more calls }
+{
+    calls.saturating_add(1)
+}
+
+/// A writer into memory.
+#[derive(Drop)]
+pub struct Output {
+    bytes: Vec<u8>,
+    piece: usize,
+    fails_at: u64,
+    calls: u64,
+    failures: u64,
+}
+
+impl Output {
+    ghost use Rattle.wire_lines.specs.Devices.{output_bytes};
+
+    /// Nothing is written. It takes all bytes of a call, and doesn't fail while there is memory.
+    pub fn new(alloc: Global) -> Output
+        ensures { output_bytes result ≡ [] }
+    {
+        Output {
+            bytes: Vec::new(alloc),
+            piece: usize::MAX,
+            fails_at: 0,
+            calls: 0,
+            failures: 0,
+        }
+    }
+
+    /// One write takes so many bytes at most, which may be none.
+    pub fn in_pieces(mut self, piece: usize) -> Output
+        ensures { output_bytes result ≡ output_bytes self }
+    {
+        self.piece = piece;
+        self
+    }
+
+    /// A write fails, counted from 1.
+    pub fn failing_at(mut self, call: u64) -> Output
+        ensures { output_bytes result ≡ output_bytes self }
+    {
+        self.fails_at = call;
+        self
+    }
+
+    /// What was written.
+    pub fn bytes(&self) -> &[u8]
+        ensures { result.now ≡ output_bytes self.now }
+    {
+        &self.bytes
+    }
+}
+
+impl Sink for Output {
+    ghost contents = { λ o. Some o.bytes.items };
+
+    ghost failures = { λ o. o.failures };
+
+    fn write(&mut self, bytes: &[u8]) -> Result<usize, WriteError> {
+        self.calls = one_more(self.calls);
+        let count = self.piece.min(bytes.len());
+        if self.calls == self.fails_at || self.bytes.extend_from_slice(&bytes[..count]).is_err() {
+            self.failures = one_more(self.failures);
+            return Err(WriteError);
+        }
+        if count == 0 && !bytes.is_empty() {
+            self.failures = one_more(self.failures);
+        }
+        Ok(count)
+    }
+
+    fn flush(&mut self) -> Result<(), WriteError> {
+        Ok(())
+    }
+}

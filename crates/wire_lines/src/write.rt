@@ -1,0 +1,30 @@
+//! A line as it is written: whole, or up to where the writer failed.
+ghost use Rattle.std.specs.Prelude.{◌≡◌, ℕ, ◌≤◌, length, take, OnOk, OnErr, IfErr};
+ghost use Rattle.std.specs.Io.KnownBytes.{Appends};
+ghost use Rattle.wire_lines.specs.Device.{one_more};
+ghost use Rattle.wire_lines.specs.declared.fault.Fault.TheVariants.{WriteFault};
+
+use crate::device::Sink;
+use crate::fault::Fault;
+
+/// Writes all of the bytes and flushes. After an error a front of them was written.
+pub fn write_all<W: Sink>(writer: &mut W, bytes: &[u8]) -> Result<(), Fault>
+    ensures whole { OnOk result (Appends (W.contents writer.old) (W.contents writer.new) bytes.now) }
+    ensures front { OnErr result ((count : ℕ) × (count ≤ length bytes.now)
+        × Appends (W.contents writer.old) (W.contents writer.new) (take count bytes.now)) }
+    ensures fault { IfErr result (λ fault. fault ≡ WriteFault) }
+    ensures cause { OnErr result (W.failures writer.new ≡ one_more (W.failures writer.old)) }
+    ensures none { OnOk result (W.failures writer.new ≡ W.failures writer.old) }
+{
+    let mut written = 0;
+    while written < bytes.len() {
+        match writer.write(&bytes[written..]) {
+            Ok(count) if count > 0 => written += count,
+            _ => return Err(Fault::WriteFault),
+        }
+    }
+    match writer.flush() {
+        Ok(()) => Ok(()),
+        Err(_) => Err(Fault::WriteFault),
+    }
+}

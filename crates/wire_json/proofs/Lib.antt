@@ -1,0 +1,9 @@
+pub mod NoFloats
+pub mod Fields
+pub mod Values
+pub mod Items
+pub mod Rising
+pub mod Again
+pub mod OpAgain
+pub mod OneLine
+pub mod Shallow

@@ -1,0 +1,7 @@
+-- So far the values are those of the items that were passed.
+use Rattle.std.proofs.Common.{◌≡◌, map, take}
+use Rattle.serde_json.specs.View.{view}
+use Rattle.wire_json.proofs.list.list_value.Given as goal
+
+abbrev pub invariant-loop-item : goal.invariant-loop-item
+invariant-loop-item g l = map view l.values.items ≡ map g.T.ToJson.says (take l.item-index l.items)

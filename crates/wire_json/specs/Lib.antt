@@ -1,0 +1,8 @@
+pub mod Words
+pub mod Forms
+pub mod Operations
+pub mod Replies
+pub mod Reading
+pub mod Requests
+pub mod Lines
+pub mod Laws

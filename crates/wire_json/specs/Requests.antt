@@ -1,0 +1,129 @@
+-- What requests and operations are read as. What is nothing here is no request.
+use Rattle.std.specs.Prelude.{ℕ, ◌==◌, if◌then◌else◌, Bool, true, false, List, [], ◌∷◌, length, Option, Some, None, option_map, option_and_then, is_some, bytes_eq, codes}
+use Rattle.serde_json.specs.Data.{Data}
+use Rattle.serde_json.specs.Find.{get}
+use Rattle.pad_model.specs.declared.op.Op.{Op}
+use Rattle.pad_model.specs.declared.op.OpName.{OpName}
+use Rattle.pad_model.specs.declared.op.Part.{Part}
+use Rattle.pad_model.specs.declared.op.Part.TheVariants as part
+use Rattle.pad_model.specs.declared.seen.Counted.{Counted}
+use Rattle.pad_core.specs.declared.act.Act.{Act}
+use Rattle.pad_core.specs.declared.act.Act.TheVariants as act
+use Rattle.pad_core.specs.declared.act.Change.{Change}
+use Rattle.pad_core.specs.declared.act.Change.TheVariants as change
+use Rattle.pad_core.specs.declared.reply.Kind.{Kind}
+use Rattle.pad_core.specs.declared.reply.Kind.TheVariants as kind
+use Rattle.pad_core.specs.declared.request.Request.{Request}
+use Rattle.pad_core.specs.declared.request.Request.TheVariants as request
+use Rattle.wire_json.specs.declared.deed.Deed.{Deed}
+use Rattle.wire_json.specs.declared.deed.Deed.TheVariants as deed
+use Rattle.wire_json.specs.Words.{kind_of_word, deed_of_word}
+use Rattle.wire_json.specs.Reading.{of_two, of_three, of_four, field, null_or, optional, list_in, number_in, name_in, text_in, stamp_in, op_name_in, span_in, seen_in, right_in, version_of}
+
+-- the part of a kind
+abbrev pub part_of : Kind → Data → Option Part
+part_of kind.Insert d =
+    of_three (λ first after text. part.Insert (record { first = first; after = after; text = text }))
+    (field stamp_in (codes "first") d) (field (null_or stamp_in) (codes "after") d) (field text_in (codes "text") d)
+part_of kind.Delete d = option_map part.Delete (field (list_in span_in) (codes "spans") d)
+part_of kind.Comment d =
+    of_three part.Comment (field stamp_in (codes "first") d) (field stamp_in (codes "last") d) (field text_in (codes "text") d)
+part_of kind.Resolve d = option_map part.Resolve (field op_name_in (codes "comment") d)
+part_of kind.Edit d = None
+
+-- the kind that an operation or a part names
+abbrev pub kind_in : Data → Option Kind
+kind_in d = option_and_then kind_of_word (field name_in (codes "kind") d)
+
+-- a part of an edit, by its own kind; that it is an insertion or a deletion is for the check of the operation
+abbrev pub edit_part_in : Data → Option Part
+edit_part_in d = option_and_then (λ k. part_of k d) (kind_in d)
+
+-- several parts, or none; one part has the form of its kind
+abbrev pub several : List Part → Option (List Part)
+several parts = if length parts == 1 then None else Some parts
+
+-- the parts of a kind
+abbrev pub parts_of : Kind → Data → Option (List Part)
+parts_of kind.Insert d = option_map (λ p. p ∷ []) (part_of kind.Insert d)
+parts_of kind.Delete d = option_map (λ p. p ∷ []) (part_of kind.Delete d)
+parts_of kind.Comment d = option_map (λ p. p ∷ []) (part_of kind.Comment d)
+parts_of kind.Resolve d = option_map (λ p. p ∷ []) (part_of kind.Resolve d)
+parts_of kind.Edit d = option_and_then several (field (list_in edit_part_in) (codes "parts") d)
+
+-- an operation of these fields
+abbrev pub op_of : OpName → List Counted → List ℕ → List Part → Op
+op_of name seen author parts = record { name = name; seen = seen; author = author; parts = parts }
+
+-- an operation
+abbrev pub op_in : Data → Option Op
+op_in d =
+    of_four op_of (field op_name_in (codes "name") d) (field seen_in (codes "seen") d) (field name_in (codes "author") d)
+    (option_and_then (λ k. parts_of k d) (kind_in d))
+
+-- a change has either a text or a length
+abbrev pub change_of : Bool → Bool → ℕ → Data → Option Change
+change_of true true at d = None
+change_of true false at d = option_map (change.Insert at) (field text_in (codes "text") d)
+change_of false true at d = option_map (change.Delete at) (field number_in (codes "len") d)
+change_of false false at d = None
+
+-- a change of an edit
+abbrev pub change_in : Data → Option Change
+change_in d = option_and_then (λ at. change_of (is_some (get (codes "text") d)) (is_some (get (codes "len") d)) at d) (field number_in (codes "at") d)
+
+-- the act of a deed
+abbrev pub act_of : Deed → Data → Option Act
+act_of deed.Join d = Some act.Join
+act_of deed.Leave d = Some act.Leave
+act_of deed.Insert d =
+    of_three act.Insert (field number_in (codes "rev") d) (field number_in (codes "at") d) (field text_in (codes "text") d)
+act_of deed.Delete d =
+    of_three act.Delete (field number_in (codes "rev") d) (field number_in (codes "at") d) (field number_in (codes "len") d)
+act_of deed.Edit d = of_two act.Edit (field number_in (codes "rev") d) (field (list_in change_in) (codes "parts") d)
+act_of deed.Comment d =
+    of_four act.Comment (field number_in (codes "rev") d) (field number_in (codes "at") d) (field number_in (codes "len") d)
+    (field text_in (codes "text") d)
+act_of deed.Resolve d = option_map act.Resolve (field op_name_in (codes "comment") d)
+act_of deed.Text d = option_map act.Text (optional number_in (codes "rev") d)
+act_of deed.Runs d = option_map act.Runs (optional number_in (codes "rev") d)
+act_of deed.Comments d = option_map act.Comments (optional number_in (codes "rev") d)
+act_of deed.Revs d = Some act.Revs
+act_of deed.Entries d = of_two act.Entries (field number_in (codes "from") d) (field number_in (codes "count") d)
+act_of deed.Caret d = of_two act.Caret (field number_in (codes "rev") d) (field number_in (codes "at") d)
+act_of deed.Who d = Some act.Who
+act_of deed.Grant d = of_two act.Grant (field name_in (codes "author") d) (field right_in (codes "right") d)
+act_of deed.Rights d = Some act.Rights
+act_of deed.Vector d = Some act.Vector
+act_of deed.Push d = option_map act.Push (field op_in (codes "op") d)
+act_of deed.Pull d = of_two act.Pull (field seen_in (codes "seen") d) (field number_in (codes "max") d)
+
+-- an author begins a session
+abbrev pub hello_in : Data → Option Request
+hello_in d = of_two request.Hello (field name_in (codes "name") d) (field name_in (codes "token") d)
+
+-- a peer begins a session
+abbrev pub peer_in : Data → Option Request
+peer_in d =
+    of_three request.Peer (field number_in (codes "number") d) (field name_in (codes "token") d)
+    (option_and_then version_of (optional number_in (codes "version") d))
+
+-- a pad is created
+abbrev pub create_in : Data → Option Request
+create_in d = option_map request.Create (field name_in (codes "pad") d)
+
+-- a deed on a pad
+abbrev pub on_in : List ℕ → Data → Option Request
+on_in word d = of_two request.On (field name_in (codes "pad") d) (option_and_then (λ k. act_of k d) (deed_of_word word))
+
+-- what a word asks
+abbrev pub asked : List ℕ → Data → Option Request
+asked word d =
+    if bytes_eq word (codes "hello") then hello_in d
+    else if bytes_eq word (codes "peer") then peer_in d
+    else if bytes_eq word (codes "create") then create_in d
+    else on_in word d
+
+-- a request
+abbrev pub request_in : Data → Option Request
+request_in d = option_and_then (λ word. asked word d) (field name_in (codes "do") d)

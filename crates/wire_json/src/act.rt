@@ -1,0 +1,191 @@
+//! From a JSON value to an act.
+ghost use Rattle.serde_json.specs.View.{view};
+ghost use Rattle.wire_json.specs.Reading.{IsForm, IsRead, right_in, field};
+ghost use Rattle.wire_json.specs.Requests.{act_of, change_of, change_in};
+
+use crate::deed::Deed;
+use crate::field::{field, name_field, number_field, optional_number_field, str_field, text_field};
+use crate::form::{op_name_field, seen_field};
+use crate::list::{FromJson, list_field};
+use crate::op_read::read_op;
+use crate::word::granted_by;
+use pad_core::{Act, Change};
+use pad_model::Refusal;
+use rights::Right;
+use serde_json::Value;
+use std::alloc::Global;
+
+fn read_insert(alloc: Global, value: &Value) -> Result<Act, Refusal>
+    ensures { IsRead (act_of Deed.Insert (view value.now)) result }
+{
+    let rev = number_field(value, "rev")?;
+    let at = number_field(value, "at")?;
+    let text = text_field(alloc, value, "text")?;
+    Ok(Act::Insert { rev, at, text })
+}
+
+fn read_delete(value: &Value) -> Result<Act, Refusal>
+    ensures { IsForm (act_of Deed.Delete (view value.now)) result }
+{
+    let rev = number_field(value, "rev")?;
+    let at = number_field(value, "at")?;
+    let len = number_field(value, "len")?;
+    Ok(Act::Delete { rev, at, len })
+}
+
+impl FromJson for Change {
+    ghost form = { change_in };
+
+    /// A change has either a text or a length.
+    fn from_json(alloc: Global, value: &Value) -> Result<Change, Refusal> {
+        let at = number_field(value, "at")?;
+        let has_text = value.get("text").is_some();
+        let has_len = value.get("len").is_some();
+        change_at(alloc, at, has_text, has_len, value)
+    }
+}
+
+fn change_at(
+    alloc: Global,
+    at: u64,
+    has_text: bool,
+    has_len: bool,
+    value: &Value,
+) -> Result<Change, Refusal>
+    ensures { IsRead (change_of has_text has_len at (view value.now)) result }
+{
+    match (has_text, has_len) {
+        (true, false) => Ok(Change::Insert {
+            at,
+            text: text_field(alloc, value, "text")?,
+        }),
+        (false, true) => Ok(Change::Delete {
+            at,
+            len: number_field(value, "len")?,
+        }),
+        _ => Err(Refusal::NotRequest),
+    }
+}
+
+fn read_edit(alloc: Global, value: &Value) -> Result<Act, Refusal>
+    ensures { IsRead (act_of Deed.Edit (view value.now)) result }
+{
+    let rev = number_field(value, "rev")?;
+    let changes = list_field(alloc, value, "parts")?;
+    Ok(Act::Edit { rev, changes })
+}
+
+fn read_comment(alloc: Global, value: &Value) -> Result<Act, Refusal>
+    ensures { IsRead (act_of Deed.Comment (view value.now)) result }
+{
+    let rev = number_field(value, "rev")?;
+    let at = number_field(value, "at")?;
+    let len = number_field(value, "len")?;
+    let text = text_field(alloc, value, "text")?;
+    Ok(Act::Comment { rev, at, len, text })
+}
+
+fn read_resolve(value: &Value) -> Result<Act, Refusal>
+    ensures { IsForm (act_of Deed.Resolve (view value.now)) result }
+{
+    let comment = op_name_field(value, "comment")?;
+    Ok(Act::Resolve { comment })
+}
+
+fn read_entries(value: &Value) -> Result<Act, Refusal>
+    ensures { IsForm (act_of Deed.Entries (view value.now)) result }
+{
+    let from = number_field(value, "from")?;
+    let count = number_field(value, "count")?;
+    Ok(Act::Entries { from, count })
+}
+
+fn read_caret(value: &Value) -> Result<Act, Refusal>
+    ensures { IsForm (act_of Deed.Caret (view value.now)) result }
+{
+    let rev = number_field(value, "rev")?;
+    let at = number_field(value, "at")?;
+    Ok(Act::Caret { rev, at })
+}
+
+/// The right that is given, or that it is taken away.
+#[tactic(auto, using(crate::proofs::Fields::right_of_string))]
+fn right_field(value: &Value, key: &str) -> Result<Option<Right>, Refusal>
+    ensures { IsForm (field right_in key.now (view value.now)) result }
+{
+    match granted_by(str_field(value, key)?) {
+        Some(granted) => Ok(granted),
+        None => Err(Refusal::NotRequest),
+    }
+}
+
+fn read_grant(alloc: Global, value: &Value) -> Result<Act, Refusal>
+    ensures { IsRead (act_of Deed.Grant (view value.now)) result }
+{
+    let right = right_field(value, "right")?;
+    let author = name_field(alloc, value, "author")?;
+    Ok(Act::Grant { author, right })
+}
+
+fn read_push(alloc: Global, value: &Value) -> Result<Act, Refusal>
+    ensures { IsRead (act_of Deed.Push (view value.now)) result }
+{
+    let op = read_op(alloc, field(value, "op")?)?;
+    Ok(Act::Push { op })
+}
+
+fn read_pull(alloc: Global, value: &Value) -> Result<Act, Refusal>
+    ensures { IsRead (act_of Deed.Pull (view value.now)) result }
+{
+    let max = number_field(value, "max")?;
+    let seen = seen_field(alloc, value, "seen")?;
+    Ok(Act::Pull { seen, max })
+}
+
+fn read_text(value: &Value) -> Result<Act, Refusal>
+    ensures { IsForm (act_of Deed.Text (view value.now)) result }
+{
+    let rev = optional_number_field(value, "rev")?;
+    Ok(Act::Text { rev })
+}
+
+fn read_runs(value: &Value) -> Result<Act, Refusal>
+    ensures { IsForm (act_of Deed.Runs (view value.now)) result }
+{
+    let rev = optional_number_field(value, "rev")?;
+    Ok(Act::Runs { rev })
+}
+
+fn read_comments(value: &Value) -> Result<Act, Refusal>
+    ensures { IsForm (act_of Deed.Comments (view value.now)) result }
+{
+    let rev = optional_number_field(value, "rev")?;
+    Ok(Act::Comments { rev })
+}
+
+/// The act of a request that does this.
+pub fn read_act(alloc: Global, deed: Deed, value: &Value) -> Result<Act, Refusal>
+    ensures { IsRead (act_of deed (view value.now)) result }
+{
+    match deed {
+        Deed::Join => Ok(Act::Join),
+        Deed::Leave => Ok(Act::Leave),
+        Deed::Insert => read_insert(alloc, value),
+        Deed::Delete => read_delete(value),
+        Deed::Edit => read_edit(alloc, value),
+        Deed::Text => read_text(value),
+        Deed::Runs => read_runs(value),
+        Deed::Comment => read_comment(alloc, value),
+        Deed::Resolve => read_resolve(value),
+        Deed::Comments => read_comments(value),
+        Deed::Revs => Ok(Act::Revs),
+        Deed::Entries => read_entries(value),
+        Deed::Caret => read_caret(value),
+        Deed::Who => Ok(Act::Who),
+        Deed::Grant => read_grant(alloc, value),
+        Deed::Rights => Ok(Act::Rights),
+        Deed::Vector => Ok(Act::Vector),
+        Deed::Push => read_push(alloc, value),
+        Deed::Pull => read_pull(alloc, value),
+    }
+}

@@ -1,0 +1,82 @@
+//! The fields of an object. What lacks a field, or has another form there, is no request.
+ghost use Rattle.std.specs.Prelude.{◌≡◌, Some, None, IfOk, MatchResult};
+ghost use Rattle.std.specs.Str.{chars};
+ghost use Rattle.serde_json.specs.Find.{get, as_str};
+ghost use Rattle.serde_json.specs.View.{view};
+ghost use Rattle.wire_json.specs.Reading.{IsForm, IsRead, field as field_in, optional, number_in, name_in, text_in};
+
+use pad_model::{Name, Refusal, Text};
+use serde_json::Value;
+use sessions::Word;
+use std::alloc::{AllocError, Global};
+
+pub fn field<'a>(value: &'a Value, key: &str) -> Result<&'a Value, Refusal>
+    ensures { MatchResult result (λ found. get key.now (view value.now) ≡ Some (view found.now)) (λ e. (e ≡ Refusal.NotRequest) × (get key.now (view value.now) ≡ None)) }
+{
+    match value.get(key) {
+        Some(found) => Ok(found),
+        None => Err(Refusal::NotRequest),
+    }
+}
+
+/// A number without sign, fraction and exponent, below 2^64.
+pub fn number(value: &Value) -> Result<u64, Refusal>
+    ensures { IsForm (number_in (view value.now)) result }
+{
+    match value.as_u64() {
+        Some(number) => Ok(number),
+        None => Err(Refusal::NotRequest),
+    }
+}
+
+pub fn number_field(value: &Value, key: &str) -> Result<u64, Refusal>
+    ensures { IsForm (field_in number_in key.now (view value.now)) result }
+{
+    number(field(value, key)?)
+}
+
+/// A number that may be absent or null.
+pub fn optional_number_field(value: &Value, key: &str) -> Result<Option<u64>, Refusal>
+    ensures { IsForm (optional number_in key.now (view value.now)) result }
+{
+    match value.get(key) {
+        None => Ok(None),
+        Some(found) if found.is_null() => Ok(None),
+        Some(found) => Ok(Some(number(found)?)),
+    }
+}
+
+pub fn str_field<'a>(value: &'a Value, key: &str) -> Result<&'a str, Refusal>
+    ensures { MatchResult result (λ found. field_in as_str key.now (view value.now) ≡ Some found.now) (λ e. (e ≡ Refusal.NotRequest) × (field_in as_str key.now (view value.now) ≡ None)) }
+{
+    match field(value, key)?.as_str() {
+        Some(text) => Ok(text),
+        None => Err(Refusal::NotRequest),
+    }
+}
+
+#[tactic(auto, using(std::proofs::lemmas::Str::chars_from_encodes))]
+fn text_of(alloc: Global, text: &str) -> Result<Text, AllocError>
+    ensures { IfOk result (λ t. t ≡ chars text.now) }
+{
+    Text::from_str(alloc, text)
+}
+
+#[tactic(auto, using(crate::proofs::Fields::text_of_string))]
+pub fn text_field(alloc: Global, value: &Value, key: &str) -> Result<Text, Refusal>
+    ensures { IsRead (field_in text_in key.now (view value.now)) result }
+{
+    Ok(text_of(alloc, str_field(value, key)?)?)
+}
+
+pub fn name_field(alloc: Global, value: &Value, key: &str) -> Result<Name, Refusal>
+    ensures { IsRead (field_in name_in key.now (view value.now)) result }
+{
+    Ok(Name::from_str(alloc, str_field(value, key)?)?)
+}
+
+pub fn word_field(alloc: Global, value: &Value, key: &str) -> Result<Word, Refusal>
+    ensures { IsRead (field_in name_in key.now (view value.now)) result }
+{
+    Ok(Word::from_str(alloc, str_field(value, key)?)?)
+}

@@ -1,0 +1,27 @@
+//! Requests and replies as lines of JSON, and operations as JSON values.
+//!
+//! It stands on the words of `pad_model`, `anchors`, `rights` and `sessions`, on the requests and replies of `pad_core`,
+//! and on `serde_json`. It knows the bytes of one line: where a line begins and ends, and who answers it, is decided
+//! above it.
+#![tactic(auto)]
+
+mod act;
+mod answer;
+mod deed;
+mod field;
+mod form;
+pub mod laws;
+mod list;
+mod op_read;
+mod op_write;
+mod reply;
+mod request;
+mod show;
+#[cfg(test)]
+mod tests;
+mod word;
+
+pub use op_read::read_op;
+pub use op_write::op_value;
+pub use reply::reply_line;
+pub use request::read_request;

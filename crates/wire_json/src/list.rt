@@ -1,0 +1,58 @@
+//! Lists of one form.
+ghost use Rattle.std.specs.Prelude.{◌≡◌, Option, IfOk};
+ghost use Rattle.serde_json.specs.Data.{Data};
+ghost use Rattle.serde_json.specs.View.{view};
+ghost use Rattle.wire_json.specs.Forms.{each_data};
+ghost use Rattle.wire_json.specs.Reading.{IsRead, field as field_in, list_in};
+
+use crate::field::field;
+use pad_model::{Refusal, Row};
+use serde_json::Value;
+use std::alloc::{AllocError, Global};
+
+/// What a JSON value can say.
+pub trait FromJson: Drop {
+    ghost form: { Data → Option Self };
+
+    fn from_json(alloc: Global, value: &Value) -> Result<Self, Refusal>
+    where
+        Self: Sized,
+        ensures { IsRead (form (view value.now)) result };
+}
+
+/// What can be said as a JSON value.
+pub trait ToJson {
+    ghost says: { Self → Data };
+
+    fn to_json(&self, alloc: Global) -> Result<Value, AllocError>
+        ensures { IfOk result (λ v. view v ≡ says self.now) };
+}
+
+pub fn list<T: FromJson>(alloc: Global, value: &Value) -> Result<Row<T>, Refusal>
+    ensures { IsRead (list_in T.form (view value.now)) result }
+{
+    let Some(items) = value.as_array() else {
+        return Err(Refusal::NotRequest);
+    };
+    let mut list = Row::new(alloc);
+    for item in items {
+        list.push(T::from_json(alloc, item)?)?;
+    }
+    Ok(list)
+}
+
+pub fn list_field<T: FromJson>(alloc: Global, value: &Value, key: &str) -> Result<Row<T>, Refusal>
+    ensures { IsRead (field_in (list_in T.form) key.now (view value.now)) result }
+{
+    list(alloc, field(value, key)?)
+}
+
+pub fn list_value<T: ToJson>(alloc: Global, items: &[T]) -> Result<Value, AllocError>
+    ensures { IfOk result (λ v. view v ≡ each_data T.says items.now) }
+{
+    let mut values = Vec::new(alloc);
+    for item in items {
+        values.push(item.to_json(alloc)?)?;
+    }
+    Ok(Value::Array(values))
+}

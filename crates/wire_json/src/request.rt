@@ -1,0 +1,97 @@
+//! From a line to a request.
+ghost use Rattle.std.specs.Prelude.{◌≡◌, ◌⊎◌, Some, None, MatchResult};
+ghost use Rattle.serde_json.specs.View.{view};
+ghost use Rattle.pad_core.specs.Reads.{Tells};
+ghost use Rattle.wire_json.specs.Lines.{request, value_of};
+ghost use Rattle.wire_json.specs.Reading.{IsForm, IsRead};
+ghost use Rattle.wire_json.specs.Words.{deed_of_word};
+ghost use Rattle.wire_json.specs.Requests.{request_in, hello_in, peer_in, create_in, on_in};
+
+use crate::act::read_act;
+use crate::deed::{Deed, deed_of_word};
+use crate::field::{name_field, number_field, str_field, word_field};
+use crate::form::version_field;
+use pad_core::Request;
+use pad_model::{Name, Refusal};
+use serde_json::Value;
+use sessions::Word;
+use std::alloc::Global;
+
+/// The request of a line, or why there is none: NotJson, NotRequest, or Memory.
+pub fn read_request(alloc: Global, line: &[u8]) -> Result<Request, Refusal>
+    ensures { Tells (request line.now) result }
+{
+    let value = read_value(alloc, line)?;
+    request_of(alloc, &value)
+}
+
+fn read_value(alloc: Global, line: &[u8]) -> Result<Value, Refusal>
+    ensures { MatchResult result (λ v. value_of line.now ≡ Some (view v)) (λ e. (e ≡ Refusal.Memory) ⊎ ((e ≡ Refusal.NotJson) × (value_of line.now ≡ None))) }
+{
+    match Value::from_slice(alloc, line) {
+        Ok(value) => Ok(value),
+        Err(error) if error.is_memory() => Err(Refusal::Memory),
+        Err(_) => Err(Refusal::NotJson),
+    }
+}
+
+fn request_of(alloc: Global, value: &Value) -> Result<Request, Refusal>
+    ensures { IsRead (request_in (view value.now)) result }
+{
+    match str_field(value, "do")? {
+        "hello" => read_hello(alloc, value),
+        "peer" => read_peer(alloc, value),
+        "create" => read_create(alloc, value),
+        word => read_on(alloc, word, value),
+    }
+}
+
+fn read_hello(alloc: Global, value: &Value) -> Result<Request, Refusal>
+    ensures { IsRead (hello_in (view value.now)) result }
+{
+    let name = str_field(value, "name")?;
+    let token = str_field(value, "token")?;
+    Ok(Request::Hello {
+        name: Name::from_str(alloc, name)?,
+        token: Word::from_str(alloc, token)?,
+    })
+}
+
+fn read_peer(alloc: Global, value: &Value) -> Result<Request, Refusal>
+    ensures { IsRead (peer_in (view value.now)) result }
+{
+    let number = number_field(value, "number")?;
+    let version = version_field(value, "version")?;
+    let token = word_field(alloc, value, "token")?;
+    Ok(Request::Peer {
+        number,
+        token,
+        version,
+    })
+}
+
+fn read_create(alloc: Global, value: &Value) -> Result<Request, Refusal>
+    ensures { IsRead (create_in (view value.now)) result }
+{
+    let pad = name_field(alloc, value, "pad")?;
+    Ok(Request::Create { pad })
+}
+
+fn read_on(alloc: Global, word: &str, value: &Value) -> Result<Request, Refusal>
+    ensures { IsRead (on_in word.now (view value.now)) result }
+{
+    let deed = deed_of(word)?;
+    let pad = str_field(value, "pad")?;
+    let act = read_act(alloc, deed, value)?;
+    let pad = Name::from_str(alloc, pad)?;
+    Ok(Request::On { pad, act })
+}
+
+fn deed_of(word: &str) -> Result<Deed, Refusal>
+    ensures { IsForm (deed_of_word word.now) result }
+{
+    match deed_of_word(word) {
+        Some(deed) => Ok(deed),
+        None => Err(Refusal::NotRequest),
+    }
+}

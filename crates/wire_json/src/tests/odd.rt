@@ -1,0 +1,207 @@
+//! Lines that are no requests.
+use super::read;
+use std::test::Fail;
+
+/// Fields of an object that are no request, behind `{"pad":"p",`.
+const UNASKED: [&str; 70] = [
+    r#""do":"insert","rev":0,"at":1.0,"text":"a""#,
+    r#""do":"insert","rev":0,"at":-1,"text":"a""#,
+    r#""do":"insert","rev":0,"at":-0,"text":"a""#,
+    r#""do":"insert","rev":0,"at":1e2,"text":"a""#,
+    r#""do":"insert","rev":0,"at":0e0,"text":"a""#,
+    r#""do":"insert","rev":0,"at":18446744073709551616,"text":"a""#,
+    r#""do":"insert","rev":0,"at":"1","text":"a""#,
+    r#""do":"insert","rev":null,"at":1,"text":"a""#,
+    r#""do":"insert","rev":0,"text":"a""#,
+    r#""do":"insert","rev":0,"at":1"#,
+    r#""do":"insert","rev":0,"at":1,"text":null"#,
+    r#""do":"insert","rev":0,"at":1,"text":["a"]"#,
+    r#""do":"delete","rev":0,"at":1,"len":1e-999"#,
+    r#""do":"comment","rev":null,"at":0,"len":1,"text":"c""#,
+    r#""do":"caret","at":1"#,
+    r#""do":"text","rev":-1"#,
+    r#""do":"text","rev":"0""#,
+    r#""do":"entries","from":1"#,
+    r#""do":"resolve","comment":[0,1]"#,
+    r#""do":"resolve","comment":[65536,1]"#,
+    r#""do":"resolve","comment":[1,0]"#,
+    r#""do":"resolve","comment":[1,1,1]"#,
+    r#""do":"resolve","comment":"1""#,
+    r#""do":"edit","rev":1,"parts":[{"at":1}]"#,
+    r#""do":"edit","rev":1,"parts":[{"at":1,"len":1,"text":"a"}]"#,
+    r#""do":"edit","rev":1,"parts":[{"at":1,"len":1,"text":null}]"#,
+    r#""do":"edit","rev":1,"parts":[{"len":1}]"#,
+    r#""do":"edit","rev":1,"parts":[1]"#,
+    r#""do":"edit","rev":1,"parts":{"at":1,"len":1}"#,
+    r#""do":"edit","parts":[]"#,
+    r#""do":"grant","author":"bob","right":"Read""#,
+    r#""do":"grant","author":"bob","right":null"#,
+    r#""do":"grant","author":1,"right":"read""#,
+    r#""do":"pull","max":4"#,
+    r#""do":"pull","seen":null,"max":4"#,
+    r#""do":"pull","seen":[[2,1],[1,1]],"max":4"#,
+    r#""do":"pull","seen":[[1,1],[1,1]],"max":4"#,
+    r#""do":"pull","seen":[[1,0]],"max":4"#,
+    r#""do":"peer","number":1,"token":"p","version":3"#,
+    r#""do":"peer","number":1,"token":"p","version":2.0"#,
+    r#""do":"peer","number":1,"token":7"#,
+    r#""do":"hello","name":"ann""#,
+    r#""do":"push""#,
+    r#""do":"Text""#,
+    r#""do":["text"]"#,
+    r#""x":"text""#,
+    r#""do":"push","op":7"#,
+    r#""do":"push","op":{"author":"ann","name":[1,2],"seen":[],"spans":[[2,1,2]]}"#,
+    r#""do":"push","op":{"author":"ann","kind":"erase","name":[1,2],"seen":[],"spans":[[2,1,2]]}"#,
+    r#""do":"push","op":{"author":"ann","kind":"delete","name":[1,0],"seen":[],"spans":[[2,1,2]]}"#,
+    r#""do":"push","op":{"author":"ann","kind":"delete","name":[0,1],"seen":[],"spans":[[2,1,2]]}"#,
+    r#""do":"push","op":{"author":"ann","kind":"delete","name":[1,1],"spans":[[2,1,2]]}"#,
+    r#""do":"push","op":{"author":"ann","kind":"delete","name":[1,1],"seen":null,"spans":[[2,1,2]]}"#,
+    r#""do":"push","op":{"author":"ann","kind":"delete","name":[1,1],"seen":[[2,0]],"spans":[[2,1,2]]}"#,
+    r#""do":"push","op":{"author":"ann","kind":"delete","name":[1,1],"seen":[[3,1],[2,1]],"spans":[[2,1,2]]}"#,
+    r#""do":"push","op":{"author":"ann","kind":"delete","name":[1,1],"seen":[],"spans":[[0,1,2]]}"#,
+    r#""do":"push","op":{"author":"ann","kind":"delete","name":[1,1],"seen":[],"spans":[[2,0,2]]}"#,
+    r#""do":"push","op":{"author":"ann","kind":"delete","name":[1,1],"seen":[],"spans":[[281474976710657,1,2]]}"#,
+    r#""do":"push","op":{"author":"ann","kind":"delete","name":[1,1],"seen":[],"spans":[[2,1]]}"#,
+    r#""do":"push","op":{"author":"ann","kind":"delete","name":[1,1],"seen":[]}"#,
+    r#""do":"push","op":{"kind":"delete","name":[1,1],"seen":[],"spans":[[2,1,2]]}"#,
+    r#""do":"push","op":{"author":"bob","first":[5,2],"kind":"insert","name":[2,1],"seen":[],"text":"X"}"#,
+    r#""do":"push","op":{"after":[2,1,1],"author":"bob","first":[5,2],"kind":"insert","name":[2,1],"seen":[],"text":"X"}"#,
+    r#""do":"push","op":{"after":null,"author":"bob","first":null,"kind":"insert","name":[2,1],"seen":[],"text":"X"}"#,
+    r#""do":"push","op":{"after":null,"author":"bob","first":[5,2],"kind":"insert","name":[2,1],"seen":[]}"#,
+    r#""do":"push","op":{"author":"ann","first":[2,1],"kind":"comment","name":[1,2],"seen":[],"text":"c"}"#,
+    r#""do":"push","op":{"author":"ann","comment":[1],"kind":"resolve","name":[1,2],"seen":[]}"#,
+    r#""do":"push","op":{"author":"solo","kind":"edit","name":[1,2],"parts":[{"kind":"delete","spans":[[2,1,3]]}],"seen":[]}"#,
+    r#""do":"push","op":{"author":"solo","kind":"edit","name":[1,2],"parts":[{"kind":"edit","parts":[]},{"kind":"delete","spans":[[2,1,3]]}],"seen":[]}"#,
+    r#""do":"push","op":{"author":"solo","kind":"edit","name":[1,2],"seen":[]}"#,
+];
+
+#[test]
+fn other_forms_are_no_requests(rt: HostRuntime) -> Result<(), Fail> {
+    let alloc = rt.alloc();
+    for fields in UNASKED {
+        let line = format!(in alloc; "{{\"pad\":\"p\",{fields}}}")?;
+        assert_eq!(rt; read(alloc, line.as_bytes())?.as_str(), "102", "{line}");
+    }
+    Ok(())
+}
+
+/// Lines with the number of their refusal.
+const REFUSED: [(&[u8], &str); 33] = [
+    (b"{\"do\":\"text\"", "101"),
+    (b" ", "101"),
+    (b"\r", "101"),
+    (b"null", "102"),
+    (b"[]", "102"),
+    (b"7", "102"),
+    (b"\"text\"", "102"),
+    (b"{}", "102"),
+    (b"{\"do\":\"text\"}", "102"),
+    (b"{\"do\":\"text\",\"pad\":7}", "102"),
+    (b"{\"do\":\"text\",\"pad\":\"p\",}", "101"),
+    (b"{\"do\":\"text\",\"pad\":\"p\"}{}", "101"),
+    (b"{\"do\":\"text\",\"pad\":\"p\",\"x\":1e999}", "101"),
+    (b"{\"do\":\"text\",\"pad\":\"p\",\"x\":01}", "101"),
+    (b"{\"do\":\"text\",\"pad\":\"p\",\"x\":+1}", "101"),
+    (b"{\"do\":\"text\",\"pad\":\"p\",\"x\":.5}", "101"),
+    (b"{\"do\":\"text\",\"pad\":\"p\",\"x\":1.}", "101"),
+    (b"{\"do\":\"text\",\"pad\":\"p\",\"x\":NaN}", "101"),
+    (b"{\"do\":\"text\",\"pad\":\"p\",\"x\":tru}", "101"),
+    (b"{'do':'text','pad':'p'}", "101"),
+    (b"{do:\"text\",\"pad\":\"p\"}", "101"),
+    (b"{\"do\":\"text\",\"pad\":\"p\"} // x", "101"),
+    (b"\xEF\xBB\xBF{\"do\":\"text\",\"pad\":\"p\"}", "101"),
+    (b"{\"do\":\"text\",\"pad\":\"\xFF\"}", "101"),
+    (b"{\"do\":\"text\",\"pad\":\"p\",\"x\":\"\xC0\x80\"}", "101"),
+    (
+        b"{\"do\":\"text\",\"pad\":\"p\",\"x\":\"\xED\xA0\x80\"}",
+        "101",
+    ),
+    (b"{\"do\":\"text\",\"pad\":\"p\",\"x\":\"\\ud800\"}", "101"),
+    (
+        b"{\"do\":\"text\",\"pad\":\"p\",\"x\":\"\\udc00\\ud800\"}",
+        "101",
+    ),
+    (b"{\"do\":\"text\",\"pad\":\"p\",\"x\":\"\\x41\"}", "101"),
+    (b"{\"do\":\"text\",\"pad\":\"p\",\"x\":\"\x00\"}", "101"),
+    (b"{\"do\":\"text\",\"pad\":\"p\",\"x\":\"\x1F\"}", "101"),
+    (b"{\"do\":\"text\",\"pad\":\"p\"}\x00", "101"),
+    (b"{\"do\":\"create\",\"pad\":\"p\",\"pad\":null}", "102"),
+];
+
+#[test]
+fn odd_lines_are_refused(rt: HostRuntime) -> Result<(), Fail> {
+    for (line, code) in REFUSED {
+        assert_eq!(rt; read(rt.alloc(), line)?.as_str(), code, "{line:?}");
+    }
+    Ok(())
+}
+
+/// Texts that are no JSON, or JSON that is no request, with the number of their refusal.
+const ODD: [(&str, &str); 57] = [
+    ("{\"do\":\"text\",\"pad\":\"p\"]", "101"),
+    ("{\"do\":\"text\" \"pad\":\"p\"}", "101"),
+    ("{\"do\" \"text\"}", "101"),
+    ("{\"do\":}", "101"),
+    ("{,}", "101"),
+    ("[1,]", "101"),
+    ("[,1]", "101"),
+    ("[1 2]", "101"),
+    ("{\"a\":1,,\"b\":2}", "101"),
+    ("\"open", "101"),
+    ("\"\\u12\"", "101"),
+    ("\"\\uZZZZ\"", "101"),
+    ("\"\\a\"", "101"),
+    ("\"a\tb\"", "101"),
+    ("-", "101"),
+    ("-01", "101"),
+    ("1e", "101"),
+    ("1e+", "101"),
+    ("0x10", "101"),
+    ("1_000", "101"),
+    ("Infinity", "101"),
+    ("True", "101"),
+    ("nul", "101"),
+    ("falsey", "101"),
+    ("{\"do\":\"text\",\"pad\":\"p\"} x", "101"),
+    ("\\u007b}", "101"),
+    (",", "101"),
+    (":", "101"),
+    ("{", "101"),
+    ("[", "101"),
+    ("}", "101"),
+    ("//", "101"),
+    ("/* */ {}", "101"),
+    ("{\"do\":\"text\",\"pad\":\"p\"}\u{a0}", "101"),
+    ("\u{c}{\"do\":\"text\",\"pad\":\"p\"}", "101"),
+    ("\u{b}{\"do\":\"text\",\"pad\":\"p\"}", "101"),
+    ("true", "102"),
+    ("false", "102"),
+    ("0", "102"),
+    ("-0.0", "102"),
+    ("1e10", "102"),
+    ("[[]]", "102"),
+    ("[{\"do\":\"text\",\"pad\":\"p\"}]", "102"),
+    ("{\"do\":null,\"pad\":\"p\"}", "102"),
+    ("{\"do\":[\"text\"],\"pad\":\"p\"}", "102"),
+    ("{\"Do\":\"text\",\"pad\":\"p\"}", "102"),
+    ("{\"do\":\"Text\",\"pad\":\"p\"}", "102"),
+    ("{\"do\":\"text \",\"pad\":\"p\"}", "102"),
+    ("{\"do\":\"\",\"pad\":\"p\"}", "102"),
+    ("{\"\":\"text\",\"pad\":\"p\"}", "102"),
+    ("{\"do\":\"text\",\"PAD\":\"p\"}", "102"),
+    ("{\"do\":\"text\",\"pad\":null}", "102"),
+    ("{\"do\":\"text\",\"pad\":[\"p\"]}", "102"),
+    ("{\"do\":\"text\",\"pad\":\"p\",\"rev\":\"1\"}", "102"),
+    ("{\"do\":\"text\",\"pad\":\"p\",\"rev\":[1]}", "102"),
+    ("{\"do\":\"text\",\"pad\":\"p\",\"rev\":true}", "102"),
+    ("{\"do\":\"text\",\"pad\":\"p\",\"rev\":-0}", "102"),
+];
+
+#[test]
+fn odd_texts_are_refused(rt: HostRuntime) -> Result<(), Fail> {
+    for (line, code) in ODD {
+        assert_eq!(rt; read(rt.alloc(), line.as_bytes())?.as_str(), code, "{line}");
+    }
+    Ok(())
+}

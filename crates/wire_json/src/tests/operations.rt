@@ -1,0 +1,45 @@
+//! Operations that are read and written again.
+use crate::{op_value, read_op};
+use serde_json::Value;
+use std::alloc::Global;
+use std::process::Abort;
+use std::test::Fail;
+
+/// Operations in their forms.
+const OPERATIONS: [&str; 6] = [
+    r#"{"author":"ann","kind":"delete","name":[1,2],"seen":[],"spans":[[2,1,2]]}"#,
+    r#"{"after":[2,1],"author":"bob","first":[5,2],"kind":"insert","name":[2,1],"seen":[[1,1]],"text":"X"}"#,
+    r#"{"after":null,"author":"bob","first":[1,2],"kind":"insert","name":[2,1],"seen":[],"text":"\"\\\u0000\n"}"#,
+    r#"{"author":"ann","first":[2,1],"kind":"comment","last":[4,1],"name":[1,2],"seen":[],"text":"c"}"#,
+    r#"{"author":"ann","comment":[65535,7],"kind":"resolve","name":[1,2],"seen":[[2,1],[3,200000]]}"#,
+    r#"{"author":"solo","kind":"edit","name":[1,2],"parts":[{"kind":"delete","spans":[[2,1,3]]},{"after":[4,1],"first":[6,1],"kind":"insert","text":"ey"}],"seen":[]}"#,
+];
+
+/// Operations in their forms that break a limit.
+const BEYOND_LIMITS: [&str; 3] = [
+    r#"{"author":"solo","kind":"edit","name":[1,2],"parts":[],"seen":[]}"#,
+    r#"{"after":null,"author":"","first":[281474976710656,3],"kind":"insert","name":[2,200001],"seen":[[2,1]],"text":""}"#,
+    r#"{"author":"ann","kind":"delete","name":[1,18446744073709551615],"seen":[],"spans":[[2,1,0]]}"#,
+];
+
+/// Reads an operation and writes it again.
+fn again(rt: &impl Abort, alloc: Global, text: &str, fits: bool) -> Result<(), Fail> {
+    let op = read_op(alloc, &Value::from_str(alloc, text)?)?;
+    assert!(rt;
+        op_value(alloc, &op)?.to_string(alloc)?.as_str() == text,
+        "{text}"
+    );
+    assert!(rt; op.check().is_ok() == fits, "{text}");
+    Ok(())
+}
+
+#[test]
+fn operations_are_read_as_written(rt: HostRuntime) -> Result<(), Fail> {
+    for text in OPERATIONS {
+        again(&rt, rt.alloc(), text, true)?;
+    }
+    for text in BEYOND_LIMITS {
+        again(&rt, rt.alloc(), text, false)?;
+    }
+    Ok(())
+}

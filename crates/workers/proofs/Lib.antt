@@ -1,0 +1,5 @@
+pub mod CallerLemmas
+pub mod Ends
+pub mod Rests
+pub mod Serving
+pub mod Turns

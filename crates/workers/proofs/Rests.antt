@@ -1,0 +1,130 @@
+-- An actor has nothing under way after an answer.
+use Rattle.std.proofs.Common.{◌≡◌, ◌⊎◌, inl, inr, ℕ, ◌+◌, Bool, true, false, cond, List, [], ◌∷◌, length, Option, Some, None, Result, Ok, Err, refl, sym, ap, ◌∙◌, subst, get_or}
+use Rattle.std.specs.List.{slice_get, slice_set}
+use Rattle.std.proofs.lemmas.Option.{slice_get_within, get_or_from_slice_get}
+use Rattle.std.proofs.lemmas.List.{set-get_or}
+use Rattle.pad_model.proofs.Newer.{split}
+use Rattle.pad_model.specs.declared.refusal.Refusal.{Refusal}
+use Rattle.pad_model.specs.declared.refusal.Refusal.TheVariants.{Memory}
+use Rattle.sessions.specs.Accounts.{Accounts}
+use Rattle.sessions.specs.declared.session.Room.{Room}
+use Rattle.pad_core.specs.Machine.{Machine}
+use Rattle.pad_core.specs.declared.reply.Reply.{Reply}
+use Rattle.pad_core.specs.declared.request.Request.{Request}
+use Rattle.pad_core.specs.declared.request.Request.TheVariants as request
+use Rattle.server_core.specs.Actor.{Actor, is_busy, rested, first_cell}
+use Rattle.server_core.specs.AtCell.{RowAnswer, row_answer}
+use Rattle.server_core.specs.Machine.{Server, server_step, with_actor}
+use Rattle.server_core.specs.Opening.{create_refusal, act_refusal}
+use Rattle.server_core.specs.Served.{Served, StepFoundNone, FoundNone}
+use Rattle.server_core.specs.Steps.{actor_step, ask, begun, concluded, end, ended, goes_on, leave_first, left_room, move, opened, scanned, told, unless_busy}
+use Rattle.server_core.specs.declared.step.Moved.{Moved}
+use Rattle.server_core.specs.declared.step.Moved.TheVariants as moved
+use Rattle.server_core.specs.declared.step.Step.{Step}
+use Rattle.server_core.specs.declared.step.Step.TheVariants.{Ask, Move, Look, Relay, End}
+use Rattle.server_core.specs.declared.task.Task.{Task}
+use Rattle.server_core.specs.declared.task.Task.TheVariants.{Resting, Scanning, Leaving}
+use Rattle.server_core.proofs.Named.{get-set_same}
+use Rattle.workers.specs.Calls.{IsAtRest, IsUnderWay, IsCall, IsAnswer, IsNamed}
+
+-- after what was told an actor rests, or something is under way
+abbrev pub Leaves : Moved → Actor → Type 0
+Leaves moved.Scanning a = is_busy a.task ≡ true
+Leaves (moved.Done reply) a = a.task ≡ Resting
+Leaves (moved.Refused refusal) a = a.task ≡ Resting
+Leaves moved.Idle a = ⊥
+Leaves (moved.Named name) a = ⊥
+
+-- the same of a server's actor
+abbrev pub LeavesAt : ℕ → Moved → Server → Type 0
+LeavesAt actor answer new = (a : Actor) × (slice_get new.actors actor ≡ Some a) × Leaves answer a
+
+told-leaves : (answer : Result Reply Refusal) (a : Actor) → a.task ≡ Resting → Leaves (told answer) a
+told-leaves (Ok reply) a rest = rest
+told-leaves (Err refusal) a rest = rest
+
+begun-leaves : (asked : Request) (cell : ℕ) (a : Actor) (o : Option Refusal) → a.task ≡ Resting → Leaves (begun asked cell a o).0 (begun asked cell a o).1
+begun-leaves asked cell a None rest = refl
+begun-leaves asked cell a (Some refusal) rest = rest
+
+ask-leaves : (replica : ℕ) (accounts : Accounts) (asked : Request) (a : Actor) → a.task ≡ Resting → Leaves (ask replica accounts asked a).0 (ask replica accounts asked a).1
+ask-leaves replica accounts (request.Hello name token) a rest = told-leaves _ _ rest
+ask-leaves replica accounts (request.Peer number token version) a rest = told-leaves _ _ rest
+ask-leaves replica accounts (request.Create name) a rest = begun-leaves (request.Create name) (first_cell name a.rooms) a (create_refusal a.who name) rest
+ask-leaves replica accounts (request.On name act) a rest = begun-leaves (request.On name act) (first_cell name a.rooms) a (act_refusal a.who name act) rest
+
+ended-leaves : (a : Actor) (rooms : List Room) → Leaves (ended a rooms).0 (ended a rooms).1
+ended-leaves a [] = refl
+ended-leaves a (room ∷ rooms) = refl
+
+unless-leaves : (a : Actor) (done : Moved × Actor) → a.task ≡ Resting → Leaves done.0 done.1 → Leaves (unless_busy a done).0 (unless_busy a done).1
+unless-leaves a done rest leaves = subst (λ b. Leaves (cond b (moved.Refused Rattle.pad_model.specs.declared.refusal.Refusal.TheVariants.Busy, a) done).0 (cond b (moved.Refused Rattle.pad_model.specs.declared.refusal.Refusal.TheVariants.Busy, a) done).1) (sym (ap is_busy rest)) leaves
+
+-- a call's step
+call-leaves : (replica : ℕ) (accounts : Accounts) (step : Step) (a : Actor) (cells : List Machine) → a.task ≡ Resting → IsCall step
+    → Leaves (actor_step replica accounts step a cells).0 (actor_step replica accounts step a cells).1
+call-leaves replica accounts (Ask asked) a cells rest call = unless-leaves a (ask replica accounts asked a) rest (ask-leaves replica accounts asked a rest)
+call-leaves replica accounts Move a cells rest call = absurd call
+call-leaves replica accounts (Look cell) a cells rest call = absurd call
+call-leaves replica accounts (Relay number) a cells rest call = unless-leaves a _ rest (told-leaves _ _ rest)
+call-leaves replica accounts End a cells rest call = subst (λ t. Leaves (end t a).0 (end t a).1) (sym rest) (ended-leaves a a.rooms)
+
+concluded-leaves : (asked : Request) (answer : Result (Option Reply) Refusal) (a : Actor) → a.task ≡ Resting → Leaves (concluded asked answer) a
+concluded-leaves asked (Ok None) a rest = rest
+concluded-leaves asked (Ok (Some reply)) a rest = rest
+concluded-leaves asked (Err refusal) a rest = rest
+
+scan-leaves : (asked : Request) (cell : ℕ) (a : Actor) (done : RowAnswer) → Leaves (scanned asked cell a done).0 (scanned asked cell a done).1
+scan-leaves asked cell a done =
+    split (goes_on done.0 cell (length done.2)) (λ e. rw e refl) (λ e. rw e (concluded-leaves asked done.0 _ refl))
+
+leave-leaves : (a : Actor) (rooms : List Room) (cells : List Machine) → Leaves (leave_first a rooms cells).0 (leave_first a rooms cells).1
+leave-leaves a [] cells = refl
+leave-leaves a (room ∷ rooms) cells = ended-leaves a rooms
+
+-- a move of what is under way
+move-leaves : (task : Task) (a : Actor) (cells : List Machine) → is_busy task ≡ true → Leaves (move task a cells).0 (move task a cells).1
+move-leaves Resting a cells busy = cc
+move-leaves (Scanning asked cell) a cells busy = scan-leaves asked cell a (row_answer a.who asked cell a.rooms cells)
+move-leaves Leaving a cells busy = leave-leaves a a.rooms cells
+
+-- a step leaves at the server's actor what it leaves at the actor
+put : (s new : Server) (actor : ℕ) (a : Actor) (done : Moved × Actor × List Machine) (answer : Moved) → slice_get s.actors actor ≡ Some a → with_actor actor s done ≡ (answer, new) → Leaves done.0 done.1
+    → LeavesAt actor answer new
+put s new actor a done answer is step leaves =
+    subst (λ d. LeavesAt actor d.0 d.1) step (done.1, get-set_same s.actors actor done.1 (slice_get_within s.actors actor a is), leaves)
+
+-- any step whose machine's leaves so much
+leaves_at : (s new : Server) (actor : ℕ) (step : Step) (a : Actor) (answer : Moved) → slice_get s.actors actor ≡ Some a
+    → Leaves (actor_step s.replica s.accounts step a s.cells).0 (actor_step s.replica s.accounts step a s.cells).1 → Served s actor step answer new → LeavesAt actor answer new
+leaves_at s new actor step a answer is leaves (inl e) = put s new actor a (actor_step s.replica s.accounts step a s.cells) answer is (rw is at e) leaves
+leaves_at s new actor step a answer is leaves (inr h) =
+    let found = rw is at h in
+    let told = found.2.0 in
+    put s new actor a (answer, found.0, found.1) answer is found.3 (subst (λ m. Leaves m found.0) (sym told) (subst (λ b. b.task ≡ Resting) (sym found.2.1) refl))
+
+pub step_leaves : (s new : Server) (actor : ℕ) (step : Step) (answer : Moved) → IsAtRest s actor → IsCall step → Served s actor step answer new → LeavesAt actor answer new
+step_leaves s new actor step answer rest call served =
+    leaves_at s new actor step rest.0 answer rest.1 (call-leaves s.replica s.accounts step rest.0 s.cells rest.2 call) served
+
+pub moves_leave : (s new : Server) (actor : ℕ) (answer : Moved) → IsUnderWay s actor → Served s actor Move answer new → LeavesAt actor answer new
+moves_leave s new actor answer busy served =
+    leaves_at s new actor Move busy.0 answer busy.1 (move-leaves busy.0.task busy.0 s.cells busy.2) served
+
+-- what is not under way is answered
+pub rests : (actor : ℕ) (answer : Moved) (new : Server) → (answer ≡ moved.Scanning → ⊥) → LeavesAt actor answer new → IsAnswer answer × IsAtRest new actor
+rests actor moved.Scanning new not leaves = absurd (not refl)
+rests actor (moved.Done reply) new not leaves = (tt, leaves)
+rests actor (moved.Refused refusal) new not leaves = (tt, leaves)
+rests actor moved.Idle new not leaves = absurd leaves.2
+rests actor (moved.Named name) new not leaves = absurd leaves.2
+
+-- a step of an actor at rest that finds no memory leaves all as it was
+pub nothing_found : (s : Server) (actor : ℕ) (step : Step) → IsAtRest s actor → Served s actor step (moved.Refused Memory) s
+nothing_found s actor step rest =
+    let a : Actor = rest.0 in
+    let same : rested a ≡ a = subst (λ t. record a { task = t } ≡ a) rest.2 refl in
+    let row : slice_set s.actors actor (rested a) ≡ s.actors =
+    ap (slice_set s.actors actor) (same ∙ sym (get_or_from_slice_get s.actors actor a a rest.1)) ∙ set-get_or s.actors actor a in
+    inr (subst (λ o. StepFoundNone s actor o (moved.Refused Memory) s) (sym rest.1)
+    (rested a, s.cells, (refl, refl, inl refl), ap (λ actors. (moved.Refused Memory, record s { actors = actors })) row))

@@ -1,0 +1,17 @@
+use Rattle.std.proofs.Common.{◌≡◌, None}
+use Rattle.wire_lines.specs.Buffer.{ahead, budget}
+use Rattle.workers.proofs.Serving.{IsServing}
+use Rattle.workers.proofs.connection.serve_lines.Given as goal
+
+-- the lines so far are answered, and no call has failed
+abbrev pub invariant-loop-buffer : goal.invariant-loop-buffer
+invariant-loop-buffer g l = record {
+  so : IsServing g.P.Pads.calls l.fn.pads l.pads (g.R.Source.remaining l.fn.reader) (ahead l.buffer (g.R.Source.remaining l.reader)) l.served
+      (g.W.Sink.contents l.fn.writer) (g.W.Sink.contents l.writer);
+  fault : l.buffer.fault ≡ None;
+  failures : g.W.Sink.failures l.writer ≡ g.W.Sink.failures l.fn.writer;
+}
+
+-- the bytes and reads that are left
+abbrev pub decreases-loop-buffer : goal.decreases-loop-buffer
+decreases-loop-buffer g l = budget l.buffer

@@ -1,0 +1,47 @@
+-- What a connection comes to.
+use Rattle.std.specs.Prelude.{◌≡◌, ◌⊎◌, ℕ, List, [], ◌∷◌, ◌++◌, length, take, Option, Result, Ok, Err}
+use Rattle.std.specs.Io.KnownBytes.{Appends, prepend_known}
+use Rattle.pad_core.specs.declared.request.Request.{Request}
+use Rattle.wire_lines.specs.Device.{one_more}
+use Rattle.wire_lines.specs.declared.fault.Fault.{Fault}
+use Rattle.wire_lines.specs.declared.fault.Fault.TheVariants.{ReadFault, WriteFault, PeerReply, Memory}
+use Rattle.wire_lines.specs.Lines.{line_end}
+use Rattle.workers.specs.Delivered.{IsCount, Tells}
+use Rattle.workers.specs.declared.connection.Served.{Served}
+use Rattle.workers.specs.Session.{Answer, texts, Serves, IsWhole, IsFront, IsBefore}
+
+-- a writer failed where the fault is its, and else it has not
+abbrev pub HasWriteCause : {X : Type 0} → Result X Fault → ℕ → ℕ → Type 0
+HasWriteCause (Ok x) old new = new ≡ old
+HasWriteCause (Err ReadFault) old new = ⊥
+HasWriteCause (Err WriteFault) old new = new ≡ one_more old
+HasWriteCause (Err PeerReply) old new = ⊥
+HasWriteCause (Err Memory) old new = new ≡ old
+
+-- what was reached is ended
+abbrev pub ThenEnds : {P : Type 0} → (P → Type 0) → (P → P → Type 0) → P → Type 0
+ThenEnds {P} Reached ends new = (last : P) × Reached last × ends last new
+
+module _ {P : Type 0} (calls : P → Request → Answer → P → Type 0) where
+  -- a line was answered, and the answer written
+  abbrev pub ServesOne : P → List ℕ → Option ℕ → Option (List ℕ) → Option (List ℕ) → P → Type 0
+  ServesOne old line told before after new =
+      (answers : List Answer) × Serves calls old (line ∷ []) answers new × Tells told answers × Appends before after (texts answers)
+
+  -- all lines were answered, and all answers written; so many answers, which tell of so many operations
+  abbrev pub ServesAll : P → Option (List ℕ) → Served → Option (List ℕ) → Option (List ℕ) → P → Type 0
+  ServesAll old known served before after new =
+      (asked : List (List ℕ)) × (answers tail : List Answer) × Serves calls old asked answers new × IsWhole known asked tail
+      × IsCount served (answers ++ tail) × Appends before after (texts (answers ++ tail))
+
+  -- the first lines were answered, and a front of the answers was written
+  abbrev pub BreaksOff : P → Option (List ℕ) → Option (List ℕ) → Option (List ℕ) → P → Type 0
+  BreaksOff old known before after new =
+      (asked : List (List ℕ)) × (answers tail : List Answer) × (count : ℕ) × Serves calls old asked answers new × IsFront known asked tail
+      × Appends before after (take count (texts (answers ++ tail)))
+
+  -- each line whose line feed was read was answered, and all answers were written
+  abbrev pub ServesRead : P → Option (List ℕ) → Option (List ℕ) → Option (List ℕ) → Option (List ℕ) → P → Type 0
+  ServesRead old known unread before after new =
+      (asked : List (List ℕ)) × (answers : List Answer) × (part : List ℕ) × Serves calls old asked answers new
+      × IsBefore known asked (prepend_known part unread) × (line_end part ≡ length part) × Appends before after (texts answers)

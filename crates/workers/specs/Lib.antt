@@ -1,0 +1,5 @@
+pub mod Calls
+pub mod Connection
+pub mod Delivered
+pub mod Fuel
+pub mod Session

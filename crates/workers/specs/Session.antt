@@ -1,0 +1,61 @@
+-- What a session answers to its lines, and what is written.
+use Rattle.std.specs.Prelude.{◌≡◌, ◌⊎◌, ℕ, Bool, if◌then◌else◌, List, [], ◌∷◌, ◌++◌, length, take, flat_map, Option, None, Some, Result, Ok, Err}
+use Rattle.std.specs.Io.KnownBytes.{Appends}
+use Rattle.pad_model.specs.declared.refusal.Refusal.{Refusal}
+use Rattle.pad_model.specs.declared.refusal.Refusal.TheVariants.{TooLong}
+use Rattle.pad_core.specs.declared.reply.Reply.{Reply}
+use Rattle.pad_core.specs.declared.request.Request.{Request}
+use Rattle.wire_json.specs.Lines.{request}
+use Rattle.wire_json.specs.Replies.{line_of}
+use Rattle.wire_lines.specs.Lines.{line_end}
+use Rattle.wire_lines.specs.Served.{lines, is_cut}
+
+-- an answer: a reply, or why there is none
+abbrev pub Answer : Type 0
+Answer = Result Reply Refusal
+
+-- what is written for answers
+abbrev pub texts : List Answer → List ℕ
+texts answers = flat_map line_of answers
+
+module _ {P : Type 0} (calls : P → Request → Answer → P → Type 0) where
+  -- what is no request is refused, and a request is answered by a call
+  abbrev pub Answers : P → Result Request Refusal → Answer → P → Type 0
+  Answers old (Err refusal) answer new = (answer ≡ Err refusal) × (new ≡ old)
+  Answers old (Ok asked) answer new = calls old asked answer new
+
+  -- the lines are answered one after the other; an empty line has no answer
+  abbrev pub Serves : P → List (List ℕ) → List Answer → P → Type 0
+  Serves old [] [] new = new ≡ old
+  Serves old [] (answer ∷ answers) new = ⊥
+  Serves old ([] ∷ lines) answers new = Serves old lines answers new
+  Serves old ((byte ∷ line) ∷ lines) [] new = ⊥
+  Serves old ((byte ∷ line) ∷ lines) (answer ∷ answers) new =
+      (mid : P) × Answers old (request (byte ∷ line)) answer mid × Serves mid lines answers new
+
+  -- some first of the lines were answered, and a front of the answers was written
+  abbrev pub ServesSome : P → List (List ℕ) → Option (List ℕ) → Option (List ℕ) → P → Type 0
+  ServesSome old lines before after new =
+      (asked more : List (List ℕ)) × (answers : List Answer) × (count : ℕ) × (lines ≡ asked ++ more) × Serves old asked answers new
+      × Appends before after (take count (texts answers))
+
+-- that a line is too long, where one ends the lines of the bytes
+abbrev pub cut_answers : List ℕ → List Answer
+cut_answers bytes = if is_cut bytes then Err TooLong ∷ [] else []
+
+-- the lines that were answered, and that one is too long, are all of the bytes, where they are known
+abbrev pub IsWhole : Option (List ℕ) → List (List ℕ) → List Answer → Type 0
+IsWhole None asked tail = (tail ≡ []) ⊎ (tail ≡ Err TooLong ∷ [])
+IsWhole (Some bytes) asked tail = (asked ≡ lines bytes) × (tail ≡ cut_answers bytes)
+
+-- the lines that were answered are the first of the bytes, where they are known
+abbrev pub IsFront : Option (List ℕ) → List (List ℕ) → List Answer → Type 0
+IsFront None asked tail = (tail ≡ []) ⊎ (tail ≡ Err TooLong ∷ [])
+IsFront (Some bytes) asked tail =
+    (more : List (List ℕ)) × (lines bytes ≡ asked ++ more) × ((tail ≡ []) ⊎ ((more ≡ []) × (tail ≡ cut_answers bytes)))
+
+-- the lines that were answered are those before some bytes that stay, where the bytes are known
+abbrev pub IsBefore : Option (List ℕ) → List (List ℕ) → Option (List ℕ) → Type 0
+IsBefore None asked rest = Unit {0}
+IsBefore (Some bytes) asked None = ⊥
+IsBefore (Some bytes) asked (Some rest) = (lines bytes ≡ asked ++ lines rest) × (is_cut bytes ≡ is_cut rest)

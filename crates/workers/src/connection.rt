@@ -1,0 +1,175 @@
+//! One connection: each line is answered before the next is read.
+ghost use Rattle.std.specs.Prelude.{◌≡◌, ℕ, [], ◌∷◌, take, Err, IfOk, IfErr, OnOk, OnErr};
+ghost use Rattle.std.specs.Io.KnownBytes.{Appends};
+ghost use Rattle.wire_json.specs.Lines.{request};
+ghost use Rattle.wire_json.specs.Replies.{line_of};
+ghost use Rattle.wire_lines.specs.Device.{one_more};
+ghost use Rattle.wire_lines.specs.declared.fault.Fault.TheVariants.{ReadFault, WriteFault, Memory};
+ghost use Rattle.workers.specs.Session.{Answers, ServesSome};
+ghost use Rattle.workers.specs.Delivered.{delivered_of};
+ghost use Rattle.workers.specs.Connection.{ServesAll, ServesOne, BreaksOff, ServesRead, HasWriteCause, ThenEnds};
+
+use crate::delivered::delivered_by;
+use crate::gate::Gate;
+use crate::pads::Pads;
+use pad_core::Reply;
+use pad_model::Refusal;
+use std::alloc::Global;
+use wire_json::{read_request, reply_line};
+use wire_lines::{Fault, Found, LineBuffer, Sink, Source, write_all};
+
+/// What a connection came to.
+#[derive(Clone, Copy, Debug, PartialEq, Eq)]
+pub struct Served {
+    /// The lines that were written.
+    pub lines: u64,
+    /// The operations that they tell of as delivered.
+    pub delivered: u64,
+}
+
+impl Served {
+    ghost use Rattle.workers.specs.Delivered.{counted};
+
+    // With one more line, if one was written, and the operations that it tells of.
+    fn with(self, written: Option<u64>) -> Served
+        ensures { result ≡ counted self written }
+    {
+        match written {
+            None => self,
+            Some(delivered) => Served {
+                lines: self.lines.saturating_add(1),
+                delivered: self.delivered.saturating_add(delivered),
+            },
+        }
+    }
+}
+
+/// Answers the lines of a reader until they end, or one is too long. Then, and after a fault, the session is ended.
+pub fn serve_connection<P: Pads, R: Source, W: Sink, G: Gate>(
+    alloc: Global,
+    pads: &mut P,
+    reader: &mut R,
+    writer: &mut W,
+    connection: u64,
+    gate: &G,
+) -> Result<Served, Fault>
+    // At the end all lines were answered, and what was written are the answers.
+    ensures all { IfOk result (λ served. ThenEnds
+        (ServesAll P.calls pads.old (R.remaining reader.old) served (W.contents writer.old) (W.contents writer.new))
+        P.ends pads.new) }
+
+    // A fault leaves a front of them.
+    ensures fault { OnErr result (ThenEnds
+        (BreaksOff P.calls pads.old (R.remaining reader.old) (W.contents writer.old) (W.contents writer.new))
+        P.ends pads.new) }
+
+    // Where the reader failed, the lines whose line feed was read were answered, and all their answers written.
+    ensures unread { result ≡ Err ReadFault → ThenEnds
+        (ServesRead P.calls pads.old (R.remaining reader.old) (R.remaining reader.new)
+        (W.contents writer.old) (W.contents writer.new))
+        P.ends pads.new }
+    ensures written { result ≡ Err WriteFault → W.failures writer.new ≡ one_more (W.failures writer.old) }
+{
+    let served = serve_lines(alloc, pads, reader, writer, connection, gate);
+    pads.end(alloc);
+    served
+}
+
+// Answers the lines of a reader.
+fn serve_lines<P: Pads, R: Source, W: Sink, G: Gate>(
+    alloc: Global,
+    pads: &mut P,
+    reader: &mut R,
+    writer: &mut W,
+    connection: u64,
+    gate: &G,
+) -> Result<Served, Fault>
+    ensures all { IfOk result (λ served. ServesAll P.calls pads.old (R.remaining reader.old) served
+        (W.contents writer.old) (W.contents writer.new) pads.new) }
+    ensures fault { OnErr result (BreaksOff P.calls pads.old (R.remaining reader.old)
+        (W.contents writer.old) (W.contents writer.new) pads.new) }
+    ensures unread { result ≡ Err ReadFault → ServesRead P.calls pads.old (R.remaining reader.old) (R.remaining reader.new)
+        (W.contents writer.old) (W.contents writer.new) pads.new }
+    ensures written { result ≡ Err WriteFault → W.failures writer.new ≡ one_more (W.failures writer.old) }
+{
+    let mut buffer = LineBuffer::new(alloc)?;
+    let mut served = Served {
+        lines: 0,
+        delivered: 0,
+    };
+    loop {
+        match buffer.find_line(reader)? {
+            Found::End => return Ok(served),
+            Found::TooLong => {
+                write_answer(alloc, writer, connection, gate, &Err(Refusal::TooLong))?;
+                return Ok(served.with(Some(0)));
+            }
+            Found::Text => {
+                let written = serve_line(alloc, pads, buffer.line(), writer, connection, gate)?;
+                served = served.with(written);
+            }
+        }
+    }
+}
+
+// Answers a line, and says how many operations were delivered; an empty line has no answer.
+fn serve_line<P: Pads, W: Sink, G: Gate>(
+    alloc: Global,
+    pads: &mut P,
+    line: &[u8],
+    writer: &mut W,
+    connection: u64,
+    gate: &G,
+) -> Result<Option<u64>, Fault>
+    ensures all { IfOk result (λ written. ServesOne P.calls pads.old line.now written
+        (W.contents writer.old) (W.contents writer.new) pads.new) }
+    ensures fault { OnErr result (ServesSome P.calls pads.old (line.now ∷ [])
+        (W.contents writer.old) (W.contents writer.new) pads.new) }
+    ensures cause { HasWriteCause result (W.failures writer.old) (W.failures writer.new) }
+{
+    if line.is_empty() {
+        return Ok(None);
+    }
+    let answer = answer_line(alloc, pads, line)?;
+    let delivered = write_answer(alloc, writer, connection, gate, &answer)?;
+    Ok(Some(delivered))
+}
+
+// The answer to a line.
+fn answer_line<P: Pads>(
+    alloc: Global,
+    pads: &mut P,
+    line: &[u8],
+) -> Result<Result<Reply, Refusal>, Fault>
+    ensures ok { IfOk result (λ answer. Answers P.calls pads.old (request line.now) answer pads.new) }
+    ensures err { IfErr result (λ fault. (fault ≡ Memory) × (pads.new ≡ pads.old)) }
+{
+    match read_request(alloc, line) {
+        Ok(request) => Ok(pads.call(alloc, &request)),
+        Err(Refusal::Memory) => Err(Fault::Memory),
+        Err(refusal) => Ok(Err(refusal)),
+    }
+}
+
+// Writes an answer, and says how many operations it tells of as delivered.
+fn write_answer<W: Sink, G: Gate>(
+    alloc: Global,
+    writer: &mut W,
+    connection: u64,
+    gate: &G,
+    answer: &Result<Reply, Refusal>,
+) -> Result<u64, Fault>
+    ensures whole { OnOk result (Appends (W.contents writer.old) (W.contents writer.new) (line_of answer.now)) }
+    ensures count { IfOk result (λ count. count ≡ delivered_of answer.now) }
+    ensures front { OnErr result ((count : ℕ)
+        × Appends (W.contents writer.old) (W.contents writer.new) (take count (line_of answer.now))) }
+    ensures cause { HasWriteCause result (W.failures writer.old) (W.failures writer.new) }
+{
+    let Ok(line) = reply_line(alloc, answer) else {
+        return Err(Fault::Memory);
+    };
+    let delivered = delivered_by(answer);
+    gate.before_reply(connection, delivered > 0);
+    write_all(writer, line.as_bytes())?;
+    Ok(delivered)
+}

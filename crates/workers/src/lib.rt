@@ -1,0 +1,16 @@
+//! Connections to a server of pads: lines come in, each is answered before the next is read.
+//!
+//! It stands on the server machine, on the lines of bytes and on the JSON of requests and replies.
+#![tactic(auto)]
+
+mod alone;
+mod connection;
+mod delivered;
+mod gate;
+mod pads;
+mod settle;
+
+pub use alone::Alone;
+pub use connection::{Served, serve_connection};
+pub use gate::{Gate, Open};
+pub use pads::Pads;

@@ -7,9 +7,14 @@ use std::alloc::{AllocError, Global};
 use std::process::ExitCode;
 
 /// What the command line asks for.
-pub struct Asked {
+#[derive(Clone, Copy)]
+pub struct Asked<'a> {
     /// The replica number of this server, at least 1.
     pub replica: u16,
+    /// How many pads there is room for, 1 to 64.
+    pub cells: u32,
+    /// The path of the accounts file. None: the session is the author `solo`.
+    pub accounts: Option<&'a str>,
 }
 
 fn stdin_flag<'a>(alloc: Global) -> Arg<'a> {
@@ -29,11 +34,30 @@ fn replica_number<'a>(alloc: Global) -> Arg<'a> {
         .help("The replica number of this server, 1 to 65535")
 }
 
+fn accounts_path<'a>(alloc: Global) -> Arg<'a> {
+    Arg::new(alloc, "accounts")
+        .long("accounts")
+        .value_name("PATH")
+        .help(
+            "The file of authors and peers that may log in [without it the session is the author solo]",
+        )
+}
+
+fn cell_count<'a>(alloc: Global) -> Arg<'a> {
+    Arg::new(alloc, "cells")
+        .long("cells")
+        .value_name("N")
+        .value_parser(value_parser!(u32).range(1..=64))
+        .help("How many pads there is room for, 1 to 64 [default: 64]")
+}
+
 fn command<'a>(alloc: Global) -> Result<Command<'a>, AllocError> {
     Command::new(alloc, "pad_server")
         .about("Serves shared pads")
         .arg(stdin_flag(alloc))?
-        .arg(replica_number(alloc))
+        .arg(replica_number(alloc))?
+        .arg(accounts_path(alloc))?
+        .arg(cell_count(alloc))
 }
 
 fn replica_of(matches: &ArgMatches<'_>) -> u16
@@ -45,13 +69,24 @@ fn replica_of(matches: &ArgMatches<'_>) -> u16
     }
 }
 
+fn cells_of(matches: &ArgMatches<'_>) -> u32
+    ensures { result ≤ 64 }
+{
+    match matches.get_one::<u32>("cells") {
+        Some(cells) if cells <= 64 => cells,
+        _ => 64,
+    }
+}
+
 /// What the words of the command line ask for, or what is wrong with them.
-pub fn parse<'a>(alloc: Global, words: &'a [String]) -> Result<Asked, Error>
-    ensures { IfOk result (λ asked. 1 ≤ asked.replica) }
+pub fn parse<'a>(alloc: Global, words: &'a [String]) -> Result<Asked<'a>, Error>
+    ensures { IfOk result (λ asked. (1 ≤ asked.replica) × (asked.cells ≤ 64)) }
 {
     let matches = command(alloc)?.try_get_matches_from(words)?;
     Ok(Asked {
         replica: replica_of(&matches),
+        cells: cells_of(&matches),
+        accounts: matches.get_str("accounts"),
     })
 }
 

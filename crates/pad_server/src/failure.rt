@@ -1,0 +1,53 @@
+//! Why the server does not start, or ends before its input.
+use pad_model::Refusal;
+use sessions::AccountsError;
+use std::process::ExitCode;
+use thiserror::Error;
+use wire_lines::Fault;
+
+/// Why the server does not start, or ends before its input.
+#[derive(Clone, Copy, Debug, Error)]
+pub enum Failure {
+    #[error("the accounts file cannot be read")]
+    Unread,
+    #[error("500 BadAccounts line {line}")]
+    BadAccounts { line: u64 },
+    #[error("{code} {name}")]
+    Refused { code: u16, name: &'static str },
+    #[error("{0}")]
+    Fault(Fault),
+}
+
+impl Failure {
+    /// 2 for a bad line of the accounts file, else 1.
+    pub fn status(self) -> ExitCode {
+        match self {
+            Failure::BadAccounts { .. } => ExitCode::from(2),
+            _ => ExitCode::FAILURE,
+        }
+    }
+}
+
+impl From<AccountsError> for Failure {
+    fn from(error: AccountsError) -> Failure {
+        match error {
+            AccountsError::BadLine { line } => Failure::BadAccounts { line },
+            AccountsError::Memory => Failure::Fault(Fault::Memory),
+        }
+    }
+}
+
+impl From<Refusal> for Failure {
+    fn from(refusal: Refusal) -> Failure {
+        Failure::Refused {
+            code: refusal.code(),
+            name: refusal.name(),
+        }
+    }
+}
+
+impl From<Fault> for Failure {
+    fn from(fault: Fault) -> Failure {
+        Failure::Fault(fault)
+    }
+}

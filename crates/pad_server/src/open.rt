@@ -1,0 +1,51 @@
+//! The server that the command line asks for, with its session.
+ghost use Rattle.std.specs.Prelude.{◌≤◌};
+
+use crate::failure::Failure;
+use block_seq::PlainSeq;
+use pad_core::Request;
+use pad_model::{Name, Refusal};
+use server_core::Server;
+use sessions::{Accounts, Word};
+use std::alloc::Global;
+use std::fs;
+use workers::{Alone, Pads};
+
+/// The author of a server without accounts, and its token.
+const SOLO: &str = "solo";
+
+/// The accounts of a file, or of the author `solo` alone.
+pub fn read_accounts(rt: &HostRuntime, path: Option<&str>) -> Result<Accounts, Failure> {
+    let alloc = rt.alloc();
+    let Some(path) = path else {
+        return Ok(Accounts::read(alloc, b"author solo solo\n")?);
+    };
+    match fs::read(rt, path) {
+        Ok(bytes) => Ok(Accounts::read(alloc, bytes.as_slice())?),
+        Err(_) => Err(Failure::Unread),
+    }
+}
+
+/// A server with one actor, which is nobody yet.
+pub fn open_server(
+    alloc: Global,
+    replica: u16,
+    cells: u32,
+    accounts: Accounts,
+) -> Result<Alone<PlainSeq>, Refusal>
+    requires { (1 ≤ replica) × (cells ≤ 64) }
+{
+    let mut server = Server::new(alloc, replica, cells, accounts)?;
+    let actor = server.open(alloc)?;
+    Ok(Alone::new(server, actor))
+}
+
+/// Logs the author `solo` in.
+pub fn greet(alloc: Global, pads: &mut Alone<PlainSeq>) -> Result<(), Refusal> {
+    let hello = Request::Hello {
+        name: Name::from_str(alloc, SOLO)?,
+        token: Word::from_str(alloc, SOLO)?,
+    };
+    let _welcome = pads.call(alloc, &hello)?;
+    Ok(())
+}

@@ -1,0 +1,69 @@
+//! Why a story could not be played.
+use pad_model::Refusal;
+use sessions::AccountsError;
+use std::alloc::{AllocError, AllocFailed};
+use std::{fmt, io};
+
+/// Why a story could not be played.
+#[derive(Debug, Drop)]
+pub enum Fault {
+    /// A line of the accounts file is at fault.
+    BadAccounts { line: u64 },
+    /// A line of the story, counted from 1, has no form of a story.
+    NoStory { line: u64 },
+    /// There was no room for a session, or no memory.
+    Refused(Refusal),
+    /// A step was not answered.
+    NoAnswer,
+    /// Reading or writing failed.
+    Broken(io::Error),
+}
+
+impl fmt::Display for Fault {
+    fn fmt<W: fmt::Write>(&self, f: &mut fmt::Formatter<W>) -> fmt::Result {
+        match self {
+            Fault::BadAccounts { line } => write!(f, "500 BadAccounts line {line}"),
+            Fault::NoStory { line } => write!(f, "line {line} is none of a story"),
+            Fault::Refused(refusal) => {
+                let code = refusal.code();
+                let name = refusal.name();
+                write!(f, "{code} {name}")
+            }
+            Fault::NoAnswer => write!(f, "no answer"),
+            Fault::Broken(error) => write!(f, "{error}"),
+        }
+    }
+}
+
+impl From<AccountsError> for Fault {
+    fn from(error: AccountsError) -> Fault {
+        match error {
+            AccountsError::BadLine { line } => Fault::BadAccounts { line },
+            AccountsError::Memory => Fault::Refused(Refusal::Memory),
+        }
+    }
+}
+
+impl From<Refusal> for Fault {
+    fn from(refusal: Refusal) -> Fault {
+        Fault::Refused(refusal)
+    }
+}
+
+impl From<AllocError> for Fault {
+    fn from(_refused: AllocError) -> Fault {
+        Fault::Refused(Refusal::Memory)
+    }
+}
+
+impl<T: Drop> From<AllocFailed<T>> for Fault {
+    fn from(_refused: AllocFailed<T>) -> Fault {
+        Fault::Refused(Refusal::Memory)
+    }
+}
+
+impl From<io::Error> for Fault {
+    fn from(error: io::Error) -> Fault {
+        Fault::Broken(error)
+    }
+}

@@ -1,0 +1,121 @@
+//! A server with its sessions.
+ghost use Rattle.std.specs.Prelude.{◌≡◌, ◌≤◌};
+
+use crate::fault::Fault;
+use block_seq::PlainSeq;
+use pad_core::{Reply, Request};
+use pad_model::Refusal;
+use server_core::{Moved, Server, Step};
+use sessions::Accounts;
+use std::alloc::Global;
+use wire_json::{read_request, reply_line};
+
+/// A server, and the names of its sessions in the order of their first use: the place of a name is its actor's number.
+#[derive(Drop)]
+pub struct Stage {
+    /// The replica number of a server whose title names none.
+    replica: u16,
+    cells: u32,
+    accounts: Vec<u8>,
+    server: Server<PlainSeq>,
+    names: Vec<String>,
+    ghost numbered: { 1 ≤ replica },
+    ghost in_row: { cells ≤ 64 },
+}
+
+fn make_server(
+    alloc: Global,
+    replica: u16,
+    cells: u32,
+    accounts: &[u8],
+) -> Result<Server<PlainSeq>, Fault>
+    requires numbered { 1 ≤ replica }
+    requires row { cells ≤ 64 }
+{
+    let accounts = Accounts::read(alloc, accounts)?;
+    Ok(Server::new(alloc, replica, cells, accounts)?)
+}
+
+impl Stage {
+    /// A new server, of which each later one takes the row and the accounts.
+    pub fn new(alloc: Global, replica: u16, cells: u32, accounts: Vec<u8>) -> Result<Stage, Fault>
+        requires numbered { 1 ≤ replica }
+        requires row { cells ≤ 64 }
+    {
+        let server = make_server(alloc, replica, cells, accounts.as_slice())?;
+        Ok(Stage {
+            replica,
+            cells,
+            accounts,
+            server,
+            names: Vec::new(alloc),
+        })
+    }
+
+    /// Begins again with a new server, of this replica number.
+    pub fn renew(&mut self, alloc: Global, replica: Option<u16>) -> Result<(), Fault> {
+        let replica = match replica {
+            Some(number) if number >= 1 => number,
+            _ => self.replica,
+        };
+        self.server = make_server(alloc, replica, self.cells, self.accounts.as_slice())?;
+        self.names = Vec::new(alloc);
+        Ok(())
+    }
+
+    /// The reply line of a request, its LF included.
+    pub fn ask(&mut self, alloc: Global, name: &str, line: &str) -> Result<String, Fault> {
+        let reply = match read_request(alloc, line.as_bytes()) {
+            Ok(request) => self.answer(alloc, name, request)?,
+            Err(refusal) => Err(refusal),
+        };
+        Ok(reply_line(alloc, &reply)?)
+    }
+
+    fn answer(
+        &mut self,
+        alloc: Global,
+        name: &str,
+        request: Request,
+    ) -> Result<Result<Reply, Refusal>, Fault> {
+        let actor = self.actor(alloc, name)?;
+        self.finish(alloc, actor, &Step::Ask(request))
+    }
+
+    /// Ends a session. It is nobody's then.
+    pub fn end(&mut self, alloc: Global, name: &str) -> Result<(), Fault> {
+        let actor = self.actor(alloc, name)?;
+        let _ended = self.finish(alloc, actor, &Step::End)?;
+        Ok(())
+    }
+
+    /// The actor of a session, which is opened at its first use.
+    fn actor(&mut self, alloc: Global, name: &str) -> Result<u32, Fault> {
+        for (known, number) in self.names.iter().zip(0..) {
+            if known.as_str() == name {
+                return Ok(number);
+            }
+        }
+        self.names.push(String::from_str(alloc, name)?)?;
+        Ok(self.server.open(alloc)?)
+    }
+
+    /// Makes a step, and goes on with what it began until that is done.
+    fn finish(
+        &mut self,
+        alloc: Global,
+        actor: u32,
+        step: &Step,
+    ) -> Result<Result<Reply, Refusal>, Fault> {
+        let mut moved = self.server.step(alloc, actor, step);
+        for _ in 0..u64::MAX {
+            match moved {
+                Moved::Scanning => moved = self.server.step(alloc, actor, &Step::Move),
+                Moved::Done(reply) => return Ok(Ok(reply)),
+                Moved::Refused(refusal) => return Ok(Err(refusal)),
+                Moved::Idle | Moved::Named(_) => return Err(Fault::NoAnswer),
+            }
+        }
+        Err(Fault::NoAnswer)
+    }
+}

@@ -1,0 +1,88 @@
+//! A server with the pad `p` of ann, and a peer.
+ghost use Rattle.std.specs.Prelude.{◌≤◌};
+
+use block_seq::PlainSeq;
+use pad_core::{Reply, Request};
+use pad_model::Refusal;
+use server_core::{Moved, Server, Step};
+use sessions::Accounts;
+use std::alloc::Global;
+use wire_json::{read_request, reply_line};
+
+/// The session of ann.
+pub const ANN: u32 = 0;
+
+/// The session of a peer.
+pub const PEER: u32 = 1;
+
+const HELLO: &str = r#"{"do":"hello","name":"ann","token":"t"}"#;
+
+/// Stands for a step that was not answered. No reply refuses with it.
+const NO_ANSWER: Refusal = Refusal::Busy;
+
+/// A server and its two sessions.
+#[derive(Drop)]
+pub struct Rig {
+    alloc: Global,
+    server: Server<PlainSeq>,
+}
+
+fn make_server(alloc: Global, replica: u16) -> Result<Server<PlainSeq>, Refusal>
+    requires { 1 ≤ replica }
+{
+    let text = b"author ann t\npeer 9 t host:1\n";
+    let Ok(accounts) = Accounts::read(alloc, text) else {
+        return Err(Refusal::Memory);
+    };
+    Server::new(alloc, replica, 1, accounts)
+}
+
+impl Rig {
+    /// A server with this number, on which ann has created `p`, and a peer has said who it is.
+    pub fn new(alloc: Global, replica: u16) -> Result<Rig, Refusal>
+        requires { 1 ≤ replica }
+    {
+        let server = make_server(alloc, replica)?;
+        let mut rig = Rig { alloc, server };
+        rig.open_ann()?;
+        rig.say(ANN, r#"{"do":"create","pad":"p"}"#)?;
+        rig.server.open(alloc)?;
+        rig.say(PEER, r#"{"do":"peer","number":9,"token":"t","version":2}"#)?;
+        Ok(rig)
+    }
+
+    /// The reply line of a request, its LF included.
+    pub fn say(&mut self, session: u32, line: &str) -> Result<String, Refusal> {
+        let reply = match read_request(self.alloc, line.as_bytes()) {
+            Ok(request) => self.answer(session, request),
+            Err(refusal) => Err(refusal),
+        };
+        reply_line(self.alloc, &reply)
+    }
+
+    fn answer(&mut self, session: u32, request: Request) -> Result<Reply, Refusal> {
+        let mut moved = self.server.step(self.alloc, session, &Step::Ask(request));
+        for _ in 0..u64::MAX {
+            match moved {
+                Moved::Scanning => moved = self.server.step(self.alloc, session, &Step::Move),
+                Moved::Done(reply) => return Ok(reply),
+                Moved::Refused(refusal) => return Err(refusal),
+                Moved::Idle | Moved::Named(_) => return Err(NO_ANSWER),
+            }
+        }
+        Err(NO_ANSWER)
+    }
+
+    /// One more session of ann.
+    pub fn open_ann(&mut self) -> Result<u32, Refusal> {
+        let session = self.server.open(self.alloc)?;
+        self.say(session, HELLO)?;
+        Ok(session)
+    }
+
+    /// Whether a request is answered with this line.
+    pub fn says(&mut self, session: u32, line: &str, want: &str) -> Result<bool, Refusal> {
+        let reply = self.say(session, line)?;
+        Ok(reply.as_str() == want)
+    }
+}

@@ -1,0 +1,74 @@
+//! A server whose steps are words: `move`, `end`, `look 0`, `relay 2`, or a line of JSON that is asked.
+use block_seq::PlainSeq;
+use pad_model::Refusal;
+use server_core::{MAX_CELLS, Moved, Server, Step};
+use sessions::Accounts;
+use std::alloc::Global;
+use std::test::Fail;
+use wire_json::{read_request, reply_line};
+
+/// A step of an actor, and what it is told.
+pub type Turn<'a> = (u32, &'a str, &'a str);
+
+/// A server of replica 1 that knows ann, bob and peer 2, with three actors.
+pub fn open(alloc: Global, cells: u32) -> Result<Server<PlainSeq>, Fail> {
+    let accounts = Accounts::read(
+        alloc,
+        b"author ann t1\nauthor bob t2\npeer 2 p2 127.0.0.1:7402\n",
+    )?;
+    let mut server = Server::new(alloc, 1, cells.min(MAX_CELLS), accounts)?;
+    for _ in 0..3 {
+        let _actor = server.open(alloc)?;
+    }
+    Ok(server)
+}
+
+/// Makes the steps, and tells the first one whose answer is another.
+pub fn play(
+    alloc: Global,
+    server: &mut Server<PlainSeq>,
+    turns: &[Turn<'_>],
+) -> Result<Option<String>, Fail> {
+    for turn in turns {
+        let told = answer(alloc, server, turn.0, turn.1)?;
+        if told.as_str() != turn.2 {
+            return Ok(Some(told));
+        }
+    }
+    Ok(None)
+}
+
+fn answer(
+    alloc: Global,
+    server: &mut Server<PlainSeq>,
+    actor: u32,
+    words: &str,
+) -> Result<String, Fail> {
+    let step = step_of(alloc, words)?;
+    let moved = server.step(alloc, actor, &step);
+    Ok(show(alloc, moved)?)
+}
+
+fn step_of(alloc: Global, words: &str) -> Result<Step, Refusal> {
+    Ok(match words {
+        "move" => Step::Move,
+        "end" => Step::End,
+        "look 0" => Step::Look(0),
+        "look 1" => Step::Look(1),
+        "relay 2" => Step::Relay(2),
+        line => Step::Ask(read_request(alloc, line.as_bytes())?),
+    })
+}
+
+fn show(alloc: Global, moved: Moved) -> Result<String, Refusal> {
+    let reply = match moved {
+        Moved::Scanning => return Ok(String::from_str(alloc, "scanning")?),
+        Moved::Idle => return Ok(String::from_str(alloc, "idle")?),
+        Moved::Named(None) => return Ok(String::from_str(alloc, "no name")?),
+        Moved::Named(Some(name)) => return Ok(String::from_str(alloc, name.as_str())?),
+        Moved::Done(reply) => Ok(reply),
+        Moved::Refused(refusal) => Err(refusal),
+    };
+    let line = reply_line(alloc, &reply)?;
+    Ok(String::from_str(alloc, line.as_str().trim_end())?)
+}

@@ -8,6 +8,7 @@ mod dice;
 mod index;
 mod pull;
 mod tree;
+mod wire;
 
 use pad_model::Refusal;
 use std::alloc::Global;
@@ -28,6 +29,8 @@ fn counts(alloc: Global, line: &str) -> Result<Option<String>, Refusal> {
         "iterate" => Ok(Some(tree::iterate(alloc, size, times)?)),
         "locate" => Ok(Some(index::locate(alloc, size, times)?)),
         "pull" => Ok(Some(pull::pull(alloc, size, times)?)),
+        "wire" => Ok(Some(wire::wire(alloc, size, times)?)),
+        "json" => Ok(Some(wire::json(alloc, size, times)?)),
         _ => Ok(None),
     }
 }

@@ -168,6 +168,7 @@ resolve_checked own author name log there short h named low =
     let same : (eqb found.0.name.origin name.origin ≡ true) × (eqb found.0.name.number name.number ≡ true) =
     and_parts (eqb found.0.name.origin name.origin) (eqb found.0.name.number name.number) (and_parts (is_comment found.0) (same_name found.0.name name) found.1.0).1
     in
+    let origin : found.0.name.origin ≡ name.origin = eqb-true found.0.name.origin name.origin same.0 in
     let number : found.0.name.number ≡ name.number = eqb-true found.0.name.number name.number same.1 in
-    let some = found.1.1.1 in
-    op_checked own author (Resolve name ∷ []) log h short named low (rw (le-leb 1 name.number (omega arith)) refl)
+    let some = found.1.1 in
+    op_checked own author (Resolve name ∷ []) log h short named low (rw (le-leb 1 name.origin (omega arith), le-leb 1 name.number (omega arith)) refl)

@@ -42,7 +42,7 @@ abbrev pub is_part : ℕ → Part → Bool
 is_part origin (Insert run) = is_run origin run
 is_part origin (Delete spans) = nat_le 1 (length spans) && list_all is_span spans
 is_part origin (Comment first last text) = is_within (length text) MAX_COMMENT
-is_part origin (Resolve comment) = nat_le 1 comment.number
+is_part origin (Resolve comment) = nat_le 1 comment.origin && nat_le 1 comment.number
 
 -- how many characters a part inserts or erases
 abbrev pub part_size : Part → ℕ

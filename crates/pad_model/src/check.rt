@@ -70,7 +70,7 @@ fn is_part(origin: u16, part: &Part) -> bool
         Part::Insert(run) => is_run(origin, run),
         Part::Delete(spans) => !spans.is_empty() && are_spans(spans.as_slice()),
         Part::Comment { text, .. } => is_within(text.len() as u64, MAX_COMMENT),
-        Part::Resolve { comment } => comment.number >= 1,
+        Part::Resolve { comment } => comment.origin >= 1 && comment.number >= 1,
     }
 }
 

@@ -136,7 +136,7 @@ mod tests {
         Insert(u64, u16, u64),
         Delete(&'static [u64]),
         Comment(u64),
-        Resolve(u64),
+        Resolve(u16, u64),
     }
 
     fn text(alloc: Global, len: u64) -> Result<Text, Fail> {
@@ -175,8 +175,8 @@ mod tests {
                 last: first,
                 text: text(alloc, len)?,
             }),
-            Sketch::Resolve(number) => Ok(Part::Resolve {
-                comment: OpName { origin: 3, number },
+            Sketch::Resolve(origin, number) => Ok(Part::Resolve {
+                comment: OpName { origin, number },
             }),
         }
     }
@@ -198,7 +198,7 @@ mod tests {
 
     #[test]
     fn checks_the_parts(rt: HostRuntime) -> Result<(), Fail> {
-        let cases: [(&str, &[Sketch], bool); 21] = [
+        let cases: [(&str, &[Sketch], bool); 22] = [
             ("10,000 characters", &[Sketch::Insert(1, 2, 10_000)], true),
             (
                 "the last counter",
@@ -225,8 +225,9 @@ mod tests {
             ("a comment", &[Sketch::Comment(2_000)], true),
             ("an empty comment", &[Sketch::Comment(0)], false),
             ("a long comment", &[Sketch::Comment(2_001)], false),
-            ("a resolution", &[Sketch::Resolve(1)], true),
-            ("no such comment", &[Sketch::Resolve(0)], false),
+            ("a resolution", &[Sketch::Resolve(3, 1)], true),
+            ("no such comment", &[Sketch::Resolve(3, 0)], false),
+            ("a comment of no replica", &[Sketch::Resolve(0, 1)], false),
             ("no part", &[], false),
             ("17 parts", &[Sketch::Delete(&[1]); 17], false),
             (
@@ -274,7 +275,7 @@ mod tests {
             },
             seen: Seen::new(alloc),
             author: Name::from_str(alloc, author)?,
-            parts: parts(alloc, &[Sketch::Resolve(1)])?,
+            parts: parts(alloc, &[Sketch::Resolve(3, 1)])?,
         })
     }
 
@@ -308,7 +309,7 @@ mod tests {
                 name: OpName { origin, number },
                 seen: seen(rt.alloc(), other, count)?,
                 author: Name::from_str(rt.alloc(), author)?,
-                parts: parts(rt.alloc(), &[Sketch::Resolve(1)])?,
+                parts: parts(rt.alloc(), &[Sketch::Resolve(3, 1)])?,
             };
             assert_eq!(rt;
                 (author, op.name, op.check().is_ok()),

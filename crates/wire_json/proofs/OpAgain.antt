@@ -47,8 +47,8 @@ comment_again first last text d is_first is_last is_text h =
     (field_found stamp_in (codes "last") d _ last is_last (stamp_again last h.1))
     (field_found text_in (codes "text") d _ text is_text (text_again text h.2))
 
-resolve_again : (comment : OpName) (d : Data) → get (codes "comment") d ≡ Some (op_name_data comment) → 1 ≤ comment.number → IsSayablePart (Resolve comment) → part_of kind.Resolve d ≡ Some (Resolve comment)
-resolve_again comment d is some h = ap (option_map Resolve) (field_found op_name_in (codes "comment") d _ comment is (op_name_again comment h.0 h.1 some))
+resolve_again : (comment : OpName) (d : Data) → get (codes "comment") d ≡ Some (op_name_data comment) → (1 ≤ comment.origin) × (1 ≤ comment.number) → IsSayablePart (Resolve comment) → part_of kind.Resolve d ≡ Some (Resolve comment)
+resolve_again comment d is named h = ap (option_map Resolve) (field_found op_name_in (codes "comment") d _ comment is (op_name_again comment named.0 h named.1))
 
 kind_again : (k : Kind) (d : Data) → get (codes "kind") d ≡ Some (string (kind_word k)) → kind_in d ≡ Some k
 kind_again kind.Insert d is = rw is refl
@@ -98,9 +98,11 @@ checked_parts origin parts checked =
     let all = five (is_within (length parts) MAX_PARTS) (nat_le (length parts) 1 || list_all is_edit parts) (list_all (is_part origin) parts) (counters_rise 0 parts) (nat_le (sum_by part_size parts) MAX_TEXT) checked in
     (all.1, all.2)
 
-resolved_number : (origin : ℕ) (comment : OpName) → are_parts origin (Resolve comment ∷ []) ≡ true → 1 ≤ comment.number
-resolved_number origin comment checked =
-    leb-true 1 comment.number (and_parts (nat_le 1 comment.number) true (checked_parts origin (Resolve comment ∷ []) checked).1).0
+resolved_name : (origin : ℕ) (comment : OpName) → are_parts origin (Resolve comment ∷ []) ≡ true → (1 ≤ comment.origin) × (1 ≤ comment.number)
+resolved_name origin comment checked =
+    let part = (and_parts (nat_le 1 comment.origin && nat_le 1 comment.number) true (checked_parts origin (Resolve comment ∷ []) checked).1).0 in
+    let both = and_parts (nat_le 1 comment.origin) (nat_le 1 comment.number) part in
+    (leb-true 1 comment.origin both.0, leb-true 1 comment.number both.1)
 
 second : (a b : Bool) → (a || b) ≡ true → a ≡ false → b ≡ true
 second true b h fails = absurd (true≢false fails)
@@ -119,7 +121,7 @@ parts_again name seen author (Delete spans ∷ []) checked h = ap (option_map (�
 parts_again name seen author (Comment first last text ∷ []) checked h =
     ap (option_map (λ p. p ∷ [])) (comment_again first last text (op_data (op_of name seen author (Comment first last text ∷ []))) refl refl refl h.0)
 parts_again name seen author (Resolve comment ∷ []) checked h =
-    ap (option_map (λ p. p ∷ [])) (resolve_again comment (op_data (op_of name seen author (Resolve comment ∷ []))) refl (resolved_number name.origin comment checked) h.0)
+    ap (option_map (λ p. p ∷ [])) (resolve_again comment (op_data (op_of name seen author (Resolve comment ∷ []))) refl (resolved_name name.origin comment checked) h.0)
 parts_again name seen author (p ∷ q ∷ parts) checked h = edit_again p q parts (op_data (op_of name seen author (p ∷ q ∷ parts))) refl (several_edits name.origin p q parts checked) h
 
 -- the other fields stand beside those of the parts

@@ -17,12 +17,12 @@ use Rattle.wire_json.specs.Requests.{op_in}
 abbrev pub IsStamp : Stamp → Type 0
 IsStamp stamp = IsInLimits stamp.counter stamp.replica
 
--- a part has values of its types: stamps, and characters; and a name that it resolves has the number of a replica
+-- a part has values of its types: stamps, characters, and the number of a replica
 abbrev pub IsSayablePart : Part → Type 0
 IsSayablePart (Insert run) = IsStamp run.first × IfSome run.after IsStamp × (all_scalars run.text ≡ true)
 IsSayablePart (Delete spans) = AllByRecursion (λ span. IsStamp span.first) spans
 IsSayablePart (Comment first last text) = IsStamp first × IsStamp last × (all_scalars text ≡ true)
-IsSayablePart (Resolve comment) = (1 ≤ comment.origin) × (comment.origin ≤ MAX_REPLICA)
+IsSayablePart (Resolve comment) = comment.origin ≤ MAX_REPLICA
 
 -- an operation has values of its types: a replica's number, a vector, and such parts
 pub record IsSayable (op : Op) : Type 0 where

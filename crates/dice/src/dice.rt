@@ -1,0 +1,41 @@
+ghost use Rattle.std.specs.Prelude.{◌≡◌, ◌≤◌, ◌<◌};
+ghost use Rattle.dice.specs.Dice.{next, face};
+
+use std::marker::Model;
+
+/// A generator of numbers: the linear congruential one of Knuth's MMIX, of whose states the high bits are used.
+///
+/// Two dice of one seed roll alike.
+#[derive(Debug)]
+pub struct Dice {
+    state: u64,
+}
+
+impl Model for Dice {
+    ghost use Rattle.std.specs.Prelude.{ℕ};
+
+    ghost Value = { ℕ };
+
+    ghost view = { λ d. d.state };
+}
+
+impl Dice {
+    pub fn new(seed: u64) -> Dice
+        ensures { result ≡ seed }
+    {
+        Dice { state: seed }
+    }
+
+    /// A number below `sides`; 0 where there is none.
+    pub fn roll(&mut self, sides: u64) -> u64
+        ensures state { self.new ≡ next self.old }
+        ensures value { result ≡ face sides self.new }
+        ensures below { 1 ≤ sides → result < sides }
+    {
+        self.state = self
+            .state
+            .wrapping_mul(6_364_136_223_846_793_005)
+            .wrapping_add(1_442_695_040_888_963_407);
+        (self.state >> 33).checked_rem(sides).unwrap_or(0)
+    }
+}

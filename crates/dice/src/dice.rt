@@ -6,7 +6,7 @@ use std::marker::Model;
 /// A generator of numbers: the linear congruential one of Knuth's MMIX, of whose states the high bits are used.
 ///
 /// Two dice of one seed roll alike.
-#[derive(Debug)]
+#[derive(Debug, Drop)]
 pub struct Dice {
     state: u64,
 }

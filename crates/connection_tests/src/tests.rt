@@ -1,10 +1,10 @@
 //! What no clause says: worked lines as a client sees them, and devices that cut and fail.
-ghost use Rattle.std.specs.Prelude.{None};
+ghost use Rattle.std.specs.Prelude.{◌≤◌, None};
 ghost use Rattle.wire_lines.specs.Device.{one_more};
 
 use block_seq::PlainSeq;
 use pad_core::Request;
-use pad_model::Name;
+use pad_model::{Name, Refusal};
 use server_core::Server;
 use sessions::{Accounts, Word};
 use std::alloc::Global;
@@ -13,23 +13,43 @@ use std::test::Fail;
 use wire_lines::{Fault, Input, Output, ReadError, Sink, Source, WriteError};
 use workers::{Alone, Open, Pads, Served, serve_connection};
 
-// A fresh server of replica 1, with a session of the author solo.
-fn solo(alloc: Global) -> Result<Alone<PlainSeq>, Fail> {
-    let accounts = Accounts::read(alloc, b"author solo solo\n")?;
-    let mut server = Server::new(alloc, 1, 64, accounts)?;
-    let actor = server.open(alloc)?;
-    let mut pads = Alone::new(server, actor);
-    let hello = Request::Hello {
+fn hello(alloc: Global) -> Result<Request, Refusal> {
+    Ok(Request::Hello {
         name: Name::from_str(alloc, "solo")?,
         token: Word::from_str(alloc, "solo")?,
-    };
-    let _reply = pads.call(alloc, &hello)?;
+    })
+}
+
+fn server(alloc: Global) -> Result<Server<PlainSeq>, Fail> {
+    let accounts = Accounts::read(alloc, b"author solo solo\n")?;
+    Ok(Server::new(alloc, 1, 64, accounts)?)
+}
+
+// A fresh server of replica 1, with a session of the author solo.
+fn solo(alloc: Global) -> Result<Alone<PlainSeq>, Fail> {
+    let hello = hello(alloc)?;
+    let mut server = server(alloc)?;
+    let actor = server.open(alloc)?;
+    let mut pads = Alone::new(server, actor);
+    let _reply = pads.call(alloc, &hello);
     Ok(pads)
+}
+
+// How a connection to a fresh server ends.
+fn serve<R: Source, W: Sink>(
+    alloc: Global,
+    reader: &mut R,
+    writer: &mut W,
+) -> Result<Result<Served, Fault>, Fail> {
+    let mut pads = solo(alloc)?;
+    Ok(serve_connection(alloc, &mut pads, reader, writer, 0, &Open))
 }
 
 const CREATE: &str = "{\"do\":\"create\",\"pad\":\"p\"}\n";
 
 const CREATED: &str = "{\"now\":0,\"ok\":true,\"visit\":1}\n";
+
+const NOBODY: &str = "{\"code\":200,\"error\":\"NoSession\",\"ok\":false}\n";
 
 // The lines of a first session, with what is answered.
 const SESSION: [(&str, &str); 9] = [
@@ -74,48 +94,74 @@ fn joined(alloc: Global, answers: bool) -> Result<String, Fail> {
     Ok(text)
 }
 
+// Whether a session whose bytes come and go in pieces is answered so, by eight lines of which two were delivered.
+fn is_served_in_pieces(
+    alloc: Global,
+    piece: usize,
+    lines: &str,
+    answers: &str,
+) -> Result<bool, Fail>
+    requires { 1 ≤ piece }
+{
+    let mut reader = Input::new(lines.as_bytes()).in_pieces(piece).interrupted();
+    let mut writer = Output::new(alloc).in_pieces(piece);
+    let served = serve(alloc, &mut reader, &mut writer)?;
+    let all = Served {
+        lines: 8,
+        delivered: 2,
+    };
+    Ok(served == Ok(all) && writer.bytes() == answers.as_bytes())
+}
+
 #[test]
 fn a_session_in_pieces(rt: HostRuntime) -> Result<(), Fail> {
     let alloc = rt.alloc();
     let lines = joined(alloc, false)?;
     let answers = joined(alloc, true)?;
     for piece in [1, 2, 30, 1000] {
-        let mut pads = solo(alloc)?;
-        let mut reader = Input::new(lines.as_bytes()).in_pieces(piece).interrupted();
-        let mut writer = Output::new(alloc).in_pieces(piece);
-        let served = serve_connection(alloc, &mut pads, &mut reader, &mut writer, 0, &Open)?;
-        assert_eq!(rt; writer.bytes(), answers.as_bytes());
-        assert_eq!(rt;
-            served,
-            Served {
-                lines: 8,
-                delivered: 2
-            }
+        assert!(rt;
+            is_served_in_pieces(alloc, piece, lines.as_str(), answers.as_str())?,
+            "in pieces of {piece}"
         );
     }
     Ok(())
 }
 
+// Whether the writer fails at its second call, with just this written.
+fn is_cut(alloc: Global, taken: usize, written: &str) -> Result<bool, Fail> {
+    let mut reader = Input::new(CREATE.as_bytes());
+    let mut writer = Output::new(alloc).in_pieces(taken).failing_at(2);
+    let served = serve(alloc, &mut reader, &mut writer)?;
+    Ok(served == Err(Fault::WriteFault) && writer.bytes() == written.as_bytes())
+}
+
 // A writer that takes ten bytes and then fails, or takes none: what was written is a front.
 #[test]
 fn a_write_that_fails(rt: HostRuntime) -> Result<(), Fail> {
-    let alloc = rt.alloc();
     for (taken, written) in [(10, "{\"now\":0,\""), (0, "")] {
-        let mut pads = solo(alloc)?;
-        let mut reader = Input::new(CREATE.as_bytes());
-        let mut writer = Output::new(alloc).in_pieces(taken).failing_at(2);
-        let served = serve_connection(alloc, &mut pads, &mut reader, &mut writer, 0, &Open);
-        assert_eq!(rt; served, Err(Fault::WriteFault));
-        assert_eq!(rt; writer.bytes(), written.as_bytes());
-        let again = serve_connection(
-            alloc,
-            &mut pads,
-            &mut Input::new(CREATE.as_bytes()),
-            &mut Output::new(alloc),
-            0,
-            &Open,
-        )?;
-        assert_eq!(rt; again.lines, 1, "the session is nobody's now");
+        assert!(rt; is_cut(rt.alloc(), taken, written)?, "after {taken} bytes");
+    }
+    Ok(())
+}
+
+// How many lines the session answers to `create` after a writer that failed.
+fn lines_after_a_fault(alloc: Global, taken: usize) -> Result<u64, Fail> {
+    let mut pads = solo(alloc)?;
+    let mut reader = Input::new(CREATE.as_bytes());
+    let mut writer = Output::new(alloc).in_pieces(taken).failing_at(2);
+    let _fault = serve_connection(alloc, &mut pads, &mut reader, &mut writer, 0, &Open);
+    let mut reader = Input::new(CREATE.as_bytes());
+    let mut writer = Output::new(alloc);
+    match serve_connection(alloc, &mut pads, &mut reader, &mut writer, 0, &Open) {
+        Ok(served) if writer.bytes() == NOBODY.as_bytes() => Ok(served.lines),
+        _ => Ok(0),
+    }
+}
+
+#[test]
+fn after_a_fault_the_session_is_nobodys(rt: HostRuntime) -> Result<(), Fail> {
+    for taken in [10, 0] {
+        assert_eq!(rt; lines_after_a_fault(rt.alloc(), taken)?, 1);
     }
     Ok(())
 }
@@ -146,60 +192,96 @@ fn answers_within(alloc: Global, bytes: usize) -> Result<String, Fail> {
     Ok(text)
 }
 
+// Whether the connection ends with this fault, and has written just the answers.
+fn ends_so(
+    alloc: Global,
+    reader: &mut Input<'_>,
+    writer: &mut Output,
+    fault: Fault,
+    answers: &str,
+) -> Result<bool, Fail> {
+    let served = serve(alloc, reader, writer)?;
+    Ok(served == Err(fault) && writer.bytes() == answers.as_bytes())
+}
+
+fn is_cut_at_write(alloc: Global, lines: &str, call: u64) -> Result<bool, Fail> {
+    let answers = first_answers(alloc, call.wrapping_sub(1))?;
+    let mut reader = Input::new(lines.as_bytes());
+    let mut writer = Output::new(alloc).failing_at(call);
+    ends_so(
+        alloc,
+        &mut reader,
+        &mut writer,
+        Fault::WriteFault,
+        answers.as_str(),
+    )
+}
+
 // Whichever write fails, the answers before it were written, and nothing of its own.
 #[test]
 fn each_write_fails_once(rt: HostRuntime) -> Result<(), Fail> {
-    let alloc = rt.alloc();
-    let lines = joined(alloc, false)?;
+    let lines = joined(rt.alloc(), false)?;
     for call in 1..=8 {
-        let mut pads = solo(alloc)?;
-        let mut writer = Output::new(alloc).failing_at(call);
-        let mut reader = Input::new(lines.as_bytes());
-        let served = serve_connection(alloc, &mut pads, &mut reader, &mut writer, 0, &Open);
-        assert_eq!(rt; served, Err(Fault::WriteFault));
-        let written = first_answers(alloc, call.wrapping_sub(1))?;
-        assert_eq!(rt; writer.bytes(), written.as_bytes());
+        assert!(rt;
+            is_cut_at_write(rt.alloc(), lines.as_str(), call)?,
+            "write {call}"
+        );
     }
     Ok(())
+}
+
+fn is_cut_at_read(alloc: Global, lines: &str, read: usize) -> Result<bool, Fail> {
+    let answers = answers_within(alloc, read)?;
+    let call = (read as u64).wrapping_add(1);
+    let mut reader = Input::new(lines.as_bytes()).in_pieces(1).failing_at(call);
+    let mut writer = Output::new(alloc);
+    ends_so(
+        alloc,
+        &mut reader,
+        &mut writer,
+        Fault::ReadFault,
+        answers.as_str(),
+    )
 }
 
 // Whichever read of a byte fails, the lines whose line feed was read were answered.
 #[test]
 fn each_read_fails_once(rt: HostRuntime) -> Result<(), Fail> {
-    let alloc = rt.alloc();
-    let lines = joined(alloc, false)?;
+    let lines = joined(rt.alloc(), false)?;
     for read in 0..=lines.len() {
-        let mut pads = solo(alloc)?;
-        let call = (read as u64).wrapping_add(1);
-        let mut reader = Input::new(lines.as_bytes()).in_pieces(1).failing_at(call);
-        let mut writer = Output::new(alloc);
-        let served = serve_connection(alloc, &mut pads, &mut reader, &mut writer, 0, &Open);
-        assert_eq!(rt; served, Err(Fault::ReadFault));
-        let written = answers_within(alloc, read)?;
-        assert_eq!(rt; writer.bytes(), written.as_bytes());
+        assert!(rt;
+            is_cut_at_read(rt.alloc(), lines.as_str(), read)?,
+            "read {read}"
+        );
     }
     Ok(())
 }
 
-// After a fault and after the end the session is nobody's, and its pads stay.
+// What two connections with a request to create `p` write, one after the other.
+fn written_by_two(alloc: Global, pads: &mut Alone<PlainSeq>) -> Result<Output, Fail> {
+    let mut writer = Output::new(alloc);
+    for _ in 0..2 {
+        let mut reader = Input::new(CREATE.as_bytes());
+        let _served = serve_connection(alloc, pads, &mut reader, &mut writer, 0, &Open)?;
+    }
+    Ok(writer)
+}
+
+// After the end the session is nobody's, and its pads stay.
 #[test]
 fn the_session_is_ended(rt: HostRuntime) -> Result<(), Fail> {
-    let alloc = rt.alloc();
-    let mut pads = solo(alloc)?;
-    let mut writer = Output::new(alloc);
-    let mut reader = Input::new(CREATE.as_bytes());
-    let first = serve_connection(alloc, &mut pads, &mut reader, &mut writer, 0, &Open)?;
-    let mut reader = Input::new(CREATE.as_bytes());
-    let second = serve_connection(alloc, &mut pads, &mut reader, &mut writer, 0, &Open)?;
-    assert_eq!(rt; first, second);
-    let refused = "{\"code\":200,\"error\":\"NoSession\",\"ok\":false}\n";
-    assert_eq!(rt;
-        writer.bytes(),
-        format!(in alloc; "{CREATED}{refused}")?.as_bytes()
-    );
+    let mut pads = solo(rt.alloc())?;
+    let written = written_by_two(rt.alloc(), &mut pads)?;
+    let answers = [CREATED.as_bytes(), NOBODY.as_bytes()];
+    assert!(rt; written.bytes().starts_with(answers[0]));
+    assert!(rt; written.bytes().ends_with(answers[1]));
+    assert_eq!(rt; written.bytes().len(), answers[0].len() + answers[1].len());
     assert_eq!(rt; pads.cells(), 64);
-    assert_eq!(rt; pads.name_of(alloc, 0)?, Some(Name::from_str(alloc, "p")?));
-    assert_eq!(rt; pads.name_of(alloc, 1)?, None);
+    assert!(rt;
+        pads.name_of(rt.alloc(), 0)?
+            .is_some_and(|name| name.is("p"))
+    );
+    assert!(rt; pads.name_of(rt.alloc(), 1)?.is_none());
     Ok(())
 }
 
@@ -270,52 +352,54 @@ fn a_client_that_waits(rt: HostRuntime) -> Result<(), Fail> {
         output: Output::new(alloc),
         replies: &replies,
     };
-    let mut pads = solo(alloc)?;
-    let served = serve_connection(alloc, &mut pads, &mut client, &mut sent, 0, &Open)?;
-    assert_eq!(rt;
-        served,
-        Served {
-            lines: 3,
-            delivered: 1
-        }
-    );
+    let served = serve(alloc, &mut client, &mut sent)?;
+    let all = Served {
+        lines: 3,
+        delivered: 1,
+    };
+    assert_eq!(rt; served, Ok(all));
     Ok(())
+}
+
+const REVS: &str = "{\"do\":\"revs\",\"pad\":\"p\"}";
+
+// A pad's making, then a request for its length that so many spaces follow, and then that request alone.
+fn with_spaces(alloc: Global, spaces: usize) -> Result<Vec<u8>, Fail> {
+    let mut lines = CREATE.as_bytes().to_vec(alloc)?;
+    lines.extend_from_slice(REVS.as_bytes())?;
+    let long = lines.len().saturating_add(spaces);
+    lines.resize(long, b' ')?;
+    lines.push(b'\n')?;
+    lines.extend_from_slice(REVS.as_bytes())?;
+    Ok(lines)
+}
+
+// Whether these bytes are answered by a new pad's visit, and then so.
+fn is_answered(alloc: Global, lines: &[u8], answer: &str) -> Result<bool, Fail> {
+    let mut reader = Input::new(lines);
+    let mut writer = Output::new(alloc);
+    let served = serve(alloc, &mut reader, &mut writer)?;
+    let rest = writer.bytes().strip_prefix(CREATED.as_bytes());
+    Ok(served.is_ok() && rest == Some(answer.as_bytes()))
 }
 
 // A line that is too long is told, and nothing behind it is served.
 #[test]
 fn a_line_that_is_too_long(rt: HostRuntime) -> Result<(), Fail> {
-    let alloc = rt.alloc();
-    let revs = "{\"do\":\"revs\",\"pad\":\"p\"}";
     for (spaces, answer) in [
         (
-            8_388_608 - revs.len(),
+            8_388_608 - REVS.len(),
             "{\"cells\":0,\"length\":0,\"now\":0,\"ok\":true}\n{\"cells\":0,\"length\":0,\"now\":0,\"ok\":true}\n",
         ),
         (
-            8_388_609 - revs.len(),
+            8_388_609 - REVS.len(),
             "{\"code\":100,\"error\":\"TooLong\",\"ok\":false}\n",
         ),
     ] {
-        let mut lines = CREATE.as_bytes().to_vec(alloc)?;
-        lines.extend_from_slice(revs.as_bytes())?;
-        let long = lines.len() + spaces;
-        lines.resize(long, b' ')?;
-        lines.push(b'\n')?;
-        lines.extend_from_slice(revs.as_bytes())?;
-        let mut pads = solo(alloc)?;
-        let mut writer = Output::new(alloc);
-        let _served = serve_connection(
-            alloc,
-            &mut pads,
-            &mut Input::new(&lines),
-            &mut writer,
-            0,
-            &Open,
-        )?;
-        assert_eq!(rt;
-            writer.bytes(),
-            format!(in alloc; "{CREATED}{answer}")?.as_bytes()
+        let lines = with_spaces(rt.alloc(), spaces)?;
+        assert!(rt;
+            is_answered(rt.alloc(), lines.as_slice(), answer)?,
+            "{spaces} spaces"
         );
     }
     Ok(())

@@ -1,10 +1,10 @@
 //! The command line.
-ghost use Rattle.std.specs.Prelude.{◌≡◌, ◌≤◌, IfOk};
+ghost use Rattle.std.specs.Prelude.{◌≤◌, IfOk};
+ghost use Rattle.server_core.specs.declared.limits.TheConstants.{MAX_CELLS};
 
-use clap::error::ErrorKind;
-use clap::{Arg, ArgMatches, Command, Error, value_parser};
+use clap::{Command, Error};
+use command_line::{accounts_option, cells_of, cells_option, replica_of, replica_option};
 use std::alloc::{AllocError, Global};
-use std::process::ExitCode;
 
 /// What the command line asks for.
 #[derive(Clone, Copy)]
@@ -17,61 +17,19 @@ pub struct Asked<'a> {
     pub accounts: &'a str,
 }
 
-fn replica_number<'a>(alloc: Global) -> Arg<'a> {
-    Arg::new(alloc, "replica")
-        .long("replica")
-        .value_name("N")
-        .required(true)
-        .value_parser(value_parser!(u16).range(1..))
-        .help("The replica number of a server whose title names none, 1 to 65535")
-}
-
-fn cell_count<'a>(alloc: Global) -> Arg<'a> {
-    Arg::new(alloc, "cells")
-        .long("cells")
-        .value_name("N")
-        .required(true)
-        .value_parser(value_parser!(u32).range(1..=64))
-        .help("How many pads a server has room for, 1 to 64")
-}
-
-fn accounts_path<'a>(alloc: Global) -> Arg<'a> {
-    Arg::new(alloc, "accounts")
-        .long("accounts")
-        .value_name("PATH")
-        .required(true)
-        .help("The accounts file")
-}
-
 fn command<'a>(alloc: Global) -> Result<Command<'a>, AllocError> {
+    let replica_help = "The replica number of a server whose title names none, 1 to 65535";
+    let cells_help = "How many pads a server has room for, 1 to 64";
     Command::new(alloc, "pad_replay")
         .about("Plays sessions against a pad server, from lines NAME<TAB>REQUEST")
-        .arg(replica_number(alloc))?
-        .arg(cell_count(alloc))?
-        .arg(accounts_path(alloc))
-}
-
-fn replica_of(matches: &ArgMatches<'_>) -> u16
-    ensures { 1 ≤ result }
-{
-    match matches.get_one::<u16>("replica") {
-        Some(replica) if replica >= 1 => replica,
-        _ => 1,
-    }
-}
-
-fn cells_of(matches: &ArgMatches<'_>) -> u32
-    ensures { result ≤ 64 }
-{
-    match matches.get_one::<u32>("cells") {
-        Some(cells) if cells <= 64 => cells,
-        _ => 64,
-    }
+        .arg(replica_option(alloc, replica_help))?
+        .arg(cells_option(alloc, cells_help).required(true))?
+        .arg(accounts_option(alloc, "The accounts file").required(true))
 }
 
 /// What the words of the command line ask for, or what is wrong with them.
 pub fn parse<'a>(alloc: Global, words: &'a [String]) -> Result<Asked<'a>, Error>
-    ensures { IfOk result (λ asked. (1 ≤ asked.replica) × (asked.cells ≤ 64)) }
+    ensures { IfOk result (λ asked. (1 ≤ asked.replica) × (asked.cells ≤ MAX_CELLS)) }
 {
     let matches = command(alloc)?.try_get_matches_from(words)?;
     Ok(Asked {
@@ -79,13 +37,4 @@ pub fn parse<'a>(alloc: Global, words: &'a [String]) -> Result<Asked<'a>, Error>
         cells: cells_of(&matches),
         accounts: matches.get_str("accounts").unwrap_or(""),
     })
-}
-
-/// 0 after `--help`, 1 for want of memory, else 2.
-pub fn status_of(error: &Error) -> ExitCode {
-    match error.kind() {
-        ErrorKind::DisplayHelp => ExitCode::SUCCESS,
-        ErrorKind::OutOfMemory => ExitCode::FAILURE,
-        _ => ExitCode::from(2),
-    }
 }

@@ -11,6 +11,7 @@ mod play;
 mod stage;
 
 use args::parse;
+use command_line::status_of;
 use play::play;
 use stage::Stage;
 use std::fs;
@@ -24,7 +25,7 @@ fn main(rt: HostRuntime) -> anyhow::Result<ExitCode> {
         Ok(asked) => asked,
         Err(error) => {
             error.print(&rt)?;
-            return Ok(args::status_of(&error));
+            return Ok(status_of(&error));
         }
     };
     let accounts = fs::read(&rt, asked.accounts)?;

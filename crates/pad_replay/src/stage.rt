@@ -1,8 +1,10 @@
 //! A server with its sessions.
-ghost use Rattle.std.specs.Prelude.{◌≡◌, ◌≤◌};
+ghost use Rattle.std.specs.Prelude.{◌≤◌};
+ghost use Rattle.server_core.specs.declared.limits.TheConstants.{MAX_CELLS};
 
 use crate::fault::Fault;
 use block_seq::PlainSeq;
+use command_line::replica_or;
 use pad_core::{Reply, Request};
 use pad_model::Refusal;
 use server_core::{Moved, Server, Step};
@@ -20,7 +22,7 @@ pub struct Stage {
     server: Server<PlainSeq>,
     names: Vec<String>,
     ghost numbered: { 1 ≤ replica },
-    ghost in_row: { cells ≤ 64 },
+    ghost in_row: { cells ≤ MAX_CELLS },
 }
 
 fn make_server(
@@ -30,7 +32,7 @@ fn make_server(
     accounts: &[u8],
 ) -> Result<Server<PlainSeq>, Fault>
     requires numbered { 1 ≤ replica }
-    requires row { cells ≤ 64 }
+    requires row { cells ≤ MAX_CELLS }
 {
     let accounts = Accounts::read(alloc, accounts)?;
     Ok(Server::new(alloc, replica, cells, accounts)?)
@@ -40,7 +42,7 @@ impl Stage {
     /// A new server, of which each later one takes the row and the accounts.
     pub fn new(alloc: Global, replica: u16, cells: u32, accounts: Vec<u8>) -> Result<Stage, Fault>
         requires numbered { 1 ≤ replica }
-        requires row { cells ≤ 64 }
+        requires row { cells ≤ MAX_CELLS }
     {
         let server = make_server(alloc, replica, cells, accounts.as_slice())?;
         Ok(Stage {
@@ -54,10 +56,7 @@ impl Stage {
 
     /// Begins again with a new server, of this replica number.
     pub fn renew(&mut self, alloc: Global, replica: Option<u16>) -> Result<(), Fault> {
-        let replica = match replica {
-            Some(number) if number >= 1 => number,
-            _ => self.replica,
-        };
+        let replica = replica_or(replica, self.replica);
         self.server = make_server(alloc, replica, self.cells, self.accounts.as_slice())?;
         self.names = Vec::new(alloc);
         Ok(())

@@ -1,5 +1,6 @@
 //! The server that the command line asks for, with its session.
 ghost use Rattle.std.specs.Prelude.{◌≤◌};
+ghost use Rattle.server_core.specs.declared.limits.TheConstants.{MAX_CELLS};
 
 use crate::failure::Failure;
 use block_seq::PlainSeq;
@@ -33,7 +34,7 @@ pub fn open_server(
     cells: u32,
     accounts: Accounts,
 ) -> Result<Alone<PlainSeq>, Refusal>
-    requires { (1 ≤ replica) × (cells ≤ 64) }
+    requires { (1 ≤ replica) × (cells ≤ MAX_CELLS) }
 {
     let mut server = Server::new(alloc, replica, cells, accounts)?;
     let actor = server.open(alloc)?;

@@ -1,0 +1,37 @@
+//! The numbers that the options hold.
+ghost use Rattle.std.specs.Prelude.{◌≡◌, ◌≤◌, codes};
+ghost use Rattle.server_core.specs.declared.limits.TheConstants.{MAX_CELLS};
+ghost use Rattle.command_line.specs.Options.{Holds, named_or};
+
+use clap::ArgMatches;
+use server_core::MAX_CELLS;
+
+/// The replica number that is named, or else the other one: 0 names none.
+pub fn replica_or(named: Option<u16>, other: u16) -> u16
+    ensures value { result ≡ named_or named other }
+    ensures least { 1 ≤ other → 1 ≤ result }
+{
+    match named {
+        Some(replica) if replica >= 1 => replica,
+        _ => other,
+    }
+}
+
+/// What `--replica` holds; 1 where it holds no such number.
+pub fn replica_of(matches: &ArgMatches<'_>) -> u16
+    ensures value { Holds (codes "replica") 1 65535 1 matches.now result }
+    ensures least { 1 ≤ result }
+{
+    replica_or(matches.get_one::<u16>("replica"), 1)
+}
+
+/// What `--cells` holds; as many as there can be where it holds no such number.
+pub fn cells_of(matches: &ArgMatches<'_>) -> u32
+    ensures value { Holds (codes "cells") 0 MAX_CELLS MAX_CELLS matches.now result }
+    ensures most { result ≤ MAX_CELLS }
+{
+    match matches.get_one::<u32>("cells") {
+        Some(cells) if cells <= MAX_CELLS => cells,
+        _ => MAX_CELLS,
+    }
+}

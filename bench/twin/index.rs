@@ -54,8 +54,8 @@ impl Index {
 
 /// A stamp of one of the replicas, of which each has that many.
 fn any_stamp(dice: &mut Dice, each: u32) -> Stamp {
-    let counter = u64::from(dice.roll(each)) + 1;
-    let replica = dice.roll(u32::from(REPLICAS)) as u16 + 1;
+    let counter = dice.roll(u64::from(each)) + 1;
+    let replica = dice.roll(u64::from(REPLICAS)) as u16 + 1;
     Stamp { replica, counter }
 }
 

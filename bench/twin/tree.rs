@@ -187,8 +187,8 @@ impl Weigh for Stone {
 fn grown(dice: &mut Dice, size: u32) -> Tree<Stone> {
     let mut tree = Tree::new();
     for number in 0..size {
-        let rank = dice.roll(number + 1) as usize;
-        let weight = dice.roll(10);
+        let rank = dice.roll(u64::from(number) + 1) as usize;
+        let weight = dice.roll(10) as u32;
         tree.insert(rank, Stone { number, weight });
     }
     tree
@@ -206,7 +206,7 @@ pub fn insert(size: u32, times: u32) -> String {
             continue;
         }
         for _ in 0..1000 {
-            let stone = tree.get(dice.roll(size) as usize);
+            let stone = tree.get(dice.roll(u64::from(size)) as usize);
             check = check.wrapping_mul(31).wrapping_add(stone.number);
         }
     }

@@ -1,7 +1,8 @@
 //! Work on `IdentIndex`: finding characters in a text that was cut into many blocks.
 ghost use Rattle.std.specs.Prelude.{◌<◌};
 
-use crate::dice::Dice;
+use crate::SEED;
+use dice::Dice;
 use ident_index::IdentIndex;
 use pad_model::{Refusal, Stamp};
 use std::alloc::Global;
@@ -12,8 +13,8 @@ const REPLICAS: u16 = 8;
 fn any_stamp(dice: &mut Dice, each: u32) -> Result<Stamp, Refusal>
     requires { 0 < each }
 {
-    let counter = u64::from(dice.roll(each)) + 1;
-    let replica = dice.roll(u32::from(REPLICAS)) as u16 + 1;
+    let counter = dice.roll(u64::from(each)) + 1;
+    let replica = dice.roll(u64::from(REPLICAS)) as u16 + 1;
     Stamp::new(counter, replica)
 }
 
@@ -50,7 +51,7 @@ fn cut(alloc: Global, dice: &mut Dice, cuts: u32) -> Result<IdentIndex, Refusal>
 
 /// Finds that many random characters in an index of about that many blocks of eight characters on average.
 pub fn locate(alloc: Global, cuts: u32, times: u32) -> Result<String, Refusal> {
-    let mut dice = Dice::new();
+    let mut dice = Dice::new(SEED);
     let mut found: u64 = 0;
     let mut check: u64 = 0;
     if cuts == 0 {

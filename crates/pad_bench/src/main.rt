@@ -4,7 +4,6 @@
 //! `bench/twin` does the same work and prints the same.
 #![tactic(auto)]
 
-mod dice;
 mod index;
 mod pull;
 mod tree;
@@ -14,6 +13,9 @@ use pad_model::Refusal;
 use std::alloc::Global;
 use std::io;
 use std::process::ExitCode;
+
+// The seed of each work's dice; the twin has the same.
+const SEED: u64 = 2026;
 
 // The counts of the work that a line names, or none where there is no such work.
 fn counts(alloc: Global, line: &str) -> Result<Option<String>, Refusal> {

@@ -1,5 +1,6 @@
 //! Work on `OpLog`: a peer that catches up, four operations at a time.
-use crate::dice::Dice;
+use crate::SEED;
+use dice::Dice;
 use pad_model::{Name, Op, OpName, Part, Refusal, Row, Run, Seen, Stamp, Text};
 use revisions::OpLog;
 use std::alloc::Global;
@@ -22,7 +23,7 @@ fn typed(alloc: Global, name: OpName) -> Result<Op, Refusal> {
 
 // A log of that many operations of three origins, in no order.
 fn grown(alloc: Global, size: u32) -> Result<OpLog, Refusal> {
-    let mut dice = Dice::new();
+    let mut dice = Dice::new(SEED);
     let mut log = OpLog::new(alloc);
     for _ in 0..size {
         let origin = dice.roll(3) as u16 + 1;

@@ -1,7 +1,8 @@
 //! Work on `WeightTree`: growing one, and going over its items.
 ghost use Rattle.std.specs.Prelude.{◌≡◌, IfOk, length};
 
-use crate::dice::Dice;
+use crate::SEED;
+use dice::Dice;
 use pad_model::Refusal;
 use std::alloc::Global;
 use weight_tree::{Node, Weigh, WeightTree};
@@ -26,8 +27,8 @@ fn grown(alloc: Global, dice: &mut Dice, size: u32) -> Result<WeightTree<Stone>,
 {
     let mut tree = WeightTree::new();
     for number in 0..size {
-        let rank = dice.roll(number + 1) as usize;
-        let weight = dice.roll(10);
+        let rank = dice.roll(u64::from(number) + 1) as usize;
+        let weight = dice.roll(10) as u32;
         let node = Node::make(alloc, Stone { number, weight })?;
         tree.insert(rank, node);
     }
@@ -36,7 +37,7 @@ fn grown(alloc: Global, dice: &mut Dice, size: u32) -> Result<WeightTree<Stone>,
 
 /// Grows trees, and looks at each at a thousand random ranks.
 pub fn insert(alloc: Global, size: u32, times: u32) -> Result<String, Refusal> {
-    let mut dice = Dice::new();
+    let mut dice = Dice::new(SEED);
     let mut weight: u64 = 0;
     let mut levels: usize = 0;
     let mut check: u32 = 0;
@@ -48,7 +49,7 @@ pub fn insert(alloc: Global, size: u32, times: u32) -> Result<String, Refusal> {
             continue;
         }
         for _ in 0..1000 {
-            let stone = tree.get(dice.roll(size) as usize);
+            let stone = tree.get(dice.roll(u64::from(size)) as usize);
             check = check.wrapping_mul(31).wrapping_add(stone.number);
         }
     }
@@ -57,7 +58,7 @@ pub fn insert(alloc: Global, size: u32, times: u32) -> Result<String, Refusal> {
 
 /// Goes over all items of one tree that many times.
 pub fn iterate(alloc: Global, size: u32, times: u32) -> Result<String, Refusal> {
-    let tree = grown(alloc, &mut Dice::new(), size)?;
+    let tree = grown(alloc, &mut Dice::new(SEED), size)?;
     let mut items: u64 = 0;
     let mut check: u32 = 0;
     for _ in 0..times {

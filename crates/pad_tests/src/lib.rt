@@ -2,7 +2,7 @@
 #![tactic(auto)]
 
 #[cfg(test)]
-mod dice;
+mod deed;
 #[cfg(test)]
 mod expected;
 #[cfg(test)]

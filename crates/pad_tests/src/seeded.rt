@@ -1,9 +1,10 @@
 //! Two servers whose authors act on all revisions, and that hear of each other from time to time.
-use crate::dice::{Deed, Dice};
+use crate::deed::Deed;
 use crate::expected::{comments_line, runs_line, text_line};
 use crate::page::Page;
 use crate::replies::{between, is_refusal, number_behind, op_of, ops_in, text_len};
 use crate::rig::{ANN, PEER, Rig};
+use dice::Dice;
 use pad_model::Refusal;
 use std::alloc::Global;
 use std::test::Fail;
@@ -196,7 +197,7 @@ fn count_agreeing(alloc: Global, rig: &mut Rig) -> Result<u64, Refusal> {
 
 /// Lets all events happen, on one server or the other.
 fn play(alloc: Global, one: &mut Rig, two: &mut Rig) -> Result<Shares, Refusal> {
-    let mut dice = Dice(11);
+    let mut dice = Dice::new(11);
     let mut noted = Vec::new(alloc);
     let mut shares = Shares::default();
     for _ in 0..EVENTS {

@@ -1,0 +1,83 @@
+//! What an author does next, by dice.
+use dice::Dice;
+use std::alloc::{AllocError, Global};
+
+/// What an author does.
+#[derive(Clone, Copy, Debug, PartialEq, Eq)]
+pub enum Deed {
+    Type,
+    Erase,
+    Edit,
+    Note,
+    Resolve,
+}
+
+impl Deed {
+    pub fn pick(dice: &mut Dice) -> Deed {
+        match dice.roll(20) {
+            0..=6 => Deed::Type,
+            7..=11 => Deed::Erase,
+            12..=13 => Deed::Edit,
+            14..=16 => Deed::Note,
+            _ => Deed::Resolve,
+        }
+    }
+
+    /// The request for it, on a revision of this length, or on a comment of this name.
+    pub fn line(
+        self,
+        alloc: Global,
+        dice: &mut Dice,
+        rev: u64,
+        length: u64,
+        noted: &str,
+    ) -> Result<String, AllocError> {
+        let at = dice.roll(length.saturating_add(1));
+        let len = dice.roll(5).saturating_add(1);
+        let text = some_text(dice);
+        let place = place_line(alloc, rev, at)?;
+        match self {
+            Deed::Type => { format!(in alloc; "{{\"do\":\"insert\",{place},\"text\":\"{text}\"}}") }
+            Deed::Erase => format!(in alloc; "{{\"do\":\"delete\",{place},\"len\":{len}}}"),
+            Deed::Edit => edit_line(alloc, dice, rev, length),
+            Deed::Note => {
+                format!(in alloc;
+                    "{{\"do\":\"comment\",{place},\"len\":{len},\"text\":\"{text}\"}}"
+                )
+            }
+            Deed::Resolve => {
+                format!(in alloc; "{{\"do\":\"resolve\",\"pad\":\"p\",\"comment\":{noted}}}")
+            }
+        }
+    }
+}
+
+/// A text of one or two characters.
+fn some_text(dice: &mut Dice) -> &'static str {
+    match dice.roll(4) {
+        0 => "x",
+        1 => "é",
+        2 => "😀",
+        _ => "rs",
+    }
+}
+
+fn place_line(alloc: Global, rev: u64, at: u64) -> Result<String, AllocError> {
+    format!(in alloc; "\"pad\":\"p\",\"rev\":{rev},\"at\":{at}")
+}
+
+/// An edit of two insertions, and a deletion that may go past the end.
+fn edit_line(alloc: Global, dice: &mut Dice, rev: u64, length: u64) -> Result<String, AllocError> {
+    let sides = length.saturating_add(1);
+    let first = dice.roll(sides);
+    let text = some_text(dice);
+    let second = dice.roll(length);
+    let len = dice.roll(4).saturating_add(1);
+    let third = dice.roll(sides);
+    let other = some_text(dice);
+    let mut line = format!(in alloc; "{{\"do\":\"edit\",\"pad\":\"p\",\"rev\":{rev},\"parts\":[")?;
+    line.push_str(format!(in alloc; "{{\"at\":{first},\"text\":\"{text}\"}},")?.as_str())?;
+    line.push_str(format!(in alloc; "{{\"at\":{second},\"len\":{len}}},")?.as_str())?;
+    line.push_str(format!(in alloc; "{{\"at\":{third},\"text\":\"{other}\"}}]}}")?.as_str())?;
+    Ok(line)
+}

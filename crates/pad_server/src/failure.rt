@@ -7,9 +7,9 @@ use wire_lines::Fault;
 
 /// Why the server does not start, or ends before its input.
 #[derive(Clone, Copy, Debug, Error)]
-pub enum Failure {
-    #[error("the accounts file cannot be read")]
-    Unread,
+pub enum Failure<'a> {
+    #[error("the accounts file {path} cannot be read")]
+    Unread { path: &'a str },
     #[error("500 BadAccounts line {line}")]
     BadAccounts { line: u64 },
     #[error("{code} {name}")]
@@ -18,7 +18,7 @@ pub enum Failure {
     Fault(Fault),
 }
 
-impl Failure {
+impl Failure<'_> {
     /// 2 for a bad line of the accounts file, else 1.
     pub fn status(self) -> ExitCode {
         match self {
@@ -28,8 +28,8 @@ impl Failure {
     }
 }
 
-impl From<AccountsError> for Failure {
-    fn from(error: AccountsError) -> Failure {
+impl From<AccountsError> for Failure<'_> {
+    fn from(error: AccountsError) -> Self {
         match error {
             AccountsError::BadLine { line } => Failure::BadAccounts { line },
             AccountsError::Memory => Failure::Fault(Fault::Memory),
@@ -37,8 +37,8 @@ impl From<AccountsError> for Failure {
     }
 }
 
-impl From<Refusal> for Failure {
-    fn from(refusal: Refusal) -> Failure {
+impl From<Refusal> for Failure<'_> {
+    fn from(refusal: Refusal) -> Self {
         Failure::Refused {
             code: refusal.code(),
             name: refusal.name(),
@@ -46,8 +46,8 @@ impl From<Refusal> for Failure {
     }
 }
 
-impl From<Fault> for Failure {
-    fn from(fault: Fault) -> Failure {
+impl From<Fault> for Failure<'_> {
+    fn from(fault: Fault) -> Self {
         Failure::Fault(fault)
     }
 }

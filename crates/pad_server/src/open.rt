@@ -16,14 +16,14 @@ use workers::{Alone, Pads};
 const SOLO: &str = "solo";
 
 /// The accounts of a file, or of the author `solo` alone.
-pub fn read_accounts(rt: &HostRuntime, path: Option<&str>) -> Result<Accounts, Failure> {
+pub fn read_accounts<'a>(rt: &HostRuntime, path: Option<&'a str>) -> Result<Accounts, Failure<'a>> {
     let alloc = rt.alloc();
     let Some(path) = path else {
         return Ok(Accounts::read(alloc, b"author solo solo\n")?);
     };
     match fs::read(rt, path) {
         Ok(bytes) => Ok(Accounts::read(alloc, bytes.as_slice())?),
-        Err(_) => Err(Failure::Unread),
+        Err(_) => Err(Failure::Unread { path }),
     }
 }
 

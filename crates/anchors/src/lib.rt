@@ -7,8 +7,6 @@ mod book;
 mod comment;
 mod find;
 mod show;
-#[cfg(test)]
-mod tests;
 
 pub use book::CommentBook;
 pub use show::{Range, Shown};

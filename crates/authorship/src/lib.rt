@@ -6,10 +6,6 @@ mod find;
 mod insert;
 mod kept;
 mod run_list;
-#[cfg(test)]
-mod seeded;
 mod table;
-#[cfg(test)]
-mod tests;
 
 pub use run_list::RunList;

@@ -8,7 +8,5 @@ mod held;
 pub mod laws;
 mod order;
 mod ready;
-#[cfg(test)]
-mod tests;
 
 pub use held::{Hold, MAX_HELD, Offer};

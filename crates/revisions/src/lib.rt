@@ -6,8 +6,6 @@
 
 mod index;
 mod op_log;
-#[cfg(test)]
-mod tests;
 mod track;
 
 pub use op_log::OpLog;

@@ -6,8 +6,6 @@
 
 mod book;
 mod right;
-#[cfg(test)]
-mod tests;
 
 pub use book::{Grant, MAX_GRANTS, RightsBook};
 pub use right::Right;

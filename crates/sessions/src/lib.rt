@@ -8,8 +8,6 @@ mod accounts;
 mod line;
 mod presence;
 mod session;
-#[cfg(test)]
-mod tests;
 mod word;
 
 pub use accounts::{Accounts, AccountsError, MAX_ACCOUNTS, Peer};

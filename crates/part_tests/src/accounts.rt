@@ -1,0 +1,155 @@
+//! Which files of accounts are read, and which tokens they take.
+use sessions::{Accounts, AccountsError, Peer};
+use std::alloc::Global;
+use std::test::Fail;
+
+fn is_peer(peer: Option<&Peer>, number: u16, token: &str, address: &str) -> bool {
+    match peer {
+        Some(peer) => {
+            peer.number == number
+                && peer.token.as_str() == token
+                && peer.address.as_str() == address
+        }
+        None => false,
+    }
+}
+
+fn knows_nobody(alloc: Global, text: &[u8]) -> Result<bool, Fail> {
+    let accounts = Accounts::read(alloc, text)?;
+    Ok(!accounts.author("ann", "t1") && accounts.peers().is_empty())
+}
+
+/// What is known of an author with a token.
+const AUTHORS: &[(&str, &str, bool)] = &[
+    ("ann", "t1", true),
+    ("ann", "t9", false),
+    ("ann", "t", false),
+    ("ann", "t11", false),
+    ("bob", "t1", false),
+];
+
+/// What is known of a peer with a token.
+const PEERS: &[(u64, &str, bool)] = &[(2, "p2", true), (2, "p", false), (65_538, "p2", false)];
+
+fn authors_are(accounts: &Accounts, wanted: &[(&str, &str, bool)]) -> bool {
+    let mut wanted = wanted.iter();
+    wanted.all(|(name, token, known)| accounts.author(name, token) == *known)
+}
+
+fn peers_are(accounts: &Accounts, wanted: &[(u64, &str, bool)]) -> bool {
+    let mut wanted = wanted.iter();
+    wanted.all(|(number, token, known)| accounts.peer(*number, token) == *known)
+}
+
+#[test]
+fn accounts_file(rt: HostRuntime) -> Result<(), Fail> {
+    assert!(rt; knows_nobody(rt.alloc(), b"")?);
+    let text = b"author ann t1\npeer 2 p2 127.0.0.1:7402\n";
+    let accounts = Accounts::read(rt.alloc(), text)?;
+    assert!(rt; authors_are(&accounts, AUTHORS));
+    assert!(rt; peers_are(&accounts, PEERS));
+    assert_eq!(rt; accounts.peers().len(), 1);
+    assert!(rt; is_peer(accounts.peers().first(), 2, "p2", "127.0.0.1:7402"));
+    Ok(())
+}
+
+#[test]
+fn accounts_forms(rt: HostRuntime) -> Result<(), Fail> {
+    let text = b"\n\r\n#\n# \xFF\t\r\nauthor a-9 !~\r\n\npeer 65535 t :\npeer 1 t [::1]:80";
+    let accounts = Accounts::read(rt.alloc(), text)?;
+    assert!(rt; accounts.author("a-9", "!~"));
+    assert!(rt; accounts.peer(65_535, "t"));
+    assert!(rt; accounts.peer(1, "t"));
+    assert!(rt; is_peer(accounts.peers().get(1), 1, "t", "[::1]:80"));
+    Ok(())
+}
+
+/// Files whose first bad line has this number.
+const BAD_FILES: &[(&[u8], u64)] = &[
+    (b"author ann t\nauthor ann u\n", 2),
+    (b"# x\n\nauthor Ann t\n", 3),
+    (b"peer 0 t h:1\n", 1),
+    (b"author ann t\r\npeer 2 t h:1\r\npeer 2 u i:2\r\n", 3),
+    (b"author  ann t\n", 1),
+    (b"author ann  t\n", 1),
+    (b"author ann t \n", 1),
+    (b" author ann t\n", 1),
+    (b"author\tann t\n", 1),
+    (b"author ann\tt\n", 1),
+    (b"author ann t\t\n", 1),
+    (b" # x\n", 1),
+    (b" \n", 1),
+    (b"\r", 1),
+    (b"\n\r\r\n", 2),
+    (b"author ann t\r", 1),
+    (b"author ann t\r\r\n", 1),
+    (b"author ann\n", 1),
+    (b"author ann \n", 1),
+    (b"author\n", 1),
+    (b"author ann t x\n", 1),
+    (b"author ann t h:1 x\n", 1),
+    (b"author  t\n", 1),
+    (b"author a_n t\n", 1),
+    (b"author abcdefghijklmnopqrstuvwxyz1234567 t\n", 1),
+    (b"author ann \x7F\n", 1),
+    (b"author ann \xC3\xA9\n", 1),
+    (b"Author ann t\n", 1),
+    (b"authors ann t\n", 1),
+    (b"nobody ann t\n", 1),
+    (
+        b"author ann 12345678901234567890123456789012345678901234567890123456789012345\n",
+        1,
+    ),
+    (b"peer 02 t h:1\n", 1),
+    (b"peer 65536 t h:1\n", 1),
+    (b"peer 4294967297 t h:1\n", 1),
+    (b"peer 18446744073709551617 t h:1\n", 1),
+    (b"peer +2 t h:1\n", 1),
+    (b"peer -2 t h:1\n", 1),
+    (b"peer 2x t h:1\n", 1),
+    (b"peer  t h:1\n", 1),
+    (b"peer 2 t h\n", 1),
+    (b"peer 2 t\n", 1),
+    (b"peer 2 t h:1 x\n", 1),
+    (b"peer 2 t h:1 \n", 1),
+    (b"peer 2 t h: 1\n", 1),
+];
+
+/// The number of a file's first bad line, where it is refused for one.
+fn bad_line(alloc: Global, text: &[u8]) -> Option<u64> {
+    match Accounts::read(alloc, text) {
+        Err(AccountsError::BadLine { line }) => Some(line),
+        _ => None,
+    }
+}
+
+#[test]
+fn first_bad_line(rt: HostRuntime) {
+    for (text, line) in BAD_FILES {
+        assert_eq!(rt; bad_line(rt.alloc(), text), Some(*line), "{text:?}");
+    }
+}
+
+/// An author, and peers from 1 to 999.
+fn thousand_accounts(alloc: Global) -> Result<String, Fail> {
+    let mut text = String::from_str(alloc, "author ann t\n")?;
+    for number in 1..1_000 {
+        let line = format!(in alloc; "peer {number} t h:1\n")?;
+        text.push_str(line.as_str())?;
+    }
+    Ok(text)
+}
+
+fn count_peers(alloc: Global, text: &[u8]) -> Result<usize, Fail> {
+    let accounts = Accounts::read(alloc, text)?;
+    Ok(accounts.peers().len())
+}
+
+#[test]
+fn limit_accounts(rt: HostRuntime) -> Result<(), Fail> {
+    let mut text = thousand_accounts(rt.alloc())?;
+    assert_eq!(rt; count_peers(rt.alloc(), text.as_bytes())?, 999);
+    text.push_str("# x\npeer 1000 t h:1")?;
+    assert_eq!(rt; bad_line(rt.alloc(), text.as_bytes()), Some(1_002));
+    Ok(())
+}

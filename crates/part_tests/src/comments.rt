@@ -1,0 +1,62 @@
+//! Comments that are found by their names, and how many a book takes.
+use anchors::CommentBook;
+use pad_model::{Author, Name, OpName, Refusal, Stamp, Text};
+use std::alloc::Global;
+use std::test::Fail;
+
+fn named(origin: u16, number: u64) -> OpName {
+    OpName { origin, number }
+}
+
+/// Enters a comment of ann's under a name that is new, and says whether it was.
+fn add(book: &mut CommentBook, alloc: Global, name: OpName) -> Result<bool, Refusal> {
+    if book.has(name) {
+        return Ok(false);
+    }
+    let at = Stamp::new(1, 1)?;
+    let author = Author {
+        name: Name::from_str(alloc, "ann")?,
+        origin: 1,
+    };
+    let text = Text::from_str(alloc, "why?")?;
+    book.add(alloc, name, at, at, &author, &text, 1)?;
+    Ok(true)
+}
+
+/// Whether a comment is there, and is resolved as wanted.
+fn finds(book: &mut CommentBook, name: OpName, there: bool, want: Result<(), Refusal>) -> bool {
+    book.has(name) == there && book.resolve(name, 5) == want
+}
+
+#[test]
+fn comments_are_found_by_origin_and_number(rt: HostRuntime) -> Result<(), Fail> {
+    let mut book = CommentBook::new(rt.alloc());
+    for (origin, number) in [(2, 1), (1, 10), (1, 9), (3, 9)] {
+        assert!(rt; add(&mut book, rt.alloc(), named(origin, number))?);
+    }
+    for (origin, number, there, want) in [
+        (1, 9, true, Ok(())),
+        (2, 1, true, Ok(())),
+        (1, 1, false, Err(Refusal::NoComment)),
+        (2, 9, false, Err(Refusal::NoComment)),
+    ] {
+        let name = named(origin, number);
+        assert!(rt; finds(&mut book, name, there, want), "{origin}, {number}");
+    }
+    assert!(rt; !add(&mut book, rt.alloc(), named(1, 10))?);
+    assert_eq!(rt; book.len(), 4);
+    Ok(())
+}
+
+#[test]
+fn the_ten_thousandth_comment_is_the_last(rt: HostRuntime) {
+    let mut book = CommentBook::new(rt.alloc());
+    for number in 1..10_001u64 {
+        let added = add(&mut book, rt.alloc(), named(1, number));
+        assert_eq!(rt; added, Ok(true), "{number}");
+    }
+    assert_eq!(rt; book.len(), 10_000);
+    let one_more = add(&mut book, rt.alloc(), named(2, 1));
+    assert_eq!(rt; one_more, Err(Refusal::CommentsFull));
+    assert_eq!(rt; book.len(), 10_000);
+}

@@ -1,0 +1,323 @@
+//! The log of a pad: stretches of it, places, and what a peer lacks, as someone counts them.
+use dice::Dice;
+use pad_model::{Name, Op, OpName, Part, Row, Run, Seen, Span, Stamp, Text};
+use revisions::OpLog;
+use std::alloc::Global;
+use std::test::Fail;
+
+fn op(alloc: Global, origin: u16, number: u64) -> Result<Op, Fail> {
+    Ok(Op {
+        name: OpName { origin, number },
+        seen: Seen::new(alloc),
+        author: Name::from_str(alloc, "ann")?,
+        parts: Row::new(alloc),
+    })
+}
+
+fn add(log: &mut OpLog, op: Op) -> Result<(), Fail> {
+    log.reserve()?;
+    log.push(op);
+    Ok(())
+}
+
+fn log_of(alloc: Global, names: &[(u16, u64)]) -> Result<OpLog, Fail> {
+    let mut log = OpLog::new(alloc);
+    for (origin, number) in names {
+        add(&mut log, op(alloc, *origin, *number)?)?;
+    }
+    Ok(log)
+}
+
+fn are_named(ops: &[Op], names: &[(u16, u64)]) -> bool {
+    let mut pairs = ops.iter().zip(names);
+    ops.len() == names.len()
+        && pairs.all(|(op, name)| op.name.origin == name.0 && op.name.number == name.1)
+}
+
+const NAMES: [(u16, u64); 5] = [(1, 1), (2, 1), (1, 2), (2, 2), (1, 3)];
+
+#[test]
+fn stretches_of_a_log_end_where_it_ends(rt: HostRuntime) -> Result<(), Fail> {
+    let log = log_of(rt.alloc(), &NAMES)?;
+    let cases: [(u64, u64, &[(u16, u64)]); 8] = [
+        (1, u64::MAX, &NAMES),
+        (1, 2, &[(1, 1), (2, 1)]),
+        (4, 2, &[(2, 2), (1, 3)]),
+        (4, 3, &[(2, 2), (1, 3)]),
+        (5, u64::MAX, &[(1, 3)]),
+        (6, 1, &[]),
+        (u64::MAX, u64::MAX, &[]),
+        (2, 0, &[]),
+    ];
+    for (from, count, want) in cases {
+        assert!(rt;
+            are_named(log.entries(from, count), want),
+            "from {from}, {count} of them"
+        );
+    }
+    Ok(())
+}
+
+fn is_same(alloc: Global, found: Option<&Op>, origin: u16, number: u64) -> Result<bool, Fail> {
+    Ok(found == Some(&op(alloc, origin, number)?))
+}
+
+/// The first origin that has another count of operations, if any.
+fn other_count(log: &OpLog, counts: &[(u16, u64)]) -> Option<u16> {
+    for (origin, count) in counts {
+        if log.count(*origin) != *count {
+            return Some(*origin);
+        }
+    }
+    None
+}
+
+/// The origin and number of an operation, and its place, if it is there.
+type Placed = (u16, u64, Option<u64>);
+
+const PLACES: [Placed; 6] = [
+    (1, 1, Some(0)),
+    (2, 2, Some(3)),
+    (1, 3, Some(4)),
+    (2, 3, None),
+    (3, 1, None),
+    (1, 0, None),
+];
+
+/// The first name that is found at another place, if any.
+fn other_place(log: &OpLog, places: &[Placed]) -> Option<OpName> {
+    for (origin, number, place) in places {
+        let name = OpName {
+            origin: *origin,
+            number: *number,
+        };
+        if log.find(name) != *place {
+            return Some(name);
+        }
+    }
+    None
+}
+
+#[test]
+fn operations_by_place_origin_and_name(rt: HostRuntime) -> Result<(), Fail> {
+    let log = log_of(rt.alloc(), &NAMES)?;
+    assert_eq!(rt; log.len(), 5);
+    assert!(rt; is_same(rt.alloc(), log.get(3), 2, 2)?);
+    assert!(rt; log.get(5).is_none());
+    let counts = [(1, 3), (2, 2), (3, 0)];
+    assert_eq!(rt; other_count(&log, &counts), None);
+    assert_eq!(rt; other_place(&log, &PLACES), None);
+    Ok(())
+}
+
+/// The operations of an example: ann types `abcd`, of which she erases `bc`, and bob types an `X` behind the `b`.
+#[derive(Clone, Copy, Debug)]
+enum Example {
+    Typed,
+    Erased,
+    Answered,
+}
+
+fn typed(alloc: Global, after: Option<Stamp>, first: Stamp, text: &str) -> Result<Part, Fail> {
+    Ok(Part::Insert(Run {
+        first,
+        after,
+        text: Text::from_str(alloc, text)?,
+    }))
+}
+
+fn erased(alloc: Global, first: Stamp, len: u64) -> Result<Part, Fail> {
+    let mut spans = Row::new(alloc);
+    spans.push(Span { first, len })?;
+    Ok(Part::Delete(spans))
+}
+
+fn part_of(alloc: Global, example: Example) -> Result<Part, Fail> {
+    let behind_b = Stamp::new(2, 1)?;
+    match example {
+        Example::Typed => typed(alloc, None, Stamp::new(1, 1)?, "abcd"),
+        Example::Erased => erased(alloc, behind_b, 2),
+        Example::Answered => typed(alloc, Some(behind_b), Stamp::new(5, 2)?, "X"),
+    }
+}
+
+/// Its name, its author, and how many operations of ann's were seen.
+fn head_of(example: Example) -> (OpName, &'static str, u64) {
+    let (origin, number, author, seen) = match example {
+        Example::Typed => (1, 1, "ann", 0),
+        Example::Erased => (1, 2, "ann", 0),
+        Example::Answered => (2, 1, "bob", 1),
+    };
+    (OpName { origin, number }, author, seen)
+}
+
+fn seen_of_ann(alloc: Global, count: u64) -> Result<Seen, Fail> {
+    let mut seen = Seen::new(alloc);
+    seen.set(1, count)?;
+    Ok(seen)
+}
+
+fn op_of(alloc: Global, example: Example) -> Result<Op, Fail> {
+    let (name, author, count) = head_of(example);
+    let mut parts = Row::new(alloc);
+    parts.push(part_of(alloc, example)?)?;
+    Ok(Op {
+        name,
+        seen: seen_of_ann(alloc, count)?,
+        author: Name::from_str(alloc, author)?,
+        parts,
+    })
+}
+
+fn log_of_examples(alloc: Global) -> Result<OpLog, Fail> {
+    let mut log = OpLog::new(alloc);
+    for example in [Example::Typed, Example::Erased, Example::Answered] {
+        add(&mut log, op_of(alloc, example)?)?;
+    }
+    Ok(log)
+}
+
+/// The first four that are lacking where one of ann's was seen.
+fn pull_of_examples(alloc: Global) -> Result<Row<Op>, Fail> {
+    let log = log_of_examples(alloc)?;
+    let seen = seen_of_ann(alloc, 1)?;
+    Ok(log.missing(alloc, &seen, 4)?)
+}
+
+fn is_example(alloc: Global, found: Option<&Op>, example: Example) -> Result<bool, Fail> {
+    Ok(found == Some(&op_of(alloc, example)?))
+}
+
+#[test]
+fn a_peer_pulls_what_it_lacks(rt: HostRuntime) -> Result<(), Fail> {
+    let pull = pull_of_examples(rt.alloc())?;
+    assert_eq!(rt; pull.len(), 2);
+    for (place, example) in [(0, Example::Erased), (1, Example::Answered)] {
+        assert!(rt;
+            is_example(rt.alloc(), pull.get(place), example)?,
+            "{example:?}"
+        );
+    }
+    Ok(())
+}
+
+type Names = Vec<(u16, u64)>;
+
+/// Up to twelve names of three origins; some come twice, and numbers may fall.
+fn some_names(alloc: Global, dice: &mut Dice) -> Result<Names, Fail> {
+    let mut names = Vec::new(alloc);
+    for _ in 0..dice.roll(13) {
+        let origin = match dice.roll(3) {
+            0 => 7,
+            1 => 2,
+            _ => 300,
+        };
+        names.push((origin, dice.roll(6)))?;
+    }
+    Ok(names)
+}
+
+/// What was seen of the origins 7, 2 and 300.
+type Counts = (u64, u64, u64);
+
+fn count_of(counts: Counts, origin: u16) -> u64 {
+    match origin {
+        7 => counts.0,
+        2 => counts.1,
+        _ => counts.2,
+    }
+}
+
+fn seen_of(alloc: Global, counts: Counts) -> Result<Seen, Fail> {
+    let mut seen = Seen::new(alloc);
+    for (origin, count) in [(7, counts.0), (2, counts.1), (300, counts.2)] {
+        seen.set(origin, count)?;
+    }
+    Ok(seen)
+}
+
+fn lacking(alloc: Global, names: &[(u16, u64)], counts: Counts) -> Result<Names, Fail> {
+    let mut lacking = Vec::new(alloc);
+    for (origin, number) in names {
+        if *number > count_of(counts, *origin) {
+            lacking.push((*origin, *number))?;
+        }
+    }
+    Ok(lacking)
+}
+
+fn pulls(
+    alloc: Global,
+    log: &OpLog,
+    counts: Counts,
+    max: u64,
+    want: &[(u16, u64)],
+) -> Result<bool, Fail> {
+    let seen = seen_of(alloc, counts)?;
+    let answer = log.missing(alloc, &seen, max)?;
+    Ok(are_named(answer.as_slice(), want))
+}
+
+/// The first of some lengths in which a pull is another than the plain filter, if any.
+fn fault_of(
+    alloc: Global,
+    names: &[(u16, u64)],
+    counts: Counts,
+    lacking: &[(u16, u64)],
+) -> Result<Option<u64>, Fail> {
+    let log = log_of(alloc, names)?;
+    for max in [0, 1, 4, u64::MAX] {
+        let want = &lacking[..lacking.len().min(max as usize)];
+        if !pulls(alloc, &log, counts, max, want)? {
+            return Ok(Some(max));
+        }
+    }
+    Ok(None)
+}
+
+/// In how many logs some are lacking, some covered, some left over by a pull of four, and some numbers fall.
+#[derive(Clone, Copy)]
+struct Cases([u64; 4]);
+
+impl Cases {
+    fn note(&mut self, names: &[(u16, u64)], lacking: &[(u16, u64)]) {
+        let mut pairs = names.iter().zip(names.iter().skip(1));
+        let came = [
+            !lacking.is_empty(),
+            lacking.len() < names.len(),
+            lacking.len() > 4,
+            pairs.any(|(a, b)| a.0 == b.0 && a.1 > b.1),
+        ];
+        for (count, came) in self.0.iter_mut().zip(came) {
+            *count = count.saturating_add(u64::from(came));
+        }
+    }
+}
+
+/// Pulls from one log, and tells the length in which the pull is another than the plain filter, if any.
+fn pull(
+    alloc: Global,
+    names: &[(u16, u64)],
+    counts: Counts,
+    cases: &mut Cases,
+) -> Result<Option<u64>, Fail> {
+    let lacking = lacking(alloc, names, counts)?;
+    cases.note(names, lacking.as_slice());
+    fault_of(alloc, names, counts, lacking.as_slice())
+}
+
+#[test]
+fn a_pull_is_a_filter_of_the_log(rt: HostRuntime) -> Result<(), Fail> {
+    let mut dice = Dice::new(1);
+    let mut cases = Cases([0; 4]);
+    for _ in 0..1_000 {
+        let names = some_names(rt.alloc(), &mut dice)?;
+        let counts = (dice.roll(7), dice.roll(7), dice.roll(7));
+        let fault = pull(rt.alloc(), names.as_slice(), counts, &mut cases)?;
+        assert_eq!(rt; fault, None, "{names:?} with {counts:?}");
+    }
+    for count in cases.0 {
+        assert!(rt; count >= 100, "{count} logs");
+    }
+    Ok(())
+}

@@ -1,0 +1,180 @@
+//! Three hundred seeded changes, compared after each with a plain list of authors.
+use crate::author_runs::{is_author, is_by, put, take};
+use authorship::RunList;
+use dice::Dice;
+use pad_model::{AuthorRun, Refusal};
+use std::alloc::{AllocError, Global};
+use std::test::Fail;
+
+const NAMES: [&str; 3] = ["ann", "bob", "cyd"];
+
+/// The place of each character's author among the names, one by one.
+#[derive(Drop)]
+struct Plain {
+    places: Vec<usize>,
+}
+
+impl Plain {
+    fn put(&mut self, pos: usize, place: usize, n: u64) -> Result<(), AllocError> {
+        for _ in 0..n {
+            if pos <= self.places.len() {
+                self.places.insert(pos, place)?;
+            }
+        }
+        Ok(())
+    }
+
+    fn take(&mut self, pos: usize, n: u64) {
+        for _ in 0..n {
+            if pos < self.places.len() {
+                self.places.remove(pos);
+            }
+        }
+    }
+
+    /// The name of a character's author.
+    fn name_at(&self, pos: usize) -> Option<&'static str> {
+        let place = self.places.get(pos)?;
+        NAMES.get(*place).copied()
+    }
+
+    /// Whether the characters from a place on are the run's.
+    fn has_run(&self, pos: usize, run: &AuthorRun) -> bool {
+        for ahead in 0..run.len {
+            match self.name_at(pos.saturating_add(ahead as usize)) {
+                Some(name) if is_author(&run.author, name) => {}
+                _ => return false,
+            }
+        }
+        true
+    }
+
+    /// At how many places another author begins.
+    fn count_starts(&self) -> usize {
+        let mut starts = 0usize;
+        let mut last = None;
+        for place in &self.places {
+            if last != Some(*place) {
+                starts = starts.saturating_add(1);
+            }
+            last = Some(*place);
+        }
+        starts
+    }
+
+    /// Whether the authors on both sides of a stretch are one, and another's characters are all that it has.
+    fn joins(&self, pos: usize, n: usize) -> bool {
+        if pos == 0 || n == 0 {
+            return false;
+        }
+        let before = self.places.get(pos - 1);
+        before == self.places.get(pos.saturating_add(n)) && before != self.places.get(pos)
+    }
+}
+
+/// Whether the runs are those of the plain list: they have its authors, and are as few as they can be.
+fn are_runs_of(rows: &[AuthorRun], plain: &Plain) -> bool {
+    let mut pos = 0usize;
+    for row in rows {
+        if !plain.has_run(pos, row) {
+            return false;
+        }
+        pos = pos.saturating_add(row.len as usize);
+    }
+    pos == plain.places.len() && rows.len() == plain.count_starts()
+}
+
+/// Whether each character has the plain list's author.
+fn are_authors_of(list: &RunList, plain: &Plain) -> bool {
+    for pos in 0..plain.places.len() {
+        match plain.name_at(pos) {
+            Some(name) if is_by(list, pos as u64, name) => {}
+            _ => return false,
+        }
+    }
+    list.len() == plain.places.len() as u64
+}
+
+/// How many changes of each kind there were.
+#[derive(Clone, Copy)]
+struct Cases {
+    inserts: u64,
+    deletes: u64,
+    joins: u64,
+}
+
+/// A list of runs with the plain list beside it.
+#[derive(Drop)]
+struct Pair {
+    list: RunList,
+    plain: Plain,
+    cases: Cases,
+}
+
+impl Pair {
+    fn new(alloc: Global) -> Pair {
+        Pair {
+            list: RunList::new(alloc),
+            plain: Plain {
+                places: Vec::new(alloc),
+            },
+            cases: Cases {
+                inserts: 0,
+                deletes: 0,
+                joins: 0,
+            },
+        }
+    }
+
+    fn put(&mut self, alloc: Global, pos: u64, place: usize, n: u64) -> Result<bool, Refusal> {
+        let Some(name) = NAMES.get(place) else {
+            return Ok(false);
+        };
+        let made = put(&mut self.list, alloc, pos, name, n)?;
+        self.plain.put(pos as usize, place, n)?;
+        self.cases.inserts = self.cases.inserts.saturating_add(1);
+        Ok(made)
+    }
+
+    fn take(&mut self, pos: u64, n: u64) -> bool {
+        let joins = self.plain.joins(pos as usize, n as usize);
+        self.cases.joins = self.cases.joins.saturating_add(u64::from(joins));
+        self.cases.deletes = self.cases.deletes.saturating_add(1);
+        self.plain.take(pos as usize, n);
+        take(&mut self.list, pos, n)
+    }
+
+    /// Makes one change on both: two of five are deletions, of a stretch that is there.
+    fn change(&mut self, alloc: Global, dice: &mut Dice) -> Result<bool, Refusal> {
+        let len = self.plain.places.len() as u64;
+        let pos = dice.roll(len.saturating_add(1));
+        if dice.roll(5) < 2 {
+            let n = dice.roll(5).min(len.saturating_sub(pos));
+            return Ok(self.take(pos, n));
+        }
+        let place = dice.roll(3) as usize;
+        self.put(alloc, pos, place, dice.roll(5))
+    }
+
+    fn is_same(&self, alloc: Global) -> Result<bool, Refusal> {
+        let rows = self.list.runs(alloc)?;
+        Ok(are_runs_of(rows.as_slice(), &self.plain) && are_authors_of(&self.list, &self.plain))
+    }
+}
+
+#[test]
+fn three_authors_write_and_erase(rt: HostRuntime) -> Result<(), Fail> {
+    let mut dice = Dice::new(27);
+    let mut pair = Pair::new(rt.alloc());
+    for step in 0..300u64 {
+        assert!(rt; pair.change(rt.alloc(), &mut dice)?, "change {step}");
+        assert!(rt; pair.is_same(rt.alloc())?, "after change {step}");
+    }
+    let cases = pair.cases;
+    let shares = (cases.inserts, cases.deletes, cases.joins);
+    assert!(rt; cases.inserts >= 150, "{shares:?}");
+    assert!(rt; cases.deletes >= 90, "{shares:?}");
+    assert!(rt; cases.joins >= 10, "{shares:?}");
+    assert!(rt; pair.list.len() >= 50, "{}", pair.list.len());
+    Ok(())
+}

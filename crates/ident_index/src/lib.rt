@@ -7,11 +7,7 @@
 
 mod index;
 mod label;
-#[cfg(test)]
-mod long_run;
 mod place;
-#[cfg(test)]
-mod tests;
 
 pub use index::IdentIndex;
 pub use label::{between, spaced};

@@ -90,21 +90,3 @@ impl<T> Row<T> {
         Ok(())
     }
 }
-
-#[cfg(test)]
-mod tests {
-    use super::*;
-    use std::test::Fail;
-
-    #[test]
-    fn gives_its_items(rt: HostRuntime) -> Result<(), Fail> {
-        let mut row: Row<u16> = Row::new(rt.alloc());
-        assert_eq!(rt; row.is_empty(), true);
-        row.push(7)?;
-        row.push(9)?;
-        assert_eq!(rt; row.get(1), Some(&9));
-        assert_eq!(rt; row.get(2), None);
-        assert_eq!(rt; row.clone()?, row);
-        Ok(())
-    }
-}

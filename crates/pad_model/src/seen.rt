@@ -126,37 +126,3 @@ fn place_of(pairs: &[Counted], origin: u16) -> Result<usize, usize>
 {
     pairs.binary_search_by_key(&origin, |pair| pair.origin)
 }
-
-#[cfg(test)]
-mod tests {
-    use super::*;
-    use std::test::Fail;
-
-    #[test]
-    fn counts_by_origin(rt: HostRuntime) -> Result<(), Fail> {
-        let mut seen = Seen::new(rt.alloc());
-        seen.set(7, 3)?;
-        seen.advance(2)?;
-        seen.advance(7)?;
-        seen.set(5, 1)?;
-        seen.set(5, 0)?;
-        let pairs = [
-            Counted {
-                origin: 2,
-                count: 1,
-            },
-            Counted {
-                origin: 7,
-                count: 4,
-            },
-        ];
-        assert_eq!(rt; seen.pairs(), pairs.as_slice());
-        assert_eq!(rt; seen.count(5), 0);
-        let covered = [(7, 4, true), (7, 5, false), (5, 1, false), (5, 0, true)];
-        for (origin, number, covers) in covered {
-            assert_eq!(rt; seen.covers(OpName { origin, number }), covers);
-        }
-        assert_eq!(rt; seen.clone()?, seen);
-        Ok(())
-    }
-}

@@ -95,18 +95,3 @@ impl Text {
         Ok(())
     }
 }
-
-#[cfg(test)]
-mod tests {
-    use super::*;
-    use std::test::Fail;
-
-    #[test]
-    fn writes_what_it_read(rt: HostRuntime) -> Result<(), Fail> {
-        let mut text = Text::from_str(rt.alloc(), "añ")?;
-        text.push('☺')?;
-        assert_eq!(rt; (text.len(), text.is_empty()), (3, false));
-        assert_eq!(rt; text.to_string(rt.alloc())?.as_str(), "añ☺");
-        Ok(())
-    }
-}

@@ -5,7 +5,7 @@ ghost use Rattle.pad_model.specs.Cell.{Cell};
 
 use crate::site::Sketch::{Erased, Typed};
 use crate::site::{Named, Site, stamp_of};
-use anchors::CommentBook;
+use anchors::{CommentBook, Shown};
 use pad_model::{Author, Name, OpName, Refusal, Sequence, Stamp, Text};
 use std::alloc::Global;
 use std::test::Fail;
@@ -55,17 +55,21 @@ fn book_of(alloc: Global, draft: Draft) -> Result<CommentBook, Refusal>
 /// Place, length and resolution of a comment, as a list of comments shows it.
 type Seen = (u64, u64, bool);
 
+fn seen_of(alloc: Global, comments: &[Shown]) -> Result<Vec<Seen>, Refusal> {
+    let mut rows = Vec::new(alloc);
+    for row in comments {
+        rows.push((row.at, row.len, row.resolved))?;
+    }
+    Ok(rows)
+}
+
 fn listed(alloc: Global, site: &Site, draft: Draft, rev: u64) -> Result<Vec<Seen>, Refusal> {
     let seq = site.sequence();
     if !seq.has(draft.first) || !seq.has(draft.last) {
         return Err(Refusal::PeerFault);
     }
     let book = book_of(alloc, draft)?;
-    let mut rows = Vec::new(alloc);
-    for row in book.list_at(alloc, seq, rev)?.as_slice() {
-        rows.push((row.at, row.len, row.resolved))?;
-    }
-    Ok(rows)
+    seen_of(alloc, book.list_at(alloc, seq, rev)?.as_slice())
 }
 
 /// The same by the range of its name alone.

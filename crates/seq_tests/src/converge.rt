@@ -2,29 +2,16 @@
 //!
 //! Whoever types in a round does so with the same counter, so that each round has ties.
 use crate::site::{Site, stamp_of};
+use dice::Dice;
 use pad_model::{Name, Op, OpName, Part, Refusal, Row, Run, Seen, Sequence, Text};
 use std::alloc::Global;
+use std::process::Abort;
 use std::test::Fail;
 
 const ROUNDS: u64 = 100;
 
 /// In which order each replica takes the operations of a round, its own first.
 const ORDERS: [[usize; 3]; 3] = [[0, 1, 2], [1, 2, 0], [2, 1, 0]];
-
-/// Numbers that look random and are the same in every run (Knuth's linear congruential generator).
-#[derive(Drop)]
-struct Dice(u64);
-
-impl Dice {
-    /// A number below `sides`; 0, where there is none.
-    fn roll(&mut self, sides: u64) -> u64 {
-        self.0 = self
-            .0
-            .wrapping_mul(6_364_136_223_846_793_005)
-            .wrapping_add(1_442_695_040_888_963_407);
-        (self.0 >> 33).checked_rem(sides).unwrap_or(0)
-    }
-}
 
 /// Types one to three letters at a place of the text.
 fn typed(alloc: Global, site: &Site, replica: u16, dice: &mut Dice) -> Result<Part, Refusal> {
@@ -85,8 +72,14 @@ struct Shares {
 }
 
 impl Shares {
-    fn count(&mut self, op: &Op) {
-        for part in op.parts.as_slice() {
+    fn count(&mut self, ops: &[Op]) {
+        for op in ops {
+            self.count_parts(op.parts.as_slice());
+        }
+    }
+
+    fn count_parts(&mut self, parts: &[Part]) {
+        for part in parts {
             match part {
                 Part::Insert(_) => self.typed = self.typed.saturating_add(1),
                 _ => self.erased = self.erased.saturating_add(1),
@@ -123,6 +116,44 @@ fn count_dead(site: &Site) -> u64 {
     cells.saturating_sub(site.sequence().len_at(site.rev()))
 }
 
+/// An operation of each replica.
+fn all_made(
+    alloc: Global,
+    sites: &[Site],
+    number: u64,
+    dice: &mut Dice,
+) -> Result<Vec<Op>, Refusal> {
+    let mut ops = Vec::new(alloc);
+    let mut origin: u16 = 1;
+    for site in sites {
+        ops.push(made(alloc, site, OpName { origin, number }, dice)?)?;
+        origin = origin.saturating_add(1);
+    }
+    Ok(ops)
+}
+
+fn take(alloc: Global, site: &mut Site, ops: &[Op], place: usize, shares: &mut Shares) {
+    if let Some(op) = ops.get(place) {
+        shares.answer(site.deliver(alloc, op));
+    }
+}
+
+/// A replica takes the operations in an order, and the first of them once more.
+fn take_all(alloc: Global, site: &mut Site, ops: &[Op], order: [usize; 3], shares: &mut Shares) {
+    let [first, second, third] = order;
+    for place in [first, second, third, first] {
+        take(alloc, site, ops, place, shares);
+    }
+}
+
+fn exchange(alloc: Global, sites: &mut [Site], ops: &[Op], shares: &mut Shares) {
+    for (place, order) in ORDERS.iter().enumerate() {
+        if let Some(site) = sites.get_mut(place) {
+            take_all(alloc, site, ops, *order, shares);
+        }
+    }
+}
+
 /// Each replica makes an operation, and takes those of all three in its own order, and its own once more.
 fn round(
     alloc: Global,
@@ -131,46 +162,54 @@ fn round(
     dice: &mut Dice,
     shares: &mut Shares,
 ) -> Result<(), Refusal> {
-    let mut ops = Vec::new(alloc);
-    for (site, origin) in sites.iter().zip(1..=3) {
-        let op = made(alloc, site, OpName { origin, number }, dice)?;
-        shares.count(&op);
-        ops.push(op)?;
-    }
-    for (site, order) in sites.iter_mut().zip(ORDERS) {
-        for place in order {
-            take(alloc, site, &ops, place, shares);
-        }
-        take(alloc, site, &ops, order[0], shares);
-    }
+    let ops = all_made(alloc, sites, number, dice)?;
+    shares.count(&ops);
+    exchange(alloc, sites, &ops, shares);
     Ok(())
 }
 
-fn take(alloc: Global, site: &mut Site, ops: &Vec<Op>, place: usize, shares: &mut Shares) {
-    if let Some(op) = ops.get(place) {
-        shares.answer(site.deliver(alloc, op));
+fn three_sites(alloc: Global) -> Result<Vec<Site>, Refusal> {
+    let mut sites = Vec::new(alloc);
+    for _ in 0..3 {
+        sites.push(Site::new(alloc)?)?;
+    }
+    Ok(sites)
+}
+
+fn play(alloc: Global, sites: &mut [Site]) -> Result<Shares, Refusal> {
+    let mut dice = Dice::new(7);
+    let mut shares = Shares::default();
+    for number in 1..=ROUNDS {
+        round(alloc, sites, number, &mut dice, &mut shares)?;
+    }
+    Ok(shares)
+}
+
+/// Two replicas keep the same characters.
+fn keep_the_same(rt: &impl Abort, one: &Site, other: &Site) {
+    let cells = one.sequence().cell_count();
+    assert_eq!(rt; other.sequence().cell_count(), cells);
+    for place in 0..cells {
+        assert!(rt; agree(one, other, place), "at {place}");
+    }
+}
+
+/// All replicas do, and as many characters are erased in each.
+fn all_agree(rt: &impl Abort, sites: &[Site], erased: u64) {
+    assert_eq!(rt; sites.len(), 3);
+    for site in sites {
+        keep_the_same(rt, &sites[0], site);
+        assert_eq!(rt; count_dead(site), erased);
     }
 }
 
 #[test]
 fn replicas_agree_in_every_order(rt: HostRuntime) -> Result<(), Fail> {
-    let alloc = rt.alloc();
-    let mut sites = [Site::new(alloc)?, Site::new(alloc)?, Site::new(alloc)?];
-    let mut dice = Dice(7);
-    let mut shares = Shares::default();
-    for number in 1..=ROUNDS {
-        round(alloc, sites.as_mut_slice(), number, &mut dice, &mut shares)?;
-    }
-    let [first, second, third] = &sites;
-    let cells = first.sequence().cell_count();
-    for site in [second, third] {
-        assert_eq!(rt; site.sequence().cell_count(), cells);
-        for place in 0..cells {
-            assert!(rt; agree(first, site, place), "at {place}");
-        }
-    }
+    let mut sites = three_sites(rt.alloc())?;
+    let shares = play(rt.alloc(), &mut sites)?;
     assert!(rt; shares.typed >= 150 && shares.erased >= 120, "{shares:?}");
     assert_eq!(rt; shares.refused, shares.typed);
-    assert_eq!(rt; shares.hidden, count_dead(first).saturating_mul(3));
+    assert_eq!(rt; shares.hidden % 3, 0);
+    all_agree(&rt, &sites, shares.hidden / 3);
     Ok(())
 }

@@ -1,4 +1,4 @@
-//! Tests of sequences, stamps, names and comment books that need several crates.
+//! Tests of sequences, comment books, operations, stamps, names and the forms that hold them.
 #![tactic(auto)]
 
 #[cfg(test)]
@@ -7,6 +7,14 @@ mod comments;
 mod converge;
 #[cfg(test)]
 mod names;
+#[cfg(test)]
+mod old_wire;
+#[cfg(test)]
+mod operations;
+#[cfg(test)]
+mod readers;
+#[cfg(test)]
+mod rows;
 #[cfg(test)]
 mod sequences;
 #[cfg(test)]

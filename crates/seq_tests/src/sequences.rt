@@ -1,21 +1,39 @@
 //! Operations in the plain sequence: where runs go, what deletions hide, what several parts do together.
 use crate::site::Sketch::{Erased, Typed};
-use crate::site::{Named, Site, Sketch, stamp_of};
-use pad_model::{Refusal, Sequence};
+use crate::site::{Named, Site, Sketch};
+use pad_model::{Refusal, Sequence, Stamp};
 use std::alloc::Global;
 use std::test::Fail;
 
-const HELLO: Sketch = Typed((1, 1), None, "hello");
+pub const HELLO: Sketch = Typed((1, 1), None, "hello");
 
 const ABCD: Sketch = Typed((1, 1), None, "abcd");
 
-/// What a site shows that took these operations, each of one part, by replica 1 or 2.
-fn text_of(alloc: Global, parts: &[(u16, Sketch)]) -> Result<String, Refusal> {
-    let mut site = Site::new(alloc)?;
-    for (origin, part) in parts {
+/// Operations of one part each, by replica 1 or 2.
+pub type Taken<'a> = &'a [(u16, Sketch)];
+
+fn take_all(alloc: Global, site: &mut Site, taken: Taken<'_>) -> Result<(), Refusal> {
+    for (origin, part) in taken {
         site.take(alloc, *origin, &[*part])?;
     }
+    Ok(())
+}
+
+/// A site that took these operations.
+pub fn site_of(alloc: Global, taken: Taken<'_>) -> Result<Site, Refusal> {
+    let mut site = Site::new(alloc)?;
+    take_all(alloc, &mut site, taken)?;
+    Ok(site)
+}
+
+/// What such a site shows.
+fn text_of(alloc: Global, taken: Taken<'_>) -> Result<String, Refusal> {
+    let site = site_of(alloc, taken)?;
     site.text(alloc, site.rev())
+}
+
+pub fn named(stamp: Stamp) -> Named {
+    (stamp.counter(), stamp.replica())
 }
 
 /// The counters and replicas of all characters, in their order.
@@ -23,10 +41,14 @@ fn stamps_of(alloc: Global, site: &Site) -> Result<Vec<Named>, Refusal> {
     let mut stamps = Vec::new(alloc);
     for place in 0..site.sequence().cell_count() {
         if let Some(cell) = site.sequence().cell_at(place) {
-            stamps.push((cell.stamp.counter(), cell.stamp.replica()))?;
+            stamps.push(named(cell.stamp))?;
         }
     }
     Ok(stamps)
+}
+
+fn stamps_after(alloc: Global, taken: Taken<'_>) -> Result<Vec<Named>, Refusal> {
+    stamps_of(alloc, &site_of(alloc, taken)?)
 }
 
 #[test]
@@ -49,15 +71,40 @@ fn newer_siblings_come_first(rt: HostRuntime) -> Result<(), Fail> {
 
 #[test]
 fn a_run_between_the_characters_of_another(rt: HostRuntime) -> Result<(), Fail> {
-    let mut site = Site::new(rt.alloc())?;
-    site.take(rt.alloc(), 1, &[HELLO])?;
-    site.take(rt.alloc(), 2, &[Typed((3, 2), Some((2, 1)), "QR")])?;
-    assert_eq!(rt; site.text(rt.alloc(), 2)?.as_str(), "heQRllo");
+    let taken = [(1, HELLO), (2, Typed((3, 2), Some((2, 1)), "QR"))];
+    assert_eq!(rt; text_of(rt.alloc(), &taken)?.as_str(), "heQRllo");
     assert_eq!(rt;
-        stamps_of(rt.alloc(), &site)?.as_slice(),
+        stamps_after(rt.alloc(), &taken)?.as_slice(),
         [(1, 1), (2, 1), (3, 2), (4, 2), (3, 1), (4, 1), (5, 1)].as_slice()
     );
     Ok(())
+}
+
+/// What a site of `hello` answers to an operation, and its revision and its characters then, the erased ones too.
+#[derive(Clone, Copy)]
+struct After {
+    answer: Result<u64, Refusal>,
+    rev: u64,
+    cells: u64,
+}
+
+fn after_hello(alloc: Global, origin: u16, parts: &[Sketch]) -> Result<After, Refusal> {
+    let mut site = site_of(alloc, &[(1, HELLO)])?;
+    let answer = site.take(alloc, origin, parts);
+    let (rev, cells) = (site.rev(), site.sequence().cell_count());
+    Ok(After { answer, rev, cells })
+}
+
+/// What such a site shows of a revision, whatever it answered.
+fn text_after_hello(
+    alloc: Global,
+    origin: u16,
+    parts: &[Sketch],
+    rev: u64,
+) -> Result<String, Refusal> {
+    let mut site = site_of(alloc, &[(1, HELLO)])?;
+    let _answer = site.take(alloc, origin, parts);
+    site.text(alloc, rev)
 }
 
 #[test]
@@ -108,12 +155,14 @@ fn what_does_not_fit_is_refused(rt: HostRuntime) -> Result<(), Fail> {
         ),
     ];
     for (origin, parts, why) in cases {
-        let mut site = Site::new(rt.alloc())?;
-        site.take(rt.alloc(), 1, &[HELLO])?;
-        let refused = site.take(rt.alloc(), origin, parts).err();
-        assert_eq!(rt; refused, Some(Refusal::PeerFault), "{why}");
-        assert_eq!(rt; site.text(rt.alloc(), u64::MAX)?.as_str(), "hello", "{why}");
-        assert_eq!(rt; site.sequence().cell_count(), 5, "{why}");
+        let after = after_hello(rt.alloc(), origin, parts)?;
+        assert_eq!(rt;
+            (after.answer, after.cells),
+            (Err(Refusal::PeerFault), 5),
+            "{why}"
+        );
+        let text = text_after_hello(rt.alloc(), origin, parts, u64::MAX)?;
+        assert_eq!(rt; text.as_str(), "hello", "{why}");
     }
     Ok(())
 }
@@ -132,161 +181,115 @@ fn several_parts_are_one_revision(rt: HostRuntime) -> Result<(), Fail> {
         (2, &remote, 1, "elloey"),
     ];
     for (origin, parts, hidden, text) in cases {
-        let mut site = Site::new(rt.alloc())?;
-        site.take(rt.alloc(), 1, &[HELLO])?;
-        assert_eq!(rt; site.take(rt.alloc(), origin, parts)?, hidden);
-        assert_eq!(rt; site.rev(), 2);
-        assert_eq!(rt; site.text(rt.alloc(), 2)?.as_str(), text);
-        assert_eq!(rt; site.text(rt.alloc(), 1)?.as_str(), "hello");
+        let after = after_hello(rt.alloc(), origin, parts)?;
+        assert_eq!(rt; (after.answer, after.rev), (Ok(hidden), 2));
+        for (rev, text) in [(2, text), (1, "hello")] {
+            assert_eq!(rt;
+                text_after_hello(rt.alloc(), origin, parts, rev)?.as_str(),
+                text
+            );
+        }
     }
     Ok(())
+}
+
+/// How many characters each of the operations hides.
+fn hidden_by(alloc: Global, taken: Taken<'_>) -> Result<Vec<u64>, Refusal> {
+    let mut site = Site::new(alloc)?;
+    hidden_in(alloc, &mut site, taken)
+}
+
+fn hidden_in(alloc: Global, site: &mut Site, taken: Taken<'_>) -> Result<Vec<u64>, Refusal> {
+    let mut hidden = Vec::new(alloc);
+    for (origin, part) in taken {
+        hidden.push(site.take(alloc, *origin, &[*part])?)?;
+    }
+    Ok(hidden)
+}
+
+/// What a revision shows.
+fn text_at(alloc: Global, taken: Taken<'_>, rev: u64) -> Result<String, Refusal> {
+    let site = site_of(alloc, taken)?;
+    site.text(alloc, rev)
+}
+
+fn length_at(alloc: Global, taken: Taken<'_>, rev: u64) -> Result<u64, Refusal> {
+    let site = site_of(alloc, taken)?;
+    Ok(site.sequence().len_at(rev))
 }
 
 #[test]
 fn delete_and_insert_concurrently(rt: HostRuntime) -> Result<(), Fail> {
-    let erased = (1, Erased(&[((2, 1), 2)]), 2);
-    let typed = (2, Typed((5, 2), Some((2, 1)), "X"), 0);
-    for (order, between) in [([erased, typed], "ad"), ([typed, erased], "abXcd")] {
-        let mut site = Site::new(rt.alloc())?;
-        site.take(rt.alloc(), 1, &[ABCD])?;
-        for (origin, part, hidden) in order {
-            assert_eq!(rt; site.take(rt.alloc(), origin, &[part])?, hidden);
+    let erased = (1, Erased(&[((2, 1), 2)]));
+    let typed = (2, Typed((5, 2), Some((2, 1)), "X"));
+    let first = (2, Erased(&[((1, 1), 1)]));
+    let cases = [
+        (
+            [(1, ABCD), erased, typed, first, first],
+            [0, 2, 0, 1, 0],
+            "ad",
+        ),
+        (
+            [(1, ABCD), typed, erased, first, first],
+            [0, 0, 2, 1, 0],
+            "abXcd",
+        ),
+    ];
+    for (taken, hidden, between) in cases {
+        assert_eq!(rt;
+            hidden_by(rt.alloc(), &taken)?.as_slice(),
+            hidden.as_slice()
+        );
+        for (count, rev, text) in [
+            (3, 0, ""),
+            (3, 1, "abcd"),
+            (3, 2, between),
+            (3, 3, "aXd"),
+            (4, 4, "Xd"),
+            (5, 5, "Xd"),
+            (5, 3, "aXd"),
+        ] {
+            assert_eq!(rt; text_at(rt.alloc(), &taken[..count], rev)?.as_str(), text);
         }
-        for (rev, text) in [(0, ""), (1, "abcd"), (2, between), (3, "aXd")] {
-            assert_eq!(rt; site.text(rt.alloc(), rev)?.as_str(), text);
-        }
-        for (hidden, text) in [(1, "Xd"), (0, "Xd")] {
-            assert_eq!(rt;
-                site.take(rt.alloc(), 2, &[Erased(&[((1, 1), 1)])])?,
-                hidden
-            );
-            assert_eq!(rt; site.text(rt.alloc(), site.rev())?.as_str(), text);
-        }
-        assert_eq!(rt; site.text(rt.alloc(), 3)?.as_str(), "aXd");
-        assert_eq!(rt; site.sequence().len_at(4), 2);
+        assert_eq!(rt; length_at(rt.alloc(), &taken, 4)?, 2);
     }
     Ok(())
+}
+
+/// When each character was erased, if it was.
+fn deaths_of(alloc: Global, site: &Site) -> Result<Vec<Option<u64>>, Refusal> {
+    let mut deaths = Vec::new(alloc);
+    for place in 0..site.sequence().cell_count() {
+        if let Some(cell) = site.sequence().cell_at(place) {
+            deaths.push(cell.died)?;
+        }
+    }
+    Ok(deaths)
+}
+
+fn deaths_after(alloc: Global, taken: Taken<'_>) -> Result<Vec<Option<u64>>, Refusal> {
+    deaths_of(alloc, &site_of(alloc, taken)?)
 }
 
 #[test]
 fn a_deletion_may_name_what_is_dead(rt: HostRuntime) -> Result<(), Fail> {
-    let mut site = Site::new(rt.alloc())?;
-    site.take(rt.alloc(), 1, &[HELLO])?;
-    let spans: [(&'static [(Named, u64)], u64, &str); 3] = [
-        (&[((2, 1), 2)], 2, "hlo"),
-        (&[((1, 1), 4), ((4, 1), 1)], 2, "o"),
-        (&[((1, 1), 4)], 0, "o"),
+    let taken = [
+        (1, HELLO),
+        (2, Erased(&[((2, 1), 2)])),
+        (2, Erased(&[((1, 1), 4), ((4, 1), 1)])),
+        (2, Erased(&[((1, 1), 4)])),
     ];
-    for (named, hidden, text) in spans {
-        assert_eq!(rt; site.take(rt.alloc(), 2, &[Erased(named)])?, hidden);
-        assert_eq!(rt; site.text(rt.alloc(), site.rev())?.as_str(), text);
+    assert_eq!(rt;
+        hidden_by(rt.alloc(), &taken)?.as_slice(),
+        [0, 2, 2, 0].as_slice()
+    );
+    for (count, text) in [(2, "hlo"), (3, "o"), (4, "o")] {
+        assert_eq!(rt; text_of(rt.alloc(), &taken[..count])?.as_str(), text);
     }
     let deaths = [Some(3), Some(2), Some(2), Some(3), None];
-    for (place, died) in (0..).zip(deaths) {
-        assert_eq!(rt; died_at(&site, place), Some(died));
-    }
-    Ok(())
-}
-
-/// When the character at a place was erased, if there is one and it was.
-fn died_at(site: &Site, place: u64) -> Option<Option<u64>> {
-    match site.sequence().cell_at(place) {
-        Some(cell) => Some(cell.died),
-        None => None,
-    }
-}
-
-/// `heXYllo`, of which replica 2 typed `XY`.
-fn of_two(alloc: Global) -> Result<Site, Refusal> {
-    let mut site = Site::new(alloc)?;
-    site.take(alloc, 1, &[HELLO])?;
-    site.take(alloc, 2, &[Typed((6, 2), Some((2, 1)), "XY")])?;
-    Ok(site)
-}
-
-#[test]
-fn readers(rt: HostRuntime) -> Result<(), Fail> {
-    let site = of_two(rt.alloc())?;
-    let seq = site.sequence();
-    let numbers = [
-        seq.clock(),
-        seq.last_of(1),
-        seq.last_of(2),
-        seq.last_of(3),
-        seq.cell_count(),
-        seq.len_at(0),
-        seq.len_at(1),
-        seq.len_at(2),
-    ];
-    assert_eq!(rt; numbers, [7, 5, 7, 0, 7, 0, 5, 7]);
-    let (x, l, none) = (stamp_of((6, 2))?, stamp_of((3, 1))?, stamp_of((6, 1))?);
-    assert_eq!(rt; (seq.has(x), seq.has(none)), (true, false));
     assert_eq!(rt;
-        (seq.stamp_at(2, 2), seq.stamp_at(1, 2)),
-        (Some(x), Some(l))
+        deaths_after(rt.alloc(), &taken)?.as_slice(),
+        deaths.as_slice()
     );
-    assert_eq!(rt; seq.stamp_at(1, 5), None);
-    assert_eq!(rt; (seq.before(l, 1), seq.before(l, 2)), (Some(2), Some(4)));
-    assert_eq!(rt; (seq.through(x, 1), seq.through(x, 2)), (Some(2), Some(3)));
-    assert_eq!(rt; (seq.before(none, 2), seq.through(none, 2)), (None, None));
-    assert_eq!(rt; seq.stands_before(x, l), Some(true));
-    assert_eq!(rt; seq.stands_before(l, x), Some(false));
-    assert_eq!(rt; seq.stands_before(x, none), None);
-    Ok(())
-}
-
-#[test]
-fn runs_and_spans_are_the_longest(rt: HostRuntime) -> Result<(), Fail> {
-    let site = of_two(rt.alloc())?;
-    let runs = site.sequence().authors_at(rt.alloc(), 2)?;
-    let mut lengths = Vec::new(rt.alloc());
-    for run in runs.as_slice() {
-        lengths.push((run.author.origin, run.len))?;
-    }
-    assert_eq!(rt; lengths.as_slice(), [(1, 2), (2, 2), (1, 3)].as_slice());
-    assert_eq!(rt; site.sequence().authors_at(rt.alloc(), 1)?.len(), 1);
-    let cases: [(u64, u64, u64, &[(Named, u64)]); 4] = [
-        (2, 0, 7, &[((1, 1), 2), ((6, 2), 2), ((3, 1), 3)]),
-        (2, 3, 2, &[((7, 2), 1), ((3, 1), 1)]),
-        (1, 1, 4, &[((2, 1), 4)]),
-        (1, 5, 0, &[]),
-    ];
-    for (rev, at, len, want) in cases {
-        assert_eq!(rt; spans_of(rt.alloc(), &site, rev, at, len)?.as_slice(), want);
-    }
-    Ok(())
-}
-
-/// The spans of some characters by their numbers.
-fn spans_of(
-    alloc: Global,
-    site: &Site,
-    rev: u64,
-    at: u64,
-    len: u64,
-) -> Result<Vec<(Named, u64)>, Refusal> {
-    let seq = site.sequence();
-    let length = seq.len_at(rev);
-    if at > length || len > length - at {
-        return Err(Refusal::OutOfRange);
-    }
-    let mut named = Vec::new(alloc);
-    for span in seq.spans_at(alloc, rev, at, len)?.as_slice() {
-        named.push(((span.first.counter(), span.first.replica()), span.len))?;
-    }
-    Ok(named)
-}
-
-#[test]
-fn cells(rt: HostRuntime) -> Result<(), Fail> {
-    let site = of_two(rt.alloc())?;
-    assert!(rt; site.sequence().cell_at(7).is_none());
-    let Some(cell) = site.sequence().cell_at(2) else {
-        panic!(rt; "no cell");
-    };
-    assert_eq!(rt; cell.stamp, stamp_of((6, 2))?);
-    assert_eq!(rt; cell.parent, Some(stamp_of((2, 1))?));
-    assert_eq!(rt; (cell.character, cell.author.origin), ('X', 2));
-    assert_eq!(rt; (cell.born, cell.died), (2, None));
     Ok(())
 }

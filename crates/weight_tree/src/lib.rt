@@ -10,13 +10,9 @@
 mod edit;
 mod find;
 mod iter;
-#[cfg(test)]
-mod long_run;
 mod node;
 mod rank;
 mod rotate;
-#[cfg(test)]
-mod tests;
 mod tree;
 mod weigh;
 

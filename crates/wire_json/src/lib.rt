@@ -17,8 +17,6 @@ mod op_write;
 mod reply;
 mod request;
 mod show;
-#[cfg(test)]
-mod tests;
 mod word;
 
 pub use op_read::read_op;

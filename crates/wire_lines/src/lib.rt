@@ -11,8 +11,6 @@ pub mod laws;
 mod lines;
 mod memory;
 mod std_device;
-#[cfg(test)]
-mod tests;
 mod write;
 
 pub use buffer::{Found, LineBuffer, MAX_READS};

@@ -2,34 +2,17 @@
 ghost use Rattle.std.specs.Prelude.{◌+◌, ◌<◌, ◌≤◌, IfSome, vec_len};
 ghost use Rattle.pad_model.specs.declared.limits.TheConstants.{MAX_COUNTER};
 
-use super::{Entry, IdentIndex, Place};
-use pad_model::Stamp;
+use crate::counts::lie_within;
+use dice::Dice;
+use ident_index::{Entry, IdentIndex, Place};
+use pad_model::{Refusal, Stamp};
 use std::alloc::{AllocError, Global};
 use std::process::Abort;
 use std::test::Fail;
 
-// Knuth's linear congruential generator, of which the high bits are used.
-#[derive(Drop)]
-struct Dice {
-    state: u64,
-}
-
-impl Dice {
-    fn roll(&mut self, bound: u64) -> u64
-        requires { 0 < bound }
-        ensures { result < bound }
-    {
-        self.state = self
-            .state
-            .wrapping_mul(6_364_136_223_846_793_005)
-            .wrapping_add(1_442_695_040_888_963_407);
-        (self.state >> 33) % bound
-    }
-
-    // One of the fifteen hundred stamps that the run is about.
-    fn stamp(&mut self) -> Result<Stamp, Fail> {
-        Ok(Stamp::new(1 + self.roll(500), 1 + self.roll(3) as u16)?)
-    }
+// One of the fifteen hundred stamps that the run is about.
+fn any_stamp(dice: &mut Dice) -> Result<Stamp, Refusal> {
+    Stamp::new(1 + dice.roll(500), 1 + dice.roll(3) as u16)
 }
 
 #[derive(Clone, Copy, Debug)]
@@ -183,7 +166,7 @@ impl Both {
 
     // Does an operation of a kind from 0 to 9, half of the time about a block that is there.
     fn step(&mut self, rt: &impl Abort, dice: &mut Dice, kind: u64) -> Result<bool, Fail> {
-        let stamp = dice.stamp()?;
+        let stamp = any_stamp(dice)?;
         let label = dice.roll(1_000_000);
         let len = 1 + dice.roll(8);
         let known = dice.roll(2 * self.list.len() as u64 + 1) as usize;
@@ -211,7 +194,7 @@ impl Both {
 
 #[test]
 fn a_hundred_thousand_operations_as_on_a_list(rt: HostRuntime) -> Result<(), Fail> {
-    let mut dice = Dice { state: 2026 };
+    let mut dice = Dice::new(2026);
     let mut both = Both {
         index: IdentIndex::new(rt.alloc()),
         list: Vec::new(rt.alloc()),
@@ -228,15 +211,9 @@ fn a_hundred_thousand_operations_as_on_a_list(rt: HostRuntime) -> Result<(), Fai
         }
     }
     both.same(&rt)?;
-    assert!(rt;
-        kinds.iter().all(|count| (9_500..10_500).contains(count)),
-        "{kinds:?}"
-    );
+    lie_within(&rt, &kinds, 9_500, 10_500);
     // Everything both finds and misses, but for `len`, which looks for nothing.
     hits[4] = 5_000;
-    assert!(rt;
-        hits.iter().all(|count| (1_000..9_000).contains(count)),
-        "{hits:?}"
-    );
+    lie_within(&rt, &hits, 1_000, 9_000);
     Ok(())
 }

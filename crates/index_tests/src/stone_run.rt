@@ -1,30 +1,11 @@
 //! A hundred thousand seeded operations on a tree and on a plain list, which answer the same.
-ghost use Rattle.std.specs.Prelude.{◌<◌};
-
-use super::tests::{Stone, put};
-use super::{Found, WeightTree};
+use crate::counts::lie_within;
+use crate::stone::{Stone, put};
+use dice::Dice;
 use std::alloc::Global;
 use std::process::Abort;
 use std::test::Fail;
-
-// Knuth's linear congruential generator, of which the high bits are used.
-#[derive(Drop)]
-struct Dice {
-    state: u64,
-}
-
-impl Dice {
-    fn roll(&mut self, bound: u64) -> u64
-        requires { 0 < bound }
-        ensures { result < bound }
-    {
-        self.state = self
-            .state
-            .wrapping_mul(6_364_136_223_846_793_005)
-            .wrapping_add(1_442_695_040_888_963_407);
-        (self.state >> 33) % bound
-    }
-}
+use weight_tree::{Found, WeightTree};
 
 // What the first stones of a list weigh.
 fn weight_of(list: &[Stone], count: usize) -> u64 {
@@ -69,7 +50,7 @@ impl Both {
         put(rt, alloc, &mut self.tree, rank, stone)
     }
 
-    #[tactic(auto, using(crate::proofs::CallerLemmas::sum_replaced_le))]
+    #[tactic(auto, using(weight_tree::proofs::CallerLemmas::sum_replaced_le))]
     fn replace(&mut self, rt: &impl Abort, rank: usize, weight: u64) {
         assert!(rt; rank < self.tree.len() && rank < self.list.len());
         assert!(rt; self.tree.weight() <= u64::MAX - weight);
@@ -155,7 +136,7 @@ impl Both {
 
 #[test]
 fn a_hundred_thousand_operations_as_on_a_list(rt: HostRuntime) -> Result<(), Fail> {
-    let mut dice = Dice { state: 2026 };
+    let mut dice = Dice::new(2026);
     let mut both = Both {
         tree: WeightTree::new(),
         list: Vec::new(rt.alloc()),
@@ -172,13 +153,10 @@ fn a_hundred_thousand_operations_as_on_a_list(rt: HostRuntime) -> Result<(), Fai
         }
     }
     both.items(&rt);
-    assert!(rt;
-        kinds.iter().all(|count| (9_500..10_500).contains(count)),
-        "{kinds:?}"
-    );
+    lie_within(&rt, &kinds, 9_500, 10_500);
     // About half of the numbers are found, and hardly anything else misses.
-    assert!(rt; (4_000..6_000).contains(&hits[4]), "{hits:?}");
+    lie_within(&rt, &hits[4..5], 4_000, 6_000);
     hits[4] = kinds[4];
-    assert!(rt; hits.iter().all(|count| *count > 9_400), "{hits:?}");
+    lie_within(&rt, &hits, 9_401, u64::MAX);
     Ok(())
 }

@@ -1,7 +1,7 @@
 use Rattle.std.proofs.Common.{arith}
 use Rattle.std.specs.FinMap.{empty}
 use Rattle.ident_index.proofs.CallerLemmas.{IsNew-empty, IsNew-insert}
-use Rattle.ident_index.proofs.tests.replicas_with_equal_counters_do_not_meet.Goals as goal
+use Rattle.index_tests.proofs.places.replicas_with_equal_counters_do_not_meet.Goals as goal
 
 pub add-requires-clause-fresh : goal.add-requires-clause-fresh
 add-requires-clause-fresh g c =

@@ -1,7 +1,7 @@
-//! What no clause says: that lines come out where there is memory, as someone reads them.
-use crate::{Fault, Input, Line, Lines, MAX_LINE, Output, Source, write_all};
+//! Bytes as lines, however they are cut, and lines that are written.
 use std::alloc::Global;
 use std::test::Fail;
+use wire_lines::{Fault, Input, Line, Lines, MAX_LINE, Output, Source, write_all};
 
 // The lines of a source, each ended by a bar; `!` is one that is too long, `?` a failed read.
 fn shown<R: Source>(alloc: Global, source: &mut R) -> Result<Vec<u8>, Fault> {

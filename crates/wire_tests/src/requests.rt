@@ -1,10 +1,8 @@
 //! A line for each request, and texts and lists in them.
-use super::read;
-use crate::read_request;
 use pad_core::{Act, Request};
-use pad_model::Text;
-use std::alloc::Global;
+use std::alloc::{AllocError, Global};
 use std::test::Fail;
+use wire_json::read_request;
 
 const REQUESTS: [(&str, &str); 32] = [
     (
@@ -137,32 +135,53 @@ const REQUESTS: [(&str, &str); 32] = [
     ),
 ];
 
+/// What a line is read as: its request as `{:?}` shows it, or the number of its refusal.
+fn shown(alloc: Global, line: &[u8]) -> Result<String, AllocError> {
+    match read_request(alloc, line) {
+        Ok(request) => format!(in alloc; "{request:?}"),
+        Err(refusal) => format!(in alloc; "{}", refusal.code()),
+    }
+}
+
 #[test]
 fn requests_are_read(rt: HostRuntime) -> Result<(), Fail> {
     for (line, request) in REQUESTS {
-        assert_eq!(rt;
-            read(rt.alloc(), line.as_bytes())?.as_str(),
-            request,
-            "{line}"
-        );
+        let found = shown(rt.alloc(), line.as_bytes())?;
+        assert_eq!(rt; found.as_str(), request, "{line}");
     }
     Ok(())
 }
 
-/// What a text that is inserted is read as.
-fn read_text(alloc: Global, line: &[u8]) -> Result<Text, Fail> {
-    match &read_request(alloc, line)? {
-        Request::On {
-            act: Act::Insert { text, .. },
-            ..
-        } => Ok(text.clone()?),
-        _ => Ok(Text::new(alloc)),
+/// The text that a line inserts; none, where it is no insertion.
+fn text_of(alloc: Global, line: &[u8]) -> Result<String, AllocError> {
+    match &read_request(alloc, line) {
+        Ok(
+            Request::On {
+                act: Act::Insert { text, .. },
+                ..
+            },
+        ) => text.to_string(alloc),
+        _ => Ok(String::new(alloc)),
     }
+}
+
+/// The line that inserts a text.
+fn insertion(alloc: Global, written: &[u8]) -> Result<Vec<u8>, AllocError> {
+    let mut line = Vec::new(alloc);
+    line.extend_from_slice(b"{\"do\":\"insert\",\"pad\":\"p\",\"rev\":0,\"at\":0,\"text\":\"")?;
+    line.extend_from_slice(written)?;
+    line.extend_from_slice(b"\"}")?;
+    Ok(line)
+}
+
+/// The text that is inserted where it is written so.
+fn inserted(alloc: Global, written: &[u8]) -> Result<String, AllocError> {
+    let line = insertion(alloc, written)?;
+    text_of(alloc, line.as_slice())
 }
 
 #[test]
 fn texts_hold_any_character(rt: HostRuntime) -> Result<(), Fail> {
-    let alloc = rt.alloc();
     let cases: [(&[u8], &str); 4] = [
         (b"\\u0000\\uffff\\n\\/", "\u{0}\u{ffff}\n/"),
         (b"\\ud83d\\ude00", "\u{1f600}"),
@@ -170,32 +189,30 @@ fn texts_hold_any_character(rt: HostRuntime) -> Result<(), Fail> {
         (b"\\\"\\\\\\b\\f\\r\\t", "\"\\\u{8}\u{c}\r\t"),
     ];
     for (written, characters) in cases {
-        let mut line = Vec::new(alloc);
-        line.extend_from_slice(b"{\"do\":\"insert\",\"pad\":\"p\",\"rev\":0,\"at\":0,\"text\":\"")?;
-        line.extend_from_slice(written)?;
-        line.extend_from_slice(b"\"}")?;
-        let text = read_text(alloc, line.as_slice())?;
-        assert!(rt;
-            text.to_string(alloc)?.as_str() == characters,
-            "{written:?}"
-        );
+        let text = inserted(rt.alloc(), written)?;
+        assert!(rt; text.as_str() == characters, "{written:?}");
     }
     Ok(())
 }
 
+/// A creation with so many lists in one another beside its pad.
+fn nested(alloc: Global, depth: u32) -> Result<String, AllocError> {
+    let mut line = String::from_str(alloc, r#"{"do":"create","pad":"p","x":"#)?;
+    for bracket in ['[', ']'] {
+        for _ in 0..depth {
+            line.push(bracket)?;
+        }
+    }
+    line.push('}')?;
+    Ok(line)
+}
+
 #[test]
 fn lists_nest_127_deep(rt: HostRuntime) -> Result<(), Fail> {
-    let alloc = rt.alloc();
     for (depth, answer) in [(126, "Create { pad: Name { text: \"p\" } }"), (127, "101")] {
-        let mut line = String::from_str(alloc, r#"{"do":"create","pad":"p","x":"#)?;
-        for _ in 0..depth {
-            line.push('[')?;
-        }
-        for _ in 0..depth {
-            line.push(']')?;
-        }
-        line.push('}')?;
-        assert_eq!(rt; read(alloc, line.as_bytes())?.as_str(), answer);
+        let line = nested(rt.alloc(), depth)?;
+        let found = shown(rt.alloc(), line.as_bytes())?;
+        assert_eq!(rt; found.as_str(), answer);
     }
     Ok(())
 }

@@ -1,9 +1,8 @@
-//! What no clause says: that memory is found where there is some, and that places and labels come out
-//! as someone counts them.
+//! Places and labels as someone counts them.
 ghost use Rattle.std.specs.Prelude.{◌≡◌, IfOk};
 ghost use Rattle.std.specs.FinMap as map;
 
-use crate::{Entry, IdentIndex, Place, between, spaced};
+use ident_index::{Entry, IdentIndex, Place, between, spaced};
 use pad_model::Stamp;
 use std::alloc::Global;
 use std::test::Fail;
@@ -34,22 +33,23 @@ fn at(first: Stamp, offset: u64, label: u64) -> Option<Place> {
 
 #[test]
 fn a_cut_gives_the_right_part_its_own_place(rt: HostRuntime) -> Result<(), Fail> {
-    let mut index = five_characters(rt.alloc())?;
     let first = stamp(1, 1)?;
-    assert_eq!(rt; index.locate(stamp(3, 1)?), at(first, 2, 100));
+    let (second, third, sixth) = (stamp(2, 1)?, stamp(3, 1)?, stamp(6, 1)?);
+    let mut index = five_characters(rt.alloc())?;
+    assert_eq!(rt; index.locate(third), at(first, 2, 100));
     index.cut(first, 2, 150)?;
-    assert_eq!(rt; index.locate(stamp(3, 1)?), at(stamp(3, 1)?, 0, 150));
-    assert_eq!(rt; index.locate(stamp(2, 1)?), at(first, 1, 100));
-    assert_eq!(rt; index.locate(stamp(6, 1)?), None);
+    assert_eq!(rt; index.locate(third), at(third, 0, 150));
+    assert_eq!(rt; index.locate(second), at(first, 1, 100));
+    assert_eq!(rt; index.locate(sixth), None);
     assert_eq!(rt; index.len(), 2);
     Ok(())
 }
 
 #[test]
 fn a_block_is_taken_away_once(rt: HostRuntime) -> Result<(), Fail> {
+    let (first, second) = (stamp(1, 1)?, stamp(2, 1)?);
     let mut index = five_characters(rt.alloc())?;
-    let first = stamp(1, 1)?;
-    assert!(rt; !index.remove(stamp(2, 1)?));
+    assert!(rt; !index.remove(second));
     assert!(rt; index.remove(first));
     assert!(rt; !index.remove(first));
     assert_eq!(rt; index.locate(first), None);
@@ -58,23 +58,30 @@ fn a_block_is_taken_away_once(rt: HostRuntime) -> Result<(), Fail> {
 
 #[test]
 fn a_label_is_changed_and_the_length_is_not(rt: HostRuntime) -> Result<(), Fail> {
-    let mut index = five_characters(rt.alloc())?;
     let first = stamp(1, 1)?;
+    let fifth = stamp(5, 1)?;
+    let mut index = five_characters(rt.alloc())?;
     index.relabel(first, 7);
     assert_eq!(rt; index.get(first), Some(Entry { len: 5, label: 7 }));
-    assert_eq!(rt; index.locate(stamp(5, 1)?), at(first, 4, 7));
+    assert_eq!(rt; index.locate(fifth), at(first, 4, 7));
     Ok(())
 }
 
 #[test]
 fn replicas_with_equal_counters_do_not_meet(rt: HostRuntime) -> Result<(), Fail> {
-    let mut index = five_characters(rt.alloc())?;
+    let first = stamp(1, 1)?;
     let other = stamp(1, 2)?;
+    let cases = [
+        (stamp(3, 1)?, at(first, 2, 100)),
+        (stamp(3, 2)?, at(other, 2, 200)),
+        (stamp(4, 2)?, None),
+        (stamp(1, 3)?, None),
+    ];
+    let mut index = five_characters(rt.alloc())?;
     index.add(other, 3, 200)?;
-    assert_eq!(rt; index.locate(stamp(3, 1)?), at(stamp(1, 1)?, 2, 100));
-    assert_eq!(rt; index.locate(stamp(3, 2)?), at(other, 2, 200));
-    assert_eq!(rt; index.locate(stamp(4, 2)?), None);
-    assert_eq!(rt; index.locate(stamp(1, 3)?), None);
+    for (stamp, place) in cases {
+        assert_eq!(rt; index.locate(stamp), place);
+    }
     Ok(())
 }
 

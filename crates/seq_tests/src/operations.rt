@@ -1,0 +1,232 @@
+//! Which operations are in their limits, and which two are the same.
+use pad_model::{MAX_COUNTER, Name, Op, OpName, Part, Refusal, Row, Run, Seen, Span, Stamp, Text};
+use std::alloc::Global;
+use std::test::Fail;
+
+/// A part by its numbers: an insertion's counter, replica and length, the lengths of spans, the length of a comment, the number of a comment.
+#[derive(Clone, Copy)]
+enum Sketch {
+    Insert(u64, u16, u64),
+    Delete(&'static [u64]),
+    Comment(u64),
+    Resolve(u16, u64),
+}
+
+const RESOLUTION: [Sketch; 1] = [Sketch::Resolve(3, 1)];
+
+fn text(alloc: Global, len: u64) -> Result<Text, Refusal> {
+    let mut text = Text::new(alloc);
+    for _ in 0..len {
+        text.push('a')?;
+    }
+    Ok(text)
+}
+
+fn insertion(alloc: Global, first: Stamp, len: u64) -> Result<Part, Refusal> {
+    let text = text(alloc, len)?;
+    Ok(Part::Insert(Run {
+        first,
+        after: None,
+        text,
+    }))
+}
+
+fn deletion(alloc: Global, first: Stamp, lens: &[u64]) -> Result<Part, Refusal> {
+    let mut spans = Row::new(alloc);
+    for len in lens {
+        spans.push(Span { first, len: *len })?;
+    }
+    Ok(Part::Delete(spans))
+}
+
+fn comment(alloc: Global, first: Stamp, len: u64) -> Result<Part, Refusal> {
+    let text = text(alloc, len)?;
+    Ok(Part::Comment {
+        first,
+        last: first,
+        text,
+    })
+}
+
+fn part(alloc: Global, sketch: Sketch) -> Result<Part, Refusal> {
+    let first = Stamp::new(1, 3)?;
+    match sketch {
+        Sketch::Insert(counter, replica, len) => {
+            insertion(alloc, Stamp::new(counter, replica)?, len)
+        }
+        Sketch::Delete(lens) => deletion(alloc, first, lens),
+        Sketch::Comment(len) => comment(alloc, first, len),
+        Sketch::Resolve(origin, number) => Ok(Part::Resolve {
+            comment: OpName { origin, number },
+        }),
+    }
+}
+
+fn parts(alloc: Global, sketches: &[Sketch]) -> Result<Row<Part>, Refusal> {
+    let mut parts = Row::new(alloc);
+    for sketch in sketches {
+        parts.push(part(alloc, *sketch)?)?;
+    }
+    Ok(parts)
+}
+
+/// What an operation is but its parts: its name, its author, and the origin that it has seen, with a count.
+type Head<'a> = (OpName, &'a str, Option<(u16, u64)>);
+
+const FIRST: OpName = OpName {
+    origin: 2,
+    number: 1,
+};
+
+const BY_ADA: Head<'static> = (FIRST, "ada", None);
+
+const BY_BOB: Head<'static> = (FIRST, "bob", None);
+
+fn seen(alloc: Global, counted: Option<(u16, u64)>) -> Result<Seen, Refusal> {
+    let mut seen = Seen::new(alloc);
+    if let Some((origin, count)) = counted {
+        seen.set(origin, count)?;
+    }
+    Ok(seen)
+}
+
+fn op_of(alloc: Global, head: Head<'_>, sketches: &[Sketch]) -> Result<Op, Refusal> {
+    let (name, author, counted) = head;
+    Ok(Op {
+        name,
+        seen: seen(alloc, counted)?,
+        author: Name::from_str(alloc, author)?,
+        parts: parts(alloc, sketches)?,
+    })
+}
+
+/// What its check answers of an operation, and whether it only edits the text.
+type Judged = (Result<(), Refusal>, bool);
+
+fn judged(alloc: Global, head: Head<'_>, sketches: &[Sketch]) -> Result<Judged, Refusal> {
+    let op = op_of(alloc, head, sketches)?;
+    Ok((op.check(), op.is_edit()))
+}
+
+#[test]
+fn checks_the_parts(rt: HostRuntime) -> Result<(), Fail> {
+    let cases: [(&str, &[Sketch], bool); 22] = [
+        ("10,000 characters", &[Sketch::Insert(1, 2, 10_000)], true),
+        (
+            "the last counter",
+            &[Sketch::Insert(MAX_COUNTER, 2, 1)],
+            true,
+        ),
+        ("no character", &[Sketch::Insert(1, 2, 0)], false),
+        ("10,001 characters", &[Sketch::Insert(1, 2, 10_001)], false),
+        ("another replica", &[Sketch::Insert(1, 3, 1)], false),
+        (
+            "no counter left",
+            &[Sketch::Insert(MAX_COUNTER, 2, 2)],
+            false,
+        ),
+        ("10,000 stamps", &[Sketch::Delete(&[1, 9_999])], true),
+        ("no span", &[Sketch::Delete(&[])], false),
+        ("an empty span", &[Sketch::Delete(&[0])], false),
+        ("10,001 stamps", &[Sketch::Delete(&[1, 10_000])], false),
+        (
+            "two huge spans",
+            &[Sketch::Delete(&[u64::MAX, u64::MAX])],
+            false,
+        ),
+        ("a comment", &[Sketch::Comment(2_000)], true),
+        ("an empty comment", &[Sketch::Comment(0)], false),
+        ("a long comment", &[Sketch::Comment(2_001)], false),
+        ("a resolution", &[Sketch::Resolve(3, 1)], true),
+        ("no such comment", &[Sketch::Resolve(3, 0)], false),
+        ("a comment of no replica", &[Sketch::Resolve(0, 1)], false),
+        ("no part", &[], false),
+        ("17 parts", &[Sketch::Delete(&[1]); 17], false),
+        (
+            "a comment beside an edit",
+            &[Sketch::Delete(&[1]), Sketch::Comment(1)],
+            false,
+        ),
+        (
+            "counters that fall",
+            &[Sketch::Insert(1, 2, 3), Sketch::Insert(3, 2, 1)],
+            false,
+        ),
+        (
+            "10,001 together",
+            &[Sketch::Insert(1, 2, 1), Sketch::Delete(&[10_000])],
+            false,
+        ),
+    ];
+    for (what, sketches, fits) in cases {
+        let want = if fits { Ok(()) } else { Err(Refusal::BadOp) };
+        let is_edit = sketches.iter().all(|one| matches!(
+            one,
+            Sketch::Insert(..) | Sketch::Delete(_)
+        ));
+        assert_eq!(rt;
+            judged(rt.alloc(), BY_ADA, sketches)?,
+            (want, is_edit),
+            "{what}"
+        );
+    }
+    Ok(())
+}
+
+fn is_same_as_its_copy(op: &Op) -> Result<bool, Refusal> {
+    Ok(op.is_same(&op.clone()?))
+}
+
+/// Whether a resolution is the same as its copy.
+fn copies(alloc: Global, head: Head<'_>) -> Result<bool, Refusal> {
+    is_same_as_its_copy(&op_of(alloc, head, &RESOLUTION)?)
+}
+
+fn is_same_as_with(alloc: Global, op: &Op, head: Head<'_>) -> Result<bool, Refusal> {
+    Ok(op.is_same(&op_of(alloc, head, &RESOLUTION)?))
+}
+
+/// Whether resolutions of two heads are the same.
+fn are_same(alloc: Global, one: Head<'_>, other: Head<'_>) -> Result<bool, Refusal> {
+    is_same_as_with(alloc, &op_of(alloc, one, &RESOLUTION)?, other)
+}
+
+fn is_by(alloc: Global, head: Head<'_>, author: &str) -> Result<bool, Refusal> {
+    Ok(op_of(alloc, head, &RESOLUTION)?.author.is(author))
+}
+
+#[test]
+fn a_copy_is_the_same(rt: HostRuntime) -> Result<(), Fail> {
+    assert!(rt; copies(rt.alloc(), BY_ADA)?);
+    assert!(rt; !are_same(rt.alloc(), BY_ADA, BY_BOB)?);
+    assert!(rt; is_by(rt.alloc(), BY_ADA, "ada")?);
+    assert!(rt; !is_by(rt.alloc(), BY_BOB, "ada")?);
+    Ok(())
+}
+
+#[test]
+fn checks_the_head(rt: HostRuntime) -> Result<(), Fail> {
+    let cases = [
+        (2, 1, "ada", 3, 1, true),
+        (2, 1, "abcdefghijklmnopqrstuvwxyz-01234", 3, 1, true),
+        (0, 1, "ada", 3, 1, false),
+        (2, 0, "ada", 3, 1, false),
+        (2, 200_001, "ada", 3, 1, false),
+        (2, 1, "", 3, 1, false),
+        (2, 1, "abcdefghijklmnopqrstuvwxyz-012345", 3, 1, false),
+        (2, 1, "Ada", 3, 1, false),
+        (2, 1, "ada", 2, 1, false),
+        (2, 1, "ada", 0, 1, false),
+        (2, 1, "ada", 3, 200_001, false),
+    ];
+    for (origin, number, author, other, count, fits) in cases {
+        let name = OpName { origin, number };
+        let (answer, _) = judged(
+            rt.alloc(),
+            (name, author, Some((other, count))),
+            &RESOLUTION,
+        )?;
+        assert_eq!(rt; answer.is_ok(), fits, "{author} {name:?}");
+    }
+    Ok(())
+}

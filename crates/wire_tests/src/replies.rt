@@ -1,0 +1,337 @@
+//! A line for each reply.
+use anchors::Shown;
+use pad_core::{Entry, Kind, PadReply, Present, Pushed, Reply};
+use pad_model::{Author, AuthorRun, Name, OpName, Refusal, Row, Seen, Text, Version};
+use rights::{Grant, Right};
+use serde_json::Value;
+use std::alloc::Global;
+use std::test::Fail;
+use wire_json::{read_op, reply_line};
+
+/// What is answered, in a word.
+#[derive(Clone, Copy)]
+enum Told {
+    Hello,
+    Peer(u16, Version),
+    Ended,
+    Refused(Refusal),
+    Elsewhere,
+    Joined,
+    Done,
+    Made,
+    Changed,
+    Revs,
+    Pushed(Pushed, u64, u64),
+    Text,
+    Runs,
+    Comments,
+    Who,
+    Entries,
+    Rights,
+    Vector,
+    Pulled,
+}
+
+fn line_of(alloc: Global, told: Told) -> Result<String, Refusal> {
+    reply_line(alloc, &reply_of(alloc, told))
+}
+
+fn reply_of(alloc: Global, told: Told) -> Result<Reply, Refusal> {
+    match told {
+        Told::Hello => hello(alloc),
+        Told::Peer(replica, version) => Ok(Reply::Peer { replica, version }),
+        Told::Ended => Ok(Reply::Ended),
+        Told::Refused(refusal) => Err(refusal),
+        _ => Ok(Reply::Pad(pad_reply_of(alloc, told)?)),
+    }
+}
+
+fn hello(alloc: Global) -> Result<Reply, Refusal> {
+    let author = author(alloc, "ann", 1)?;
+    Ok(Reply::Hello { author })
+}
+
+fn pad_reply_of(alloc: Global, told: Told) -> Result<PadReply, Refusal> {
+    match told {
+        Told::Text => text_told(alloc),
+        Told::Runs => runs_told(alloc),
+        Told::Comments => comments_told(alloc),
+        Told::Who => who_told(alloc),
+        Told::Entries => entries_told(alloc),
+        Told::Rights => rights_told(alloc),
+        Told::Vector => vector_told(alloc),
+        Told::Pulled => pulled_told(alloc),
+        _ => Ok(numbers_told(told)),
+    }
+}
+
+/// The replies that hold numbers alone.
+fn numbers_told(told: Told) -> PadReply {
+    let name = OpName {
+        origin: 1,
+        number: 2,
+    };
+    match told {
+        Told::Joined => PadReply::Joined { now: 0, visit: 1 },
+        Told::Done => PadReply::Done { now: u64::MAX },
+        Told::Made => PadReply::Made { now: 2, name },
+        Told::Changed => PadReply::Changed {
+            now: 2,
+            name,
+            hidden: 3,
+        },
+        Told::Revs => PadReply::Revs {
+            now: 1,
+            cells: 5,
+            length: 4,
+        },
+        Told::Pushed(state, released, dropped) => PadReply::Pushed {
+            now: 2,
+            state,
+            released,
+            dropped,
+        },
+        _ => PadReply::Elsewhere,
+    }
+}
+
+fn author(alloc: Global, name: &str, origin: u16) -> Result<Author, Refusal> {
+    let name = Name::from_str(alloc, name)?;
+    Ok(Author { name, origin })
+}
+
+fn row_of<T: Drop>(alloc: Global, item: T) -> Result<Row<T>, Refusal> {
+    let mut row = Row::new(alloc);
+    row.push(item)?;
+    Ok(row)
+}
+
+fn text_told(alloc: Global) -> Result<PadReply, Refusal> {
+    let text = Text::from_str(alloc, "he\"\\/\n\u{1}\u{7f}\u{2028}😀")?;
+    Ok(PadReply::Text {
+        now: 3,
+        rev: 1,
+        text,
+    })
+}
+
+fn run_of(alloc: Global, name: &str, origin: u16, len: u64) -> Result<AuthorRun, Refusal> {
+    let author = author(alloc, name, origin)?;
+    Ok(AuthorRun { author, len })
+}
+
+fn runs_told(alloc: Global) -> Result<PadReply, Refusal> {
+    let mut runs = Row::new(alloc);
+    for (name, origin, len) in [("bob", 65_535, 3), ("ann", 1, 2)] {
+        runs.push(run_of(alloc, name, origin, len)?)?;
+    }
+    Ok(PadReply::Runs {
+        now: 2,
+        rev: 2,
+        runs,
+    })
+}
+
+fn comment(alloc: Global, text: Text) -> Result<Shown, Refusal> {
+    let author = author(alloc, "bob", 65_535)?;
+    let name = OpName {
+        origin: 1,
+        number: 3,
+    };
+    Ok(Shown {
+        name,
+        author,
+        text,
+        at: 0,
+        len: 7,
+        resolved: false,
+    })
+}
+
+fn comments_told(alloc: Global) -> Result<PadReply, Refusal> {
+    let comment = comment(alloc, Text::from_str(alloc, "c")?)?;
+    Ok(PadReply::Comments {
+        now: 5,
+        rev: 4,
+        comments: row_of(alloc, comment)?,
+    })
+}
+
+fn who_told(alloc: Global) -> Result<PadReply, Refusal> {
+    let present = Present {
+        visit: 1,
+        author: author(alloc, "ann", 1)?,
+        caret: 2,
+    };
+    Ok(PadReply::Who {
+        now: 1,
+        who: row_of(alloc, present)?,
+    })
+}
+
+fn entry(alloc: Global, name: &str, number: u64, kind: Kind) -> Result<Entry, Refusal> {
+    Ok(Entry {
+        rev: number,
+        name: OpName { origin: 1, number },
+        author: author(alloc, name, 1)?,
+        kind,
+    })
+}
+
+fn entries_told(alloc: Global) -> Result<PadReply, Refusal> {
+    let mut entries = Row::new(alloc);
+    for (name, number, kind) in [("ann", 1, Kind::Insert), ("bob", 2, Kind::Edit)] {
+        entries.push(entry(alloc, name, number, kind)?)?;
+    }
+    Ok(PadReply::Entries { now: 2, entries })
+}
+
+fn grant(alloc: Global, name: &str, right: Right) -> Result<Grant, Refusal> {
+    let name = Name::from_str(alloc, name)?;
+    Ok(Grant { name, right })
+}
+
+fn rights_told(alloc: Global) -> Result<PadReply, Refusal> {
+    let mut rights = Row::new(alloc);
+    for (name, right) in [("ann", Right::Own), ("bob", Right::Comment)] {
+        rights.push(grant(alloc, name, right)?)?;
+    }
+    Ok(PadReply::Rights { now: 2, rights })
+}
+
+fn vector_told(alloc: Global) -> Result<PadReply, Refusal> {
+    let mut seen = Seen::new(alloc);
+    seen.set(300, 1)?;
+    seen.set(1, 2)?;
+    Ok(PadReply::Vector { now: 2, seen })
+}
+
+fn pulled_told(alloc: Global) -> Result<PadReply, Refusal> {
+    let Ok(value) = Value::from_str(
+        alloc,
+        r#"{"author":"ann","kind":"delete","name":[1,2],"seen":[],"spans":[[2,1,2]]}"#,
+    ) else {
+        return Err(Refusal::NotJson);
+    };
+    let ops = row_of(alloc, read_op(alloc, &value)?)?;
+    Ok(PadReply::Pulled { now: 2, ops })
+}
+
+#[test]
+fn sessions_and_refusals_are_written(rt: HostRuntime) -> Result<(), Fail> {
+    let cases = [
+        (Told::Hello, "{\"author\":\"ann@1\",\"ok\":true}\n"),
+        (
+            Told::Peer(300, Version::Two),
+            "{\"ok\":true,\"replica\":300,\"version\":2}\n",
+        ),
+        (Told::Peer(1, Version::One), "{\"ok\":true,\"replica\":1}\n"),
+        (Told::Ended, "{\"ok\":true}\n"),
+        (
+            Told::Refused(Refusal::NotRequest),
+            "{\"code\":102,\"error\":\"NotRequest\",\"ok\":false}\n",
+        ),
+        (
+            Told::Refused(Refusal::OldPeer),
+            "{\"code\":405,\"error\":\"OldPeer\",\"ok\":false}\n",
+        ),
+        (
+            Told::Refused(Refusal::Memory),
+            "{\"code\":900,\"error\":\"Memory\",\"ok\":false}\n",
+        ),
+    ];
+    for (told, line) in cases {
+        assert!(rt; line_of(rt.alloc(), told)?.as_str() == line, "{line}");
+    }
+    Ok(())
+}
+
+#[test]
+fn acts_are_answered(rt: HostRuntime) -> Result<(), Fail> {
+    let cases = [
+        (Told::Elsewhere, "{\"ok\":true}\n"),
+        (Told::Joined, "{\"now\":0,\"ok\":true,\"visit\":1}\n"),
+        (Told::Done, "{\"now\":18446744073709551615,\"ok\":true}\n"),
+        (Told::Made, "{\"name\":[1,2],\"now\":2,\"ok\":true}\n"),
+        (
+            Told::Changed,
+            "{\"hidden\":3,\"name\":[1,2],\"now\":2,\"ok\":true}\n",
+        ),
+        (
+            Told::Revs,
+            "{\"cells\":5,\"length\":4,\"now\":1,\"ok\":true}\n",
+        ),
+        (
+            Told::Pushed(Pushed::Held, 0, 0),
+            "{\"dropped\":0,\"now\":2,\"ok\":true,\"released\":0,\"state\":\"held\"}\n",
+        ),
+        (
+            Told::Pushed(Pushed::Delivered, 1, 7),
+            "{\"dropped\":7,\"now\":2,\"ok\":true,\"released\":1,\"state\":\"delivered\"}\n",
+        ),
+        (
+            Told::Pushed(Pushed::Repeat, 0, 0),
+            "{\"dropped\":0,\"now\":2,\"ok\":true,\"released\":0,\"state\":\"repeat\"}\n",
+        ),
+    ];
+    for (told, line) in cases {
+        assert!(rt; line_of(rt.alloc(), told)?.as_str() == line, "{line}");
+    }
+    Ok(())
+}
+
+#[test]
+fn texts_are_escaped(rt: HostRuntime) -> Result<(), Fail> {
+    let line =
+        "{\"now\":3,\"ok\":true,\"rev\":1,\"text\":\"he\\\"\\\\/\\n\\u0001\u{7f}\u{2028}😀\"}\n";
+    assert!(rt; line_of(rt.alloc(), Told::Text)?.as_str() == line);
+    Ok(())
+}
+
+#[test]
+fn authors_are_shown_with_their_server(rt: HostRuntime) -> Result<(), Fail> {
+    let cases = [
+        (
+            Told::Runs,
+            "{\"now\":2,\"ok\":true,\"rev\":2,\"runs\":[[\"bob@65535\",3],[\"ann@1\",2]]}\n",
+        ),
+        (
+            Told::Comments,
+            "{\"comments\":[{\"at\":0,\"author\":\"bob@65535\",\"len\":7,\"name\":[1,3],\"resolved\":false,\"text\":\"c\"}],\"now\":5,\"ok\":true,\"rev\":4}\n",
+        ),
+        (
+            Told::Who,
+            "{\"now\":1,\"ok\":true,\"who\":[{\"author\":\"ann@1\",\"caret\":2,\"visit\":1}]}\n",
+        ),
+    ];
+    for (told, line) in cases {
+        assert!(rt; line_of(rt.alloc(), told)?.as_str() == line, "{line}");
+    }
+    Ok(())
+}
+
+#[test]
+fn lists_are_written(rt: HostRuntime) -> Result<(), Fail> {
+    let cases = [
+        (
+            Told::Entries,
+            "{\"entries\":[{\"author\":\"ann@1\",\"kind\":\"insert\",\"name\":[1,1],\"rev\":1},{\"author\":\"bob@1\",\"kind\":\"edit\",\"name\":[1,2],\"rev\":2}],\"now\":2,\"ok\":true}\n",
+        ),
+        (
+            Told::Rights,
+            "{\"now\":2,\"ok\":true,\"rights\":[[\"ann\",\"own\"],[\"bob\",\"comment\"]]}\n",
+        ),
+        (
+            Told::Vector,
+            "{\"now\":2,\"ok\":true,\"seen\":[[1,2],[300,1]]}\n",
+        ),
+        (
+            Told::Pulled,
+            "{\"now\":2,\"ok\":true,\"ops\":[{\"author\":\"ann\",\"kind\":\"delete\",\"name\":[1,2],\"seen\":[],\"spans\":[[2,1,2]]}]}\n",
+        ),
+    ];
+    for (told, line) in cases {
+        assert!(rt; line_of(rt.alloc(), told)?.as_str() == line, "{line}");
+    }
+    Ok(())
+}

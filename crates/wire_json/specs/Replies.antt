@@ -103,3 +103,7 @@ line_of outcome = compact_text (outcome_data outcome) ++ 10 ∷ []
 -- a line says a value: its text reads as it and has no byte below 32, so no line feed but the one behind it
 abbrev pub IsLineFor : Data → List ℕ → Type 0
 IsLineFor d line = (text : List ℕ) × (line ≡ text ++ 10 ∷ []) × AllByRecursion (λ byte. 32 ≤ byte) text × (read text ≡ Some d)
+
+-- bytes are the line of a value, and say it
+abbrev pub IsWritten : Data → List ℕ → Type 0
+IsWritten d line = (line ≡ compact_text d ++ 10 ∷ []) × IsLineFor d line

@@ -1,78 +1,62 @@
-//! What a pad answers, as a JSON value.
-ghost use Rattle.std.specs.Prelude.{◌≡◌, [], IfOk};
+//! What a pad answers, as a line.
+ghost use Rattle.std.specs.Prelude.{◌≡◌, IfOk, string_bytes};
 ghost use Rattle.serde_json.specs.View.{view};
-ghost use Rattle.wire_json.specs.Replies.{answer, pad_data};
+ghost use Rattle.wire_json.specs.Replies.{IsWritten, pad_data};
 
+use crate::line::value_line;
 use crate::list::list_value;
-use crate::show::{op_name_value, seen_value, text_value};
-use crate::word::state_word;
+use crate::short::{
+    changed_line, done_line, ended_line, joined_line, made_line, pushed_line, revs_line,
+};
+use crate::show::{seen_value, text_value};
 use anchors::Shown;
-use pad_core::{Entry, PadReply, Present, Pushed};
-use pad_model::{AuthorRun, Op, OpName, Seen, Text};
+use pad_core::{Entry, PadReply, Present};
+use pad_model::{AuthorRun, Op, Seen, Text};
 use rights::Grant;
 use serde_json::{Value, json};
 use std::alloc::{AllocError, Global};
 
 /// That a pad has another name is no answer of a server: it is written as what has no fields.
-pub fn pad_value(alloc: Global, reply: &PadReply) -> Result<Value, AllocError>
-    ensures { IfOk result (λ v. view v ≡ pad_data reply.now) }
+pub fn pad_line(alloc: Global, reply: &PadReply) -> Result<String, AllocError>
+    ensures { IfOk result (λ line. IsWritten (pad_data reply.now) (string_bytes line)) }
 {
     match reply {
-        PadReply::Elsewhere => ended_value(alloc),
-        PadReply::Joined { now, visit } => joined_value(alloc, *now, *visit),
-        PadReply::Done { now } => done_value(alloc, *now),
-        PadReply::Made { now, name } => made_value(alloc, *now, *name),
-        PadReply::Changed { now, name, hidden } => changed_value(alloc, *now, *name, *hidden),
-        PadReply::Text { now, rev, text } => read_value(alloc, *now, *rev, text),
-        PadReply::Runs { now, rev, runs } => runs_value(alloc, *now, *rev, runs.as_slice()),
-        PadReply::Comments { now, rev, comments } => {
-            comments_value(alloc, *now, *rev, comments.as_slice())
+        PadReply::Elsewhere => ended_line(alloc),
+        PadReply::Joined { now, visit } => joined_line(alloc, *now, *visit),
+        PadReply::Done { now } => done_line(alloc, *now),
+        PadReply::Made { now, name } => made_line(alloc, *now, name.origin, name.number),
+        PadReply::Changed { now, name, hidden } => {
+            changed_line(alloc, *now, name.origin, name.number, *hidden)
         }
-        PadReply::Revs { now, cells, length } => revs_value(alloc, *now, *cells, *length),
-        PadReply::Entries { now, entries } => entries_value(alloc, *now, entries.as_slice()),
-        PadReply::Who { now, who } => who_value(alloc, *now, who.as_slice()),
-        PadReply::Rights { now, rights } => rights_value(alloc, *now, rights.as_slice()),
-        PadReply::Vector { now, seen } => vector_value(alloc, *now, seen),
+        PadReply::Revs { now, cells, length } => revs_line(alloc, *now, *cells, *length),
         PadReply::Pushed {
             now,
             state,
             released,
             dropped,
-        } => pushed_value(alloc, *now, *state, *released, *dropped),
-        PadReply::Pulled { now, ops } => pulled_value(alloc, *now, ops.as_slice()),
+        } => pushed_line(alloc, *now, *state, *released, *dropped),
+        PadReply::Text { now, rev, text } => {
+            value_line(alloc, read_value(alloc, *now, *rev, text))
+        }
+        PadReply::Runs { now, rev, runs } => {
+            value_line(alloc, runs_value(alloc, *now, *rev, runs.as_slice()))
+        }
+        PadReply::Comments { now, rev, comments } => value_line(
+            alloc,
+            comments_value(alloc, *now, *rev, comments.as_slice()),
+        ),
+        PadReply::Entries { now, entries } => {
+            value_line(alloc, entries_value(alloc, *now, entries.as_slice()))
+        }
+        PadReply::Who { now, who } => value_line(alloc, who_value(alloc, *now, who.as_slice())),
+        PadReply::Rights { now, rights } => {
+            value_line(alloc, rights_value(alloc, *now, rights.as_slice()))
+        }
+        PadReply::Vector { now, seen } => value_line(alloc, vector_value(alloc, *now, seen)),
+        PadReply::Pulled { now, ops } => {
+            value_line(alloc, pulled_value(alloc, *now, ops.as_slice()))
+        }
     }
-}
-
-pub fn ended_value(alloc: Global) -> Result<Value, AllocError>
-    ensures { IfOk result (λ v. view v ≡ answer []) }
-{
-    json!(in alloc; {"ok": true})
-}
-
-fn joined_value(alloc: Global, now: u64, visit: u64) -> Result<Value, AllocError>
-    ensures { IfOk result (λ v. view v ≡ pad_data (PadReply.Joined now visit)) }
-{
-    json!(in alloc; {"now": now, "ok": true, "visit": visit})
-}
-
-fn done_value(alloc: Global, now: u64) -> Result<Value, AllocError>
-    ensures { IfOk result (λ v. view v ≡ pad_data (PadReply.Done now)) }
-{
-    json!(in alloc; {"now": now, "ok": true})
-}
-
-fn made_value(alloc: Global, now: u64, name: OpName) -> Result<Value, AllocError>
-    ensures { IfOk result (λ v. view v ≡ pad_data (PadReply.Made now name)) }
-{
-    let name = op_name_value(alloc, name)?;
-    json!(in alloc; {"name": name, "now": now, "ok": true})
-}
-
-fn changed_value(alloc: Global, now: u64, name: OpName, hidden: u64) -> Result<Value, AllocError>
-    ensures { IfOk result (λ v. view v ≡ pad_data (PadReply.Changed now name hidden)) }
-{
-    let name = op_name_value(alloc, name)?;
-    json!(in alloc; {"hidden": hidden, "name": name, "now": now, "ok": true})
 }
 
 fn read_value(alloc: Global, now: u64, rev: u64, text: &Text) -> Result<Value, AllocError>
@@ -101,12 +85,6 @@ fn comments_value(
     json!(in alloc; {"comments": comments, "now": now, "ok": true, "rev": rev})
 }
 
-fn revs_value(alloc: Global, now: u64, cells: u64, length: u64) -> Result<Value, AllocError>
-    ensures { IfOk result (λ v. view v ≡ pad_data (PadReply.Revs now cells length)) }
-{
-    json!(in alloc; {"cells": cells, "length": length, "now": now, "ok": true})
-}
-
 fn entries_value(alloc: Global, now: u64, entries: &[Entry]) -> Result<Value, AllocError>
     ensures { IfOk result (λ v. view v ≡ pad_data (PadReply.Entries now entries.now)) }
 {
@@ -133,19 +111,6 @@ fn vector_value(alloc: Global, now: u64, seen: &Seen) -> Result<Value, AllocErro
 {
     let seen = seen_value(alloc, seen)?;
     json!(in alloc; {"now": now, "ok": true, "seen": seen})
-}
-
-fn pushed_value(
-    alloc: Global,
-    now: u64,
-    state: Pushed,
-    released: u64,
-    dropped: u64,
-) -> Result<Value, AllocError>
-    ensures { IfOk result (λ v. view v ≡ pad_data (PadReply.Pushed now state released dropped)) }
-{
-    let state = state_word(state);
-    json!(in alloc; {"dropped": dropped, "now": now, "ok": true, "released": released, "state": state})
 }
 
 fn pulled_value(alloc: Global, now: u64, ops: &[Op]) -> Result<Value, AllocError>

@@ -11,11 +11,13 @@ mod deed;
 mod field;
 mod form;
 pub mod laws;
+mod line;
 mod list;
 mod op_read;
 mod op_write;
 mod reply;
 mod request;
+mod short;
 mod show;
 mod word;
 

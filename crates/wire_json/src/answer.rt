@@ -1,7 +1,8 @@
 //! What a pad answers, as a line.
-ghost use Rattle.std.specs.Prelude.{◌≡◌, IfOk, string_bytes};
+ghost use Rattle.std.specs.Prelude.{◌≡◌, [], ◌∷◌, codes, IfOk, string_bytes};
 ghost use Rattle.serde_json.specs.View.{view};
-ghost use Rattle.wire_json.specs.Replies.{IsWritten, pad_data};
+ghost use Rattle.wire_json.specs.Forms.{number_data};
+ghost use Rattle.wire_json.specs.Replies.{IsWritten, pad_answer, pad_data};
 
 use crate::line::value_line;
 use crate::list::list_value;
@@ -59,18 +60,36 @@ pub fn pad_line(alloc: Global, reply: &PadReply) -> Result<String, AllocError>
     }
 }
 
+/// An answer that has one field more than its revision.
+fn answer_with(alloc: Global, now: u64, key: &str, value: Value) -> Result<Value, AllocError>
+    ensures { IfOk result (λ v. view v ≡ pad_answer now ((key.now, view value) ∷ [])) }
+{
+    json!(in alloc; {"ok": true, "now": now, key: value})
+}
+
+/// The same of an answer that tells of an earlier revision.
+fn answer_at(
+    alloc: Global,
+    now: u64,
+    rev: u64,
+    key: &str,
+    value: Value,
+) -> Result<Value, AllocError>
+    ensures { IfOk result (λ v. view v ≡ pad_answer now ((codes "rev", number_data rev) ∷ (key.now, view value) ∷ [])) }
+{
+    json!(in alloc; {"ok": true, "now": now, "rev": rev, key: value})
+}
+
 fn read_value(alloc: Global, now: u64, rev: u64, text: &Text) -> Result<Value, AllocError>
     ensures { IfOk result (λ v. view v ≡ pad_data (PadReply.Text now rev text.now)) }
 {
-    let text = text_value(alloc, text)?;
-    json!(in alloc; {"now": now, "ok": true, "rev": rev, "text": text})
+    answer_at(alloc, now, rev, "text", text_value(alloc, text)?)
 }
 
 fn runs_value(alloc: Global, now: u64, rev: u64, runs: &[AuthorRun]) -> Result<Value, AllocError>
     ensures { IfOk result (λ v. view v ≡ pad_data (PadReply.Runs now rev runs.now)) }
 {
-    let runs = list_value(alloc, runs)?;
-    json!(in alloc; {"now": now, "ok": true, "rev": rev, "runs": runs})
+    answer_at(alloc, now, rev, "runs", list_value(alloc, runs)?)
 }
 
 fn comments_value(
@@ -81,41 +100,35 @@ fn comments_value(
 ) -> Result<Value, AllocError>
     ensures { IfOk result (λ v. view v ≡ pad_data (PadReply.Comments now rev comments.now)) }
 {
-    let comments = list_value(alloc, comments)?;
-    json!(in alloc; {"comments": comments, "now": now, "ok": true, "rev": rev})
+    answer_at(alloc, now, rev, "comments", list_value(alloc, comments)?)
 }
 
 fn entries_value(alloc: Global, now: u64, entries: &[Entry]) -> Result<Value, AllocError>
     ensures { IfOk result (λ v. view v ≡ pad_data (PadReply.Entries now entries.now)) }
 {
-    let entries = list_value(alloc, entries)?;
-    json!(in alloc; {"entries": entries, "now": now, "ok": true})
+    answer_with(alloc, now, "entries", list_value(alloc, entries)?)
 }
 
 fn who_value(alloc: Global, now: u64, who: &[Present]) -> Result<Value, AllocError>
     ensures { IfOk result (λ v. view v ≡ pad_data (PadReply.Who now who.now)) }
 {
-    let who = list_value(alloc, who)?;
-    json!(in alloc; {"now": now, "ok": true, "who": who})
+    answer_with(alloc, now, "who", list_value(alloc, who)?)
 }
 
 fn rights_value(alloc: Global, now: u64, rights: &[Grant]) -> Result<Value, AllocError>
     ensures { IfOk result (λ v. view v ≡ pad_data (PadReply.Rights now rights.now)) }
 {
-    let rights = list_value(alloc, rights)?;
-    json!(in alloc; {"now": now, "ok": true, "rights": rights})
+    answer_with(alloc, now, "rights", list_value(alloc, rights)?)
 }
 
 fn vector_value(alloc: Global, now: u64, seen: &Seen) -> Result<Value, AllocError>
     ensures { IfOk result (λ v. view v ≡ pad_data (PadReply.Vector now seen.now)) }
 {
-    let seen = seen_value(alloc, seen)?;
-    json!(in alloc; {"now": now, "ok": true, "seen": seen})
+    answer_with(alloc, now, "seen", seen_value(alloc, seen)?)
 }
 
 fn pulled_value(alloc: Global, now: u64, ops: &[Op]) -> Result<Value, AllocError>
     ensures { IfOk result (λ v. view v ≡ pad_data (PadReply.Pulled now ops.now)) }
 {
-    let ops = list_value(alloc, ops)?;
-    json!(in alloc; {"now": now, "ok": true, "ops": ops})
+    answer_with(alloc, now, "ops", list_value(alloc, ops)?)
 }

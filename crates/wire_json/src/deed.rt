@@ -3,7 +3,7 @@ ghost use Rattle.std.specs.Prelude.{◌≡◌};
 ghost use Rattle.wire_json.specs.Words.{deed_of_word, other_deed_of_word};
 
 /// What a request does on a pad, as its field `do` names it.
-#[derive(Clone, Copy, Debug, PartialEq, Eq)]
+#[derive(Clone, Copy)]
 pub enum Deed {
     Join,
     Leave,

@@ -26,15 +26,16 @@ fn counts(alloc: Global, line: &str) -> Result<Option<String>, Refusal> {
     let (Ok(size), Ok(times)) = (size.parse::<u32>(), times.parse::<u32>()) else {
         return Ok(None);
     };
-    match *work {
-        "insert" => Ok(Some(tree::insert(alloc, size, times)?)),
-        "iterate" => Ok(Some(tree::iterate(alloc, size, times)?)),
-        "locate" => Ok(Some(index::locate(alloc, size, times)?)),
-        "pull" => Ok(Some(pull::pull(alloc, size, times)?)),
-        "wire" => Ok(Some(wire::wire(alloc, size, times)?)),
-        "json" => Ok(Some(wire::json(alloc, size, times)?)),
-        _ => Ok(None),
-    }
+    let counts = match *work {
+        "insert" => tree::insert(alloc, size, times),
+        "iterate" => tree::iterate(alloc, size, times),
+        "locate" => index::locate(alloc, size, times),
+        "pull" => pull::pull(alloc, size, times),
+        "wire" => wire::wire(alloc, size, times),
+        "json" => wire::json(alloc, size, times),
+        _ => return Ok(None),
+    };
+    Ok(Some(counts?))
 }
 
 fn main(rt: HostRuntime) -> io::Result<ExitCode> {

@@ -59,19 +59,26 @@ fn by_wire(alloc: Global, rounds: u64) -> Result<u64, Refusal> {
 fn round_by_wire(alloc: Global, answers: &[Result<Reply, Refusal>]) -> Result<u64, Refusal> {
     let mut bytes = 0_u64;
     for (line, answer) in ASKED.iter().zip(answers.iter()) {
-        let _request = read_request(alloc, line.as_bytes())?;
-        let text = reply_line(alloc, answer)?;
-        bytes = bytes.wrapping_add(text.len() as u64);
+        bytes = bytes.wrapping_add(line_by_wire(alloc, line, answer)?);
     }
     Ok(bytes)
+}
+
+fn line_by_wire(
+    alloc: Global,
+    line: &str,
+    answer: &Result<Reply, Refusal>,
+) -> Result<u64, Refusal> {
+    let _request = read_request(alloc, line.as_bytes())?;
+    let text = reply_line(alloc, answer)?;
+    Ok(text.len() as u64)
 }
 
 // The same by `serde_json` alone.
 fn by_json(alloc: Global, rounds: u64) -> Result<u64, Refusal> {
     let mut answers = Row::new(alloc);
     for kind in 0..ASKED.len() {
-        let line = reply_line(alloc, &Ok(answered(alloc, kind)?))?;
-        answers.push(value_of(alloc, line.as_str())?)?;
+        answers.push(answered_value(alloc, kind)?)?;
     }
     let mut bytes = 0_u64;
     for _ in 0..rounds {
@@ -80,15 +87,25 @@ fn by_json(alloc: Global, rounds: u64) -> Result<u64, Refusal> {
     Ok(bytes)
 }
 
+fn answered_value(alloc: Global, kind: usize) -> Result<Value, Refusal> {
+    let answer = Ok(answered(alloc, kind)?);
+    let line = reply_line(alloc, &answer)?;
+    value_of(alloc, line.as_str())
+}
+
 fn round_by_json(alloc: Global, answers: &[Value]) -> Result<u64, Refusal> {
     let mut bytes = 0_u64;
     for (line, answer) in ASKED.iter().zip(answers.iter()) {
-        let _value = value_of(alloc, line)?;
-        let mut text = answer.to_string(alloc)?;
-        text.push('\n')?;
-        bytes = bytes.wrapping_add(text.len() as u64);
+        bytes = bytes.wrapping_add(line_by_json(alloc, line, answer)?);
     }
     Ok(bytes)
+}
+
+fn line_by_json(alloc: Global, line: &str, answer: &Value) -> Result<u64, Refusal> {
+    let _value = value_of(alloc, line)?;
+    let mut text = answer.to_string(alloc)?;
+    text.push('\n')?;
+    Ok(text.len() as u64)
 }
 
 fn value_of(alloc: Global, line: &str) -> Result<Value, Refusal> {

@@ -37,7 +37,6 @@ impl<T: Weigh> WeightTree<T> {
     }
 
     /// Puts an item in the place of the one at `rank`, and returns that one.
-    #[tactic(auto, using(crate::proofs::Around::edits))]
     pub fn replace(&mut self, rank: usize, item: T) -> T
         requires in_range { rank < length self.old.items }
         requires weight_fits { sum_by T.weight_of (slice_set self.old.items rank item) < 2 ^ 64 }

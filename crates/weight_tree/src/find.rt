@@ -15,7 +15,6 @@ pub struct Found {
 }
 
 impl<T: Weigh> WeightTree<T> {
-    #[tactic(auto, using(crate::proofs::Around::sum_around))]
     pub fn find(&self, number: u64) -> Option<Found>
         ensures none { IsNone result ↔ (sum_by T.weight_of self.now.items ≤ number) }
         ensures some { IfSome result (λ found.

@@ -117,7 +117,6 @@ impl<T: Weigh> WeightTree<T> {
     }
 
     /// The weight of the items before `rank`.
-    #[tactic(auto, using(crate::proofs::Around::parts))]
     pub fn before(&self, rank: usize) -> u64
         requires in_range { rank ≤ length self.now.items }
         ensures sum { result ≡ sum_by T.weight_of (take rank self.now.items) }

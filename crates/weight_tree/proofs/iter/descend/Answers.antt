@@ -1,4 +1,5 @@
 use Rattle.std.proofs.Common.{◌≡◌, ◌+◌, ◌<◌, ◌≤◌, slice_set, length, Some, ◌∙◌, subst, arith, length-set}
+use Rattle.std.proofs.lemmas.Grind.{common_steps}
 use Rattle.weight_tree.specs.Tree.{IsWeightTree}
 use Rattle.weight_tree.specs.Waiting.{WaitsAt}
 use Rattle.weight_tree.proofs.AtBranch.{items_at, height_at}
@@ -24,3 +25,6 @@ loop-tree-preserved g c =
       room = rw (same, c.deref-in-Some.ensures) left_room;
       items = from_waiting_more _ waiting depth c.deref.result _ below (rw (c.deref.ensures, c.deref-in-Some.ensures, ← items) c.loop-tree.invariant.items);
     }
+
+pub loop-tree-smaller : goal.loop-tree-smaller
+loop-tree-smaller g c = grind (arith, common_steps)

@@ -1,4 +1,5 @@
 use Rattle.std.proofs.Common.{◌≡◌, ◌+◌, ◌-◌, ◌<◌, ◌≤◌, length, sum_by, arith}
+use Rattle.std.proofs.lemmas.Grind.{common_steps}
 use Rattle.weight_tree.proofs.AtBranch.{items_at}
 use Rattle.weight_tree.proofs.Falls.{falls_left, falls_here, falls_right}
 use Rattle.weight_tree.proofs.tree.WeightTree.+find.Goals as goal
@@ -29,3 +30,24 @@ returns-clause-some g t c =
     let past : sum_by g.T.Weigh.weight_of b.left.items + g.T.Weigh.weight_of b.item ≤ c.args.number = omega arith in
     let below = rw (c.deref-4.ensures, left, own) at c.in_ok-found-2.ensures.some in
     rw is (falls_right g.T.Weigh.weight_of b.left.items b.item b.right.items _ _ _ _ rank past below)
+
+pub find-requires : goal.find-requires
+find-requires g t c = grind (arith, common_steps)
+
+pub returns-then-number-left_weight-clause-none : goal.returns-then-number-left_weight-clause-none
+returns-then-number-left_weight-clause-none g t c = grind (arith, common_steps)
+
+pub returns-then-offset-item_weight-clause-none : goal.returns-then-offset-item_weight-clause-none
+returns-then-offset-item_weight-clause-none g t c = grind (arith, common_steps)
+
+pub find-requires-2 : goal.find-requires-2
+find-requires-2 g t c = grind (arith, common_steps)
+
+pub returns-in_err-found-2-clause-none : goal.returns-in_err-found-2-clause-none
+returns-in_err-found-2-clause-none g t c = grind (arith, common_steps)
+
+pub overflow_add-result-3 : goal.overflow_add-result-3
+overflow_add-result-3 g t c = grind (arith, common_steps)
+
+pub returns-clause-none : goal.returns-clause-none
+returns-clause-none g t c = grind (arith, common_steps)

@@ -1,4 +1,5 @@
 use Rattle.std.proofs.Common.{◌≡◌, true, false, length, sym, subst, arith, add-one}
+use Rattle.std.proofs.lemmas.Grind.{common_steps}
 use Rattle.std.specs.Ordering.{is_lt}
 use Rattle.weight_tree.specs.Rank.{IsRising}
 use Rattle.weight_tree.proofs.AtBranch.{items_at}
@@ -33,3 +34,15 @@ returns-then-below-clause-calls g t c = rw add-one (_, _, _, c.ask.ensures.calle
 
 pub returns-else-below-clause-calls : goal.returns-else-below-clause-calls
 returns-else-below-clause-calls g t c = rw add-one (_, _, _, c.ask.ensures.called, c.place-left.ensures.calls)
+
+pub place-right-requires : goal.place-right-requires
+place-right-requires g t c = grind (arith, common_steps)
+
+pub place-left-requires : goal.place-left-requires
+place-left-requires g t c = grind (arith, common_steps)
+
+pub returns-then-below-clause-in_range : goal.returns-then-below-clause-in_range
+returns-then-below-clause-in_range g t c = grind (arith, common_steps)
+
+pub returns-else-below-clause-in_range : goal.returns-else-below-clause-in_range
+returns-else-below-clause-in_range g t c = grind (arith, common_steps)

@@ -223,3 +223,36 @@ IsLedger-push log longer op seen new_seen cells new_cells comments new_comments 
       commented = all.1;
       kept = all.0;
     })
+
+-- what is kept beside a log behind which nothing was entered
+pub IsLedger-kept : (log same : List Op) (op : Op) (seen new_seen : List Counted) (cells new_cells : List Cell) (comments new_comments : List kept.Comment) (e : Refusal) →
+    IsLedger log seen comments cells → same ≡ log → new_seen ≡ seen → Enters log op (cells, comments) (Err e) (new_cells, new_comments) → IsLedger same new_seen new_comments new_cells
+IsLedger-kept log same op seen new_seen cells new_cells comments new_comments e l log_is seen_is (inl h) =
+    subst (λ ops. IsLedger ops new_seen new_comments new_cells) (sym log_is)
+    (record {
+      delivered = l.delivered;
+      counted = seen_is ∙ l.counted;
+      commented = ap (λ p. p.1) h.1 ∙ l.commented;
+      kept = ap (λ p. p.0) h.1 ∙ l.kept;
+    })
+IsLedger-kept log same op seen new_seen cells new_cells comments new_comments e l log_is seen_is (inr h) = absurd (ok_err (hidden_by (erased_by op) (characters_in log)) e (ap (λ p. p.0) h))
+  where
+    ok_err : (n : ℕ) (e : Refusal) → (let ok : Result ℕ Refusal = Ok n in ok) ≡ Err e → ⊥
+    ok_err n e q = cc
+
+-- the answer where it was entered
+pub append_answers : (log longer : List Op) (op : Op) (old new : List Cell × List kept.Comment) (hidden : ℕ) → Enters log op old (Ok hidden) new → longer ≡ log ++ op ∷ [] →
+    Answers log (Ok (hidden_by (erased_by op) (characters_in log)), log ++ op ∷ []) (Ok hidden) longer
+append_answers log longer op old new hidden (inl h) longer_is = absurd (ok_err hidden h.0)
+  where
+    ok_err : (n : ℕ) → (let ok : Result ℕ Refusal = Ok n in ok) ≡ Err Memory → ⊥
+    ok_err n q = cc
+append_answers log longer op old new hidden (inr h) longer_is = inr (ap₂ (λ (r : Result ℕ Refusal) (l : List Op). (r, l)) (ap (λ p. p.0) h) (sym longer_is))
+
+-- and where it was not
+pub append_fails : (log same : List Op) (op : Op) (old new : List Cell × List kept.Comment) (e : Refusal) → Enters log op old (Err e) new → same ≡ log → Answers log (Ok (hidden_by (erased_by op) (characters_in log)), log ++ op ∷ []) (Err e) same
+append_fails log same op old new e (inl h) same_is = inl (h.0, same_is)
+append_fails log same op old new e (inr h) same_is = absurd (ok_err (hidden_by (erased_by op) (characters_in log)) e (ap (λ p. p.0) h))
+  where
+    ok_err : (n : ℕ) (e : Refusal) → (let ok : Result ℕ Refusal = Ok n in ok) ≡ Err e → ⊥
+    ok_err n e q = cc

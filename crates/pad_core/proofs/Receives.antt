@@ -197,6 +197,10 @@ answer_err own seen log held new op copy e checked counts same fresh other offer
     let got = err_offer (vector_of log) op held new e fresh (offer_of seen log held op copy counts same offers) in
     err_from own log held new op e checked fresh other got.0 got.1
 
+-- nothing is held then
+pub unheld : (seen : List Counted) (log held new : List Op) (op : Op) (e : Refusal) → seen ≡ vector_of log → (is_covered (vector_of log) op.name || is_held op.name held) ≡ false → Answers held (offered seen op held) (Err e) new → new ≡ held
+unheld seen log held new op e counts fresh offers = (err_offer (vector_of log) op held new e fresh (offer_of seen log held op op counts refl offers)).0
+
 -- the answers that need no offer
 pub answer_known : (own : ℕ) (log held : List Op) (op : Op) → is_checked op ≡ true → (is_covered (vector_of log) op.name || is_held op.name held) ≡ true → Answers (log, held) (received own op (log, held)) (Ok Repeat) (log, held)
 answer_known own log held op checked known = inr (received_repeat own op log held checked known)

@@ -1,8 +1,10 @@
 -- A release step by step: what it takes out, and where it stands still.
-use Rattle.std.proofs.Common.{◌≡◌, ℕ, zero, suc, ◌+◌, ◌-◌, ◌≤◌, Bool, true, false, not, cond, inl, inr, List, [], ◌∷◌, ◌++◌, length, Ok, Option, Some, None, option_map, IsTrue, refl, sym, ap, ap₂, ◌∙◌, subst, arith}
+use Rattle.std.proofs.Common.{◌≡◌, ℕ, zero, suc, ◌+◌, ◌-◌, ◌≤◌, Bool, true, false, not, cond, inl, inr, List, [], ◌∷◌, ◌++◌, length, Ok, Option, Some, None, option_map, IsTrue, refl, sym, ap, ap₂, ◌∙◌, subst, arith, eqb-true}
+use Rattle.std.proofs.lemmas.Bool.{and_parts}
 use Rattle.std.specs.List.{AllByRecursion, find}
 use Rattle.pad_model.specs.Answers.{Answers}
 use Rattle.pad_model.specs.Checked.{is_checked}
+use Rattle.pad_model.specs.Seen.{count_in}
 use Rattle.pad_model.specs.declared.op.Op.{Op}
 use Rattle.pad_model.specs.declared.op.OpName.{OpName}
 use Rattle.pad_model.specs.declared.seen.Counted.{Counted}
@@ -69,6 +71,33 @@ next_found seen held name op rising next found = at (find (is_ready seen) held) 
         let it : op ≡ x = same_some op x (found ∙ ap (λ n. find (has_name n) held) named ∙ named_first (is_ready seen) held x rising e) in
         (e ∙ ap Some (sym it), ap (λ (o : Op). o.name) it ∙ sym named)
 
+-- and it finds one
+pub next_there : (seen : List Counted) (held : List Op) (name : OpName) → IsRising held → Some name ≡ option_map (λ (o : Op). o.name) (find (is_ready seen) held) → None ≡ find (has_name name) held → find (is_ready seen) held ≡ None
+next_there seen held name rising next gone = at (find (is_ready seen) held) refl
+  where
+    same_name : (a b : OpName) → Some a ≡ Some b → a ≡ b
+    same_name a b q = cc
+
+    none_some : (x : Op) → (let none : Option Op = None in none) ≡ Some x → ⊥
+    none_some x q = cc
+
+    at : (r : Option Op) → find (is_ready seen) held ≡ r → find (is_ready seen) held ≡ None
+    at None e = e
+    at (Some x) e =
+        let named : name ≡ x.name = same_name name x.name (next ∙ ap (option_map (λ (o : Op). o.name)) e) in
+        absurd (none_some x (gone ∙ ap (λ n. find (has_name n) held) named ∙ named_first (is_ready seen) held x rising e))
+
+-- none is next where none has a name
+pub next_none : (seen : List Counted) (held : List Op) → None ≡ option_map (λ (o : Op). o.name) (find (is_ready seen) held) → find (is_ready seen) held ≡ None
+next_none seen held none = at (find (is_ready seen) held) refl
+  where
+    none_some : (x : OpName) → (let none : Option OpName = None in none) ≡ Some x → ⊥
+    none_some x q = cc
+
+    at : (r : Option Op) → find (is_ready seen) held ≡ r → find (is_ready seen) held ≡ None
+    at None e = e
+    at (Some x) e = absurd (none_some x.name (none ∙ ap (option_map (λ (o : Op). o.name)) e))
+
 -- the same where it is read by the counts of a log, and copied
 pub next_is : (log held : List Op) (seen : List Counted) (name : OpName) (lent op : Op) → seen ≡ vector_of log → IsRising held → Some name ≡ option_map (λ (o : Op). o.name) (find (is_ready seen) held) → Some lent ≡ find (has_name name) held → op ≡ lent →
     (find (is_ready (vector_of log)) held ≡ Some op) × (op.name ≡ name)
@@ -101,6 +130,19 @@ pub drops : (log held rest : List Op) (a b : ℕ) (name : OpName) (op : Op) (r :
 drops log held rest a b name op r found named refused left =
     ap (λ (l : List Op). (let d : Delivery = record { log = log; held = l; released = a; dropped = b + 1 } in d)) (left ∙ ap (λ (n : OpName). without n held) (sym named))
     ∙ sym (release_found (record { log = log; held = held; released = a; dropped = b }) op (Some r) found refused)
+
+-- an operation that is found ready is the next of its origin
+pub ready_next : (seen : List Counted) (held : List Op) (op : Op) → find (is_ready seen) held ≡ Some op → op.name.number ≡ count_in seen op.name.origin + 1
+ready_next seen [] op e = absurd (cc)
+ready_next seen (x ∷ held) op e =
+    split (is_ready seen x)
+    (λ yes.
+    let here : x ≡ op = same_some x op (sym (ap (λ b. cond b (Some x) (find (is_ready seen) held)) yes) ∙ e) in
+    subst (λ (o : Op). o.name.number ≡ count_in seen o.name.origin + 1) here (eqb-true x.name.number (count_in seen x.name.origin + 1) (and_parts _ _ yes).0))
+    (λ no. ready_next seen held op (sym (ap (λ b. cond b (Some x) (find (is_ready seen) held)) no) ∙ e))
+  where
+    same_some : (a b : Op) → Some a ≡ Some b → a ≡ b
+    same_some a b q = cc
 
 -- one that is not is delivered
 pub delivers : (log more held rest : List Op) (a b : ℕ) (name : OpName) (op : Op) → find (is_ready (vector_of log)) held ≡ Some op → op.name ≡ name → delivery_refusal op log ≡ None → rest ≡ without name held → more ≡ log ++ op ∷ [] →

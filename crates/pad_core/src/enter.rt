@@ -1,21 +1,49 @@
 //! What one more operation changes beside the log.
-ghost use Rattle.std.specs.Prelude.{◌≡◌, ◌+◌, true, IsTrue, IfErr, OnOk, MatchResult, None};
+ghost use Rattle.std.specs.Prelude.{◌≡◌, ◌+◌, ◌≤◌, true, IsTrue, IfErr, OnOk, MatchResult, None};
 ghost use Rattle.pad_model.specs.Checked.{is_checked};
 ghost use Rattle.pad_model.specs.History.{cells_of};
 ghost use Rattle.pad_model.specs.Operation.{author_of as writer_of};
 ghost use Rattle.pad_model.specs.Seen.{count_in};
 ghost use Rattle.pad_core.specs.Book.{book_of, entered, may_enter};
-ghost use Rattle.pad_core.specs.Counts.{vector_of};
-ghost use Rattle.pad_core.specs.Delivered.{Enters, IsDelivered, delivery_refusal};
+ghost use Rattle.pad_core.specs.Counts.{counted, vector_of};
+ghost use Rattle.pad_core.specs.Delivered.{Enters, IsDelivered, IsLedger, delivery_refusal};
 
 use anchors::CommentBook;
-use pad_model::{Author, Op, Part, Refusal, Sequence};
+use pad_model::{Author, Op, Part, Refusal, Seen, Sequence};
 use revisions::OpLog;
 use std::alloc::Global;
 
+/// Counts and enters the next operation of a log, which then has room for it, or finds no memory and changes nothing else.
+/// The answer is how many visible characters the operation hides.
+pub fn count_and_enter<S: Sequence>(
+    alloc: Global,
+    log: &mut OpLog,
+    seen: &mut Seen,
+    comments: &mut CommentBook,
+    sequence: &mut S,
+    op: &Op,
+) -> Result<u64, Refusal>
+    requires ledger { IsLedger log.old.operations seen.old comments.old (S.cells sequence.old) }
+    requires checked { IsTrue (is_checked op.now) }
+    requires next { op.now.name.number ≡ count_in (vector_of log.old.operations) op.now.name.origin + 1 }
+    requires allowed { delivery_refusal op.now log.old.operations ≡ None }
+    ensures log { log.new.operations ≡ log.old.operations }
+    ensures room { OnOk result (1 ≤ log.new.spare) }
+    ensures counted { OnOk result (seen.new ≡ counted seen.old op.now) }
+    ensures uncounted { IfErr result (λ e. seen.new ≡ seen.old) }
+    ensures entered { Enters log.old.operations op.now (S.cells sequence.old, comments.old) result (S.cells sequence.new, comments.new) }
+{
+    log.reserve()?;
+    let mut more = seen.clone()?;
+    more.advance(op.name.origin)?;
+    let hidden = enter(alloc, sequence, comments, log, op)?;
+    *seen = more;
+    Ok(hidden)
+}
+
 /// Makes the changes of the next operation of a log, or finds no memory and makes none. The answer is how many visible
 /// characters it hides.
-pub fn enter<S: Sequence>(
+fn enter<S: Sequence>(
     alloc: Global,
     sequence: &mut S,
     comments: &mut CommentBook,

@@ -13,7 +13,7 @@ ghost use Rattle.pad_core.specs.Counts.{characters_at, vector_of};
 ghost use Rattle.pad_core.specs.Delivered.{IsDelivered, delivery_refusal};
 ghost use Rattle.pad_core.specs.Notes.{has_comment as is_commented};
 
-use crate::enter::enter;
+use crate::enter::count_and_enter;
 use crate::judge::{count_inserted, is_comment, is_valid};
 use anchors::{CommentBook, Shown};
 use pad_model::{
@@ -204,18 +204,19 @@ impl<S: Sequence> Ledger<S> {
         requires allowed { delivery_refusal op self.old ≡ None }
         ensures { Answers self.old (Ok (hidden_by (erased_by op) (characters_in self.old)), self.old ++ op ∷ []) result self.new }
     {
-        self.log.reserve()?;
-        let mut seen = self.seen.clone()?;
-        seen.advance(op.name.origin)?;
-        let hidden = enter(
+        match count_and_enter(
             alloc,
-            &mut self.sequence,
+            &mut self.log,
+            &mut self.seen,
             &mut self.comments,
-            &self.log,
+            &mut self.sequence,
             &op,
-        )?;
-        self.seen = seen;
-        self.log.push(op);
-        Ok(hidden)
+        ) {
+            Ok(hidden) => {
+                self.log.push(op);
+                Ok(hidden)
+            }
+            Err(refusal) => Err(refusal),
+        }
     }
 }

@@ -1,5 +1,5 @@
 //! A pushed operation, and the release of those that waited for it.
-ghost use Rattle.std.specs.Prelude.{◌≡◌, ◌⊎◌, ℕ, ◌+◌, ◌<◌, ◌||◌, List, IsTrue, Ok, Err, None, IfOk, IfErr, OnOk, false};
+ghost use Rattle.std.specs.Prelude.{◌≡◌, ◌⊎◌, ℕ, ◌+◌, ◌<◌, ◌||◌, ◌==◌, List, IsTrue, Ok, Err, Some, None, IfOk, IfErr, OnOk, MatchResult, false};
 ghost use Rattle.std.specs.List.{AllByRecursion, find};
 ghost use Rattle.holdback.specs.Held.{is_covered, is_held, is_ready};
 ghost use Rattle.pad_model.specs.declared.op.Op.{Op};
@@ -71,6 +71,22 @@ fn receive<S: Sequence>(
         return Err(Refusal::PeerFault);
     }
     let op = op.clone()?;
+    take(alloc, ledger, held, op)
+}
+
+/// Delivers a new operation of another server, or holds it back where it has to wait.
+fn take<S: Sequence>(
+    alloc: Global,
+    ledger: &mut Ledger<S>,
+    held: &mut Hold,
+    op: Op,
+) -> Result<Pushed, Refusal>
+    requires checked { IsTrue (is_checked op) }
+    requires new { (is_covered (vector_of ledger.old) op.name || is_held op.name held.old) ≡ false }
+    requires held { AllByRecursion (λ op. IsTrue (is_checked op)) held.old }
+    ensures answer { (own : ℕ) → (op.name.origin == own) ≡ false → Answers (ledger.old, held.old) (received own op (ledger.old, held.old)) result (ledger.new, held.new) }
+    ensures held { AllByRecursion (λ op. IsTrue (is_checked op)) held.new }
+{
     match held.offer(op, ledger.seen()) {
         Ok(Offer::Ready(op)) => deliver(alloc, ledger, op),
         Ok(Offer::Held) => Ok(Pushed::Held),
@@ -147,23 +163,58 @@ fn release<S: Sequence>(
     ensures memory { IfErr result (λ e. (e ≡ Refusal.Memory) × (delivery released.new ledger.new held.new ≡ delivery released.old ledger.old held.old)) }
     ensures held { AllByRecursion (λ op. IsTrue (is_checked op)) held.new }
 {
+    match next_op(ledger, held) {
+        Ok(Some(op)) => match release_op(alloc, ledger, held, released, op) {
+            Ok(()) => Ok(true),
+            Err(refusal) => Err(refusal),
+        },
+        Ok(None) => Ok(false),
+        Err(refusal) => Err(refusal),
+    }
+}
+
+/// A copy of the ready operation of the least origin.
+fn next_op<S: Sequence>(ledger: &Ledger<S>, held: &Hold) -> Result<Option<Op>, Refusal>
+    ensures { MatchResult result (λ op. op ≡ find (is_ready (vector_of ledger.now)) held.now) (λ e. e ≡ Refusal.Memory) }
+{
     let Some(name) = held.next_ready(ledger.seen()) else {
-        return Ok(false);
+        return Ok(None);
     };
-    let op = match held.get(name) {
-        Some(op) => op.clone()?,
-        None => return Ok(false),
-    };
+    match held.get(name) {
+        Some(op) => {
+            let op = op.clone()?;
+            Ok(Some(op))
+        }
+        None => Ok(None),
+    }
+}
+
+/// Takes the operation that is next out: it is delivered, or dropped where it is refused.
+fn release_op<S: Sequence>(
+    alloc: Global,
+    ledger: &mut Ledger<S>,
+    held: &mut Hold,
+    released: &mut Released,
+    op: Op,
+) -> Result<(), Refusal>
+    requires next { find (is_ready (vector_of ledger.old)) held.old ≡ Some op }
+    requires held { AllByRecursion (λ op. IsTrue (is_checked op)) held.old }
+    requires few { released.old.delivered + released.old.dropped < u64.MAX }
+    ensures ok { OnOk result (delivery released.new ledger.new held.new ≡ released_one (delivery released.old ledger.old held.old)) }
+    ensures memory { IfErr result (λ e. (e ≡ Refusal.Memory) × (delivery released.new ledger.new held.new ≡ delivery released.old ledger.old held.old)) }
+    ensures held { AllByRecursion (λ op. IsTrue (is_checked op)) held.new }
+{
+    let name = op.name;
     if let Some(_refusal) = ledger.refusal_of(&op) {
         held.take(name);
         released.dropped += 1;
-        return Ok(true);
+        return Ok(());
     }
     match ledger.append(alloc, op) {
         Ok(_) => {
             held.take(name);
             released.delivered += 1;
-            Ok(true)
+            Ok(())
         }
         Err(refusal) => Err(refusal),
     }

@@ -1,10 +1,11 @@
-use Rattle.std.proofs.Common.{sym, ◌∙◌, subst, IsTrue}
+use Rattle.std.proofs.Common.{sym, ◌∙◌, subst, IsTrue, ◌||◌, ◌≡◌, false}
 use Rattle.std.proofs.lemmas.Bool.{ne_eqb}
+use Rattle.pad_model.specs.Answers.{Answers}
 use Rattle.pad_model.specs.Checked.{is_checked}
-use Rattle.holdback.specs.Held.{is_ready}
+use Rattle.holdback.specs.Held.{is_covered, is_held}
 use Rattle.pad_core.specs.Counts.{vector_of}
-use Rattle.pad_core.proofs.Receives.{as_offered, got_ready, got_held, answer_ready, answer_held, answer_repeat, answer_err, answer_known, answer_own}
-use Rattle.pad_core.proofs.Releases.{AreChecked, with_checked}
+use Rattle.pad_core.specs.Exchange.{received}
+use Rattle.pad_core.proofs.Receives.{answer_known, answer_own}
 use Rattle.pad_core.proofs.push.receive.Goals as goal
 
 pub returns-then-is_known-clause-answer : goal.returns-then-is_known-clause-answer
@@ -13,36 +14,21 @@ returns-then-is_known-clause-answer g c = answer_known c.args.replica c.args.led
 pub returns-then-op-replica-clause-answer : goal.returns-then-op-replica-clause-answer
 returns-then-op-replica-clause-answer g c = answer_own c.args.replica c.args.ledger.now c.args.held.now c.args.op.now c.in_ok-check.ensures (sym c.is_known.ensures ∙ c.if-is_known.false) c.if-op-replica.true
 
-pub deliver-requires-clause-checked : goal.deliver-requires-clause-checked
-deliver-requires-clause-checked g c =
-    let got = got_ready c.seen.result.now c.args.ledger.now c.args.held.now c.offer.new.self c.args.op.now c.in_ok-op.op c.in-Ok-Ready.op c.seen.ensures c.in_ok-op.ensures.cases (sym c.is_known.ensures ∙ c.if-is_known.false) (as_offered c.in-Ok-Ready.field-0-is c.in-Ok-Ready.ensures.answer) in
-    subst (λ o. IsTrue (is_checked o)) (sym got.1) c.in_ok-check.ensures
+pub take-requires-clause-checked : goal.take-requires-clause-checked
+take-requires-clause-checked g c = subst (λ o. IsTrue (is_checked o)) (sym c.in_ok-op.ensures.cases) c.in_ok-check.ensures
 
-pub deliver-requires-clause-ready : goal.deliver-requires-clause-ready
-deliver-requires-clause-ready g c =
-    let got = got_ready c.seen.result.now c.args.ledger.now c.args.held.now c.offer.new.self c.args.op.now c.in_ok-op.op c.in-Ok-Ready.op c.seen.ensures c.in_ok-op.ensures.cases (sym c.is_known.ensures ∙ c.if-is_known.false) (as_offered c.in-Ok-Ready.field-0-is c.in-Ok-Ready.ensures.answer) in
-    subst (λ o. IsTrue (is_ready (vector_of c.args.ledger.now) o)) (sym got.1) got.0
+pub take-requires-clause-new : goal.take-requires-clause-new
+take-requires-clause-new g c =
+    subst (λ o. (is_covered (vector_of c.args.ledger.now) o.name || is_held o.name c.args.held.now) ≡ false) (sym c.in_ok-op.ensures.cases) (sym c.is_known.ensures ∙ c.if-is_known.false)
 
-pub returns-in-Ok-Ready-clause-answer : goal.returns-in-Ok-Ready-clause-answer
-returns-in-Ok-Ready-clause-answer g c =
-    answer_ready c.args.replica c.seen.result.now c.args.ledger.now c.deliver.new.ledger c.args.held.now c.offer.new.self c.args.op.now c.in_ok-op.op c.in-Ok-Ready.op c.deliver.result c.in_ok-check.ensures c.seen.ensures c.in_ok-op.ensures.cases (sym c.is_known.ensures ∙ c.if-is_known.false)
-    (ne_eqb c.args.op.now.name.origin c.args.replica c.if-op-replica.false) (as_offered c.in-Ok-Ready.field-0-is c.in-Ok-Ready.ensures.answer) (c.deliver.ensures c.args.held.now)
+pub take-requires-clause-held : goal.take-requires-clause-held
+take-requires-clause-held g c = c.requires.held
 
-pub returns-in-Ok-Held-clause-answer : goal.returns-in-Ok-Held-clause-answer
-returns-in-Ok-Held-clause-answer g c =
-    answer_held c.args.replica c.seen.result.now c.args.ledger.now c.args.held.now c.offer.new.self c.args.op.now c.in_ok-op.op c.in_ok-check.ensures c.seen.ensures c.in_ok-op.ensures.cases (sym c.is_known.ensures ∙ c.if-is_known.false)
-    (ne_eqb c.args.op.now.name.origin c.args.replica c.if-op-replica.false) (as_offered c.in-Ok-Held.field-0-is c.in-Ok-Held.ensures.answer)
+pub returns-clause-answer : goal.returns-clause-answer
+returns-clause-answer g c =
+    subst (λ o. Answers (c.args.ledger.now, c.args.held.now) (received c.args.replica o (c.args.ledger.now, c.args.held.now)) c.take.result (c.take.new.ledger, c.take.new.held)) c.in_ok-op.ensures.cases
+    (c.take.ensures.answer c.args.replica
+    (subst (λ o. (let same = Rattle.std.proofs.Common.eqb o.name.origin c.args.replica in same) ≡ false) (sym c.in_ok-op.ensures.cases) (ne_eqb c.args.op.now.name.origin c.args.replica c.if-op-replica.false)))
 
-pub returns-in-Ok-Held-clause-held : goal.returns-in-Ok-Held-clause-held
-returns-in-Ok-Held-clause-held g c =
-    let got = got_held c.seen.result.now c.args.ledger.now c.args.held.now c.offer.new.self c.args.op.now c.in_ok-op.op c.seen.ensures c.in_ok-op.ensures.cases (sym c.is_known.ensures ∙ c.if-is_known.false) (as_offered c.in-Ok-Held.field-0-is c.in-Ok-Held.ensures.answer) in
-    subst AreChecked (sym got.2) (with_checked c.args.op.now c.args.held.now c.in_ok-check.ensures c.requires.held)
-
-pub returns-in-Ok-Repeat-clause-answer : goal.returns-in-Ok-Repeat-clause-answer
-returns-in-Ok-Repeat-clause-answer g c =
-    absurd (answer_repeat c.args.replica c.seen.result.now c.args.ledger.now c.args.held.now c.offer.new.self c.args.op.now c.in_ok-op.op c.seen.ensures c.in_ok-op.ensures.cases (sym c.is_known.ensures ∙ c.if-is_known.false) (as_offered c.in-Ok-Repeat.field-0-is c.in-Ok-Repeat.ensures.answer))
-
-pub returns-in-Err-clause-answer : goal.returns-in-Err-clause-answer
-returns-in-Err-clause-answer g c =
-    answer_err c.args.replica c.seen.result.now c.args.ledger.now c.args.held.now c.offer.new.self c.args.op.now c.in_ok-op.op c.in-Err.refusal c.in_ok-check.ensures c.seen.ensures c.in_ok-op.ensures.cases (sym c.is_known.ensures ∙ c.if-is_known.false)
-    (ne_eqb c.args.op.now.name.origin c.args.replica c.if-op-replica.false) c.in-Err.ensures.answer
+pub returns-clause-held : goal.returns-clause-held
+returns-clause-held g c = c.take.ensures.held

@@ -1,17 +1,41 @@
-use Rattle.std.proofs.Common.{rules, ◌≡◌, ◌+◌, [], ◌∷◌, ◌++◌, Ok, sym, ap, subst, ◌∙◌}
-use Rattle.pad_model.specs.Seen.{count_in, with_count}
+use Rattle.std.proofs.Common.{◌≡◌, ◌+◌, ◌∷◌, [], ◌++◌, Ok, Err, sym, ap, subst, ◌∙◌}
+use Rattle.pad_model.specs.Answers.{Answers}
+use Rattle.pad_model.specs.Operation.{characters_in, erased_by}
+use Rattle.pad_model.specs.Seen.{count_in}
+use Rattle.pad_model.specs.Visible.{hidden_by}
 use Rattle.pad_core.specs.Counts.{vector_of}
-use Rattle.pad_core.specs.Delivered.{Enters, delivery_refusal}
-use Rattle.pad_core.proofs.Entered.{IsLedger-push}
+use Rattle.pad_core.specs.Delivered.{delivery_refusal}
+use Rattle.pad_core.proofs.Entered.{IsLedger-push, IsLedger-kept, append_answers, append_fails}
 use Rattle.pad_core.proofs.ledger.Ledger.append.Goals as goal
 
-pub invariant_of-self-2 : goal.invariant_of-self-2
-invariant_of-self-2 g c =
-    let log = c.self.inside.log.operations in
-    let seen_is : c.advance.new.self ≡ with_count c.self.inside.seen c.args.op.name.origin (count_in c.self.inside.seen c.args.op.name.origin + 1) = search rules in
-    let longer_is : c.push.new.self.operations ≡ log ++ c.args.op ∷ [] = search rules in
-    let entered : Enters log c.args.op (g.S.Sequence.cells c.self.inside.sequence, c.self.inside.comments) (Ok c.in_ok-hidden.hidden) (g.S.Sequence.cells c.enter.new.sequence, c.enter.new.comments) =
-    subst (λ ops. Enters ops c.args.op (g.S.Sequence.cells c.self.inside.sequence, c.self.inside.comments) (Ok c.in_ok-hidden.hidden) (g.S.Sequence.cells c.enter.new.sequence, c.enter.new.comments)) c.reserve.ensures.operations c.in_ok-hidden.ensures in
-    IsLedger-push log c.push.new.self.operations c.args.op c.self.inside.seen c.advance.new.self (g.S.Sequence.cells c.self.inside.sequence) (g.S.Sequence.cells c.enter.new.sequence) c.self.inside.comments c.enter.new.comments c.in_ok-hidden.hidden
-    c.self.invariant c.requires.checked (subst (λ l. c.args.op.name.number ≡ count_in (vector_of l) c.args.op.name.origin + 1) (sym c.self.view_is) c.requires.next)
-    (ap (delivery_refusal c.args.op) c.self.view_is ∙ c.requires.allowed) entered longer_is seen_is
+pub count_and_enter-requires-clause-ledger : goal.count_and_enter-requires-clause-ledger
+count_and_enter-requires-clause-ledger g c = c.self.invariant
+
+pub count_and_enter-requires-clause-next : goal.count_and_enter-requires-clause-next
+count_and_enter-requires-clause-next g c = subst (λ log. c.args.op.name.number ≡ count_in (vector_of log) c.args.op.name.origin + 1) (sym c.self.view_is) c.requires.next
+
+pub count_and_enter-requires-clause-allowed : goal.count_and_enter-requires-clause-allowed
+count_and_enter-requires-clause-allowed g c = ap (delivery_refusal c.args.op) c.self.view_is ∙ c.requires.allowed
+
+pub invariant_of-self : goal.invariant_of-self
+invariant_of-self g c =
+    IsLedger-push c.self.inside.log.operations c.push.new.self.operations c.args.op c.self.inside.seen c.count_and_enter.new.seen (g.S.Sequence.cells c.self.inside.sequence) (g.S.Sequence.cells c.count_and_enter.new.sequence) c.self.inside.comments c.count_and_enter.new.comments c.in-Ok.hidden
+    c.self.invariant c.requires.checked (subst (λ log. c.args.op.name.number ≡ count_in (vector_of log) c.args.op.name.origin + 1) (sym c.self.view_is) c.requires.next)
+    (ap (delivery_refusal c.args.op) c.self.view_is ∙ c.requires.allowed) c.in-Ok.ensures.entered (c.push.ensures.operations ∙ ap (λ log. log ++ c.args.op ∷ []) c.count_and_enter.ensures.log) c.in-Ok.ensures.counted
+
+pub returns-in-Ok : goal.returns-in-Ok
+returns-in-Ok g c =
+    subst (λ log. Answers log (Ok (hidden_by (erased_by c.args.op) (characters_in log)), log ++ c.args.op ∷ []) (Ok c.in-Ok.hidden) c.push.new.self.operations) c.self.view_is
+    (append_answers c.self.inside.log.operations c.push.new.self.operations c.args.op (g.S.Sequence.cells c.self.inside.sequence, c.self.inside.comments) (g.S.Sequence.cells c.count_and_enter.new.sequence, c.count_and_enter.new.comments) c.in-Ok.hidden c.in-Ok.ensures.entered
+    (c.push.ensures.operations ∙ ap (λ log. log ++ c.args.op ∷ []) c.count_and_enter.ensures.log))
+
+pub invariant_of-self-in-Err-1 : goal.invariant_of-self-in-Err-1
+invariant_of-self-in-Err-1 g c =
+    IsLedger-kept c.self.inside.log.operations c.count_and_enter.new.log.operations c.args.op c.self.inside.seen c.count_and_enter.new.seen (g.S.Sequence.cells c.self.inside.sequence) (g.S.Sequence.cells c.count_and_enter.new.sequence) c.self.inside.comments c.count_and_enter.new.comments c.in-Err.refusal
+    c.self.invariant c.count_and_enter.ensures.log c.in-Err.ensures.uncounted c.in-Err.ensures.entered
+
+pub returns-in-Err : goal.returns-in-Err
+returns-in-Err g c =
+    subst (λ log. Answers log (Ok (hidden_by (erased_by c.args.op) (characters_in log)), log ++ c.args.op ∷ []) (Err c.in-Err.refusal) c.count_and_enter.new.log.operations) c.self.view_is
+    (append_fails c.self.inside.log.operations c.count_and_enter.new.log.operations c.args.op (g.S.Sequence.cells c.self.inside.sequence, c.self.inside.comments) (g.S.Sequence.cells c.count_and_enter.new.sequence, c.count_and_enter.new.comments) c.in-Err.refusal c.in-Err.ensures.entered
+    c.count_and_enter.ensures.log)

@@ -1,22 +1,27 @@
 -- From what an act does to a part of a pad to what it does to the pad.
-use Rattle.std.proofs.Common.{◌≡◌, inl, inr, ℕ, List, Option, Some, Result, IsTrue, sym, ap, subst}
+use Rattle.std.proofs.Common.{◌≡◌, ◌≤◌, inl, inr, ℕ, List, length, Option, Some, Result, Ok, IsTrue, sym, ap, ap₂, ◌∙◌, subst, le-ltb}
 use Rattle.std.specs.List.{AllByRecursion}
 use Rattle.pad_model.specs.Checked.{is_name}
 use Rattle.pad_model.specs.Answers.{Answers}
+use Rattle.pad_model.specs.Stamp.{Stamp}
+use Rattle.pad_model.specs.Visible.{visible}
 use Rattle.pad_model.specs.declared.op.Op.{Op}
 use Rattle.pad_model.specs.declared.refusal.Refusal.{Refusal}
-use Rattle.sessions.specs.Presence.{Presence}
+use Rattle.sessions.specs.Presence.{Presence, with_caret}
+use Rattle.pad_core.specs.Counts.{characters_at}
 use Rattle.pad_core.specs.Machine.{IsOwned, IsPad, Machine, author_act, on_log}
 use Rattle.rights.specs.Rights.{Rights}
 use Rattle.rights.specs.declared.right.Right.{Right}
 use Rattle.rights.proofs.CallerLemmas.{grant_has}
-use Rattle.pad_core.specs.Edits.{edit}
+use Rattle.pad_core.specs.Edits.{before_place, edit}
 use Rattle.pad_core.specs.Grants.{grant}
+use Rattle.pad_core.specs.Presence.{put_caret}
 use Rattle.pad_core.specs.declared.act.Act.{Act}
 use Rattle.pad_core.specs.declared.act.Act.TheVariants as act
 use Rattle.pad_core.specs.declared.act.Change.{Change}
 use Rattle.pad_core.specs.declared.owned.Owned.{Owned}
 use Rattle.pad_core.specs.declared.reply.PadReply.{PadReply}
+use Rattle.pad_core.specs.declared.reply.PadReply.TheVariants.{Done}
 
 -- an act on the log
 pub log_answers : (o : Option Owned) (replica : ℕ) (log new held : List Op) (p : Presence) (expected : Result PadReply Refusal × List Op) (result : Result PadReply Refusal) → Answers log expected result new →
@@ -49,3 +54,10 @@ IsPad-granted o replica held p owned now name given new result kept is one done 
   replica_high = kept.replica_high;
   waiting = kept.waiting;
 }
+
+-- a caret that is put behind the character in front of a place
+pub caret_is_put : (rev at visit : ℕ) (log : List Op) (p new : Presence) (now shown : ℕ) (stamp : Option Stamp) → now ≡ length log → rev ≤ now → shown ≡ length (visible (characters_at rev log)) → at ≤ shown → stamp ≡ before_place (characters_at rev log) at →
+    new ≡ record p { present = with_caret stamp visit p.present } → put_caret rev at visit log p ≡ (Ok (Done now), new)
+caret_is_put rev at visit log p new now shown stamp now_is there shown_is within stamp_is new_is =
+    rw (le-ltb (length log) rev (subst (λ n. rev ≤ n) now_is there), le-ltb (length (visible (characters_at rev log))) at (subst (λ n. at ≤ n) shown_is within))
+    (ap₂ (λ (n : ℕ) (q : Presence). (let done : Result PadReply Refusal = Ok (Done n) in (done, q))) (sym now_is) (ap (λ (s : Option Stamp). record p { present = with_caret s visit p.present }) (sym stamp_is) ∙ sym new_is))

@@ -13,7 +13,7 @@ use Rattle.pad_model.specs.Laws.{itself}
 use Rattle.pad_model.specs.Legal.{has_stamp}
 use Rattle.pad_model.specs.Log.{is_comment, is_valid, part_is_valid, stands_before}
 use Rattle.pad_model.specs.Operation.{author_of, characters_in, inserted_by}
-use Rattle.pad_model.specs.Parts.{inserts_in}
+use Rattle.pad_model.specs.Parts.{inserts_in, part_fits}
 use Rattle.pad_model.specs.Stamp.{Stamp, same_stamp}
 use Rattle.pad_model.specs.declared.limits.TheConstants.{MAX_CHARACTERS, MAX_COMMENTS, MAX_OPERATIONS, MAX_TEXT}
 use Rattle.pad_model.specs.declared.refusal.Refusal.{Refusal}
@@ -190,3 +190,11 @@ allowed log op none =
           (λ e. absurd (some_none CommentsFull (sym (refused-comments log op valid room short comments (leb-true MAX_COMMENTS (count_by is_comment log) e)) ∙ none)))
           (λ e. leb-false MAX_COMMENTS (count_by is_comment log) e);
     }
+
+-- an edit fits where each of its parts does
+pub fits_edits : (cells : List Cell) (book : List kept.Comment) (parts lent : List Part) (answer : Bool) → list_all is_edit parts ≡ true → lent ≡ parts → answer ≡ list_all (part_fits character_of cells) lent → answer ≡ fits cells book parts
+fits_edits cells book parts lent answer edits lent_is answer_is = rw edits (answer_is ∙ ap (list_all (part_fits character_of cells)) lent_is)
+
+-- what is no edit fits where each of its parts does as a note
+pub fits_notes : (cells : List Cell) (book : List kept.Comment) (parts lent : List Part) (answer : Bool) → list_all is_edit parts ≡ false → lent ≡ parts → answer ≡ list_all (note_fits cells book) lent → answer ≡ fits cells book parts
+fits_notes cells book parts lent answer notes lent_is answer_is = rw notes (answer_is ∙ ap (list_all (note_fits cells book)) lent_is)

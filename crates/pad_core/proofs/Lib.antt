@@ -17,3 +17,4 @@ pub mod Releases
 pub mod Runs
 pub mod SameSet
 pub mod Shows
+pub mod Told

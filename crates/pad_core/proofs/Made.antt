@@ -18,6 +18,7 @@ use Rattle.pad_model.specs.declared.limits.TheConstants.{MAX_TEXT, MAX_PARTS, MA
 use Rattle.pad_model.specs.declared.op.Op.{Op}
 use Rattle.pad_model.specs.declared.op.OpName.{OpName}
 use Rattle.pad_model.specs.declared.op.Part.{Part}
+use Rattle.pad_model.specs.declared.op.Run.{Run}
 use Rattle.pad_model.specs.declared.op.Part.TheVariants as part
 use Rattle.pad_model.specs.declared.refusal.Refusal.{Refusal}
 use Rattle.pad_model.specs.declared.refusal.Refusal.TheVariants.{Memory}
@@ -111,6 +112,11 @@ run_length first p (c ∷ text) author = ap suc (run_length (next first) (Some f
 part_grows : (own counter : ℕ) (author : Author) (log : List Op) (rev : ℕ) (change : Change) → length (part_inserts author (part_from counter own (characters_at rev log) change)) ≡ growth_of change
 part_grows own counter author log rev (Insert at text) = run_length (record { counter = counter; replica = own }) (before_place (characters_at rev log) at) text author
 part_grows own counter author log rev (Delete at len) = refl
+
+-- a run of what is told
+pub run_made : (first stamp : Stamp) (after before : Option Stamp) (text codes : List ℕ) → first ≡ stamp → after ≡ before → text ≡ codes → (let run : Run = record { first = first; after = after; text = text } in run) ≡ record { first = stamp; after = before; text = codes }
+run_made first stamp after before text codes f a t =
+    ap (λ (s : Stamp). (let run : Run = record { first = s; after = after; text = text } in run)) f ∙ ap₂ (λ (p : Option Stamp) (l : List ℕ). (let run : Run = record { first = stamp; after = p; text = l } in run)) a t
 
 -- they insert as many characters as the changes
 parts_grow : (own counter : ℕ) (author : Author) (log : List Op) (rev : ℕ) (changes : List Change) → length (flat_map (part_inserts author) (parts_from counter own (characters_at rev log) changes)) ≡ sum_by growth_of changes

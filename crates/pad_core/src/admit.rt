@@ -8,7 +8,7 @@ use rights::{Right, RightsBook};
 use sessions::PresenceBook;
 
 /// What an act takes of who does it.
-#[derive(Clone, Copy, Debug, PartialEq, Eq)]
+#[derive(Clone, Copy)]
 pub enum Need {
     /// An author without a visit who may read.
     NewVisit,
@@ -90,8 +90,8 @@ fn suits(who: &Who, need: Need) -> bool
 {
     match who {
         Who::Nobody => false,
-        Who::Author(_) => need != Need::PeerSession,
-        Who::Peer { .. } => need == Need::PeerSession,
+        Who::Author(_) => !matches!(need, Need::PeerSession),
+        Who::Peer { .. } => matches!(need, Need::PeerSession),
     }
 }
 

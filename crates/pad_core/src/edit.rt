@@ -22,7 +22,7 @@ use pad_model::{
 use std::alloc::{AllocError, Global};
 
 /// An edit that was made: its name, and how many visible characters it hides.
-#[derive(Clone, Copy, Debug, PartialEq, Eq)]
+#[derive(Clone, Copy)]
 pub struct Edited {
     pub name: OpName,
     pub hidden: u64,
@@ -307,12 +307,30 @@ fn make_part<S: Sequence>(
     ensures { MatchResult result (λ part. part ≡ part_from counter replica (characters_at rev ledger.now) change.now) (λ e. e ≡ Refusal.Memory) }
 {
     Ok(match change {
-        Change::Insert { at, text } => Part::Insert(Run {
-            first: first_stamp(counter, replica),
-            after: stamp_before(ledger, rev, *at),
-            text: text.clone()?,
-        }),
+        Change::Insert { at, text } => {
+            Part::Insert(make_run(ledger, replica, counter, rev, *at, text)?)
+        }
         Change::Delete { at, len } => Part::Delete(ledger.spans_at(alloc, rev, *at, *len)?),
+    })
+}
+
+/// A text at a place of a revision, counted up from a counter on.
+fn make_run<S: Sequence>(
+    ledger: &Ledger<S>,
+    replica: u16,
+    counter: u64,
+    rev: u64,
+    at: u64,
+    text: &Text,
+) -> Result<Run, AllocError>
+    requires { IsInLimits counter replica }
+    ensures { IfOk result (λ run. run ≡ record { first = record { counter = counter; replica = replica }; after = before_place (characters_at rev ledger.now) at; text = text.now }) }
+{
+    let text = text.clone()?;
+    Ok(Run {
+        first: first_stamp(counter, replica),
+        after: stamp_before(ledger, rev, at),
+        text,
     })
 }
 

@@ -1,8 +1,14 @@
 //! What a claim gives a pad.
-ghost use Rattle.std.specs.Prelude.{◌≡◌, [], MatchResult};
+ghost use Rattle.std.specs.Prelude.{◌≡◌, ◌+◌, [], Ok, Option, Some, MatchResult};
+ghost use Rattle.pad_model.specs.Answers.{Answers};
+ghost use Rattle.sessions.specs.Presence.{Presence, joined};
+ghost use Rattle.pad_core.specs.Machine.{nobody_present};
+ghost use Rattle.pad_core.specs.declared.owned.Owned.{Owned};
 
+use crate::event::Claim;
 use pad_model::{Name, Refusal};
 use rights::RightsBook;
+use sessions::PresenceBook;
 use std::alloc::Global;
 
 /// The name of a pad, and who may do what with it.
@@ -22,5 +28,29 @@ impl Owned {
             name,
             rights: RightsBook::new(alloc, owner),
         })
+    }
+}
+
+/// Gives a pad without a name this name and owner, who is then present.
+pub fn own(
+    alloc: Global,
+    owned: &mut Option<Owned>,
+    presence: &mut PresenceBook,
+    name: &str,
+    owner: &str,
+) -> Result<Claim, Refusal>
+    requires { presence.old ≡ nobody_present }
+    ensures { Answers {S = Option Owned × Presence} (owned.old, presence.old) (Ok (Claim.Created (presence.old.given + 1)), (Some (record { name = name.now; rights = record { owner = owner.now; grants = [] } }), joined owner.now presence.old)) result (owned.new, presence.new) }
+{
+    let named = match Owned::new(alloc, name, owner) {
+        Ok(named) => named,
+        Err(refusal) => return Err(refusal),
+    };
+    match presence.join(alloc, owner) {
+        Ok(visit) => {
+            *owned = Some(named);
+            Ok(Claim::Created { visit })
+        }
+        Err(refusal) => Err(refusal),
     }
 }

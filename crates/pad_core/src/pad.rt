@@ -18,7 +18,7 @@ use crate::exchange::{pull, read_vector};
 use crate::grants::{grant, read_rights};
 use crate::ledger::Ledger;
 use crate::note::{comment, resolve};
-use crate::owned::Owned;
+use crate::owned::{Owned, own};
 use crate::presence::{depart, join, leave, put_caret, read_who};
 use crate::push::push;
 use crate::reads::{read_comments, read_entries, read_revs, read_runs, read_text};
@@ -98,17 +98,7 @@ impl<S: Sequence> Pad<S> {
                 Claim::Other
             });
         }
-        let owned = match Owned::new(alloc, name, owner) {
-            Ok(owned) => owned,
-            Err(refusal) => return Err(refusal),
-        };
-        match self.presence.join(alloc, owner) {
-            Ok(visit) => {
-                self.owned = Some(owned);
-                Ok(Claim::Created { visit })
-            }
-            Err(refusal) => Err(refusal),
-        }
+        own(alloc, &mut self.owned, &mut self.presence, name, owner)
     }
 
     /// Answers an event and makes its changes, or finds no memory and changes nothing. A push that found no memory in

@@ -17,7 +17,7 @@ use pad_model::{Op, OpName, Refusal, Sequence};
 use std::alloc::Global;
 
 /// What a release did with held operations.
-#[derive(Clone, Copy, Debug, PartialEq, Eq)]
+#[derive(Clone, Copy)]
 pub struct Released {
     pub delivered: u64,
     pub dropped: u64,

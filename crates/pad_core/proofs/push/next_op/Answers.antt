@@ -1,6 +1,5 @@
-use Rattle.std.proofs.Common.{sym, ◌∙◌, ap, option_map}
+use Rattle.std.proofs.Common.{sym, ◌∙◌, ap}
 use Rattle.std.specs.List.{find}
-use Rattle.pad_model.specs.declared.op.Op.{Op}
 use Rattle.holdback.specs.Held.{is_ready}
 use Rattle.pad_core.proofs.Releases.{next_is, next_none, next_there}
 use Rattle.pad_core.proofs.push.next_op.Goals as goal

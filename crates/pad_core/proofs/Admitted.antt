@@ -90,3 +90,14 @@ admitted_step lent owned inside p name visit this m refused is none same there =
   where
     same_owned : (a b : Owned) → Some a ≡ Some b → a ≡ b
     same_owned a b q = cc
+
+-- who is not is refused
+pub refused_step : (lent owned : Owned) (inside p : Presence) (name : List ℕ) (visit : Option ℕ) (this : Act) (m : Machine) (refused : Option Refusal) (refusal : Refusal) → refused ≡ author_refusal lent.rights inside name visit this → refused ≡ Some refusal → Some lent ≡ Some owned → inside ≡ m.presence →
+    author_step owned name visit this m ≡ (Err refusal, m)
+refused_step lent owned inside p name visit this m refused refusal is some same there =
+    let why : author_refusal owned.rights m.presence name visit this ≡ Some refusal =
+    ap₂ (λ (o : Owned) (q : Presence). author_refusal o.rights q name visit this) (sym (same_owned lent owned same)) (sym there) ∙ sym is ∙ some in
+    rw why refl
+  where
+    same_owned : (a b : Owned) → Some a ≡ Some b → a ≡ b
+    same_owned a b q = cc

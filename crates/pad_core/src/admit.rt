@@ -1,6 +1,7 @@
 //! Who may do what: the order of refusals before an act itself is looked at.
 ghost use Rattle.std.specs.Prelude.{◌≡◌, true, false};
-ghost use Rattle.pad_core.specs.Machine.{author_refusal as author_refused, need_of as needed, need_refusal, nobody_refusal as nobody_refused, session_refusal as session_refused, suits, visit_refusal as visit_refused, names_badly as is_badly_named};
+ghost use Rattle.pad_core.specs.Machine.{author_refusal as author_refused, need_of as needed, need_refusal, nobody_refusal as nobody_refused, or_denied, session_refusal as session_refused, suits, visit_refusal as visit_refused, names_badly as is_badly_named};
+ghost use Rattle.rights.specs.Rights.{may};
 
 use crate::act::Act;
 use pad_model::{Name, Refusal, Who};
@@ -114,18 +115,32 @@ fn refuse_need(
 ) -> Option<Refusal>
     ensures { result ≡ need_refusal rights.now presence.now name.now visit need }
 {
-    let (joins, right) = match need {
-        Need::NewVisit => (true, Some(Right::Read)),
-        Need::AnyVisit => (false, None),
-        Need::Visit(right) => (false, Some(right)),
-        Need::PeerSession => return Some(Refusal::NotPeer),
-    };
+    match need {
+        Need::NewVisit => refuse_right(rights, presence, name, visit, true, Right::Read),
+        Need::AnyVisit => visit_refusal(presence, name, visit, false),
+        Need::Visit(right) => refuse_right(rights, presence, name, visit, false, right),
+        Need::PeerSession => Some(Refusal::NotPeer),
+    }
+}
+
+/// Why an author may not do what takes a right, if so: the visit does not suit, or the right is missing.
+fn refuse_right(
+    rights: &RightsBook,
+    presence: &PresenceBook,
+    name: &Name,
+    visit: Option<u64>,
+    joins: bool,
+    right: Right,
+) -> Option<Refusal>
+    ensures { result ≡ or_denied (visit_refused presence.now name.now visit joins) (may rights.now name.now right) }
+{
     if let Some(refusal) = visit_refusal(presence, name, visit, joins) {
         return Some(refusal);
     }
-    match right {
-        Some(right) if !rights.may(name, right) => Some(Refusal::Denied),
-        _ => None,
+    if rights.may(name, right) {
+        None
+    } else {
+        Some(Refusal::Denied)
     }
 }
 

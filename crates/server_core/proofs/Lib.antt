@@ -3,5 +3,6 @@ pub mod NameRuns
 pub mod NameSteps
 pub mod Named
 pub mod Own
+pub mod Places
 pub mod Rows
 pub mod Served

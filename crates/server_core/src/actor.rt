@@ -1,5 +1,5 @@
 //! An actor: a session, and what it is doing.
-ghost use Rattle.std.specs.Prelude.{◌≡◌, ◌⊎◌, ◌≤◌, length};
+ghost use Rattle.std.specs.Prelude.{◌≡◌, ◌⊎◌, ◌≤◌, length, option_map};
 ghost use Rattle.pad_model.specs.declared.refusal.Refusal.TheVariants as refusal;
 ghost use Rattle.server_core.specs.Actor.{is_busy as busy, nobody};
 ghost use Rattle.server_core.specs.Served.{Acted};
@@ -88,15 +88,22 @@ fn is_busy(task: &Task) -> bool
 fn look<S: Sequence>(alloc: Global, cells: &[Pad<S>], cell: u32) -> Moved
     ensures { (moved.Named (name_at cell cells.now) ≡ result) ⊎ (result ≡ moved.Refused refusal.Memory) }
 {
-    let name = match cells.get(cell as usize) {
-        Some(pad) => pad.name(),
-        None => None,
-    };
-    match name {
+    match name_in(cells, cell) {
         None => Moved::Named(None),
         Some(name) => match Name::from_str(alloc, name) {
             Ok(name) => Moved::Named(Some(name)),
             Err(_) => Moved::Refused(Refusal::Memory),
         },
+    }
+}
+
+fn name_in<S: Sequence>(cells: &[Pad<S>], cell: u32) -> Option<&str>
+    ensures { option_map (λ name. name.now) result ≡ name_at cell cells.now }
+{
+    let place = cell as usize;
+    if place < cells.len() {
+        cells[place].name()
+    } else {
+        None
     }
 }

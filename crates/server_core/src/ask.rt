@@ -56,10 +56,8 @@ fn begin(session: &Session, task: &mut Task, pad: &Name, request: &Request) -> M
 {
     match request.clone() {
         Ok(request) => {
-            *task = Task::Scanning {
-                request,
-                cell: first_cell(session, pad),
-            };
+            let cell = first_cell(session, pad);
+            task.turn(Task::Scanning { request, cell });
             Moved::Scanning
         }
         Err(_) => Moved::Refused(Refusal::Memory),

@@ -52,10 +52,10 @@ fn finish(session: &mut Session, task: &mut Task) -> Moved
     ensures sound { IsSoundTask task.new }
 {
     if session.has_rooms() {
-        *task = Task::Leaving;
+        task.turn(Task::Leaving);
         return Moved::Scanning;
     }
     session.set(Who::Nobody);
-    *task = Task::Resting;
+    task.turn(Task::Resting);
     Moved::Done(Reply::Ended)
 }

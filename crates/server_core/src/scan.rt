@@ -40,7 +40,7 @@ pub fn go_on<S: Sequence>(
                 return Moved::Scanning;
             }
             let moved = conclude(answer, request);
-            *task = Task::Resting;
+            task.turn(Task::Resting);
             moved
         }
     }

@@ -1,8 +1,10 @@
 //! What an actor is doing between its steps.
+ghost use Rattle.std.specs.Prelude.{◌≡◌};
+
 use pad_core::Request;
 
 /// What is under way.
-#[derive(Debug, Drop)]
+#[derive(Drop)]
 pub enum Task {
     /// Nothing.
     Resting,
@@ -10,4 +12,13 @@ pub enum Task {
     Scanning { request: Request, cell: u32 },
     /// The session leaves its pads.
     Leaving,
+}
+
+impl Task {
+    /// Does something else from now on.
+    pub fn turn(&mut self, next: Task)
+        ensures { self.new ≡ next }
+    {
+        *self = next;
+    }
 }

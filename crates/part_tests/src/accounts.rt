@@ -32,13 +32,21 @@ const AUTHORS: &[(&str, &str, bool)] = &[
 const PEERS: &[(u64, &str, bool)] = &[(2, "p2", true), (2, "p", false), (65_538, "p2", false)];
 
 fn authors_are(accounts: &Accounts, wanted: &[(&str, &str, bool)]) -> bool {
-    let mut wanted = wanted.iter();
-    wanted.all(|(name, token, known)| accounts.author(name, token) == *known)
+    for (name, token, known) in wanted {
+        if accounts.author(name, token) != *known {
+            return false;
+        }
+    }
+    true
 }
 
 fn peers_are(accounts: &Accounts, wanted: &[(u64, &str, bool)]) -> bool {
-    let mut wanted = wanted.iter();
-    wanted.all(|(number, token, known)| accounts.peer(*number, token) == *known)
+    for (number, token, known) in wanted {
+        if accounts.peer(*number, token) != *known {
+            return false;
+        }
+    }
+    true
 }
 
 #[test]
@@ -48,7 +56,7 @@ fn accounts_file(rt: HostRuntime) -> Result<(), Fail> {
     let accounts = Accounts::read(rt.alloc(), text)?;
     assert!(rt; authors_are(&accounts, AUTHORS));
     assert!(rt; peers_are(&accounts, PEERS));
-    assert_eq!(rt; accounts.peers().len(), 1);
+    assert!(rt; accounts.peers().len() == 1);
     assert!(rt; is_peer(accounts.peers().first(), 2, "p2", "127.0.0.1:7402"));
     Ok(())
 }
@@ -126,17 +134,26 @@ fn bad_line(alloc: Global, text: &[u8]) -> Option<u64> {
 #[test]
 fn first_bad_line(rt: HostRuntime) {
     for (text, line) in BAD_FILES {
-        assert_eq!(rt; bad_line(rt.alloc(), text), Some(*line), "{text:?}");
+        assert!(rt; bad_line(rt.alloc(), text) == Some(*line), "{text:?}");
     }
+}
+
+fn add_peer(alloc: Global, text: &mut String, number: u64) -> Result<(), Fail> {
+    let line = format!(in alloc; "peer {number} t h:1\n")?;
+    Ok(text.push_str(line.as_str())?)
+}
+
+fn add_peers(alloc: Global, text: &mut String) -> Result<(), Fail> {
+    for number in 1..1_000 {
+        add_peer(alloc, text, number)?;
+    }
+    Ok(())
 }
 
 /// An author, and peers from 1 to 999.
 fn thousand_accounts(alloc: Global) -> Result<String, Fail> {
     let mut text = String::from_str(alloc, "author ann t\n")?;
-    for number in 1..1_000 {
-        let line = format!(in alloc; "peer {number} t h:1\n")?;
-        text.push_str(line.as_str())?;
-    }
+    add_peers(alloc, &mut text)?;
     Ok(text)
 }
 
@@ -148,8 +165,8 @@ fn count_peers(alloc: Global, text: &[u8]) -> Result<usize, Fail> {
 #[test]
 fn limit_accounts(rt: HostRuntime) -> Result<(), Fail> {
     let mut text = thousand_accounts(rt.alloc())?;
-    assert_eq!(rt; count_peers(rt.alloc(), text.as_bytes())?, 999);
+    assert!(rt; count_peers(rt.alloc(), text.as_bytes())? == 999);
     text.push_str("# x\npeer 1000 t h:1")?;
-    assert_eq!(rt; bad_line(rt.alloc(), text.as_bytes()), Some(1_002));
+    assert!(rt; bad_line(rt.alloc(), text.as_bytes()) == Some(1_002));
     Ok(())
 }

@@ -28,23 +28,36 @@ fn finds(book: &mut CommentBook, name: OpName, there: bool, want: Result<(), Ref
     book.has(name) == there && book.resolve(name, 5) == want
 }
 
+const ENTERED: &[(u16, u64)] = &[(2, 1), (1, 10), (1, 9), (3, 9)];
+
+/// Where a comment is looked for, whether it is there, and what its resolution is answered.
+const LOOKED_FOR: &[(u16, u64, bool, Result<(), Refusal>)] = &[
+    (1, 9, true, Ok(())),
+    (2, 1, true, Ok(())),
+    (1, 1, false, Err(Refusal::NoComment)),
+    (2, 9, false, Err(Refusal::NoComment)),
+];
+
+/// Enters four comments, and says whether each was new.
+fn add_four(book: &mut CommentBook, alloc: Global) -> Result<bool, Refusal> {
+    for (origin, number) in ENTERED {
+        if !add(book, alloc, named(*origin, *number))? {
+            return Ok(false);
+        }
+    }
+    Ok(true)
+}
+
 #[test]
 fn comments_are_found_by_origin_and_number(rt: HostRuntime) -> Result<(), Fail> {
     let mut book = CommentBook::new(rt.alloc());
-    for (origin, number) in [(2, 1), (1, 10), (1, 9), (3, 9)] {
-        assert!(rt; add(&mut book, rt.alloc(), named(origin, number))?);
-    }
-    for (origin, number, there, want) in [
-        (1, 9, true, Ok(())),
-        (2, 1, true, Ok(())),
-        (1, 1, false, Err(Refusal::NoComment)),
-        (2, 9, false, Err(Refusal::NoComment)),
-    ] {
-        let name = named(origin, number);
-        assert!(rt; finds(&mut book, name, there, want), "{origin}, {number}");
+    assert!(rt; add_four(&mut book, rt.alloc())?);
+    for (origin, number, there, want) in LOOKED_FOR {
+        let name = named(*origin, *number);
+        assert!(rt; finds(&mut book, name, *there, *want), "{origin}, {number}");
     }
     assert!(rt; !add(&mut book, rt.alloc(), named(1, 10))?);
-    assert_eq!(rt; book.len(), 4);
+    assert!(rt; book.len() == 4);
     Ok(())
 }
 
@@ -53,10 +66,10 @@ fn the_ten_thousandth_comment_is_the_last(rt: HostRuntime) {
     let mut book = CommentBook::new(rt.alloc());
     for number in 1..10_001u64 {
         let added = add(&mut book, rt.alloc(), named(1, number));
-        assert_eq!(rt; added, Ok(true), "{number}");
+        assert!(rt; added == Ok(true), "{number}");
     }
-    assert_eq!(rt; book.len(), 10_000);
+    assert!(rt; book.len() == 10_000);
     let one_more = add(&mut book, rt.alloc(), named(2, 1));
-    assert_eq!(rt; one_more, Err(Refusal::CommentsFull));
-    assert_eq!(rt; book.len(), 10_000);
+    assert!(rt; one_more == Err(Refusal::CommentsFull));
+    assert!(rt; book.len() == 10_000);
 }

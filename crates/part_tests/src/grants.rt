@@ -14,7 +14,7 @@ fn book_of_ann(alloc: Global) -> Result<RightsBook, AllocError> {
 type Plain = (&'static str, Right);
 
 /// What a book does, and how it answers.
-#[derive(Clone, Copy, Debug)]
+#[derive(Clone, Copy)]
 enum Step {
     Grants(&'static str, Option<Right>, Result<(), Refusal>),
     May(&'static str, Right, bool),
@@ -41,10 +41,18 @@ fn is_grant(grant: &Grant, want: Plain) -> bool {
     grant.name.is(want.0) && grant.right == want.1
 }
 
+fn are_grants(rows: &[Grant], want: &[Plain]) -> bool {
+    for (grant, want) in rows.iter().zip(want) {
+        if !is_grant(grant, *want) {
+            return false;
+        }
+    }
+    rows.len() == want.len()
+}
+
 fn lists(alloc: Global, book: &RightsBook, want: &[Plain]) -> Result<bool, Refusal> {
     let rows = book.list(alloc)?;
-    let mut pairs = rows.as_slice().iter().zip(want);
-    Ok(rows.len() == want.len() && pairs.all(|(grant, want)| is_grant(grant, *want)))
+    Ok(are_grants(rows.as_slice(), want))
 }
 
 fn count(alloc: Global, book: &RightsBook) -> Result<u64, Refusal> {
@@ -61,21 +69,61 @@ fn is_so(alloc: Global, book: &mut RightsBook, step: Step) -> Result<bool, Refus
     }
 }
 
-/// Whether bob may do this with a pad where he has a right.
-fn bob_may(alloc: Global, held: Right, right: Right) -> Result<bool, Refusal> {
+/// How many steps are so, before the first that is not.
+fn count_so(alloc: Global, book: &mut RightsBook, steps: &[Step]) -> Result<usize, Refusal> {
+    let mut count = 0usize;
+    for step in steps {
+        if !is_so(alloc, book, *step)? {
+            break;
+        }
+        count = count.saturating_add(1);
+    }
+    Ok(count)
+}
+
+/// bob is granted a right, and has those before it too.
+const EACH_RIGHT: &[[Step; 5]] = &[
+    [
+        Grants("bob", Some(Read), Ok(())),
+        May("bob", Read, true),
+        May("bob", Comment, false),
+        May("bob", Write, false),
+        May("bob", Own, false),
+    ],
+    [
+        Grants("bob", Some(Comment), Ok(())),
+        May("bob", Read, true),
+        May("bob", Comment, true),
+        May("bob", Write, false),
+        May("bob", Own, false),
+    ],
+    [
+        Grants("bob", Some(Write), Ok(())),
+        May("bob", Read, true),
+        May("bob", Comment, true),
+        May("bob", Write, true),
+        May("bob", Own, false),
+    ],
+    [
+        Grants("bob", Some(Own), Ok(())),
+        May("bob", Read, true),
+        May("bob", Comment, true),
+        May("bob", Write, true),
+        May("bob", Own, true),
+    ],
+];
+
+/// How many steps are so in a book of ann's alone.
+fn count_so_in_new(alloc: Global, steps: &[Step]) -> Result<usize, Refusal> {
     let mut book = book_of_ann(alloc)?;
-    grant(alloc, &mut book, "bob", Some(held))?;
-    may(alloc, &book, "bob", right)
+    count_so(alloc, &mut book, steps)
 }
 
 #[test]
 fn each_right_includes_those_before_it(rt: HostRuntime) -> Result<(), Fail> {
-    let rights = [Read, Comment, Write, Own];
-    for (place, held) in rights.into_iter().enumerate() {
-        for (other, right) in rights.into_iter().enumerate() {
-            let may = bob_may(rt.alloc(), held, right)?;
-            assert_eq!(rt; may, other <= place, "{held:?}, {right:?}");
-        }
+    for steps in EACH_RIGHT {
+        let count = count_so_in_new(rt.alloc(), steps)?;
+        assert!(rt; count == steps.len(), "not step {count}");
     }
     Ok(())
 }
@@ -98,10 +146,8 @@ const SHARED: &[Step] = &[
 
 #[test]
 fn the_creator_keeps_own_and_others_have_their_grants(rt: HostRuntime) -> Result<(), Fail> {
-    let mut book = book_of_ann(rt.alloc())?;
-    for step in SHARED {
-        assert!(rt; is_so(rt.alloc(), &mut book, *step)?, "{step:?}");
-    }
+    let count = count_so_in_new(rt.alloc(), SHARED)?;
+    assert!(rt; count == SHARED.len(), "not step {count}");
     Ok(())
 }
 
@@ -129,14 +175,19 @@ const FULL: &[Step] = &[
     Grants("zoe", Some(Read), Ok(())),
 ];
 
+/// As many may read as there is room for, beside the creator.
+fn fill(alloc: Global, book: &mut RightsBook) -> Result<(), Fail> {
+    for number in 1..MAX_GRANTS {
+        may_read(alloc, book, number)?;
+    }
+    Ok(())
+}
+
 #[test]
 fn with_the_creator_there_are_256_names(rt: HostRuntime) -> Result<(), Fail> {
     let mut book = book_of_ann(rt.alloc())?;
-    for number in 1..MAX_GRANTS {
-        may_read(rt.alloc(), &mut book, number)?;
-    }
-    for step in FULL {
-        assert!(rt; is_so(rt.alloc(), &mut book, *step)?, "{step:?}");
-    }
+    fill(rt.alloc(), &mut book)?;
+    let count = count_so(rt.alloc(), &mut book, FULL)?;
+    assert!(rt; count == FULL.len(), "not step {count}");
     Ok(())
 }

@@ -1,5 +1,5 @@
 //! Operations that wait for others: what a hold answers, as someone counts it.
-use crate::held::Deed::{Deliver, Get, Len, Next, Offer, Take};
+use crate::held::Deed::{Deliver, Fill, Get, Len, Next, Offer, Take};
 use dice::Dice;
 use holdback::{Hold, MAX_HELD};
 use pad_model::{Name, Op, OpName, Refusal, Row, Seen};
@@ -7,7 +7,7 @@ use std::alloc::Global;
 use std::test::Fail;
 
 /// An operation, and the count of another origin that it waits for.
-#[derive(Clone, Copy, Debug)]
+#[derive(Clone, Copy)]
 struct Made {
     name: OpName,
     needs: OpName,
@@ -38,8 +38,10 @@ fn op(alloc: Global, made: Made) -> Result<Op, Refusal> {
 }
 
 /// What a hold is asked, or its caller does.
-#[derive(Clone, Copy, Debug)]
+#[derive(Clone, Copy)]
 enum Deed {
+    /// Offers 256 operations that wait, and answers as all of them were answered, or as the first that is not held.
+    Fill,
     Offer(Made),
     Deliver(OpName),
     Next,
@@ -48,7 +50,7 @@ enum Deed {
     Len,
 }
 
-#[derive(Clone, Copy, Debug, PartialEq)]
+#[derive(Clone, Copy, PartialEq)]
 enum Told {
     Ready,
     Held,
@@ -121,8 +123,19 @@ impl Stage {
         found(alloc, taken.as_ref(), made)
     }
 
+    fn fill(&mut self, alloc: Global) -> Result<Told, Refusal> {
+        for number in 2..258 {
+            let told = self.offer(alloc, plain(1, number))?;
+            if told != Told::Held {
+                return Ok(told);
+            }
+        }
+        Ok(Told::Held)
+    }
+
     fn tell(&mut self, alloc: Global, deed: Deed) -> Result<Told, Refusal> {
         match deed {
+            Fill => self.fill(alloc),
             Offer(made) => self.offer(alloc, made),
             Deliver(name) => self.deliver(name),
             Next => Ok(self.next()),
@@ -131,68 +144,137 @@ impl Stage {
             Len => Ok(Told::Count(self.hold.len())),
         }
     }
+
+    /// How many deeds are answered so, before the first that is not.
+    fn count_told(&mut self, alloc: Global, deeds: &[(Deed, Told)]) -> Result<usize, Refusal> {
+        let mut count = 0usize;
+        for (deed, told) in deeds {
+            if self.tell(alloc, *deed)? != *told {
+                break;
+            }
+            count = count.saturating_add(1);
+        }
+        Ok(count)
+    }
 }
+
+/// How many deeds a new hold answers so.
+fn count_told(alloc: Global, deeds: &[(Deed, Told)]) -> Result<usize, Refusal> {
+    let mut stage = Stage::new(alloc);
+    stage.count_told(alloc, deeds)
+}
+
+const FIRST_NAME: OpName = OpName {
+    origin: 2,
+    number: 1,
+};
+
+const SECOND_NAME: OpName = OpName {
+    origin: 2,
+    number: 2,
+};
+
+const NONE_OF_ITS_ORIGIN: OpName = OpName {
+    origin: 2,
+    number: 0,
+};
+
+const FIRST: Made = Made {
+    name: FIRST_NAME,
+    needs: NONE_OF_ITS_ORIGIN,
+};
+
+const SECOND: Made = Made {
+    name: SECOND_NAME,
+    needs: NONE_OF_ITS_ORIGIN,
+};
+
+const IN_TURN: &[(Deed, Told)] = &[
+    (Offer(SECOND), Told::Held),
+    (Offer(SECOND), Told::Repeat),
+    (Next, Told::Nothing),
+    (Offer(FIRST), Told::Ready),
+    (Deliver(FIRST_NAME), Told::Delivered),
+    (Offer(FIRST), Told::Repeat),
+    (Next, Told::Name(SECOND_NAME)),
+    (Get(SECOND), Told::Itself),
+    (Take(FIRST), Told::Nothing),
+    (Len, Told::Count(1)),
+    (Take(SECOND), Told::Itself),
+    (Get(SECOND), Told::Nothing),
+    (Len, Told::Count(0)),
+];
 
 #[test]
 fn a_later_operation_waits_for_the_one_before(rt: HostRuntime) -> Result<(), Fail> {
-    let mut stage = Stage::new(rt.alloc());
-    let (first, second) = (plain(2, 1), plain(2, 2));
-    for (deed, told) in [
-        (Offer(second), Told::Held),
-        (Offer(second), Told::Repeat),
-        (Next, Told::Nothing),
-        (Offer(first), Told::Ready),
-        (Deliver(first.name), Told::Delivered),
-        (Offer(first), Told::Repeat),
-        (Next, Told::Name(name(2, 2))),
-        (Get(second), Told::Itself),
-        (Take(first), Told::Nothing),
-        (Len, Told::Count(1)),
-        (Take(second), Told::Itself),
-        (Get(second), Told::Nothing),
-        (Len, Told::Count(0)),
-    ] {
-        assert_eq!(rt; stage.tell(rt.alloc(), deed)?, told, "{deed:?}");
-    }
+    let count = count_told(rt.alloc(), IN_TURN)?;
+    assert!(rt; count == IN_TURN.len(), "not deed {count}");
     Ok(())
 }
+
+const THIRD_NAME: OpName = OpName {
+    origin: 3,
+    number: 1,
+};
+
+/// Waits for the first of another origin.
+const THIRD: Made = Made {
+    name: THIRD_NAME,
+    needs: FIRST_NAME,
+};
+
+const OF_TWO_ORIGINS: &[(Deed, Told)] = &[
+    (Offer(THIRD), Told::Held),
+    (Next, Told::Nothing),
+    (Offer(FIRST), Told::Ready),
+    (Deliver(FIRST_NAME), Told::Delivered),
+    (Next, Told::Name(THIRD_NAME)),
+];
 
 #[test]
 fn an_operation_waits_for_another_origin(rt: HostRuntime) -> Result<(), Fail> {
-    let mut stage = Stage::new(rt.alloc());
-    let third = Made {
-        name: name(3, 1),
-        needs: name(2, 1),
-    };
-    for (deed, told) in [
-        (Offer(third), Told::Held),
-        (Next, Told::Nothing),
-        (Offer(plain(2, 1)), Told::Ready),
-        (Deliver(name(2, 1)), Told::Delivered),
-        (Next, Told::Name(name(3, 1))),
-    ] {
-        assert_eq!(rt; stage.tell(rt.alloc(), deed)?, told, "{deed:?}");
-    }
+    let count = count_told(rt.alloc(), OF_TWO_ORIGINS)?;
+    assert!(rt; count == OF_TWO_ORIGINS.len(), "not deed {count}");
     Ok(())
 }
 
+/// The first of the operations that fill a hold may go, and the last of them is held.
+const FIRST_OF_ALL: Made = Made {
+    name: OpName {
+        origin: 1,
+        number: 1,
+    },
+    needs: OpName {
+        origin: 1,
+        number: 0,
+    },
+};
+
+const LAST_OF_ALL: Made = Made {
+    name: OpName {
+        origin: 1,
+        number: 257,
+    },
+    needs: OpName {
+        origin: 1,
+        number: 0,
+    },
+};
+
+const FULL: &[(Deed, Told)] = &[
+    (Fill, Told::Held),
+    (Len, Told::Count(256)),
+    (Offer(SECOND), Told::Full),
+    (Get(SECOND), Told::Nothing),
+    (Offer(LAST_OF_ALL), Told::Repeat),
+    (Offer(FIRST_OF_ALL), Told::Ready),
+    (Len, Told::Count(256)),
+];
+
 #[test]
 fn a_full_hold_refuses_what_must_wait(rt: HostRuntime) -> Result<(), Fail> {
-    let mut stage = Stage::new(rt.alloc());
-    for number in 2..258 {
-        let told = stage.offer(rt.alloc(), plain(1, number))?;
-        assert_eq!(rt; told, Told::Held, "{number}");
-    }
-    for (deed, told) in [
-        (Len, Told::Count(256)),
-        (Offer(plain(2, 2)), Told::Full),
-        (Get(plain(2, 2)), Told::Nothing),
-        (Offer(plain(1, 257)), Told::Repeat),
-        (Offer(plain(1, 1)), Told::Ready),
-        (Len, Told::Count(256)),
-    ] {
-        assert_eq!(rt; stage.tell(rt.alloc(), deed)?, told, "{deed:?}");
-    }
+    let count = count_told(rt.alloc(), FULL)?;
+    assert!(rt; count == FULL.len(), "not deed {count}");
     Ok(())
 }
 
@@ -227,7 +309,12 @@ fn may_go(made: Made, seen: &Seen) -> bool {
 }
 
 fn is_there(held: &[Made], name: OpName) -> bool {
-    held.iter().any(|made| made.name == name)
+    for made in held {
+        if made.name == name {
+            return true;
+        }
+    }
+    false
 }
 
 fn expected(held: &[Made], made: Made, seen: &Seen) -> Told {
@@ -244,9 +331,10 @@ fn expected(held: &[Made], made: Made, seen: &Seen) -> Told {
 
 fn expected_next(held: &[Made], seen: &Seen) -> Option<OpName> {
     let mut next: Option<OpName> = None;
+    let mut least = u16::MAX;
     for made in held {
-        let least = next.map_or(u16::MAX, |name| name.origin);
         if may_go(*made, seen) && made.name.origin <= least {
+            least = made.name.origin;
             next = Some(made.name);
         }
     }
@@ -273,6 +361,14 @@ impl Cases {
         };
         *count = count.saturating_add(1);
         self.released = self.released.saturating_add(u64::from(next.is_some()));
+    }
+
+    fn are_many(&self) -> bool {
+        self.ready >= 30
+            && self.held >= 30
+            && self.repeated >= 30
+            && self.refused >= 30
+            && self.released >= 30
     }
 }
 
@@ -345,10 +441,22 @@ impl Pair {
     }
 }
 
+const OFFERS: u64 = 500;
+
+/// How many offers go as in the list, before the first that does not.
+fn count_played(alloc: Global, cases: &mut Cases) -> Result<u64, Refusal> {
+    let mut dice = Dice::new(1);
+    let mut pair = Pair::new(alloc)?;
+    for offer in 0..OFFERS {
+        if !pair.play(alloc, &mut dice, cases)? {
+            return Ok(offer);
+        }
+    }
+    Ok(OFFERS)
+}
+
 #[test]
 fn a_hold_is_a_filter_of_a_list(rt: HostRuntime) -> Result<(), Fail> {
-    let mut dice = Dice::new(1);
-    let mut pair = Pair::new(rt.alloc())?;
     let mut cases = Cases {
         ready: 0,
         held: 0,
@@ -356,20 +464,11 @@ fn a_hold_is_a_filter_of_a_list(rt: HostRuntime) -> Result<(), Fail> {
         refused: 0,
         released: 0,
     };
-    for offer in 0..500u64 {
-        assert!(rt;
-            pair.play(rt.alloc(), &mut dice, &mut cases)?,
-            "offer {offer}"
-        );
-    }
-    for count in [
-        cases.ready,
-        cases.held,
-        cases.repeated,
-        cases.refused,
-        cases.released,
-    ] {
-        assert!(rt; count >= 30, "{count} offers");
-    }
+    let count = count_played(rt.alloc(), &mut cases)?;
+    assert!(rt; count == OFFERS, "not offer {count}");
+    assert!(rt;
+        cases.are_many(),
+        "some case came up in fewer than 30 offers"
+    );
     Ok(())
 }

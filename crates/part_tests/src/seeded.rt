@@ -162,19 +162,32 @@ impl Pair {
     }
 }
 
+const CHANGES: u64 = 300;
+
+/// How many changes leave the two the same, before the first that does not.
+fn count_same(alloc: Global, pair: &mut Pair) -> Result<u64, Refusal> {
+    let mut dice = Dice::new(27);
+    for change in 0..CHANGES {
+        if !pair.change(alloc, &mut dice)? || !pair.is_same(alloc)? {
+            return Ok(change);
+        }
+    }
+    Ok(CHANGES)
+}
+
 #[test]
 fn three_authors_write_and_erase(rt: HostRuntime) -> Result<(), Fail> {
-    let mut dice = Dice::new(27);
     let mut pair = Pair::new(rt.alloc());
-    for step in 0..300u64 {
-        assert!(rt; pair.change(rt.alloc(), &mut dice)?, "change {step}");
-        assert!(rt; pair.is_same(rt.alloc())?, "after change {step}");
-    }
-    let cases = pair.cases;
-    let shares = (cases.inserts, cases.deletes, cases.joins);
-    assert!(rt; cases.inserts >= 150, "{shares:?}");
-    assert!(rt; cases.deletes >= 90, "{shares:?}");
-    assert!(rt; cases.joins >= 10, "{shares:?}");
+    let count = count_same(rt.alloc(), &mut pair)?;
+    assert!(rt; count == CHANGES, "not change {count}");
+    let Cases {
+        inserts,
+        deletes,
+        joins,
+    } = pair.cases;
+    assert!(rt; inserts >= 150, "{inserts}");
+    assert!(rt; deletes >= 90, "{deletes}");
+    assert!(rt; joins >= 10, "{joins}");
     assert!(rt; pair.list.len() >= 50, "{}", pair.list.len());
     Ok(())
 }

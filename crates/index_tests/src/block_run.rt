@@ -15,7 +15,7 @@ fn any_stamp(dice: &mut Dice) -> Result<Stamp, Refusal> {
     Stamp::new(1 + dice.roll(500), 1 + dice.roll(3) as u16)
 }
 
-#[derive(Clone, Copy, Debug)]
+#[derive(Clone, Copy)]
 struct Block {
     first: Stamp,
     entry: Entry,
@@ -77,10 +77,7 @@ impl Both {
         let Block { first, entry } = block;
         assert!(rt; 1 <= entry.len && entry.len <= 8 && first.counter() <= 500);
         let is_new = add_if_new(&mut self.index, first, entry)?;
-        assert_eq!(rt;
-            is_new,
-            !self.list.iter().any(|other| other.overlaps(&block))
-        );
+        assert!(rt; is_new == !self.list.iter().any(|other| other.overlaps(&block)));
         if is_new {
             self.list.push(block)?;
         }
@@ -89,13 +86,13 @@ impl Both {
 
     fn locate(&self, rt: &impl Abort, stamp: Stamp) -> bool {
         let place = self.list.iter().find_map(|block| block.place_of(stamp));
-        assert_eq!(rt; self.index.locate(stamp), place);
+        assert!(rt; self.index.locate(stamp) == place);
         place.is_some()
     }
 
     fn get(&self, rt: &impl Abort, first: Stamp) -> bool {
         let block = self.list.iter().find(|block| block.first == first);
-        assert_eq!(rt; self.index.get(first), block.map(|block| block.entry));
+        assert!(rt; self.index.get(first) == block.map(|block| block.entry));
         block.is_some()
     }
 
@@ -142,7 +139,7 @@ impl Both {
 
     fn remove(&mut self, rt: &impl Abort, first: Stamp) -> bool {
         let at = self.at(first);
-        assert_eq!(rt; self.index.remove(first), at.is_some());
+        assert!(rt; self.index.remove(first) == at.is_some());
         if let Some(at) = at {
             self.list.swap_remove(at);
         }
@@ -150,7 +147,7 @@ impl Both {
     }
 
     fn len(&self, rt: &impl Abort) -> bool {
-        assert_eq!(rt; self.index.len(), self.list.len());
+        assert!(rt; self.index.len() == self.list.len());
         self.index.len() > 0
     }
 

@@ -36,12 +36,12 @@ fn a_cut_gives_the_right_part_its_own_place(rt: HostRuntime) -> Result<(), Fail>
     let first = stamp(1, 1)?;
     let (second, third, sixth) = (stamp(2, 1)?, stamp(3, 1)?, stamp(6, 1)?);
     let mut index = five_characters(rt.alloc())?;
-    assert_eq!(rt; index.locate(third), at(first, 2, 100));
+    assert!(rt; index.locate(third) == at(first, 2, 100));
     index.cut(first, 2, 150)?;
-    assert_eq!(rt; index.locate(third), at(third, 0, 150));
-    assert_eq!(rt; index.locate(second), at(first, 1, 100));
-    assert_eq!(rt; index.locate(sixth), None);
-    assert_eq!(rt; index.len(), 2);
+    assert!(rt; index.locate(third) == at(third, 0, 150));
+    assert!(rt; index.locate(second) == at(first, 1, 100));
+    assert!(rt; index.locate(sixth).is_none());
+    assert!(rt; index.len() == 2);
     Ok(())
 }
 
@@ -52,7 +52,7 @@ fn a_block_is_taken_away_once(rt: HostRuntime) -> Result<(), Fail> {
     assert!(rt; !index.remove(second));
     assert!(rt; index.remove(first));
     assert!(rt; !index.remove(first));
-    assert_eq!(rt; index.locate(first), None);
+    assert!(rt; index.locate(first).is_none());
     Ok(())
 }
 
@@ -62,8 +62,8 @@ fn a_label_is_changed_and_the_length_is_not(rt: HostRuntime) -> Result<(), Fail>
     let fifth = stamp(5, 1)?;
     let mut index = five_characters(rt.alloc())?;
     index.relabel(first, 7);
-    assert_eq!(rt; index.get(first), Some(Entry { len: 5, label: 7 }));
-    assert_eq!(rt; index.locate(fifth), at(first, 4, 7));
+    assert!(rt; index.get(first) == Some(Entry { len: 5, label: 7 }));
+    assert!(rt; index.locate(fifth) == at(first, 4, 7));
     Ok(())
 }
 
@@ -80,16 +80,16 @@ fn replicas_with_equal_counters_do_not_meet(rt: HostRuntime) -> Result<(), Fail>
     let mut index = five_characters(rt.alloc())?;
     index.add(other, 3, 200)?;
     for (stamp, place) in cases {
-        assert_eq!(rt; index.locate(stamp), place);
+        assert!(rt; index.locate(stamp) == place);
     }
     Ok(())
 }
 
 #[test]
 fn labels_lie_halfway_and_evenly(rt: HostRuntime) {
-    assert_eq!(rt; between(100, 150), Some(125));
-    assert_eq!(rt; between(100, 102), Some(101));
-    assert_eq!(rt; between(100, 101), None);
-    assert_eq!(rt; spaced(1, 1), 9_223_372_036_854_775_807);
-    assert_eq!(rt; spaced(2, 3), 9_223_372_036_854_775_806);
+    assert!(rt; between(100, 150) == Some(125));
+    assert!(rt; between(100, 102) == Some(101));
+    assert!(rt; between(100, 101).is_none());
+    assert!(rt; spaced(1, 1) == 9_223_372_036_854_775_807);
+    assert!(rt; spaced(2, 3) == 9_223_372_036_854_775_806);
 }

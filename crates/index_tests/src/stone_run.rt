@@ -39,7 +39,7 @@ impl Both {
     fn rank_of(&self, rt: &impl Abort, number: u64) -> usize {
         let rank = self.list.partition_point(|stone| stone.number < number);
         let placed = self.tree.rank_by(|stone| stone.number.cmp(&number));
-        assert_eq!(rt; placed.rank, rank);
+        assert!(rt; placed.rank == rank);
         rank
     }
 
@@ -60,49 +60,43 @@ impl Both {
             weight,
         };
         self.list[rank] = new;
-        assert_eq!(rt; self.tree.replace(rank, new), old);
+        assert!(rt; self.tree.replace(rank, new) == old);
     }
 
     fn get(&self, rt: &impl Abort, rank: usize) {
         assert!(rt; rank < self.tree.len());
-        assert_eq!(rt; Some(self.tree.get(rank)), self.list.get(rank));
+        assert!(rt; Some(self.tree.get(rank)) == self.list.get(rank));
     }
 
     fn before(&self, rt: &impl Abort, rank: usize) {
         assert!(rt; rank <= self.tree.len());
-        assert_eq!(rt;
-            self.tree.before(rank),
-            weight_of(self.list.as_slice(), rank)
-        );
+        assert!(rt; self.tree.before(rank) == weight_of(self.list.as_slice(), rank));
     }
 
     // Whether the number falls in a stone.
     fn find(&self, rt: &impl Abort, number: u64) -> bool {
         let walked = walk_to(self.list.as_slice(), number);
         match self.tree.find(number) {
-            None => assert_eq!(rt; walked, None),
-            Some(Found { rank, offset, .. }) => assert_eq!(rt; walked, Some((rank, offset))),
+            None => assert!(rt; walked.is_none()),
+            Some(Found { rank, offset, .. }) => assert!(rt; walked == Some((rank, offset))),
         }
         walked.is_some()
     }
 
     fn weight(&self, rt: &impl Abort) {
-        assert_eq!(rt;
-            self.tree.weight(),
-            weight_of(self.list.as_slice(), self.list.len())
-        );
+        assert!(rt; self.tree.weight() == weight_of(self.list.as_slice(), self.list.len()));
     }
 
     fn len(&self, rt: &impl Abort) {
-        assert_eq!(rt; self.tree.len(), self.list.len());
+        assert!(rt; self.tree.len() == self.list.len());
     }
 
     fn items(&self, rt: &impl Abort) {
         let mut stones = self.tree.iter();
         for other in self.list.iter() {
-            assert_eq!(rt; stones.next(), Some(other));
+            assert!(rt; stones.next() == Some(other));
         }
-        assert_eq!(rt; stones.next(), None);
+        assert!(rt; stones.next().is_none());
     }
 
     // Does an operation of a kind from 0 to 9, and says whether it found what it looked for, which a

@@ -21,12 +21,12 @@ fn place_of(tree: &WeightTree<Stone>, number: u64) -> Option<(usize, u64)> {
 }
 
 fn sums_are_those_of_three(rt: &impl Abort, tree: &WeightTree<Stone>) {
-    assert_eq!(rt; tree.len(), 3);
-    assert_eq!(rt; tree.weight(), 10);
-    assert_eq!(rt; tree.before(2), 7);
-    assert_eq!(rt; tree.get(1).number, 1);
+    assert!(rt; tree.len() == 3);
+    assert!(rt; tree.weight() == 10);
+    assert!(rt; tree.before(2) == 7);
+    assert!(rt; tree.get(1).number == 1);
     for (number, place) in [(5, Some((1, 0))), (9, Some((2, 2))), (10, None)] {
-        assert_eq!(rt; place_of(tree, number), place);
+        assert!(rt; place_of(tree, number) == place);
     }
 }
 
@@ -40,16 +40,16 @@ fn sums_of_three_stones(rt: HostRuntime) -> Result<(), Fail> {
 
 #[tactic(auto, using(weight_tree::proofs::CallerLemmas::sum_replaced_le))]
 fn loses_its_middle(rt: &impl Abort, tree: &mut WeightTree<Stone>) {
-    assert_eq!(rt; tree.len(), 3);
-    assert_eq!(rt; tree.weight(), 10);
+    assert!(rt; tree.len() == 3);
+    assert!(rt; tree.weight() == 10);
     let weightless = Stone {
         number: 7,
         weight: 0,
     };
     let old = tree.replace(1, weightless);
-    assert_eq!(rt; old.number, 1);
-    assert_eq!(rt; tree.weight(), 8);
-    assert_eq!(rt; place_of(tree, 5), Some((2, 0)));
+    assert!(rt; old.number == 1);
+    assert!(rt; tree.weight() == 8);
+    assert!(rt; place_of(tree, 5) == Some((2, 0)));
 }
 
 #[test]
@@ -64,13 +64,13 @@ fn weightless_stone_is_not_found(rt: HostRuntime) -> Result<(), Fail> {
 fn empty_tree_is_flat(rt: HostRuntime) {
     let tree: WeightTree<Stone> = WeightTree::default();
     assert!(rt; tree.is_empty());
-    assert_eq!(rt; tree.height(), 0);
-    assert_eq!(rt; tree.find(0), None);
-    assert_eq!(rt; tree.iter().count(), 0);
+    assert!(rt; tree.height() == 0);
+    assert!(rt; tree.find(0).is_none());
+    assert!(rt; tree.iter().count() == 0);
 }
 
 // Stones of weight 1, each put at the end, at the front or in the middle of those before it.
-#[derive(Clone, Copy, Debug)]
+#[derive(Clone, Copy)]
 enum Way {
     End,
     Front,
@@ -103,7 +103,7 @@ fn finds_each(rt: &impl Abort, tree: &WeightTree<Stone>) {
         let Some(found) = tree.find(number) else {
             panic!(rt; "{number} is not found");
         };
-        assert_eq!(rt; found.rank as u64, number);
+        assert!(rt; found.rank as u64 == number);
         assert!(rt; found.visits <= height, "{} visits", found.visits);
     }
 }
@@ -126,8 +126,8 @@ fn goes_down_one_side(rt: &impl Abort, tree: &WeightTree<Stone>) {
         (Ordering::Greater, 0),
     ] {
         let (placed, calls) = place_and_calls(tree, answer);
-        assert_eq!(rt; placed.rank, rank);
-        assert_eq!(rt; placed.visits, calls);
+        assert!(rt; placed.rank == rank);
+        assert!(rt; placed.visits == calls);
         assert!(rt; calls <= tree.height(), "{calls} calls");
     }
 }
@@ -154,8 +154,8 @@ fn walks_to(rt: &impl Abort, tree: &WeightTree<Stone>, number: u64) {
         calls = calls.wrapping_add(1);
         stone.number.cmp(&number)
     });
-    assert_eq!(rt; placed.rank as u64, number);
-    assert_eq!(rt; placed.visits, calls);
+    assert!(rt; placed.rank as u64 == number);
+    assert!(rt; placed.visits == calls);
     assert!(rt; calls <= tree.height());
 }
 
@@ -174,7 +174,7 @@ fn count_by_rank(rt: &impl Abort, tree: &WeightTree<Stone>) -> usize {
     let mut rank: usize = 0;
     for stone in tree.iter() {
         assert!(rt; rank < tree.len());
-        assert_eq!(rt; stone.number, tree.get(rank).number);
+        assert!(rt; stone.number == tree.get(rank).number);
         rank += 1;
     }
     rank
@@ -184,6 +184,6 @@ fn count_by_rank(rt: &impl Abort, tree: &WeightTree<Stone>) -> usize {
 fn iter_goes_by_rank(rt: HostRuntime) -> Result<(), Fail> {
     let mut tree = WeightTree::new();
     put_many(&rt, rt.alloc(), &mut tree, 3000, Way::Middle)?;
-    assert_eq!(rt; count_by_rank(&rt, &tree), 3000);
+    assert!(rt; count_by_rank(&rt, &tree) == 3000);
     Ok(())
 }

@@ -25,7 +25,7 @@ fn shown<R: Source>(alloc: Global, source: &mut R) -> Result<Vec<u8>, Fault> {
     Ok(out)
 }
 
-const FORMS: [(&str, &str); 10] = [
+const FORMS: &[(&str, &str)] = &[
     ("", ""),
     ("\n", "|"),
     ("a\nbc\n", "a|bc|"),
@@ -38,13 +38,25 @@ const FORMS: [(&str, &str); 10] = [
     ("a\n\r", "a|\r|"),
 ];
 
+// Whether the lines of a source are these.
+fn shows<R: Source>(alloc: Global, source: &mut R, lines: &[u8]) -> Result<bool, Fault> {
+    let found = shown(alloc, source)?;
+    Ok(found.as_slice() == lines)
+}
+
+// How long what is shown of a source is.
+fn count_shown<R: Source>(alloc: Global, source: &mut R) -> Result<usize, Fault> {
+    let found = shown(alloc, source)?;
+    Ok(found.len())
+}
+
 #[test]
 fn line_forms(rt: HostRuntime) -> Result<(), Fail> {
     for (input, lines) in FORMS {
         for piece in 1..4 {
             let mut source = Input::new(input.as_bytes()).in_pieces(piece);
-            let found = shown(rt.alloc(), &mut source)?;
-            assert_eq!(rt; found.as_slice(), lines.as_bytes(), "{input:?} by {piece}");
+            let is_so = shows(rt.alloc(), &mut source, lines.as_bytes())?;
+            assert!(rt; is_so, "{input} by {piece}");
         }
     }
     Ok(())
@@ -53,93 +65,105 @@ fn line_forms(rt: HostRuntime) -> Result<(), Fail> {
 // Two lines of a session, and what comes of them where they are cut behind so many bytes.
 const SESSION: &[u8] = b"{\"do\":\"create\",\"pad\":\"p\"}\r\n{\"do\":\"text\",\"pad\":\"p\"}\n";
 
-const FIRST: &[u8] = b"{\"do\":\"create\",\"pad\":\"p\"}|";
-
-const SECOND: &[u8] = b"{\"do\":\"text\",\"pad\":\"p\"}|";
+const BOTH: &[u8] = b"{\"do\":\"create\",\"pad\":\"p\"}|{\"do\":\"text\",\"pad\":\"p\"}|";
 
 #[test]
 fn lines_cut_after_each_byte(rt: HostRuntime) -> Result<(), Fail> {
     for cut in 1..=SESSION.len() {
         let mut source = Input::new(&SESSION[..cut]);
-        let found = shown(rt.alloc(), &mut source)?;
+        let found = count_shown(rt.alloc(), &mut source)?;
         let length = match cut {
             ..27 => cut + 1,
             27 => 26,
             28..51 => cut,
             _ => 50,
         };
-        assert_eq!(rt; found.len(), length, "cut behind {cut}");
+        assert!(rt; found == length, "cut behind {cut}");
     }
     Ok(())
 }
 
 #[test]
 fn lines_by_bytes_and_with_interrupts(rt: HostRuntime) -> Result<(), Fail> {
-    let mut all = FIRST.to_vec(rt.alloc())?;
-    all.extend_from_slice(SECOND)?;
     for piece in 1..60 {
         let mut source = Input::new(SESSION).in_pieces(piece).interrupted();
-        let found = shown(rt.alloc(), &mut source)?;
-        assert_eq!(rt; found, all, "by {piece}");
+        assert!(rt; shows(rt.alloc(), &mut source, BOTH)?, "by {piece}");
     }
     Ok(())
 }
 
 // A read that fails: the lines whose line feed was read are served, then the fault, again and again.
+const FAILED_READS: &[(u64, &str)] = &[(1, "???"), (2, "ab|???"), (3, "ab|???"), (4, "ab|c|")];
+
 #[test]
 fn a_read_that_fails(rt: HostRuntime) -> Result<(), Fail> {
-    for (call, lines) in [(1, "???"), (2, "ab|???"), (3, "ab|???"), (4, "ab|c|")] {
-        let mut source = Input::new(b"ab\nc").in_pieces(3).failing_at(call);
-        let found = shown(rt.alloc(), &mut source)?;
-        assert_eq!(rt; found.as_slice(), lines.as_bytes(), "at {call}");
+    for (call, lines) in FAILED_READS {
+        let mut source = Input::new(b"ab\nc").in_pieces(3).failing_at(*call);
+        assert!(rt;
+            shows(rt.alloc(), &mut source, lines.as_bytes())?,
+            "at {call}"
+        );
     }
     Ok(())
 }
 
 // The longest line is served, one byte more is not, with a line feed behind it or without; nothing follows.
+const LONG: &[(usize, &[u8], usize)] = &[
+    (MAX_LINE, b"", MAX_LINE + 1),
+    (MAX_LINE, b"\nx", MAX_LINE + 3),
+    (MAX_LINE - 1, b"\r\nx", MAX_LINE + 2),
+    (MAX_LINE, b"\r\nx", 3),
+    (MAX_LINE + 1, b"", 3),
+    (MAX_LINE + 1, b"\nx", 3),
+];
+
+// How long what is shown of so many letters and an end is.
+fn count_of_long(alloc: Global, length: usize, end: &[u8]) -> Result<usize, Fail> {
+    let mut bytes = vec![in alloc; b'a'; length]?;
+    bytes.extend_from_slice(end)?;
+    Ok(count_shown(alloc, &mut Input::new(&bytes))?)
+}
+
 #[test]
 fn the_longest_line(rt: HostRuntime) -> Result<(), Fail> {
-    for (length, end, lines) in [
-        (MAX_LINE, &b""[..], MAX_LINE + 1),
-        (MAX_LINE, b"\nx", MAX_LINE + 3),
-        (MAX_LINE - 1, b"\r\nx", MAX_LINE + 2),
-        (MAX_LINE, b"\r\nx", 3),
-        (MAX_LINE + 1, b"", 3),
-        (MAX_LINE + 1, b"\nx", 3),
-    ] {
-        let mut bytes = vec![in rt.alloc(); b'a'; length]?;
-        bytes.extend_from_slice(end)?;
-        let found = shown(rt.alloc(), &mut Input::new(&bytes))?;
-        assert_eq!(rt; found.len(), lines);
+    for (length, end, lines) in LONG {
+        assert!(rt;
+            count_of_long(rt.alloc(), *length, end)? == *lines,
+            "{length} letters, wanted {lines}"
+        );
     }
     Ok(())
 }
 
-#[test]
-fn what_is_written(rt: HostRuntime) -> Result<(), Fail> {
-    let whole: Result<(), Fault> = Ok(());
-    for (output, fault, written) in [
-        (Output::new(rt.alloc()), whole, "0123456789abc\n"),
-        (
-            Output::new(rt.alloc()).in_pieces(1),
-            whole,
-            "0123456789abc\n",
-        ),
-        (
-            Output::new(rt.alloc()).in_pieces(10).failing_at(2),
-            Err(Fault::WriteFault),
-            "0123456789",
-        ),
-        (
-            Output::new(rt.alloc()).in_pieces(0),
-            Err(Fault::WriteFault),
-            "",
-        ),
-    ] {
-        let mut output = output;
-        let answer = write_all(&mut output, b"0123456789abc\n");
-        assert_eq!(rt; answer, fault);
-        assert_eq!(rt; output.bytes(), written.as_bytes());
+/// How much a writer takes at a time, where not all, the call at which it fails, if any, what comes of it, and what it took.
+type Written = (Option<usize>, Option<u64>, Result<(), Fault>, &'static str);
+
+const WRITTEN: &[Written] = &[
+    (None, None, Ok(()), "0123456789abc\n"),
+    (Some(1), None, Ok(()), "0123456789abc\n"),
+    (Some(10), Some(2), Err(Fault::WriteFault), "0123456789"),
+    (Some(0), None, Err(Fault::WriteFault), ""),
+];
+
+fn output_of(alloc: Global, piece: Option<usize>, call: Option<u64>) -> Output {
+    let output = Output::new(alloc);
+    match (piece, call) {
+        (Some(piece), Some(call)) => output.in_pieces(piece).failing_at(call),
+        (Some(piece), None) => output.in_pieces(piece),
+        (None, Some(call)) => output.failing_at(call),
+        (None, None) => output,
     }
-    Ok(())
+}
+
+fn writes(output: &mut Output, fault: Result<(), Fault>, written: &str) -> bool {
+    let answer = write_all(output, b"0123456789abc\n");
+    answer == fault && output.bytes() == written.as_bytes()
+}
+
+#[test]
+fn what_is_written(rt: HostRuntime) {
+    for (piece, call, fault, written) in WRITTEN {
+        let mut output = output_of(rt.alloc(), *piece, *call);
+        assert!(rt; writes(&mut output, *fault, written), "{written}");
+    }
 }

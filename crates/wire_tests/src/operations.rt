@@ -6,7 +6,7 @@ use std::test::Fail;
 use wire_json::{op_value, read_op};
 
 /// Operations in their forms.
-const OPERATIONS: [&str; 6] = [
+const OPERATIONS: &[&str] = &[
     r#"{"author":"ann","kind":"delete","name":[1,2],"seen":[],"spans":[[2,1,2]]}"#,
     r#"{"after":[2,1],"author":"bob","first":[5,2],"kind":"insert","name":[2,1],"seen":[[1,1]],"text":"X"}"#,
     r#"{"after":null,"author":"bob","first":[1,2],"kind":"insert","name":[2,1],"seen":[],"text":"\"\\\u0000\n"}"#,
@@ -16,7 +16,7 @@ const OPERATIONS: [&str; 6] = [
 ];
 
 /// Operations in their forms that break a limit.
-const BEYOND_LIMITS: [&str; 3] = [
+const BEYOND_LIMITS: &[&str] = &[
     r#"{"author":"solo","kind":"edit","name":[1,2],"parts":[],"seen":[]}"#,
     r#"{"after":null,"author":"","first":[281474976710656,3],"kind":"insert","name":[2,200001],"seen":[[2,1]],"text":""}"#,
     r#"{"author":"ann","kind":"delete","name":[1,18446744073709551615],"seen":[],"spans":[[2,1,0]]}"#,
@@ -47,10 +47,10 @@ fn again(alloc: Global, text: &str) -> Result<(bool, bool), Refusal> {
 #[test]
 fn operations_are_read_as_written(rt: HostRuntime) -> Result<(), Fail> {
     for text in OPERATIONS {
-        assert_eq!(rt; again(rt.alloc(), text)?, (true, true), "{text}");
+        assert!(rt; again(rt.alloc(), text)? == (true, true), "{text}");
     }
     for text in BEYOND_LIMITS {
-        assert_eq!(rt; again(rt.alloc(), text)?, (true, false), "{text}");
+        assert!(rt; again(rt.alloc(), text)? == (true, false), "{text}");
     }
     Ok(())
 }

@@ -36,6 +36,11 @@ fn line_of(alloc: Global, told: Told) -> Result<String, Refusal> {
     reply_line(alloc, &reply_of(alloc, told))
 }
 
+fn is_line(alloc: Global, told: Told, want: &str) -> Result<bool, Refusal> {
+    let line = line_of(alloc, told)?;
+    Ok(line.as_str() == want)
+}
+
 fn reply_of(alloc: Global, told: Told) -> Result<Reply, Refusal> {
     match told {
         Told::Hello => hello(alloc),
@@ -217,121 +222,126 @@ fn pulled_told(alloc: Global) -> Result<PadReply, Refusal> {
     Ok(PadReply::Pulled { now: 2, ops })
 }
 
+const SESSIONS: &[(Told, &str)] = &[
+    (Told::Hello, "{\"author\":\"ann@1\",\"ok\":true}\n"),
+    (
+        Told::Peer(300, Version::Two),
+        "{\"ok\":true,\"replica\":300,\"version\":2}\n",
+    ),
+    (Told::Peer(1, Version::One), "{\"ok\":true,\"replica\":1}\n"),
+    (Told::Ended, "{\"ok\":true}\n"),
+    (
+        Told::Refused(Refusal::NotRequest),
+        "{\"code\":102,\"error\":\"NotRequest\",\"ok\":false}\n",
+    ),
+    (
+        Told::Refused(Refusal::OldPeer),
+        "{\"code\":405,\"error\":\"OldPeer\",\"ok\":false}\n",
+    ),
+    (
+        Told::Refused(Refusal::Memory),
+        "{\"code\":900,\"error\":\"Memory\",\"ok\":false}\n",
+    ),
+];
+
 #[test]
 fn sessions_and_refusals_are_written(rt: HostRuntime) -> Result<(), Fail> {
-    let cases = [
-        (Told::Hello, "{\"author\":\"ann@1\",\"ok\":true}\n"),
-        (
-            Told::Peer(300, Version::Two),
-            "{\"ok\":true,\"replica\":300,\"version\":2}\n",
-        ),
-        (Told::Peer(1, Version::One), "{\"ok\":true,\"replica\":1}\n"),
-        (Told::Ended, "{\"ok\":true}\n"),
-        (
-            Told::Refused(Refusal::NotRequest),
-            "{\"code\":102,\"error\":\"NotRequest\",\"ok\":false}\n",
-        ),
-        (
-            Told::Refused(Refusal::OldPeer),
-            "{\"code\":405,\"error\":\"OldPeer\",\"ok\":false}\n",
-        ),
-        (
-            Told::Refused(Refusal::Memory),
-            "{\"code\":900,\"error\":\"Memory\",\"ok\":false}\n",
-        ),
-    ];
-    for (told, line) in cases {
-        assert!(rt; line_of(rt.alloc(), told)?.as_str() == line, "{line}");
+    for (told, line) in SESSIONS {
+        assert!(rt; is_line(rt.alloc(), *told, line)?, "{line}");
     }
     Ok(())
 }
+
+const ACTS: &[(Told, &str)] = &[
+    (Told::Elsewhere, "{\"ok\":true}\n"),
+    (Told::Joined, "{\"now\":0,\"ok\":true,\"visit\":1}\n"),
+    (Told::Done, "{\"now\":18446744073709551615,\"ok\":true}\n"),
+    (Told::Made, "{\"name\":[1,2],\"now\":2,\"ok\":true}\n"),
+    (
+        Told::Changed,
+        "{\"hidden\":3,\"name\":[1,2],\"now\":2,\"ok\":true}\n",
+    ),
+    (
+        Told::Revs,
+        "{\"cells\":5,\"length\":4,\"now\":1,\"ok\":true}\n",
+    ),
+    (
+        Told::Pushed(Pushed::Held, 0, 0),
+        "{\"dropped\":0,\"now\":2,\"ok\":true,\"released\":0,\"state\":\"held\"}\n",
+    ),
+    (
+        Told::Pushed(Pushed::Delivered, 1, 7),
+        "{\"dropped\":7,\"now\":2,\"ok\":true,\"released\":1,\"state\":\"delivered\"}\n",
+    ),
+    (
+        Told::Pushed(Pushed::Repeat, 0, 0),
+        "{\"dropped\":0,\"now\":2,\"ok\":true,\"released\":0,\"state\":\"repeat\"}\n",
+    ),
+];
 
 #[test]
 fn acts_are_answered(rt: HostRuntime) -> Result<(), Fail> {
-    let cases = [
-        (Told::Elsewhere, "{\"ok\":true}\n"),
-        (Told::Joined, "{\"now\":0,\"ok\":true,\"visit\":1}\n"),
-        (Told::Done, "{\"now\":18446744073709551615,\"ok\":true}\n"),
-        (Told::Made, "{\"name\":[1,2],\"now\":2,\"ok\":true}\n"),
-        (
-            Told::Changed,
-            "{\"hidden\":3,\"name\":[1,2],\"now\":2,\"ok\":true}\n",
-        ),
-        (
-            Told::Revs,
-            "{\"cells\":5,\"length\":4,\"now\":1,\"ok\":true}\n",
-        ),
-        (
-            Told::Pushed(Pushed::Held, 0, 0),
-            "{\"dropped\":0,\"now\":2,\"ok\":true,\"released\":0,\"state\":\"held\"}\n",
-        ),
-        (
-            Told::Pushed(Pushed::Delivered, 1, 7),
-            "{\"dropped\":7,\"now\":2,\"ok\":true,\"released\":1,\"state\":\"delivered\"}\n",
-        ),
-        (
-            Told::Pushed(Pushed::Repeat, 0, 0),
-            "{\"dropped\":0,\"now\":2,\"ok\":true,\"released\":0,\"state\":\"repeat\"}\n",
-        ),
-    ];
-    for (told, line) in cases {
-        assert!(rt; line_of(rt.alloc(), told)?.as_str() == line, "{line}");
+    for (told, line) in ACTS {
+        assert!(rt; is_line(rt.alloc(), *told, line)?, "{line}");
     }
     Ok(())
 }
+
+const ESCAPED: &str =
+    "{\"now\":3,\"ok\":true,\"rev\":1,\"text\":\"he\\\"\\\\/\\n\\u0001\u{7f}\u{2028}😀\"}\n";
 
 #[test]
 fn texts_are_escaped(rt: HostRuntime) -> Result<(), Fail> {
-    let line =
-        "{\"now\":3,\"ok\":true,\"rev\":1,\"text\":\"he\\\"\\\\/\\n\\u0001\u{7f}\u{2028}😀\"}\n";
-    assert!(rt; line_of(rt.alloc(), Told::Text)?.as_str() == line);
+    assert!(rt; is_line(rt.alloc(), Told::Text, ESCAPED)?);
     Ok(())
 }
 
+const WITH_AUTHORS: &[(Told, &str)] = &[
+    (
+        Told::Runs,
+        "{\"now\":2,\"ok\":true,\"rev\":2,\"runs\":[[\"bob@65535\",3],[\"ann@1\",2]]}\n",
+    ),
+    (
+        Told::Comments,
+        "{\"comments\":[{\"at\":0,\"author\":\"bob@65535\",\"len\":7,\"name\":[1,3],\"resolved\":false,\"text\":\"c\"}],\"now\":5,\"ok\":true,\"rev\":4}\n",
+    ),
+    (
+        Told::Who,
+        "{\"now\":1,\"ok\":true,\"who\":[{\"author\":\"ann@1\",\"caret\":2,\"visit\":1}]}\n",
+    ),
+];
+
 #[test]
 fn authors_are_shown_with_their_server(rt: HostRuntime) -> Result<(), Fail> {
-    let cases = [
-        (
-            Told::Runs,
-            "{\"now\":2,\"ok\":true,\"rev\":2,\"runs\":[[\"bob@65535\",3],[\"ann@1\",2]]}\n",
-        ),
-        (
-            Told::Comments,
-            "{\"comments\":[{\"at\":0,\"author\":\"bob@65535\",\"len\":7,\"name\":[1,3],\"resolved\":false,\"text\":\"c\"}],\"now\":5,\"ok\":true,\"rev\":4}\n",
-        ),
-        (
-            Told::Who,
-            "{\"now\":1,\"ok\":true,\"who\":[{\"author\":\"ann@1\",\"caret\":2,\"visit\":1}]}\n",
-        ),
-    ];
-    for (told, line) in cases {
-        assert!(rt; line_of(rt.alloc(), told)?.as_str() == line, "{line}");
+    for (told, line) in WITH_AUTHORS {
+        assert!(rt; is_line(rt.alloc(), *told, line)?, "{line}");
     }
     Ok(())
 }
 
+const LISTS: &[(Told, &str)] = &[
+    (
+        Told::Entries,
+        "{\"entries\":[{\"author\":\"ann@1\",\"kind\":\"insert\",\"name\":[1,1],\"rev\":1},{\"author\":\"bob@1\",\"kind\":\"edit\",\"name\":[1,2],\"rev\":2}],\"now\":2,\"ok\":true}\n",
+    ),
+    (
+        Told::Rights,
+        "{\"now\":2,\"ok\":true,\"rights\":[[\"ann\",\"own\"],[\"bob\",\"comment\"]]}\n",
+    ),
+    (
+        Told::Vector,
+        "{\"now\":2,\"ok\":true,\"seen\":[[1,2],[300,1]]}\n",
+    ),
+    (
+        Told::Pulled,
+        "{\"now\":2,\"ok\":true,\"ops\":[{\"author\":\"ann\",\"kind\":\"delete\",\"name\":[1,2],\"seen\":[],\"spans\":[[2,1,2]]}]}\n",
+    ),
+];
+
 #[test]
 fn lists_are_written(rt: HostRuntime) -> Result<(), Fail> {
-    let cases = [
-        (
-            Told::Entries,
-            "{\"entries\":[{\"author\":\"ann@1\",\"kind\":\"insert\",\"name\":[1,1],\"rev\":1},{\"author\":\"bob@1\",\"kind\":\"edit\",\"name\":[1,2],\"rev\":2}],\"now\":2,\"ok\":true}\n",
-        ),
-        (
-            Told::Rights,
-            "{\"now\":2,\"ok\":true,\"rights\":[[\"ann\",\"own\"],[\"bob\",\"comment\"]]}\n",
-        ),
-        (
-            Told::Vector,
-            "{\"now\":2,\"ok\":true,\"seen\":[[1,2],[300,1]]}\n",
-        ),
-        (
-            Told::Pulled,
-            "{\"now\":2,\"ok\":true,\"ops\":[{\"author\":\"ann\",\"kind\":\"delete\",\"name\":[1,2],\"seen\":[],\"spans\":[[2,1,2]]}]}\n",
-        ),
-    ];
-    for (told, line) in cases {
-        assert!(rt; line_of(rt.alloc(), told)?.as_str() == line, "{line}");
+    for (told, line) in LISTS {
+        assert!(rt; is_line(rt.alloc(), *told, line)?, "{line}");
     }
     Ok(())
 }

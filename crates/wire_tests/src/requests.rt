@@ -4,7 +4,7 @@ use std::alloc::{AllocError, Global};
 use std::test::Fail;
 use wire_json::read_request;
 
-const REQUESTS: [(&str, &str); 32] = [
+const REQUESTS: &[(&str, &str)] = &[
     (
         r#"{"do":"hello","name":"ann","token":"t1"}"#,
         "Hello { name: Name { text: \"ann\" }, token: Word { text: \"t1\" } }",
@@ -143,11 +143,15 @@ fn shown(alloc: Global, line: &[u8]) -> Result<String, AllocError> {
     }
 }
 
+fn shows(alloc: Global, line: &str, want: &str) -> Result<bool, AllocError> {
+    let found = shown(alloc, line.as_bytes())?;
+    Ok(found.as_str() == want)
+}
+
 #[test]
 fn requests_are_read(rt: HostRuntime) -> Result<(), Fail> {
     for (line, request) in REQUESTS {
-        let found = shown(rt.alloc(), line.as_bytes())?;
-        assert_eq!(rt; found.as_str(), request, "{line}");
+        assert!(rt; shows(rt.alloc(), line, request)?, "{line}");
     }
     Ok(())
 }
@@ -174,23 +178,30 @@ fn insertion(alloc: Global, written: &[u8]) -> Result<Vec<u8>, AllocError> {
     Ok(line)
 }
 
-/// The text that is inserted where it is written so.
-fn inserted(alloc: Global, written: &[u8]) -> Result<String, AllocError> {
+/// Texts as they are written, and as they are.
+const TEXTS: &[(&[u8], &str)] = &[
+    (b"\\u0000\\uffff\\n\\/", "\u{0}\u{ffff}\n/"),
+    (b"\\ud83d\\ude00", "\u{1f600}"),
+    (b"\xF0\x9F\x98\x80\x7F", "\u{1f600}\u{7f}"),
+    (b"\\\"\\\\\\b\\f\\r\\t", "\"\\\u{8}\u{c}\r\t"),
+];
+
+/// Whether a line inserts a text.
+fn inserts(alloc: Global, line: &[u8], characters: &str) -> Result<bool, AllocError> {
+    let text = text_of(alloc, line)?;
+    Ok(text.as_str() == characters)
+}
+
+/// Whether these characters are inserted where they are written so.
+fn is_written(alloc: Global, written: &[u8], characters: &str) -> Result<bool, AllocError> {
     let line = insertion(alloc, written)?;
-    text_of(alloc, line.as_slice())
+    inserts(alloc, line.as_slice(), characters)
 }
 
 #[test]
 fn texts_hold_any_character(rt: HostRuntime) -> Result<(), Fail> {
-    let cases: [(&[u8], &str); 4] = [
-        (b"\\u0000\\uffff\\n\\/", "\u{0}\u{ffff}\n/"),
-        (b"\\ud83d\\ude00", "\u{1f600}"),
-        (b"\xF0\x9F\x98\x80\x7F", "\u{1f600}\u{7f}"),
-        (b"\\\"\\\\\\b\\f\\r\\t", "\"\\\u{8}\u{c}\r\t"),
-    ];
-    for (written, characters) in cases {
-        let text = inserted(rt.alloc(), written)?;
-        assert!(rt; text.as_str() == characters, "{written:?}");
+    for (written, characters) in TEXTS {
+        assert!(rt; is_written(rt.alloc(), written, characters)?, "{written:?}");
     }
     Ok(())
 }
@@ -207,12 +218,17 @@ fn nested(alloc: Global, depth: u32) -> Result<String, AllocError> {
     Ok(line)
 }
 
+const NESTED: &[(u32, &str)] = &[(126, "Create { pad: Name { text: \"p\" } }"), (127, "101")];
+
+fn shows_nested(alloc: Global, depth: u32, want: &str) -> Result<bool, AllocError> {
+    let line = nested(alloc, depth)?;
+    shows(alloc, line.as_str(), want)
+}
+
 #[test]
 fn lists_nest_127_deep(rt: HostRuntime) -> Result<(), Fail> {
-    for (depth, answer) in [(126, "Create { pad: Name { text: \"p\" } }"), (127, "101")] {
-        let line = nested(rt.alloc(), depth)?;
-        let found = shown(rt.alloc(), line.as_bytes())?;
-        assert_eq!(rt; found.as_str(), answer);
+    for (depth, answer) in NESTED {
+        assert!(rt; shows_nested(rt.alloc(), *depth, answer)?, "{depth} deep");
     }
     Ok(())
 }

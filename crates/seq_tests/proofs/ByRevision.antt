@@ -71,3 +71,12 @@ taken_by rev parts author cells new hidden o h checked (inr answer) =
     let runs = with_parts-runs (rev + 1) author parts cells o (rises_of_parts author.origin parts checked) (and_parts _ _ fit).0 in
     subst (AllByRecursion (IsBy (rev + 1))) runs.1
     (runs_by (rev + 1) author (without_spans (rev + 1) (spans_in parts) cells) parts (IsInOrder-without (rev + 1) (spans_in parts) cells o) (erased_by (rev + 1) (spans_in parts) cells (later_by rev cells h)) runs.0)))
+
+-- after an operation that was refused no cell is later than the revision before it
+pub refused_by : (rev : ℕ) (parts : List Part) (author : Author) (cells new : List Cell) (refusal : Refusal) → AllByRecursion (IsBy rev) cells → Answers cells (apply (rev + 1) parts author cells) (Err refusal) new → AllByRecursion (IsBy rev) new
+refused_by rev parts author cells new refusal h (inl none) = subst (AllByRecursion (IsBy rev)) (sym none.1) h
+refused_by rev parts author cells new refusal h (inr answer) =
+    answered (λ p. p ≡ (Err refusal, new) → AllByRecursion (IsBy rev) new) (rev + 1) parts author cells
+    (λ other e. subst (AllByRecursion (IsBy rev)) (ap (λ p. p.1) e) h)
+    (λ hidden fit e. (let apart : Ok hidden ≡ Err refusal = ap (λ p. p.0) e in absurd (cc)))
+    answer

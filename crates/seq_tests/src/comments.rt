@@ -55,21 +55,30 @@ fn book_of(alloc: Global, draft: Draft) -> Result<CommentBook, Refusal>
 /// Place, length and resolution of a comment, as a list of comments shows it.
 type Seen = (u64, u64, bool);
 
-fn seen_of(alloc: Global, comments: &[Shown]) -> Result<Vec<Seen>, Refusal> {
-    let mut rows = Vec::new(alloc);
-    for row in comments {
-        rows.push((row.at, row.len, row.resolved))?;
+fn are_seen(comments: &[Shown], want: &[Seen]) -> bool {
+    for (row, want) in comments.iter().zip(want) {
+        if row.at != want.0 || row.len != want.1 || row.resolved != want.2 {
+            return false;
+        }
     }
-    Ok(rows)
+    comments.len() == want.len()
 }
 
-fn listed(alloc: Global, site: &Site, draft: Draft, rev: u64) -> Result<Vec<Seen>, Refusal> {
+/// Whether a list of comments at a revision shows these.
+fn lists(
+    alloc: Global,
+    site: &Site,
+    draft: Draft,
+    rev: u64,
+    want: &[Seen],
+) -> Result<bool, Refusal> {
     let seq = site.sequence();
     if !seq.has(draft.first) || !seq.has(draft.last) {
         return Err(Refusal::PeerFault);
     }
     let book = book_of(alloc, draft)?;
-    seen_of(alloc, book.list_at(alloc, seq, rev)?.as_slice())
+    let comments = book.list_at(alloc, seq, rev)?;
+    Ok(are_seen(comments.as_slice(), want))
 }
 
 /// The same by the range of its name alone.
@@ -86,50 +95,69 @@ fn range_of(
     }
 }
 
-#[test]
-fn comment_keeps_its_words(rt: HostRuntime) -> Result<(), Fail> {
-    let alloc = rt.alloc();
+/// `hello` in the first revision, `heXYllo` in the second, and `XY` in the third.
+fn keeping_xy(alloc: Global) -> Result<Site, Refusal> {
     let mut site = Site::new(alloc)?;
     site.take(alloc, 1, &[Typed((1, 1), None, "hello")])?;
     site.take(alloc, 1, &[Typed((6, 1), Some((2, 1)), "XY")])?;
-    let hidden = site.take(alloc, 1, &[Erased(&[((1, 1), 5)])])?;
-    assert_eq!(rt; hidden, 5);
-    let draft = Draft {
+    match site.take(alloc, 1, &[Erased(&[((1, 1), 5)])])? {
+        5 => Ok(site),
+        _ => Err(Refusal::PeerFault),
+    }
+}
+
+/// A comment on `hello` that the fourth revision resolves.
+fn on_hello() -> Result<Draft, Refusal> {
+    Ok(Draft {
         resolved: Some(4),
         ..on((1, 1), (5, 1))?
-    };
-    let rows: [(u64, &[Seen]); 5] = [
-        (0, &[]),
-        (1, &[(0, 5, false)]),
-        (2, &[(0, 7, false)]),
-        (3, &[(0, 2, false)]),
-        (4, &[(0, 2, true)]),
-    ];
-    for (rev, want) in rows {
-        assert_eq!(rt; listed(alloc, &site, draft, rev)?.as_slice(), want, "{rev}");
+    })
+}
+
+/// How the comment is listed at each revision.
+const LISTED: &[(u64, &[Seen])] = &[
+    (0, &[]),
+    (1, &[(0, 5, false)]),
+    (2, &[(0, 7, false)]),
+    (3, &[(0, 2, false)]),
+    (4, &[(0, 2, true)]),
+];
+
+fn resolves_another(alloc: Global, draft: Draft) -> Result<bool, Refusal> {
+    let mut book = book_of(alloc, draft)?;
+    Ok(book.resolve(ANOTHER, 5) != Err(Refusal::NoComment))
+}
+
+#[test]
+fn comment_keeps_its_words(rt: HostRuntime) -> Result<(), Fail> {
+    let alloc = rt.alloc();
+    let draft = on_hello()?;
+    assert!(rt; !resolves_another(alloc, draft)?);
+    let site = keeping_xy(alloc)?;
+    for (rev, want) in LISTED {
+        assert!(rt; lists(alloc, &site, draft, *rev, want)?, "{rev}");
     }
-    assert_eq!(rt; range_of(alloc, &site, draft, 2)?, Some((0, 7)));
-    assert_eq!(rt;
-        book_of(alloc, draft)?.resolve(ANOTHER, 5),
-        Err(Refusal::NoComment)
-    );
+    assert!(rt; range_of(alloc, &site, draft, 2)? == Some((0, 7)));
     Ok(())
+}
+
+/// `abc` in the first revision, without its `b` in the second.
+fn without_b(alloc: Global) -> Result<Site, Refusal> {
+    let mut site = Site::new(alloc)?;
+    site.take(alloc, 1, &[Typed((1, 1), None, "abc")])?;
+    site.take(alloc, 1, &[Erased(&[((2, 1), 1)])])?;
+    Ok(site)
 }
 
 #[test]
 fn comment_on_deleted_word(rt: HostRuntime) -> Result<(), Fail> {
     let alloc = rt.alloc();
-    let mut site = Site::new(alloc)?;
-    site.take(alloc, 1, &[Typed((1, 1), None, "abc")])?;
-    site.take(alloc, 1, &[Erased(&[((2, 1), 1)])])?;
     let draft = on((2, 1), (2, 1))?;
-    for (rev, range) in [(1, (1, 1)), (2, (1, 0))] {
-        assert_eq!(rt; range_of(alloc, &site, draft, rev)?, Some(range));
-    }
-    assert_eq!(rt;
-        listed(alloc, &site, draft, 2)?.as_slice(),
-        [(1, 0, false)].as_slice()
-    );
-    assert_eq!(rt; range_of(alloc, &site, on((2, 1), (9, 1))?, 2)?, None);
+    let beyond = on((2, 1), (9, 1))?;
+    let site = without_b(alloc)?;
+    assert!(rt; range_of(alloc, &site, draft, 1)? == Some((1, 1)));
+    assert!(rt; range_of(alloc, &site, draft, 2)? == Some((1, 0)));
+    assert!(rt; lists(alloc, &site, draft, 2, &[(1, 0, false)])?);
+    assert!(rt; range_of(alloc, &site, beyond, 2)?.is_none());
     Ok(())
 }

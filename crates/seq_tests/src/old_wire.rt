@@ -40,7 +40,7 @@ fn says_small_stamps(rt: HostRuntime) -> Result<(), Fail> {
         (1, 256, false),
     ];
     for (counter, replica, said) in cases {
-        assert_eq!(rt; is_said(rt.alloc(), counter, replica)?, said, "{counter}");
+        assert!(rt; is_said(rt.alloc(), counter, replica)? == said, "{counter}");
     }
     Ok(())
 }

@@ -108,67 +108,79 @@ fn judged(alloc: Global, head: Head<'_>, sketches: &[Sketch]) -> Result<Judged, 
     Ok((op.check(), op.is_edit()))
 }
 
+/// What is checked, the parts, and whether they fit.
+type Case = (&'static str, &'static [Sketch], bool);
+
+const PARTS: &[Case] = &[
+    ("10,000 characters", &[Sketch::Insert(1, 2, 10_000)], true),
+    (
+        "the last counter",
+        &[Sketch::Insert(MAX_COUNTER, 2, 1)],
+        true,
+    ),
+    ("no character", &[Sketch::Insert(1, 2, 0)], false),
+    ("10,001 characters", &[Sketch::Insert(1, 2, 10_001)], false),
+    ("another replica", &[Sketch::Insert(1, 3, 1)], false),
+    (
+        "no counter left",
+        &[Sketch::Insert(MAX_COUNTER, 2, 2)],
+        false,
+    ),
+    ("10,000 stamps", &[Sketch::Delete(&[1, 9_999])], true),
+    ("no span", &[Sketch::Delete(&[])], false),
+    ("an empty span", &[Sketch::Delete(&[0])], false),
+    ("10,001 stamps", &[Sketch::Delete(&[1, 10_000])], false),
+    (
+        "two huge spans",
+        &[Sketch::Delete(&[u64::MAX, u64::MAX])],
+        false,
+    ),
+    ("a comment", &[Sketch::Comment(2_000)], true),
+    ("an empty comment", &[Sketch::Comment(0)], false),
+    ("a long comment", &[Sketch::Comment(2_001)], false),
+    ("a resolution", &[Sketch::Resolve(3, 1)], true),
+    ("no such comment", &[Sketch::Resolve(3, 0)], false),
+    ("a comment of no replica", &[Sketch::Resolve(0, 1)], false),
+    ("no part", &[], false),
+    ("17 parts", &[Sketch::Delete(&[1]); 17], false),
+    (
+        "a comment beside an edit",
+        &[Sketch::Delete(&[1]), Sketch::Comment(1)],
+        false,
+    ),
+    (
+        "counters that fall",
+        &[Sketch::Insert(1, 2, 3), Sketch::Insert(3, 2, 1)],
+        false,
+    ),
+    (
+        "10,001 together",
+        &[Sketch::Insert(1, 2, 1), Sketch::Delete(&[10_000])],
+        false,
+    ),
+];
+
+fn are_edits(sketches: &[Sketch]) -> bool {
+    for sketch in sketches {
+        match sketch {
+            Sketch::Insert(..) | Sketch::Delete(_) => {}
+            _ => return false,
+        }
+    }
+    true
+}
+
+/// Whether the check answers so of an operation of these parts.
+fn is_judged(alloc: Global, sketches: &[Sketch], fits: bool) -> Result<bool, Refusal> {
+    let (answer, is_edit) = judged(alloc, BY_ADA, sketches)?;
+    let want = if fits { Ok(()) } else { Err(Refusal::BadOp) };
+    Ok(answer == want && is_edit == are_edits(sketches))
+}
+
 #[test]
 fn checks_the_parts(rt: HostRuntime) -> Result<(), Fail> {
-    let cases: [(&str, &[Sketch], bool); 22] = [
-        ("10,000 characters", &[Sketch::Insert(1, 2, 10_000)], true),
-        (
-            "the last counter",
-            &[Sketch::Insert(MAX_COUNTER, 2, 1)],
-            true,
-        ),
-        ("no character", &[Sketch::Insert(1, 2, 0)], false),
-        ("10,001 characters", &[Sketch::Insert(1, 2, 10_001)], false),
-        ("another replica", &[Sketch::Insert(1, 3, 1)], false),
-        (
-            "no counter left",
-            &[Sketch::Insert(MAX_COUNTER, 2, 2)],
-            false,
-        ),
-        ("10,000 stamps", &[Sketch::Delete(&[1, 9_999])], true),
-        ("no span", &[Sketch::Delete(&[])], false),
-        ("an empty span", &[Sketch::Delete(&[0])], false),
-        ("10,001 stamps", &[Sketch::Delete(&[1, 10_000])], false),
-        (
-            "two huge spans",
-            &[Sketch::Delete(&[u64::MAX, u64::MAX])],
-            false,
-        ),
-        ("a comment", &[Sketch::Comment(2_000)], true),
-        ("an empty comment", &[Sketch::Comment(0)], false),
-        ("a long comment", &[Sketch::Comment(2_001)], false),
-        ("a resolution", &[Sketch::Resolve(3, 1)], true),
-        ("no such comment", &[Sketch::Resolve(3, 0)], false),
-        ("a comment of no replica", &[Sketch::Resolve(0, 1)], false),
-        ("no part", &[], false),
-        ("17 parts", &[Sketch::Delete(&[1]); 17], false),
-        (
-            "a comment beside an edit",
-            &[Sketch::Delete(&[1]), Sketch::Comment(1)],
-            false,
-        ),
-        (
-            "counters that fall",
-            &[Sketch::Insert(1, 2, 3), Sketch::Insert(3, 2, 1)],
-            false,
-        ),
-        (
-            "10,001 together",
-            &[Sketch::Insert(1, 2, 1), Sketch::Delete(&[10_000])],
-            false,
-        ),
-    ];
-    for (what, sketches, fits) in cases {
-        let want = if fits { Ok(()) } else { Err(Refusal::BadOp) };
-        let is_edit = sketches.iter().all(|one| matches!(
-            one,
-            Sketch::Insert(..) | Sketch::Delete(_)
-        ));
-        assert_eq!(rt;
-            judged(rt.alloc(), BY_ADA, sketches)?,
-            (want, is_edit),
-            "{what}"
-        );
+    for (what, sketches, fits) in PARTS {
+        assert!(rt; is_judged(rt.alloc(), sketches, *fits)?, "{what}");
     }
     Ok(())
 }
@@ -204,29 +216,37 @@ fn a_copy_is_the_same(rt: HostRuntime) -> Result<(), Fail> {
     Ok(())
 }
 
+/// Origin and number of an operation, its author, an origin and its count in the version vector, and whether they fit.
+type HeadCase = (u16, u64, &'static str, u16, u64, bool);
+
+const HEADS: &[HeadCase] = &[
+    (2, 1, "ada", 3, 1, true),
+    (2, 1, "abcdefghijklmnopqrstuvwxyz-01234", 3, 1, true),
+    (0, 1, "ada", 3, 1, false),
+    (2, 0, "ada", 3, 1, false),
+    (2, 200_001, "ada", 3, 1, false),
+    (2, 1, "", 3, 1, false),
+    (2, 1, "abcdefghijklmnopqrstuvwxyz-012345", 3, 1, false),
+    (2, 1, "Ada", 3, 1, false),
+    (2, 1, "ada", 2, 1, false),
+    (2, 1, "ada", 0, 1, false),
+    (2, 1, "ada", 3, 200_001, false),
+];
+
+fn fits(alloc: Global, name: OpName, author: &str, seen: (u16, u64)) -> Result<bool, Refusal> {
+    let (answer, _) = judged(alloc, (name, author, Some(seen)), &RESOLUTION)?;
+    Ok(answer.is_ok())
+}
+
 #[test]
 fn checks_the_head(rt: HostRuntime) -> Result<(), Fail> {
-    let cases = [
-        (2, 1, "ada", 3, 1, true),
-        (2, 1, "abcdefghijklmnopqrstuvwxyz-01234", 3, 1, true),
-        (0, 1, "ada", 3, 1, false),
-        (2, 0, "ada", 3, 1, false),
-        (2, 200_001, "ada", 3, 1, false),
-        (2, 1, "", 3, 1, false),
-        (2, 1, "abcdefghijklmnopqrstuvwxyz-012345", 3, 1, false),
-        (2, 1, "Ada", 3, 1, false),
-        (2, 1, "ada", 2, 1, false),
-        (2, 1, "ada", 0, 1, false),
-        (2, 1, "ada", 3, 200_001, false),
-    ];
-    for (origin, number, author, other, count, fits) in cases {
+    for (origin, number, author, other, count, want) in HEADS {
+        let (origin, number) = (*origin, *number);
         let name = OpName { origin, number };
-        let (answer, _) = judged(
-            rt.alloc(),
-            (name, author, Some((other, count))),
-            &RESOLUTION,
-        )?;
-        assert_eq!(rt; answer.is_ok(), fits, "{author} {name:?}");
+        assert!(rt;
+            fits(rt.alloc(), name, author, (*other, *count))? == *want,
+            "{author} {origin} {number} {other} {count}"
+        );
     }
     Ok(())
 }

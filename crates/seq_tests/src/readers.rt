@@ -2,7 +2,7 @@
 use crate::sequences::{HELLO, named, site_of};
 use crate::site::Sketch::Typed;
 use crate::site::{Named, Site, stamp_of};
-use pad_model::{AuthorRun, Refusal, Sequence, Stamp};
+use pad_model::{AuthorRun, Refusal, Sequence, Span, Stamp};
 use std::alloc::Global;
 use std::process::Abort;
 use std::test::Fail;
@@ -31,96 +31,105 @@ type Three = (Stamp, Stamp, Stamp);
 
 fn stamps_are_found(rt: &impl Abort, site: &Site, (x, l, none): Three) {
     let seq = site.sequence();
-    assert_eq!(rt; (seq.has(x), seq.has(none)), (true, false));
-    for (rev, place, stamp) in [(2, 2, Some(x)), (1, 2, Some(l)), (1, 5, None)] {
-        assert_eq!(rt; seq.stamp_at(rev, place), stamp);
-    }
+    assert!(rt; seq.has(x) && !seq.has(none));
+    assert!(rt; seq.stamp_at(2, 2) == Some(x));
+    assert!(rt; seq.stamp_at(1, 2) == Some(l));
+    assert!(rt; seq.stamp_at(1, 5).is_none());
 }
 
 fn characters_are_counted(rt: &impl Abort, site: &Site, (x, l, none): Three) {
     let seq = site.sequence();
-    for (rev, before, through) in [(1, Some(2), Some(2)), (2, Some(4), Some(3))] {
-        assert_eq!(rt;
-            (seq.before(l, rev), seq.through(x, rev)),
-            (before, through)
-        );
-    }
-    assert_eq!(rt; (seq.before(none, 2), seq.through(none, 2)), (None, None));
+    assert!(rt; seq.before(l, 1) == Some(2) && seq.through(x, 1) == Some(2));
+    assert!(rt; seq.before(l, 2) == Some(4) && seq.through(x, 2) == Some(3));
+    assert!(rt; seq.before(none, 2).is_none() && seq.through(none, 2).is_none());
 }
 
 fn order_is_told(rt: &impl Abort, site: &Site, (x, l, none): Three) {
-    for (one, other, order) in [(x, l, Some(true)), (l, x, Some(false)), (x, none, None)] {
-        assert_eq!(rt; site.sequence().stands_before(one, other), order);
-    }
+    let seq = site.sequence();
+    assert!(rt; seq.stands_before(x, l) == Some(true));
+    assert!(rt; seq.stands_before(l, x) == Some(false));
+    assert!(rt; seq.stands_before(x, none).is_none());
 }
 
 #[test]
 fn readers(rt: HostRuntime) -> Result<(), Fail> {
     let three = (stamp_of((6, 2))?, stamp_of((3, 1))?, stamp_of((6, 1))?);
     let site = of_two(rt.alloc())?;
-    assert_eq!(rt; numbers_of(&site), [7, 5, 7, 0, 7, 0, 5, 7]);
+    assert!(rt; numbers_of(&site) == [7, 5, 7, 0, 7, 0, 5, 7]);
     stamps_are_found(&rt, &site, three);
     characters_are_counted(&rt, &site, three);
     order_is_told(&rt, &site, three);
     Ok(())
 }
 
-/// The replicas and lengths of author runs.
-fn lengths_of(alloc: Global, runs: &[AuthorRun]) -> Result<Vec<(u16, u64)>, Refusal> {
-    let mut lengths = Vec::new(alloc);
-    for run in runs {
-        lengths.push((run.author.origin, run.len))?;
+/// Whether author runs have these replicas and lengths.
+fn are_runs(runs: &[AuthorRun], want: &[(u16, u64)]) -> bool {
+    for (run, want) in runs.iter().zip(want) {
+        if run.author.origin != want.0 || run.len != want.1 {
+            return false;
+        }
     }
-    Ok(lengths)
+    runs.len() == want.len()
 }
 
-/// Those of `heXYllo` at a revision.
-fn runs_at(alloc: Global, rev: u64) -> Result<Vec<(u16, u64)>, Refusal> {
-    let site = of_two(alloc)?;
+/// Whether those of a site at a revision are such.
+fn has_runs(alloc: Global, site: &Site, rev: u64, want: &[(u16, u64)]) -> Result<bool, Refusal> {
     let runs = site.sequence().authors_at(alloc, rev)?;
-    lengths_of(alloc, runs.as_slice())
+    Ok(are_runs(runs.as_slice(), want))
 }
 
-/// The spans of some characters by their numbers.
-fn spans_of(
+/// Whether spans have these first stamps and lengths.
+fn are_spans(spans: &[Span], want: &[(Named, u64)]) -> bool {
+    for (span, want) in spans.iter().zip(want) {
+        if named(span.first) != want.0 || span.len != want.1 {
+            return false;
+        }
+    }
+    spans.len() == want.len()
+}
+
+/// Whether those of some characters of a site are such.
+fn has_spans(
     alloc: Global,
     site: &Site,
     rev: u64,
     at: u64,
     len: u64,
-) -> Result<Vec<(Named, u64)>, Refusal> {
+    want: &[(Named, u64)],
+) -> Result<bool, Refusal> {
     let seq = site.sequence();
     let length = seq.len_at(rev);
     if at > length || len > length - at {
         return Err(Refusal::OutOfRange);
     }
-    let mut spans = Vec::new(alloc);
-    for span in seq.spans_at(alloc, rev, at, len)?.as_slice() {
-        spans.push((named(span.first), span.len))?;
-    }
-    Ok(spans)
+    let spans = seq.spans_at(alloc, rev, at, len)?;
+    Ok(are_spans(spans.as_slice(), want))
 }
 
-/// Those of `heXYllo`.
-fn spans_at(alloc: Global, rev: u64, at: u64, len: u64) -> Result<Vec<(Named, u64)>, Refusal> {
-    spans_of(alloc, &of_two(alloc)?, rev, at, len)
-}
+/// The runs of `heXYllo` at its revisions.
+const RUNS: &[(u64, &[(u16, u64)])] = &[(2, &[(1, 2), (2, 2), (1, 3)]), (1, &[(1, 5)])];
+
+/// A revision, a place, a length, and the spans of these characters of `heXYllo`.
+type Spans = (u64, u64, u64, &'static [(Named, u64)]);
+
+const SPANS: &[Spans] = &[
+    (2, 0, 7, &[((1, 1), 2), ((6, 2), 2), ((3, 1), 3)]),
+    (2, 3, 2, &[((7, 2), 1), ((3, 1), 1)]),
+    (1, 1, 4, &[((2, 1), 4)]),
+    (1, 5, 0, &[]),
+];
 
 #[test]
 fn runs_and_spans_are_the_longest(rt: HostRuntime) -> Result<(), Fail> {
-    assert_eq!(rt;
-        runs_at(rt.alloc(), 2)?.as_slice(),
-        [(1, 2), (2, 2), (1, 3)].as_slice()
-    );
-    assert_eq!(rt; runs_at(rt.alloc(), 1)?.len(), 1);
-    let cases: [(u64, u64, u64, &[(Named, u64)]); 4] = [
-        (2, 0, 7, &[((1, 1), 2), ((6, 2), 2), ((3, 1), 3)]),
-        (2, 3, 2, &[((7, 2), 1), ((3, 1), 1)]),
-        (1, 1, 4, &[((2, 1), 4)]),
-        (1, 5, 0, &[]),
-    ];
-    for (rev, at, len, want) in cases {
-        assert_eq!(rt; spans_at(rt.alloc(), rev, at, len)?.as_slice(), want);
+    let site = of_two(rt.alloc())?;
+    for (rev, want) in RUNS {
+        assert!(rt; has_runs(rt.alloc(), &site, *rev, want)?, "revision {rev}");
+    }
+    for (rev, at, len, want) in SPANS {
+        assert!(rt;
+            has_spans(rt.alloc(), &site, *rev, *at, *len, want)?,
+            "{len} from {at} on in revision {rev}"
+        );
     }
     Ok(())
 }
@@ -132,9 +141,9 @@ fn cells(rt: HostRuntime) -> Result<(), Fail> {
     let Some(cell) = site.sequence().cell_at(2) else {
         panic!(rt; "no cell");
     };
-    assert_eq!(rt; named(cell.stamp), (6, 2));
-    assert_eq!(rt; cell.parent.map(named), Some((2, 1)));
-    assert_eq!(rt; (cell.character, cell.author.origin), ('X', 2));
-    assert_eq!(rt; (cell.born, cell.died), (2, None));
+    assert!(rt; named(cell.stamp) == (6, 2));
+    assert!(rt; cell.parent.map(named) == Some((2, 1)));
+    assert!(rt; cell.character == 'X' && cell.author.origin == 2);
+    assert!(rt; cell.born == 2 && cell.died.is_none());
     Ok(())
 }

@@ -6,12 +6,12 @@ use std::test::Fail;
 #[test]
 fn gives_its_items(rt: HostRuntime) -> Result<(), Fail> {
     let mut row: Row<u16> = Row::new(rt.alloc());
-    assert_eq!(rt; row.is_empty(), true);
+    assert!(rt; row.is_empty());
     row.push(7)?;
     row.push(9)?;
-    assert_eq!(rt; row.get(1), Some(&9));
-    assert_eq!(rt; row.get(2), None);
-    assert_eq!(rt; row.clone()?, row);
+    assert!(rt; row.get(1) == Some(&9));
+    assert!(rt; row.get(2).is_none());
+    assert!(rt; row.clone()? == row);
     Ok(())
 }
 
@@ -19,8 +19,8 @@ fn gives_its_items(rt: HostRuntime) -> Result<(), Fail> {
 fn writes_what_it_read(rt: HostRuntime) -> Result<(), Fail> {
     let mut text = Text::from_str(rt.alloc(), "añ")?;
     text.push('☺')?;
-    assert_eq!(rt; (text.len(), text.is_empty()), (3, false));
-    assert_eq!(rt; text.to_string(rt.alloc())?.as_str(), "añ☺");
+    assert!(rt; text.len() == 3 && !text.is_empty());
+    assert!(rt; text.to_string(rt.alloc())?.as_str() == "añ☺");
     Ok(())
 }
 
@@ -47,11 +47,11 @@ fn counts_by_origin(rt: HostRuntime) -> Result<(), Fail> {
             count: 4,
         },
     ];
-    assert_eq!(rt; seen.pairs(), pairs.as_slice());
-    assert_eq!(rt; seen.count(5), 0);
+    assert!(rt; seen.pairs() == pairs.as_slice());
+    assert!(rt; seen.count(5) == 0);
     let covered = [(7, 4, true), (7, 5, false), (5, 1, false), (5, 0, true)];
     for (origin, number, covers) in covered {
-        assert_eq!(rt; seen.covers(OpName { origin, number }), covers);
+        assert!(rt; seen.covers(OpName { origin, number }) == covers);
     }
     assert!(rt; seen.clone()? == seen);
     Ok(())

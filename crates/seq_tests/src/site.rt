@@ -1,5 +1,7 @@
 //! One server's copy of a text: operations go in, and its revisions count up.
-ghost use Rattle.std.specs.Prelude.{◌≡◌};
+ghost use Rattle.std.specs.Prelude.{◌≡◌, IsTrue, IfOk};
+ghost use Rattle.std.specs.List.{list_all};
+ghost use Rattle.pad_model.specs.Checked.{are_parts, is_edit};
 
 use block_seq::PlainSeq;
 use pad_model::{
@@ -48,19 +50,24 @@ impl Site {
     /// Takes an operation that only edits the text, and answers how many characters it hides.
     pub fn deliver(&mut self, alloc: Global, op: &Op) -> Result<u64, Refusal> {
         op.check()?;
-        if !op.is_edit() || self.rev == u64::MAX {
+        if !op.is_edit() {
             return Err(Refusal::BadOp);
         }
-        let author = Author {
-            name: op.author.clone()?,
-            origin: op.name.origin,
-        };
+        let author = author_of(op)?;
+        self.make(alloc, op.parts.as_slice(), &author)
+    }
+
+    /// Makes the parts of an operation that fits its limits and only edits the text.
+    fn make(&mut self, alloc: Global, parts: &[Part], author: &Author) -> Result<u64, Refusal>
+        requires checked { IsTrue (are_parts author.now.origin parts.now) }
+        requires edits { IsTrue (list_all is_edit parts.now) }
+    {
+        if self.rev == u64::MAX {
+            return Err(Refusal::BadOp);
+        }
         let rev = self.rev + 1;
         let _count = self.sequence.cell_count();
-        match self
-            .sequence
-            .apply(alloc, op.parts.as_slice(), &author, rev)
-        {
+        match self.sequence.apply(alloc, parts, author, rev) {
             Ok(hidden) => {
                 self.rev = rev;
                 Ok(hidden)
@@ -75,9 +82,25 @@ impl Site {
         self.deliver(alloc, &op)
     }
 
-    pub fn text(&self, alloc: Global, rev: u64) -> Result<String, Refusal> {
-        Ok(self.sequence.text_at(alloc, rev)?.to_string(alloc)?)
+    /// Whether a revision shows this text.
+    pub fn shows(&self, alloc: Global, rev: u64, want: &str) -> Result<bool, Refusal> {
+        let text = self.sequence.text_at(alloc, rev)?;
+        is_text(alloc, &text, want)
     }
+}
+
+fn is_text(alloc: Global, text: &Text, want: &str) -> Result<bool, Refusal> {
+    let text = text.to_string(alloc)?;
+    Ok(text.as_str() == want)
+}
+
+fn author_of(op: &Op) -> Result<Author, Refusal>
+    ensures { IfOk result (λ author. author.origin ≡ op.now.name.origin) }
+{
+    Ok(Author {
+        name: op.author.clone()?,
+        origin: op.name.origin,
+    })
 }
 
 /// Counter and replica of a stamp.

@@ -3,7 +3,7 @@ use dice::Dice;
 use std::alloc::{AllocError, Global};
 
 /// What an author does.
-#[derive(Clone, Copy, Debug, PartialEq, Eq)]
+#[derive(Clone, Copy, PartialEq)]
 pub enum Deed {
     Type,
     Erase,
@@ -35,14 +35,21 @@ impl Deed {
         let at = dice.roll(length.saturating_add(1));
         let len = dice.roll(5).saturating_add(1);
         let text = some_text(dice);
-        let place = place_line(alloc, rev, at)?;
         match self {
-            Deed::Type => { format!(in alloc; "{{\"do\":\"insert\",{place},\"text\":\"{text}\"}}") }
-            Deed::Erase => format!(in alloc; "{{\"do\":\"delete\",{place},\"len\":{len}}}"),
+            Deed::Type => {
+                format!(in alloc;
+                    "{{\"do\":\"insert\",\"pad\":\"p\",\"rev\":{rev},\"at\":{at},\"text\":\"{text}\"}}"
+                )
+            }
+            Deed::Erase => {
+                format!(in alloc;
+                    "{{\"do\":\"delete\",\"pad\":\"p\",\"rev\":{rev},\"at\":{at},\"len\":{len}}}"
+                )
+            }
             Deed::Edit => edit_line(alloc, dice, rev, length),
             Deed::Note => {
                 format!(in alloc;
-                    "{{\"do\":\"comment\",{place},\"len\":{len},\"text\":\"{text}\"}}"
+                    "{{\"do\":\"comment\",\"pad\":\"p\",\"rev\":{rev},\"at\":{at},\"len\":{len},\"text\":\"{text}\"}}"
                 )
             }
             Deed::Resolve => {
@@ -62,10 +69,6 @@ fn some_text(dice: &mut Dice) -> &'static str {
     }
 }
 
-fn place_line(alloc: Global, rev: u64, at: u64) -> Result<String, AllocError> {
-    format!(in alloc; "\"pad\":\"p\",\"rev\":{rev},\"at\":{at}")
-}
-
 /// An edit of two insertions, and a deletion that may go past the end.
 fn edit_line(alloc: Global, dice: &mut Dice, rev: u64, length: u64) -> Result<String, AllocError> {
     let sides = length.saturating_add(1);
@@ -75,9 +78,7 @@ fn edit_line(alloc: Global, dice: &mut Dice, rev: u64, length: u64) -> Result<St
     let len = dice.roll(4).saturating_add(1);
     let third = dice.roll(sides);
     let other = some_text(dice);
-    let mut line = format!(in alloc; "{{\"do\":\"edit\",\"pad\":\"p\",\"rev\":{rev},\"parts\":[")?;
-    line.push_str(format!(in alloc; "{{\"at\":{first},\"text\":\"{text}\"}},")?.as_str())?;
-    line.push_str(format!(in alloc; "{{\"at\":{second},\"len\":{len}}},")?.as_str())?;
-    line.push_str(format!(in alloc; "{{\"at\":{third},\"text\":\"{other}\"}}]}}")?.as_str())?;
-    Ok(line)
+    format!(in alloc;
+        "{{\"do\":\"edit\",\"pad\":\"p\",\"rev\":{rev},\"parts\":[{{\"at\":{first},\"text\":\"{text}\"}},{{\"at\":{second},\"len\":{len}}},{{\"at\":{third},\"text\":\"{other}\"}}]}}"
+    )
 }

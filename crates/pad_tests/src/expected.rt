@@ -5,18 +5,27 @@ use std::alloc::{AllocError, Global};
 /// The answer to `text`.
 pub fn text_line(alloc: Global, page: &Page, now: u64, rev: u64) -> Result<String, AllocError> {
     let mut line = format!(in alloc; "{{\"now\":{now},\"ok\":true,\"rev\":{rev},\"text\":\"")?;
+    add_text(&mut line, page)?;
+    Ok(line)
+}
+
+fn add_text(line: &mut String, page: &Page) -> Result<(), AllocError> {
     for letter in &page.letters {
         if !letter.is_erased {
             line.push(letter.character)?;
         }
     }
-    line.push_str("\"}\n")?;
-    Ok(line)
+    line.push_str("\"}\n")
 }
 
 /// The answer to `runs`. All letters of a server are ann's of that server.
 pub fn runs_line(alloc: Global, page: &Page, now: u64, rev: u64) -> Result<String, AllocError> {
     let mut line = format!(in alloc; "{{\"now\":{now},\"ok\":true,\"rev\":{rev},\"runs\":[")?;
+    add_runs(alloc, &mut line, page)?;
+    Ok(line)
+}
+
+fn add_runs(alloc: Global, line: &mut String, page: &Page) -> Result<(), AllocError> {
     let mut replica = 0;
     let mut len = 0_u64;
     for letter in &page.letters {
@@ -24,15 +33,14 @@ pub fn runs_line(alloc: Global, page: &Page, now: u64, rev: u64) -> Result<Strin
             continue;
         }
         if letter.stamp.replica() != replica {
-            end_run(alloc, &mut line, replica, len)?;
+            end_run(alloc, line, replica, len)?;
             replica = letter.stamp.replica();
             len = 0;
         }
         len = len.saturating_add(1);
     }
-    end_run(alloc, &mut line, replica, len)?;
-    line.push_str("]}\n")?;
-    Ok(line)
+    end_run(alloc, line, replica, len)?;
+    line.push_str("]}\n")
 }
 
 fn end_run(alloc: Global, line: &mut String, replica: u16, len: u64) -> Result<(), AllocError> {
@@ -42,20 +50,41 @@ fn end_run(alloc: Global, line: &mut String, replica: u16, len: u64) -> Result<(
     if !line.ends_with('[') {
         line.push(',')?;
     }
-    line.push_str(format!(in alloc; "[\"ann@{replica}\",{len}]")?.as_str())
+    let run = format!(in alloc; "[\"ann@{replica}\",{len}]")?;
+    line.push_str(run.as_str())
 }
 
 /// The answer to `comments`.
 pub fn comments_line(alloc: Global, page: &Page, now: u64, rev: u64) -> Result<String, AllocError> {
     let mut line = String::from_str(alloc, "{\"comments\":[")?;
+    add_remarks(alloc, &mut line, page)?;
+    add_end(alloc, &mut line, now, rev)?;
+    Ok(line)
+}
+
+fn add_remarks(alloc: Global, line: &mut String, page: &Page) -> Result<(), AllocError> {
     for remark in &page.remarks {
         if !line.ends_with('[') {
             line.push(',')?;
         }
-        line.push_str(remark_text(alloc, page, remark)?.as_str())?;
+        add_remark(alloc, line, page, remark)?;
     }
-    line.push_str(format!(in alloc; "],\"now\":{now},\"ok\":true,\"rev\":{rev}}}\n")?.as_str())?;
-    Ok(line)
+    Ok(())
+}
+
+fn add_remark(
+    alloc: Global,
+    line: &mut String,
+    page: &Page,
+    remark: &Remark,
+) -> Result<(), AllocError> {
+    let text = remark_text(alloc, page, remark)?;
+    line.push_str(text.as_str())
+}
+
+fn add_end(alloc: Global, line: &mut String, now: u64, rev: u64) -> Result<(), AllocError> {
+    let end = format!(in alloc; "],\"now\":{now},\"ok\":true,\"rev\":{rev}}}\n")?;
+    line.push_str(end.as_str())
 }
 
 /// A comment, where it begins, and how many visible letters it covers.
@@ -65,12 +94,9 @@ fn remark_text(alloc: Global, page: &Page, remark: &Remark) -> Result<String, Al
     let number = remark.name.number;
     let text = remark.text.as_str();
     let is_resolved = remark.is_resolved;
-    let mut line = format!(in alloc; "{{\"at\":{at},\"author\":\"ann@{origin}\",\"len\":{len},")?;
-    line.push_str(format!(in alloc;
-        "\"name\":[{origin},{number}],\"resolved\":{is_resolved},"
-    )?.as_str())?;
-    line.push_str(format!(in alloc; "\"text\":\"{text}\"}}")?.as_str())?;
-    Ok(line)
+    format!(in alloc;
+        "{{\"at\":{at},\"author\":\"ann@{origin}\",\"len\":{len},\"name\":[{origin},{number}],\"resolved\":{is_resolved},\"text\":\"{text}\"}}"
+    )
 }
 
 fn covered(page: &Page, remark: &Remark) -> (u64, u64) {

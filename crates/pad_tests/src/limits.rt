@@ -1,5 +1,6 @@
 //! The limits of a pad that take many requests to reach: what one more is answered.
-use crate::replies::{is_refusal, number_behind};
+use crate::limits::Step::{Asks, ComeAndGo, Fill, JoinMore, Opens, Says, Taken, Types};
+use crate::replies::number_behind;
 use crate::rig::{ANN, PEER, Rig};
 use pad_model::Refusal;
 use std::alloc::Global;
@@ -21,101 +22,111 @@ fn code(rig: &mut Rig, session: u32, line: &str) -> Result<u64, Refusal> {
 
 /// How often a request is made until it is refused, at most so many times.
 fn count_taken(rig: &mut Rig, line: &str, times: u64) -> Result<u64, Refusal> {
-    let mut taken = 0_u64;
-    for _ in 0..times {
-        if is_refusal(rig.say(ANN, line)?.as_str()) {
-            break;
+    for taken in 0..times {
+        if rig.refuses(ANN, line)? {
+            return Ok(taken);
         }
-        taken = taken.saturating_add(1);
     }
-    Ok(taken)
+    Ok(times)
 }
 
 /// A server with `abc` by ann, and `z` by server 2 with the last counter that there is.
 fn with_last_counter(alloc: Global) -> Result<Rig, Refusal> {
     let mut rig = Rig::new(alloc, 1)?;
-    rig.say(
+    type_last(&mut rig)?;
+    Ok(rig)
+}
+
+fn type_last(rig: &mut Rig) -> Result<(), Refusal> {
+    rig.tell(
         ANN,
         r#"{"do":"insert","pad":"p","rev":0,"at":0,"text":"abc"}"#,
     )?;
-    rig.say(ANN, COMMENT)?;
-    rig.say(PEER, Z)?;
-    Ok(rig)
+    rig.tell(ANN, COMMENT)?;
+    rig.tell(PEER, Z)
 }
 
 const Z: &str =
     r#"{"do":"push","pad":"p","op":{"name":[2,1],"seen":[],"author":"bob","kind":"insert","after":null,"first":[281474976710656,2],"text":"z"}}"#;
 
-/// Requests on a pad with 10,000 comments, and their refusals.
-const WITH_ALL_COMMENTS: [(u32, &str, u64); 4] = [
-    (ANN, COMMENT, 328),
-    (
+/// What is done with a server, and what is wanted of it.
+#[derive(Clone, Copy)]
+enum Step {
+    /// A session's request, and the number of its refusal; 0 where it is not refused.
+    Asks(u32, &'static str, u64),
+    /// A request of ann's, how often it is made at most, and how often it is taken before it is refused.
+    Taken(&'static str, u64, u64),
+    /// A request of ann's, and its reply.
+    Says(&'static str, &'static str),
+    /// Leaves and joins of ann's, all of which are taken.
+    ComeAndGo(u64),
+    /// So many more sessions of ann's, whose joins are taken.
+    JoinMore(u64),
+    /// One more session of ann's has this number.
+    Opens(u32),
+    /// So many times 10,000 characters, which are taken.
+    Fill(u64),
+    /// An operation of this number types characters from a counter on, and is taken.
+    Types(u64, u64, u64),
+}
+
+/// On a pad with 10,000 comments, and then with 200,000 operations, 10,000 comments among them, and no counter left.
+const COMMENTS_AND_OPERATIONS: &[Step] = &[
+    Taken(COMMENT, 20_000, 9_999),
+    Asks(ANN, COMMENT, 328),
+    Asks(
         PEER,
         r#"{"do":"push","pad":"p","op":{"name":[3,1],"seen":[],"author":"bob","kind":"comment","first":[1,1],"last":[2,1],"text":"n"}}"#,
         328,
     ),
-    (
+    Asks(
         PEER,
         r#"{"do":"push","pad":"p","op":{"name":[3,1],"seen":[],"author":"bob","kind":"comment","first":[2,1],"last":[1,1],"text":"n"}}"#,
         403,
     ),
-    (ANN, RESOLVE, 0),
-];
-
-/// Requests on a pad with 200,000 operations, 10,000 comments among them, and no counter left, and their refusals.
-const WITH_ALL_OPERATIONS: [(u32, &str, u64); 10] = [
-    (
+    Asks(ANN, RESOLVE, 0),
+    Taken(RESOLVE, 300_000, 189_997),
+    Asks(
         ANN,
         r#"{"do":"insert","pad":"p","rev":1,"at":0,"text":"x"}"#,
         325,
     ),
-    (
+    Asks(
         ANN,
         r#"{"do":"delete","pad":"p","rev":1,"at":0,"len":1}"#,
         327,
     ),
-    (ANN, COMMENT, 327),
-    (ANN, RESOLVE, 327),
-    (ANN, r#"{"do":"resolve","pad":"p","comment":[1,1]}"#, 326),
-    (
+    Asks(ANN, COMMENT, 327),
+    Asks(ANN, RESOLVE, 327),
+    Asks(ANN, r#"{"do":"resolve","pad":"p","comment":[1,1]}"#, 326),
+    Asks(
         PEER,
         r#"{"do":"push","pad":"p","op":{"name":[3,1],"seen":[],"author":"bob","kind":"insert","after":null,"first":[1,3],"text":"x"}}"#,
         327,
     ),
-    (
+    Asks(
         PEER,
         r#"{"do":"push","pad":"p","op":{"name":[3,1],"seen":[],"author":"bob","kind":"comment","first":[1,1],"last":[2,1],"text":"n"}}"#,
         327,
     ),
-    (
+    Asks(
         PEER,
         r#"{"do":"push","pad":"p","op":{"name":[3,1],"seen":[],"author":"bob","kind":"resolve","comment":[1,1]}}"#,
         403,
     ),
-    (ANN, r#"{"do":"text","pad":"p","rev":200001}"#, 320),
-    (ANN, r#"{"do":"text","pad":"p","rev":200000}"#, 0),
+    Asks(ANN, r#"{"do":"text","pad":"p","rev":200001}"#, 320),
+    Asks(ANN, r#"{"do":"text","pad":"p","rev":200000}"#, 0),
+    Says(
+        r#"{"do":"text","pad":"p"}"#,
+        "{\"now\":200000,\"ok\":true,\"rev\":200000,\"text\":\"zabc\"}\n",
+    ),
 ];
-
-/// The place of the first request that is answered otherwise; None where there is none.
-fn first_other(rig: &mut Rig, cases: &[(u32, &str, u64)]) -> Result<Option<usize>, Refusal> {
-    for ((session, line, want), place) in cases.iter().zip(0..) {
-        if code(rig, *session, line)? != *want {
-            return Ok(Some(place));
-        }
-    }
-    Ok(None)
-}
 
 #[test]
 fn limits_of_comments_and_operations(rt: HostRuntime) -> Result<(), Fail> {
     let mut rig = with_last_counter(rt.alloc())?;
-    assert_eq!(rt; count_taken(&mut rig, COMMENT, 20_000)?, 9_999);
-    assert_eq!(rt; first_other(&mut rig, &WITH_ALL_COMMENTS)?, None);
-    assert_eq!(rt; count_taken(&mut rig, RESOLVE, 300_000)?, 189_997);
-    assert_eq!(rt; first_other(&mut rig, &WITH_ALL_OPERATIONS)?, None);
-    let text = r#"{"do":"text","pad":"p"}"#;
-    let want = "{\"now\":200000,\"ok\":true,\"rev\":200000,\"text\":\"zabc\"}\n";
-    assert!(rt; rig.says(ANN, text, want)?);
+    let count = count_so(rt.alloc(), &mut rig, COMMENTS_AND_OPERATIONS)?;
+    assert!(rt; count == COMMENTS_AND_OPERATIONS.len(), "not step {count}");
     Ok(())
 }
 
@@ -123,8 +134,8 @@ fn limits_of_comments_and_operations(rt: HostRuntime) -> Result<(), Fail> {
 fn come_and_go(rig: &mut Rig, times: u64) -> Result<u64, Refusal> {
     let mut taken = 0_u64;
     for _ in 0..times {
-        rig.say(ANN, LEAVE)?;
-        if !is_refusal(rig.say(ANN, JOIN)?.as_str()) {
+        rig.tell(ANN, LEAVE)?;
+        if !rig.refuses(ANN, JOIN)? {
             taken = taken.saturating_add(1);
         }
     }
@@ -143,40 +154,51 @@ fn join_more(rig: &mut Rig, times: u64) -> Result<u64, Refusal> {
     Ok(taken)
 }
 
+/// 64 sessions of ann's join a million times in all, and then one more comes.
+const VISITS: &[Step] = &[
+    ComeAndGo(999_936),
+    JoinMore(63),
+    Opens(65),
+    Asks(65, JOIN, 313),
+    Asks(ANN, LEAVE, 0),
+    Asks(65, JOIN, 314),
+];
+
 #[test]
 fn limit_visits(rt: HostRuntime) -> Result<(), Fail> {
     let mut rig = Rig::new(rt.alloc(), 1)?;
-    assert_eq!(rt; come_and_go(&mut rig, 999_936)?, 999_936);
-    assert_eq!(rt; join_more(&mut rig, 63)?, 63);
-    let late = rig.open_ann()?;
-    assert_eq!(rt; code(&mut rig, late, JOIN)?, 313);
-    assert_eq!(rt; code(&mut rig, ANN, LEAVE)?, 0);
-    assert_eq!(rt; code(&mut rig, late, JOIN)?, 314);
+    let count = count_so(rt.alloc(), &mut rig, VISITS)?;
+    assert!(rt; count == VISITS.len(), "not step {count}");
     Ok(())
 }
 
 /// The push of an operation of server 2 that types this many characters at the start.
 fn typing(alloc: Global, number: u64, first: u64, len: u64) -> Result<String, Refusal> {
     let mut line = format!(in alloc;
-        "{{\"do\":\"push\",\"pad\":\"p\",\"op\":{{\"name\":[2,{number}],\"seen\":[],"
+        "{{\"do\":\"push\",\"pad\":\"p\",\"op\":{{\"name\":[2,{number}],\"seen\":[],\"author\":\"bob\",\"kind\":\"insert\",\"after\":null,\"first\":[{first},2],\"text\":\""
     )?;
-    line.push_str(format!(in alloc;
-        "\"author\":\"bob\",\"kind\":\"insert\",\"after\":null,\"first\":[{first},2],"
-    )?.as_str())?;
-    line.push_str("\"text\":\"")?;
+    add_letters(&mut line, len)?;
+    Ok(line)
+}
+
+fn add_letters(line: &mut String, len: u64) -> Result<(), Refusal> {
     for _ in 0..len {
         line.push('x')?;
     }
-    line.push_str("\"}}")?;
-    Ok(line)
+    Ok(line.push_str("\"}}")?)
+}
+
+/// Whether such an operation is taken.
+fn types(alloc: Global, rig: &mut Rig, number: u64, first: u64, len: u64) -> Result<bool, Refusal> {
+    let line = typing(alloc, number, first, len)?;
+    Ok(!rig.refuses(PEER, line.as_str())?)
 }
 
 /// Types 10,000 characters at a time, and answers how many times they were taken.
 fn fill(alloc: Global, rig: &mut Rig, times: u64) -> Result<u64, Refusal> {
     let mut first = 1_u64;
     for taken in 0..times {
-        let line = typing(alloc, taken.saturating_add(1), first, 10_000)?;
-        if is_refusal(rig.say(PEER, line.as_str())?.as_str()) {
+        if !types(alloc, rig, taken.saturating_add(1), first, 10_000)? {
             return Ok(taken);
         }
         first = first.saturating_add(10_000);
@@ -184,19 +206,26 @@ fn fill(alloc: Global, rig: &mut Rig, times: u64) -> Result<u64, Refusal> {
     Ok(times)
 }
 
-/// Requests on a pad with 4,000,000 characters and no counter left, and their refusals.
-const WITH_ALL_CHARACTERS: [(u32, &str, u64); 3] = [
-    (
+/// The last character that there is room for, with the last counter that there is.
+const LAST: &str =
+    r#"{"do":"push","pad":"p","op":{"name":[3,1],"seen":[],"author":"bob","kind":"insert","after":null,"first":[281474976710656,3],"text":"z"}}"#;
+
+/// On a pad with 4,000,000 characters and no counter left at the end.
+const CHARACTERS: &[Step] = &[
+    Fill(399),
+    Types(400, 3_990_001, 9_999),
+    Asks(PEER, LAST, 0),
+    Asks(
         ANN,
         r#"{"do":"insert","pad":"p","rev":1,"at":0,"text":"x"}"#,
         324,
     ),
-    (
+    Asks(
         PEER,
         r#"{"do":"push","pad":"p","op":{"name":[4,1],"seen":[],"author":"bob","kind":"insert","after":null,"first":[1,4],"text":"x"}}"#,
         324,
     ),
-    (
+    Asks(
         ANN,
         r#"{"do":"delete","pad":"p","rev":1,"at":0,"len":1}"#,
         0,
@@ -205,16 +234,33 @@ const WITH_ALL_CHARACTERS: [(u32, &str, u64); 3] = [
 
 #[test]
 fn limit_characters(rt: HostRuntime) -> Result<(), Fail> {
-    let alloc = rt.alloc();
-    let mut rig = Rig::new(alloc, 1)?;
-    assert_eq!(rt; fill(alloc, &mut rig, 399)?, 399);
-    let line = typing(alloc, 400, 3_990_001, 9_999)?;
-    assert_eq!(rt; code(&mut rig, PEER, line.as_str())?, 0);
-    assert_eq!(rt; code(&mut rig, PEER, LAST)?, 0);
-    assert_eq!(rt; first_other(&mut rig, &WITH_ALL_CHARACTERS)?, None);
+    let mut rig = Rig::new(rt.alloc(), 1)?;
+    let count = count_so(rt.alloc(), &mut rig, CHARACTERS)?;
+    assert!(rt; count == CHARACTERS.len(), "not step {count}");
     Ok(())
 }
 
-/// The last character that there is room for, with the last counter that there is.
-const LAST: &str =
-    r#"{"do":"push","pad":"p","op":{"name":[3,1],"seen":[],"author":"bob","kind":"insert","after":null,"first":[281474976710656,3],"text":"z"}}"#;
+fn is_so(alloc: Global, rig: &mut Rig, step: Step) -> Result<bool, Refusal> {
+    match step {
+        Asks(session, line, want) => Ok(code(rig, session, line)? == want),
+        Taken(line, times, want) => Ok(count_taken(rig, line, times)? == want),
+        Says(line, want) => rig.says(ANN, line, want),
+        ComeAndGo(times) => Ok(come_and_go(rig, times)? == times),
+        JoinMore(times) => Ok(join_more(rig, times)? == times),
+        Opens(want) => Ok(rig.open_ann()? == want),
+        Fill(times) => Ok(fill(alloc, rig, times)? == times),
+        Types(number, first, len) => types(alloc, rig, number, first, len),
+    }
+}
+
+/// How many steps are so, before the first that is not.
+fn count_so(alloc: Global, rig: &mut Rig, steps: &[Step]) -> Result<usize, Refusal> {
+    let mut count = 0usize;
+    for step in steps {
+        if !is_so(alloc, rig, *step)? {
+            break;
+        }
+        count = count.saturating_add(1);
+    }
+    Ok(count)
+}

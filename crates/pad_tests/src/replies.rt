@@ -46,13 +46,19 @@ fn value_of(alloc: Global, line: &str) -> Result<Value, Refusal> {
 /// The operations of a reply, each as JSON.
 pub fn ops_in(alloc: Global, line: &str) -> Result<Vec<String>, Refusal> {
     let value = value_of(alloc, line)?;
-    let mut texts = Vec::new(alloc);
     if let Some(ops) = value.get("ops")
         && let Some(ops) = ops.as_array()
     {
-        for op in ops {
-            texts.push(op.to_string(alloc)?)?;
-        }
+        texts_of(alloc, ops)
+    } else {
+        Ok(Vec::new(alloc))
+    }
+}
+
+fn texts_of(alloc: Global, ops: &[Value]) -> Result<Vec<String>, Refusal> {
+    let mut texts = Vec::new(alloc);
+    for op in ops {
+        texts.push(op.to_string(alloc)?)?;
     }
     Ok(texts)
 }

@@ -1,6 +1,7 @@
 //! A server with the pad `p` of ann, and a peer.
 ghost use Rattle.std.specs.Prelude.{◌≤◌};
 
+use crate::replies::is_refusal;
 use block_seq::PlainSeq;
 use pad_core::{Reply, Request};
 use pad_model::Refusal;
@@ -44,11 +45,15 @@ impl Rig {
     {
         let server = make_server(alloc, replica)?;
         let mut rig = Rig { alloc, server };
-        rig.open_ann()?;
-        rig.say(ANN, r#"{"do":"create","pad":"p"}"#)?;
-        rig.server.open(alloc)?;
-        rig.say(PEER, r#"{"do":"peer","number":9,"token":"t","version":2}"#)?;
+        rig.begin()?;
         Ok(rig)
+    }
+
+    fn begin(&mut self) -> Result<(), Refusal> {
+        self.open_ann()?;
+        self.tell(ANN, r#"{"do":"create","pad":"p"}"#)?;
+        self.server.open(self.alloc)?;
+        self.tell(PEER, r#"{"do":"peer","number":9,"token":"t","version":2}"#)
     }
 
     /// The reply line of a request, its LF included.
@@ -76,8 +81,20 @@ impl Rig {
     /// One more session of ann.
     pub fn open_ann(&mut self) -> Result<u32, Refusal> {
         let session = self.server.open(self.alloc)?;
-        self.say(session, HELLO)?;
+        self.tell(session, HELLO)?;
         Ok(session)
+    }
+
+    /// Makes a request, whatever it is answered.
+    pub fn tell(&mut self, session: u32, line: &str) -> Result<(), Refusal> {
+        let _reply = self.say(session, line)?;
+        Ok(())
+    }
+
+    /// Whether a request is refused.
+    pub fn refuses(&mut self, session: u32, line: &str) -> Result<bool, Refusal> {
+        let reply = self.say(session, line)?;
+        Ok(is_refusal(reply.as_str()))
     }
 
     /// Whether a request is answered with this line.

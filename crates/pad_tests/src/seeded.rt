@@ -12,7 +12,7 @@ use std::test::Fail;
 const EVENTS: u64 = 2_000;
 
 /// How many events of each kind made an operation, how many were refused, and how many characters were hidden.
-#[derive(Clone, Copy, Debug, Default)]
+#[derive(Clone, Copy, Default)]
 struct Shares {
     typed: u64,
     erased: u64,
@@ -45,6 +45,18 @@ fn read(alloc: Global, rig: &mut Rig, what: &str, rev: u64) -> Result<String, Re
     rig.say(ANN, line.as_str())
 }
 
+/// Whether a reading of a revision is answered so.
+fn reads(alloc: Global, rig: &mut Rig, what: &str, rev: u64, want: &str) -> Result<bool, Refusal> {
+    let reply = read(alloc, rig, what, rev)?;
+    Ok(reply.as_str() == want)
+}
+
+/// How many characters a revision has.
+fn length_at(alloc: Global, rig: &mut Rig, rev: u64) -> Result<u64, Refusal> {
+    let reply = read(alloc, rig, "text", rev)?;
+    Ok(text_len(reply.as_str()))
+}
+
 fn revision(rig: &mut Rig) -> Result<u64, Refusal> {
     let reply = rig.say(ANN, "{\"do\":\"revs\",\"pad\":\"p\"}")?;
     Ok(number_behind(reply.as_str(), "\"now\":").unwrap_or(0))
@@ -60,12 +72,23 @@ fn happen(
 ) -> Result<(), Refusal> {
     let now = revision(rig)?;
     let rev = dice.roll(now.saturating_add(1));
-    let length = text_len(read(alloc, rig, "text", rev)?.as_str());
+    let length = length_at(alloc, rig, rev)?;
     let deed = Deed::pick(dice);
     let place = dice.roll(noted.len() as u64) as usize;
     let comment = one_of(noted.as_slice(), place);
     let line = deed.line(alloc, dice, rev, length, comment)?;
-    let reply = rig.say(ANN, line.as_str())?;
+    act(alloc, rig, deed, line.as_str(), noted, shares)
+}
+
+fn act(
+    alloc: Global,
+    rig: &mut Rig,
+    deed: Deed,
+    line: &str,
+    noted: &mut Vec<String>,
+    shares: &mut Shares,
+) -> Result<(), Refusal> {
+    let reply = rig.say(ANN, line)?;
     shares.count(deed, reply.as_str());
     if deed == Deed::Note {
         keep_name(alloc, reply.as_str(), noted)?;
@@ -106,12 +129,20 @@ fn vector(alloc: Global, rig: &mut Rig) -> Result<String, Refusal> {
 fn hear_some(alloc: Global, rig: &mut Rig, other: &mut Rig) -> Result<bool, Refusal> {
     let seen = vector(alloc, rig)?;
     let ops = lacking(alloc, other, seen.as_str())?;
-    for op in &ops {
-        let op = op.as_str();
-        let line = format!(in alloc; "{{\"do\":\"push\",\"pad\":\"p\",\"op\":{op}}}")?;
-        rig.say(PEER, line.as_str())?;
-    }
+    push_all(alloc, rig, ops.as_slice())?;
     Ok(!ops.is_empty())
+}
+
+fn push_all(alloc: Global, rig: &mut Rig, ops: &[String]) -> Result<(), Refusal> {
+    for op in ops {
+        push(alloc, rig, op.as_str())?;
+    }
+    Ok(())
+}
+
+fn push(alloc: Global, rig: &mut Rig, op: &str) -> Result<(), Refusal> {
+    let line = format!(in alloc; "{{\"do\":\"push\",\"pad\":\"p\",\"op\":{op}}}")?;
+    rig.tell(PEER, line.as_str())
 }
 
 fn hear(alloc: Global, rig: &mut Rig, other: &mut Rig) -> Result<(), Refusal> {
@@ -133,17 +164,27 @@ fn log_of(alloc: Global, rig: &mut Rig) -> Result<Vec<String>, Refusal> {
     let mut log: Vec<String> = Vec::new(alloc);
     let mut counts = [0_u64; 2];
     for _ in 0..EVENTS {
-        let seen = seen_text(alloc, counts)?;
-        let ops = lacking(alloc, rig, seen.as_str())?;
-        if ops.is_empty() {
+        if !add_next(alloc, rig, &mut log, &mut counts)? {
             break;
-        }
-        for op in ops {
-            count(op.as_str(), &mut counts);
-            log.push(op)?;
         }
     }
     Ok(log)
+}
+
+/// The next operations behind those that are counted. Whether there were any.
+fn add_next(
+    alloc: Global,
+    rig: &mut Rig,
+    log: &mut Vec<String>,
+    counts: &mut [u64; 2],
+) -> Result<bool, Refusal> {
+    let before = log.len();
+    let seen = seen_text(alloc, *counts)?;
+    for op in lacking(alloc, rig, seen.as_str())? {
+        count(op.as_str(), counts);
+        log.push(op)?;
+    }
+    Ok(log.len() > before)
 }
 
 /// Counts one operation more of its server.
@@ -167,32 +208,70 @@ fn seen_text(alloc: Global, counts: [u64; 2]) -> Result<String, Refusal> {
 
 /// Whether a revision reads as a page does that took its operations: text, runs and, at each hundredth, comments.
 fn agrees(alloc: Global, rig: &mut Rig, page: &Page, now: u64, rev: u64) -> Result<bool, Refusal> {
-    if read(alloc, rig, "text", rev)? != text_line(alloc, page, now, rev)? {
-        return Ok(false);
-    }
-    if read(alloc, rig, "runs", rev)? != runs_line(alloc, page, now, rev)? {
-        return Ok(false);
-    }
-    if rev != now && rev % 100 != 0 {
-        return Ok(true);
-    }
-    Ok(read(alloc, rig, "comments", rev)? == comments_line(alloc, page, now, rev)?)
+    Ok(
+        text_agrees(alloc, rig, page, now, rev)?
+            && runs_agree(alloc, rig, page, now, rev)?
+            && (rev != now && rev % 100 != 0 || comments_agree(alloc, rig, page, now, rev)?),
+    )
+}
+
+fn text_agrees(
+    alloc: Global,
+    rig: &mut Rig,
+    page: &Page,
+    now: u64,
+    rev: u64,
+) -> Result<bool, Refusal> {
+    let want = text_line(alloc, page, now, rev)?;
+    reads(alloc, rig, "text", rev, want.as_str())
+}
+
+fn runs_agree(
+    alloc: Global,
+    rig: &mut Rig,
+    page: &Page,
+    now: u64,
+    rev: u64,
+) -> Result<bool, Refusal> {
+    let want = runs_line(alloc, page, now, rev)?;
+    reads(alloc, rig, "runs", rev, want.as_str())
+}
+
+fn comments_agree(
+    alloc: Global,
+    rig: &mut Rig,
+    page: &Page,
+    now: u64,
+    rev: u64,
+) -> Result<bool, Refusal> {
+    let want = comments_line(alloc, page, now, rev)?;
+    reads(alloc, rig, "comments", rev, want.as_str())
 }
 
 /// How many revisions of a server, from 1 on, read as a page does that took the log up to there.
 fn count_agreeing(alloc: Global, rig: &mut Rig) -> Result<u64, Refusal> {
+    let log = log_of(alloc, rig)?;
+    count_agreeing_with(alloc, rig, log.as_slice())
+}
+
+fn count_agreeing_with(alloc: Global, rig: &mut Rig, log: &[String]) -> Result<u64, Refusal> {
     let now = revision(rig)?;
     let mut page = Page::new(alloc);
     let mut rev = 0_u64;
-    for op in &log_of(alloc, rig)? {
-        page.take(&op_of(alloc, op.as_str())?)?;
+    for op in log {
+        take(alloc, &mut page, op.as_str())?;
         let next = rev.saturating_add(1);
         if !agrees(alloc, rig, &page, now, next)? {
-            return Ok(rev);
+            break;
         }
         rev = next;
     }
     Ok(rev)
+}
+
+fn take(alloc: Global, page: &mut Page, text: &str) -> Result<(), Refusal> {
+    let op = op_of(alloc, text)?;
+    page.take(&op)
 }
 
 /// Lets all events happen, on one server or the other.
@@ -201,46 +280,96 @@ fn play(alloc: Global, one: &mut Rig, two: &mut Rig) -> Result<Shares, Refusal> 
     let mut noted = Vec::new(alloc);
     let mut shares = Shares::default();
     for _ in 0..EVENTS {
-        match dice.roll(2) {
-            0 => happen(alloc, one, &mut dice, &mut noted, &mut shares)?,
-            _ => happen(alloc, two, &mut dice, &mut noted, &mut shares)?,
-        }
-        if dice.roll(25) == 0 {
-            exchange(alloc, one, two)?;
-        }
+        happen_somewhere(alloc, one, two, &mut dice, &mut noted, &mut shares)?;
     }
-    exchange(alloc, one, two)?;
     Ok(shares)
 }
 
-/// How many of four readings of the present revision are the same on two servers.
-fn count_same(alloc: Global, one: &mut Rig, two: &mut Rig) -> Result<u64, Refusal> {
+/// One event on one server or the other, which may then hear of each other.
+fn happen_somewhere(
+    alloc: Global,
+    one: &mut Rig,
+    two: &mut Rig,
+    dice: &mut Dice,
+    noted: &mut Vec<String>,
+    shares: &mut Shares,
+) -> Result<(), Refusal> {
+    match dice.roll(2) {
+        0 => happen(alloc, one, dice, noted, shares)?,
+        _ => happen(alloc, two, dice, noted, shares)?,
+    }
+    if dice.roll(25) == 0 {
+        exchange(alloc, one, two)?;
+    }
+    Ok(())
+}
+
+/// Readings of the present revision.
+const READINGS: &[&str] = &[
+    "{\"do\":\"text\",\"pad\":\"p\"}",
+    "{\"do\":\"runs\",\"pad\":\"p\"}",
+    "{\"do\":\"comments\",\"pad\":\"p\"}",
+    "{\"do\":\"revs\",\"pad\":\"p\"}",
+];
+
+/// How many of them are the same on two servers.
+fn count_same(one: &mut Rig, two: &mut Rig) -> Result<u64, Refusal> {
     let mut same = 0_u64;
-    for what in ["text", "runs", "comments", "revs"] {
-        let line = format!(in alloc; "{{\"do\":\"{what}\",\"pad\":\"p\"}}")?;
-        if one.say(ANN, line.as_str())? == two.say(ANN, line.as_str())? {
+    for line in READINGS {
+        if are_same(one, two, line)? {
             same = same.saturating_add(1);
         }
     }
     Ok(same)
 }
 
-#[test]
-fn seeded_servers_agree(rt: HostRuntime) -> Result<(), Fail> {
-    let alloc = rt.alloc();
+fn are_same(one: &mut Rig, two: &mut Rig, line: &str) -> Result<bool, Refusal> {
+    let reply = one.say(ANN, line)?;
+    two.says(ANN, line, reply.as_str())
+}
+
+/// What came of a run: the shares of its events, how many readings are the same on both servers, and how many revisions
+/// of each read as they should.
+#[derive(Clone, Copy)]
+struct Outcome {
+    shares: Shares,
+    same: u64,
+    agreeing: [u64; 2],
+}
+
+fn play_to_the_end(alloc: Global, one: &mut Rig, two: &mut Rig) -> Result<Outcome, Refusal> {
+    let shares = play(alloc, one, two)?;
+    exchange(alloc, one, two)?;
+    Ok(Outcome {
+        shares,
+        same: count_same(one, two)?,
+        agreeing: [count_agreeing(alloc, one)?, count_agreeing(alloc, two)?],
+    })
+}
+
+fn play_both(alloc: Global) -> Result<Outcome, Refusal> {
     let mut one = Rig::new(alloc, 1)?;
     let mut two = Rig::new(alloc, 2)?;
-    let shares = play(alloc, &mut one, &mut two)?;
+    play_to_the_end(alloc, &mut one, &mut two)
+}
+
+#[test]
+fn seeded_servers_agree(rt: HostRuntime) -> Result<(), Fail> {
+    let Outcome {
+        shares,
+        same,
+        agreeing,
+    } = play_both(rt.alloc())?;
     let made = EVENTS.saturating_sub(shares.refused);
-    assert_eq!(rt; count_same(alloc, &mut one, &mut two)?, 4);
-    assert_eq!(rt; count_agreeing(alloc, &mut one)?, made);
-    assert_eq!(rt; count_agreeing(alloc, &mut two)?, made);
-    assert!(rt; shares.typed >= 500 && shares.erased >= 300, "{shares:?}");
-    assert!(rt; shares.edited >= 150 && shares.noted >= 200, "{shares:?}");
-    assert!(rt;
-        shares.resolved >= 200 && shares.refused >= 20,
-        "{shares:?}"
-    );
-    assert!(rt; shares.hidden >= 400, "{shares:?}");
+    assert!(rt; same == 4, "{same}");
+    assert!(rt; agreeing[0] == made, "{} of {made}", agreeing[0]);
+    assert!(rt; agreeing[1] == made, "{} of {made}", agreeing[1]);
+    assert!(rt; shares.typed >= 500, "{}", shares.typed);
+    assert!(rt; shares.erased >= 300, "{}", shares.erased);
+    assert!(rt; shares.edited >= 150, "{}", shares.edited);
+    assert!(rt; shares.noted >= 200, "{}", shares.noted);
+    assert!(rt; shares.resolved >= 200, "{}", shares.resolved);
+    assert!(rt; shares.refused >= 20, "{}", shares.refused);
+    assert!(rt; shares.hidden >= 400, "{}", shares.hidden);
     Ok(())
 }

@@ -17,25 +17,38 @@ pub fn open(alloc: Global, cells: u32) -> Result<Server<PlainSeq>, Fail> {
         b"author ann t1\nauthor bob t2\npeer 2 p2 127.0.0.1:7402\n",
     )?;
     let mut server = Server::new(alloc, 1, cells.min(MAX_CELLS), accounts)?;
-    for _ in 0..3 {
-        let _actor = server.open(alloc)?;
-    }
+    open_more(alloc, &mut server, 3)?;
     Ok(server)
 }
 
-/// Makes the steps, and tells the first one whose answer is another.
-pub fn play(
+/// So many more actors.
+pub fn open_more(alloc: Global, server: &mut Server<PlainSeq>, count: u32) -> Result<(), Refusal> {
+    for _ in 0..count {
+        let _actor = server.open(alloc)?;
+    }
+    Ok(())
+}
+
+/// How many steps are told so, before the first whose answer is another.
+pub fn count_told(
     alloc: Global,
     server: &mut Server<PlainSeq>,
     turns: &[Turn<'_>],
-) -> Result<Option<String>, Fail> {
+) -> Result<usize, Fail> {
+    let mut count = 0usize;
     for turn in turns {
-        let told = answer(alloc, server, turn.0, turn.1)?;
-        if told.as_str() != turn.2 {
-            return Ok(Some(told));
+        if !is_told(alloc, server, *turn)? {
+            break;
         }
+        count = count.saturating_add(1);
     }
-    Ok(None)
+    Ok(count)
+}
+
+fn is_told(alloc: Global, server: &mut Server<PlainSeq>, turn: Turn<'_>) -> Result<bool, Fail> {
+    let (actor, words, want) = turn;
+    let told = answer(alloc, server, actor, words)?;
+    Ok(told.as_str() == want)
 }
 
 fn answer(

@@ -1,6 +1,7 @@
 //! Actors in turn.
-use crate::stage::{Turn, open, play};
+use crate::stage::{Turn, count_told, open, open_more};
 use pad_model::Refusal;
+use std::alloc::Global;
 use std::test::Fail;
 
 const HELLO_ANN: Turn<'static> = (
@@ -16,7 +17,7 @@ const HELLO_BOB: Turn<'static> = (
 );
 
 /// Two actors ask for one name in a row of one cell; the first to move has it. Then the row is full.
-const RACE: [Turn<'static>; 12] = [
+const RACE: &[Turn<'static>] = &[
     HELLO_ANN,
     HELLO_BOB,
     (0, "{\"do\":\"create\",\"pad\":\"x\"}", "scanning"),
@@ -44,7 +45,7 @@ const RACE: [Turn<'static>; 12] = [
 ];
 
 /// A creation goes past another name, one cell at each move. Nothing else is answered meanwhile.
-const STEPS: [Turn<'static>; 21] = [
+const STEPS: &[Turn<'static>] = &[
     HELLO_ANN,
     HELLO_BOB,
     (0, "{\"do\":\"create\",\"pad\":\"x\"}", "scanning"),
@@ -89,7 +90,7 @@ const STEPS: [Turn<'static>; 21] = [
 ];
 
 /// Two authors and a peer on one pad, their scans in turn.
-const STORY: [Turn<'static>; 34] = [
+const STORY: &[Turn<'static>] = &[
     HELLO_ANN,
     HELLO_BOB,
     (
@@ -178,13 +179,22 @@ const STORY: [Turn<'static>; 34] = [
     (0, "look 1", "no name"),
 ];
 
+/// How many pads a server has room for, and what its actors are told.
+const TABLES: &[(u32, &[Turn<'static>])] = &[(1, RACE), (3, STEPS), (2, STORY)];
+
+fn count_told_by_new(alloc: Global, cells: u32, turns: &[Turn<'_>]) -> Result<usize, Fail> {
+    let mut server = open(alloc, cells)?;
+    count_told(alloc, &mut server, turns)
+}
+
 #[test]
 fn actors_in_turn(rt: HostRuntime) -> Result<(), Fail> {
-    let alloc = rt.alloc();
-    let tables: [(u32, &[Turn<'static>]); 3] = [(1, &RACE), (3, &STEPS), (2, &STORY)];
-    for (cells, turns) in tables {
-        let mut server = open(alloc, cells)?;
-        assert_eq!(rt; play(alloc, &mut server, turns)?, None);
+    for (cells, turns) in TABLES {
+        let count = count_told_by_new(rt.alloc(), *cells, turns)?;
+        assert!(rt;
+            count == turns.len(),
+            "not turn {count} with room for {cells}"
+        );
     }
     Ok(())
 }
@@ -193,9 +203,7 @@ fn actors_in_turn(rt: HostRuntime) -> Result<(), Fail> {
 fn limit_actors(rt: HostRuntime) -> Result<(), Fail> {
     let alloc = rt.alloc();
     let mut server = open(alloc, 1)?;
-    for _ in 3..1_024 {
-        let _actor = server.open(alloc)?;
-    }
-    assert_eq!(rt; server.open(alloc), Err(Refusal::ActorsFull));
+    open_more(alloc, &mut server, 1_021)?;
+    assert!(rt; server.open(alloc) == Err(Refusal::ActorsFull));
     Ok(())
 }

@@ -161,7 +161,7 @@ fn lines_after_a_fault(alloc: Global, taken: usize) -> Result<u64, Fail> {
 #[test]
 fn after_a_fault_the_session_is_nobodys(rt: HostRuntime) -> Result<(), Fail> {
     for taken in [10, 0] {
-        assert_eq!(rt; lines_after_a_fault(rt.alloc(), taken)?, 1);
+        assert!(rt; lines_after_a_fault(rt.alloc(), taken)? == 1);
     }
     Ok(())
 }
@@ -275,8 +275,8 @@ fn the_session_is_ended(rt: HostRuntime) -> Result<(), Fail> {
     let answers = [CREATED.as_bytes(), NOBODY.as_bytes()];
     assert!(rt; written.bytes().starts_with(answers[0]));
     assert!(rt; written.bytes().ends_with(answers[1]));
-    assert_eq!(rt; written.bytes().len(), answers[0].len() + answers[1].len());
-    assert_eq!(rt; pads.cells(), 64);
+    assert!(rt; written.bytes().len() == answers[0].len() + answers[1].len());
+    assert!(rt; pads.cells() == 64);
     assert!(rt;
         pads.name_of(rt.alloc(), 0)?
             .is_some_and(|name| name.is("p"))
@@ -357,7 +357,7 @@ fn a_client_that_waits(rt: HostRuntime) -> Result<(), Fail> {
         lines: 3,
         delivered: 1,
     };
-    assert_eq!(rt; served, Ok(all));
+    assert!(rt; served == Ok(all));
     Ok(())
 }
 

@@ -5,7 +5,7 @@ use std::alloc::{AllocError, AllocFailed};
 use std::{fmt, io};
 
 /// Why a story could not be played.
-#[derive(Debug, Drop)]
+#[derive(Drop)]
 pub enum Fault {
     /// A line of the accounts file is at fault.
     BadAccounts { line: u64 },

@@ -1,7 +1,7 @@
 //! The lines of a story.
 
 /// What a line of a story says.
-#[derive(Clone, Copy, Debug, PartialEq)]
+#[derive(Clone, Copy)]
 pub enum Line<'a> {
     /// A title: a new server begins, with this replica number if the title names one.
     Title { replica: Option<u16> },

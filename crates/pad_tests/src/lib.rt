@@ -1,6 +1,8 @@
-//! Tests of running servers: requests go in as lines, and replies come out as lines.
+//! Tests of running servers: their lines, requests and replies, connections that fail, scans, two servers, and their limits.
 #![tactic(auto)]
 
+#[cfg(test)]
+mod connection;
 #[cfg(test)]
 mod deed;
 #[cfg(test)]
@@ -14,4 +16,8 @@ mod replies;
 #[cfg(test)]
 mod rig;
 #[cfg(test)]
+mod scan;
+#[cfg(test)]
 mod seeded;
+#[cfg(test)]
+mod wire;

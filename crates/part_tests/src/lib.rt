@@ -1,4 +1,5 @@
-//! Tests of the parts of a pad: its log, author runs, comments, rights, held operations, accounts and visits.
+//! Tests of the parts of a pad: the words, sequences, the log, author runs, comments, rights, held operations, accounts, visits,
+//! and the tree and the index of the fast sequence to come.
 #![tactic(auto)]
 
 #[cfg(test)]
@@ -12,8 +13,12 @@ mod grants;
 #[cfg(test)]
 mod held;
 #[cfg(test)]
+mod index;
+#[cfg(test)]
 mod log;
 #[cfg(test)]
 mod presence;
 #[cfg(test)]
 mod seeded;
+#[cfg(test)]
+mod sequence;

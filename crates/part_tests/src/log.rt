@@ -28,13 +28,18 @@ fn log_of(alloc: Global, names: &[(u16, u64)]) -> Result<OpLog, Fail> {
     Ok(log)
 }
 
-fn are_named(ops: &[Op], names: &[(u16, u64)]) -> bool {
-    for (op, name) in ops.iter().zip(names) {
-        if op.name.origin != name.0 || op.name.number != name.1 {
-            return false;
-        }
+type Names = Vec<(u16, u64)>;
+
+fn names_of(alloc: Global, ops: &[Op]) -> Result<Names, Fail> {
+    let mut names = Vec::new(alloc);
+    for op in ops {
+        names.push((op.name.origin, op.name.number))?;
     }
-    ops.len() == names.len()
+    Ok(names)
+}
+
+fn are_named(alloc: Global, ops: &[Op], names: &[(u16, u64)]) -> Result<bool, Fail> {
+    Ok(names_of(alloc, ops)?.as_slice() == names)
 }
 
 const NAMES: [(u16, u64); 5] = [(1, 1), (2, 1), (1, 2), (2, 2), (1, 3)];
@@ -58,7 +63,7 @@ fn stretches_of_a_log_end_where_it_ends(rt: HostRuntime) -> Result<(), Fail> {
     let log = log_of(rt.alloc(), &NAMES)?;
     for (from, count, want) in STRETCHES {
         assert!(rt;
-            are_named(log.entries(*from, *count), want),
+            are_named(rt.alloc(), log.entries(*from, *count), want)?,
             "from {from}, {count} of them"
         );
     }
@@ -210,8 +215,6 @@ fn a_peer_pulls_what_it_lacks(rt: HostRuntime) -> Result<(), Fail> {
     Ok(())
 }
 
-type Names = Vec<(u16, u64)>;
-
 /// Up to twelve names of three origins; some come twice, and numbers may fall.
 fn some_names(alloc: Global, dice: &mut Dice) -> Result<Names, Fail> {
     let mut names = Vec::new(alloc);
@@ -239,9 +242,9 @@ fn count_of(counts: Counts, origin: u16) -> u64 {
 
 fn seen_of(alloc: Global, counts: Counts) -> Result<Seen, Fail> {
     let mut seen = Seen::new(alloc);
-    for (origin, count) in [(7, counts.0), (2, counts.1), (300, counts.2)] {
-        seen.set(origin, count)?;
-    }
+    seen.set(7, counts.0)?;
+    seen.set(2, counts.1)?;
+    seen.set(300, counts.2)?;
     Ok(seen)
 }
 
@@ -264,8 +267,14 @@ fn pulls(
 ) -> Result<bool, Fail> {
     let seen = seen_of(alloc, counts)?;
     let answer = log.missing(alloc, &seen, max)?;
-    Ok(are_named(answer.as_slice(), want))
+    are_named(alloc, answer.as_slice(), want)
 }
+
+fn first_of(names: &[(u16, u64)], max: u64) -> &[(u16, u64)] {
+    &names[..names.len().min(max as usize)]
+}
+
+const LENGTHS: &[u64] = &[0, 1, 4, u64::MAX];
 
 /// The first of some lengths in which a pull is another than the plain filter, if any.
 fn fault_of(
@@ -275,10 +284,9 @@ fn fault_of(
     lacking: &[(u16, u64)],
 ) -> Result<Option<u64>, Fail> {
     let log = log_of(alloc, names)?;
-    for max in [0, 1, 4, u64::MAX] {
-        let want = &lacking[..lacking.len().min(max as usize)];
-        if !pulls(alloc, &log, counts, max, want)? {
-            return Ok(Some(max));
+    for max in LENGTHS {
+        if !pulls(alloc, &log, counts, *max, first_of(lacking, *max))? {
+            return Ok(Some(*max));
         }
     }
     Ok(None)

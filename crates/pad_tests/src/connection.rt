@@ -1,0 +1,426 @@
+//! What no clause says: worked lines as a client sees them, and devices that cut and fail.
+ghost use Rattle.std.specs.Prelude.{◌≤◌, None};
+ghost use Rattle.wire_lines.specs.Device.{one_more};
+
+use block_seq::PlainSeq;
+use pad_core::Request;
+use pad_model::{Name, Refusal};
+use server_core::Server;
+use sessions::{Accounts, Word};
+use std::alloc::Global;
+use std::cell::Cell;
+use std::test::Fail;
+use wire_lines::{Fault, Input, Output, ReadError, Sink, Source, WriteError};
+use workers::{Alone, Open, Pads, Served, serve_connection};
+
+fn hello(alloc: Global) -> Result<Request, Refusal> {
+    Ok(Request::Hello {
+        name: Name::from_str(alloc, "solo")?,
+        token: Word::from_str(alloc, "solo")?,
+    })
+}
+
+fn server(alloc: Global) -> Result<Server<PlainSeq>, Fail> {
+    let accounts = Accounts::read(alloc, b"author solo solo\n")?;
+    Ok(Server::new(alloc, 1, 64, accounts)?)
+}
+
+fn opened(alloc: Global) -> Result<Alone<PlainSeq>, Fail> {
+    let mut server = server(alloc)?;
+    let actor = server.open(alloc)?;
+    Ok(Alone::new(server, actor))
+}
+
+fn greet(alloc: Global, pads: &mut Alone<PlainSeq>) -> Result<(), Fail> {
+    let hello = hello(alloc)?;
+    let _reply = pads.call(alloc, &hello);
+    Ok(())
+}
+
+// A fresh server of replica 1, with a session of the author solo.
+fn solo(alloc: Global) -> Result<Alone<PlainSeq>, Fail> {
+    let mut pads = opened(alloc)?;
+    greet(alloc, &mut pads)?;
+    Ok(pads)
+}
+
+// How a connection to a fresh server ends.
+fn serve<R: Source, W: Sink>(
+    alloc: Global,
+    reader: &mut R,
+    writer: &mut W,
+) -> Result<Result<Served, Fault>, Fail> {
+    let mut pads = solo(alloc)?;
+    Ok(serve_connection(alloc, &mut pads, reader, writer, 0, &Open))
+}
+
+const CREATE: &str = "{\"do\":\"create\",\"pad\":\"p\"}\n";
+
+const CREATED: &str = "{\"now\":0,\"ok\":true,\"visit\":1}\n";
+
+const NOBODY: &str = "{\"code\":200,\"error\":\"NoSession\",\"ok\":false}\n";
+
+// The lines of a first session, with what is answered.
+const SESSION: [(&str, &str); 9] = [
+    (CREATE, CREATED),
+    (
+        "{\"do\":\"text\",\"pad\":\"p\"}\n",
+        "{\"now\":0,\"ok\":true,\"rev\":0,\"text\":\"\"}\n",
+    ),
+    (
+        "{\"do\":\"insert\",\"pad\":\"p\",\"rev\":0,\"at\":0,\"text\":\"hello\"}\n",
+        "{\"name\":[1,1],\"now\":1,\"ok\":true}\n",
+    ),
+    (
+        "{\"do\":\"revs\",\"pad\":\"p\"}\r\n",
+        "{\"cells\":5,\"length\":5,\"now\":1,\"ok\":true}\n",
+    ),
+    ("\n", ""),
+    (
+        "{\"do\":\"insert\",\"pad\":\"p\",\"rev\":1,\"at\":1.0,\"text\":\"x\"}\n",
+        "{\"code\":102,\"error\":\"NotRequest\",\"ok\":false}\n",
+    ),
+    (
+        "{\"do\":\"text\"\n",
+        "{\"code\":101,\"error\":\"NotJson\",\"ok\":false}\n",
+    ),
+    (
+        "{\"do\":\"insert\",\"pad\":\"p\",\"rev\":1,\"at\":2,\"text\":\"XY\"}\n",
+        "{\"name\":[1,2],\"now\":2,\"ok\":true}\n",
+    ),
+    (
+        "{\"do\":\"text\",\"pad\":\"p\",\"x\":[]}",
+        "{\"now\":2,\"ok\":true,\"rev\":2,\"text\":\"heXYllo\"}\n",
+    ),
+];
+
+// The lines, and the answers, one after the other.
+fn joined(alloc: Global, answers: bool) -> Result<String, Fail> {
+    let mut text = String::new(alloc);
+    for (line, answer) in SESSION {
+        text.push_str(if answers { answer } else { line })?;
+    }
+    Ok(text)
+}
+
+// Whether a session whose bytes come and go in pieces is answered so, by eight lines of which two were delivered.
+fn is_served_in_pieces(
+    alloc: Global,
+    piece: usize,
+    lines: &str,
+    answers: &str,
+) -> Result<bool, Fail>
+    requires { 1 ≤ piece }
+{
+    let mut reader = Input::new(lines.as_bytes()).in_pieces(piece).interrupted();
+    let mut writer = Output::new(alloc).in_pieces(piece);
+    let served = serve(alloc, &mut reader, &mut writer)?;
+    let all = Served {
+        lines: 8,
+        delivered: 2,
+    };
+    Ok(served == Ok(all) && writer.bytes() == answers.as_bytes())
+}
+
+#[test]
+fn a_session_in_pieces(rt: HostRuntime) -> Result<(), Fail> {
+    let alloc = rt.alloc();
+    let lines = joined(alloc, false)?;
+    let answers = joined(alloc, true)?;
+    for piece in [1, 2, 30, 1000] {
+        assert!(rt;
+            is_served_in_pieces(alloc, piece, lines.as_str(), answers.as_str())?,
+            "in pieces of {piece}"
+        );
+    }
+    Ok(())
+}
+
+// Whether the writer fails at its second call, with just this written.
+fn is_cut(alloc: Global, taken: usize, written: &str) -> Result<bool, Fail> {
+    let mut reader = Input::new(CREATE.as_bytes());
+    let mut writer = Output::new(alloc).in_pieces(taken).failing_at(2);
+    let served = serve(alloc, &mut reader, &mut writer)?;
+    Ok(served == Err(Fault::WriteFault) && writer.bytes() == written.as_bytes())
+}
+
+// A writer that takes ten bytes and then fails, or takes none: what was written is a front.
+#[test]
+fn a_write_that_fails(rt: HostRuntime) -> Result<(), Fail> {
+    for (taken, written) in [(10, "{\"now\":0,\""), (0, "")] {
+        assert!(rt; is_cut(rt.alloc(), taken, written)?, "after {taken} bytes");
+    }
+    Ok(())
+}
+
+// How many lines the session answers to `create` after a writer that failed.
+fn lines_after_a_fault(alloc: Global, taken: usize) -> Result<u64, Fail> {
+    let mut pads = solo(alloc)?;
+    let mut reader = Input::new(CREATE.as_bytes());
+    let mut writer = Output::new(alloc).in_pieces(taken).failing_at(2);
+    let _fault = serve_connection(alloc, &mut pads, &mut reader, &mut writer, 0, &Open);
+    let mut reader = Input::new(CREATE.as_bytes());
+    let mut writer = Output::new(alloc);
+    match serve_connection(alloc, &mut pads, &mut reader, &mut writer, 0, &Open) {
+        Ok(served) if writer.bytes() == NOBODY.as_bytes() => Ok(served.lines),
+        _ => Ok(0),
+    }
+}
+
+#[test]
+fn after_a_fault_the_session_is_nobodys(rt: HostRuntime) -> Result<(), Fail> {
+    for taken in [10, 0] {
+        assert!(rt; lines_after_a_fault(rt.alloc(), taken)? == 1);
+    }
+    Ok(())
+}
+
+// The first answers, each of one write.
+fn first_answers(alloc: Global, count: u64) -> Result<String, Fail> {
+    let mut text = String::new(alloc);
+    let mut left = count;
+    for (_, answer) in SESSION {
+        if left > 0 && !answer.is_empty() {
+            text.push_str(answer)?;
+            left = left.wrapping_sub(1);
+        }
+    }
+    Ok(text)
+}
+
+// The answers to the lines whose line feed is among the first bytes.
+fn answers_within(alloc: Global, bytes: usize) -> Result<String, Fail> {
+    let mut text = String::new(alloc);
+    let mut end = 0_usize;
+    for (line, answer) in SESSION {
+        end = end.wrapping_add(line.len());
+        if end <= bytes && line.ends_with('\n') {
+            text.push_str(answer)?;
+        }
+    }
+    Ok(text)
+}
+
+// Whether the connection ends with this fault, and has written just the answers.
+fn ends_so(
+    alloc: Global,
+    reader: &mut Input<'_>,
+    writer: &mut Output,
+    fault: Fault,
+    answers: &str,
+) -> Result<bool, Fail> {
+    let served = serve(alloc, reader, writer)?;
+    Ok(served == Err(fault) && writer.bytes() == answers.as_bytes())
+}
+
+fn is_cut_at_write(alloc: Global, lines: &str, call: u64) -> Result<bool, Fail> {
+    let answers = first_answers(alloc, call.wrapping_sub(1))?;
+    let mut reader = Input::new(lines.as_bytes());
+    let mut writer = Output::new(alloc).failing_at(call);
+    ends_so(
+        alloc,
+        &mut reader,
+        &mut writer,
+        Fault::WriteFault,
+        answers.as_str(),
+    )
+}
+
+// Whichever write fails, the answers before it were written, and nothing of its own.
+#[test]
+fn each_write_fails_once(rt: HostRuntime) -> Result<(), Fail> {
+    let lines = joined(rt.alloc(), false)?;
+    for call in 1..=8 {
+        assert!(rt;
+            is_cut_at_write(rt.alloc(), lines.as_str(), call)?,
+            "write {call}"
+        );
+    }
+    Ok(())
+}
+
+fn is_cut_at_read(alloc: Global, lines: &str, read: usize) -> Result<bool, Fail> {
+    let answers = answers_within(alloc, read)?;
+    let call = (read as u64).wrapping_add(1);
+    let mut reader = Input::new(lines.as_bytes()).in_pieces(1).failing_at(call);
+    let mut writer = Output::new(alloc);
+    ends_so(
+        alloc,
+        &mut reader,
+        &mut writer,
+        Fault::ReadFault,
+        answers.as_str(),
+    )
+}
+
+// Whichever read of a byte fails, the lines whose line feed was read were answered.
+#[test]
+fn each_read_fails_once(rt: HostRuntime) -> Result<(), Fail> {
+    let lines = joined(rt.alloc(), false)?;
+    for read in 0..=lines.len() {
+        assert!(rt;
+            is_cut_at_read(rt.alloc(), lines.as_str(), read)?,
+            "read {read}"
+        );
+    }
+    Ok(())
+}
+
+// What two connections with a request to create `p` write, one after the other.
+fn written_by_two(alloc: Global, pads: &mut Alone<PlainSeq>) -> Result<Output, Fail> {
+    let mut writer = Output::new(alloc);
+    for _ in 0..2 {
+        let mut reader = Input::new(CREATE.as_bytes());
+        let _served = serve_connection(alloc, pads, &mut reader, &mut writer, 0, &Open)?;
+    }
+    Ok(writer)
+}
+
+// Whether these are two lines and nothing else.
+fn are_both(written: &[u8], first: &str, second: &str) -> bool {
+    written.strip_prefix(first.as_bytes()) == Some(second.as_bytes())
+}
+
+fn is_named(
+    alloc: Global,
+    pads: &mut Alone<PlainSeq>,
+    cell: u32,
+    want: Option<&str>,
+) -> Result<bool, Fail> {
+    match pads.name_of(alloc, cell)? {
+        Some(name) => Ok(want == Some(name.as_str())),
+        None => Ok(want.is_none()),
+    }
+}
+
+// After the end the session is nobody's, and its pads stay.
+#[test]
+fn the_session_is_ended(rt: HostRuntime) -> Result<(), Fail> {
+    let mut pads = solo(rt.alloc())?;
+    let written = written_by_two(rt.alloc(), &mut pads)?;
+    assert!(rt; are_both(written.bytes(), CREATED, NOBODY));
+    assert!(rt; pads.cells() == 64);
+    assert!(rt; is_named(rt.alloc(), &mut pads, 0, Some("p"))?);
+    assert!(rt; is_named(rt.alloc(), &mut pads, 1, None)?);
+    Ok(())
+}
+
+// A client that gives a line only once it has the replies to those before, and fails if it is asked earlier.
+#[derive(Drop)]
+struct Client<'a> {
+    lines: &'a [&'a str],
+    given: usize,
+    replies: &'a Cell<usize>,
+    failures: u64,
+}
+
+impl Source for Client<'_> {
+    ghost remaining = { λ _. None };
+
+    ghost failures = { λ c. c.failures };
+
+    fn read(&mut self, buffer: &mut [u8]) -> Result<usize, ReadError> {
+        let line = match self.lines.get(self.given) {
+            None => return Ok(0),
+            Some(line) => line.as_bytes(),
+        };
+        if self.replies.get() < self.given || buffer.len() < line.len() {
+            self.failures = self.failures.saturating_add(1);
+            return Err(ReadError::Failed);
+        }
+        let end = line.len();
+        buffer[..end].copy_from_slice(line);
+        self.given = self.given.saturating_add(1);
+        Ok(end)
+    }
+}
+
+// What the client is sent.
+#[derive(Drop)]
+struct Sent<'a> {
+    output: Output,
+    replies: &'a Cell<usize>,
+}
+
+impl Sink for Sent<'_> {
+    ghost contents = { λ _. None };
+
+    ghost failures = { λ s. ⟦<Output as Sink>⟧.failures s.output };
+
+    fn write(&mut self, bytes: &[u8]) -> Result<usize, WriteError> {
+        self.output.write(bytes)
+    }
+
+    fn flush(&mut self) -> Result<(), WriteError> {
+        self.replies.set(self.replies.get().saturating_add(1));
+        self.output.flush()
+    }
+}
+
+// Each reply is sent before the next line is asked for.
+#[test]
+fn a_client_that_waits(rt: HostRuntime) -> Result<(), Fail> {
+    let alloc = rt.alloc();
+    let replies = Cell::new(0);
+    let mut client = Client {
+        lines: &[SESSION[0].0, SESSION[1].0, SESSION[2].0],
+        given: 0,
+        replies: &replies,
+        failures: 0,
+    };
+    let mut sent = Sent {
+        output: Output::new(alloc),
+        replies: &replies,
+    };
+    let served = serve(alloc, &mut client, &mut sent)?;
+    let all = Served {
+        lines: 3,
+        delivered: 1,
+    };
+    assert!(rt; served == Ok(all));
+    Ok(())
+}
+
+const REVS: &str = "{\"do\":\"revs\",\"pad\":\"p\"}";
+
+// A pad's making, then a request for its length that so many spaces follow, and then that request alone.
+fn with_spaces(alloc: Global, spaces: usize) -> Result<Vec<u8>, Fail> {
+    let mut lines = CREATE.as_bytes().to_vec(alloc)?;
+    lines.extend_from_slice(REVS.as_bytes())?;
+    let long = lines.len().saturating_add(spaces);
+    lines.resize(long, b' ')?;
+    lines.push(b'\n')?;
+    lines.extend_from_slice(REVS.as_bytes())?;
+    Ok(lines)
+}
+
+// Whether these bytes are answered by a new pad's visit, and then so.
+fn is_answered(alloc: Global, lines: &[u8], answer: &str) -> Result<bool, Fail> {
+    let mut reader = Input::new(lines);
+    let mut writer = Output::new(alloc);
+    let served = serve(alloc, &mut reader, &mut writer)?;
+    let rest = writer.bytes().strip_prefix(CREATED.as_bytes());
+    Ok(served.is_ok() && rest == Some(answer.as_bytes()))
+}
+
+// A line that is too long is told, and nothing behind it is served.
+#[test]
+fn a_line_that_is_too_long(rt: HostRuntime) -> Result<(), Fail> {
+    for (spaces, answer) in [
+        (
+            8_388_608 - REVS.len(),
+            "{\"cells\":0,\"length\":0,\"now\":0,\"ok\":true}\n{\"cells\":0,\"length\":0,\"now\":0,\"ok\":true}\n",
+        ),
+        (
+            8_388_609 - REVS.len(),
+            "{\"code\":100,\"error\":\"TooLong\",\"ok\":false}\n",
+        ),
+    ] {
+        let lines = with_spaces(rt.alloc(), spaces)?;
+        assert!(rt;
+            is_answered(rt.alloc(), lines.as_slice(), answer)?,
+            "{spaces} spaces"
+        );
+    }
+    Ok(())
+}

@@ -1,0 +1,3 @@
+//! Tests of the server machine, step by step: scans of several actors in turn, which no story of whole lines shows.
+mod stage;
+mod steps;

@@ -1,0 +1,209 @@
+//! Actors in turn.
+use crate::scan::stage::{Turn, count_told, open, open_more};
+use pad_model::Refusal;
+use std::alloc::Global;
+use std::test::Fail;
+
+const HELLO_ANN: Turn<'static> = (
+    0,
+    "{\"do\":\"hello\",\"name\":\"ann\",\"token\":\"t1\"}",
+    "{\"author\":\"ann@1\",\"ok\":true}",
+);
+
+const HELLO_BOB: Turn<'static> = (
+    1,
+    "{\"do\":\"hello\",\"name\":\"bob\",\"token\":\"t2\"}",
+    "{\"author\":\"bob@1\",\"ok\":true}",
+);
+
+/// Two actors ask for one name in a row of one cell; the first to move has it. Then the row is full.
+const RACE: &[Turn<'static>] = &[
+    HELLO_ANN,
+    HELLO_BOB,
+    (0, "{\"do\":\"create\",\"pad\":\"x\"}", "scanning"),
+    (1, "{\"do\":\"create\",\"pad\":\"x\"}", "scanning"),
+    (0, "move", "{\"now\":0,\"ok\":true,\"visit\":1}"),
+    (
+        1,
+        "move",
+        "{\"code\":301,\"error\":\"PadExists\",\"ok\":false}",
+    ),
+    (1, "{\"do\":\"create\",\"pad\":\"y\"}", "scanning"),
+    (
+        1,
+        "move",
+        "{\"code\":302,\"error\":\"NoSlot\",\"ok\":false}",
+    ),
+    (
+        1,
+        "{\"do\":\"vector\",\"pad\":\"y\"}",
+        "{\"code\":404,\"error\":\"NotPeer\",\"ok\":false}",
+    ),
+    (1, "{\"do\":\"text\",\"pad\":\"y\"}", "scanning"),
+    (1, "move", "{\"code\":300,\"error\":\"NoPad\",\"ok\":false}"),
+    (0, "look 0", "x"),
+];
+
+/// A creation goes past another name, one cell at each move. Nothing else is answered meanwhile.
+const STEPS: &[Turn<'static>] = &[
+    HELLO_ANN,
+    HELLO_BOB,
+    (0, "{\"do\":\"create\",\"pad\":\"x\"}", "scanning"),
+    (0, "move", "{\"now\":0,\"ok\":true,\"visit\":1}"),
+    (1, "{\"do\":\"create\",\"pad\":\"y\"}", "scanning"),
+    (
+        1,
+        "{\"do\":\"create\",\"pad\":\"y\"}",
+        "{\"code\":203,\"error\":\"Busy\",\"ok\":false}",
+    ),
+    (
+        1,
+        "look 1",
+        "{\"code\":203,\"error\":\"Busy\",\"ok\":false}",
+    ),
+    (
+        1,
+        "relay 2",
+        "{\"code\":203,\"error\":\"Busy\",\"ok\":false}",
+    ),
+    (0, "look 1", "no name"),
+    (1, "move", "scanning"),
+    (1, "move", "{\"now\":0,\"ok\":true,\"visit\":1}"),
+    (1, "move", "idle"),
+    (0, "look 1", "y"),
+    (1, "end", "scanning"),
+    (1, "end", "scanning"),
+    (1, "move", "{\"ok\":true}"),
+    (
+        1,
+        "{\"do\":\"revs\",\"pad\":\"y\"}",
+        "{\"code\":200,\"error\":\"NoSession\",\"ok\":false}",
+    ),
+    (1, "relay 2", "{\"ok\":true,\"replica\":1,\"version\":2}"),
+    (
+        1,
+        "relay 2",
+        "{\"code\":202,\"error\":\"HaveSession\",\"ok\":false}",
+    ),
+    (1, "end", "{\"ok\":true}"),
+    (7, "move", "idle"),
+];
+
+/// Two authors and a peer on one pad, their scans in turn.
+const STORY: &[Turn<'static>] = &[
+    HELLO_ANN,
+    HELLO_BOB,
+    (
+        2,
+        "{\"do\":\"peer\",\"number\":2,\"token\":\"p2\",\"version\":2}",
+        "{\"ok\":true,\"replica\":1,\"version\":2}",
+    ),
+    (0, "{\"do\":\"create\",\"pad\":\"news\"}", "scanning"),
+    (1, "{\"do\":\"create\",\"pad\":\"news\"}", "scanning"),
+    (0, "move", "{\"now\":0,\"ok\":true,\"visit\":1}"),
+    (
+        1,
+        "move",
+        "{\"code\":301,\"error\":\"PadExists\",\"ok\":false}",
+    ),
+    (
+        0,
+        "{\"do\":\"insert\",\"pad\":\"news\",\"rev\":0,\"at\":0,\"text\":\"abc\"}",
+        "scanning",
+    ),
+    (2, "{\"do\":\"vector\",\"pad\":\"news\"}", "scanning"),
+    (2, "move", "{\"now\":0,\"ok\":true,\"seen\":[]}"),
+    (0, "move", "{\"name\":[1,1],\"now\":1,\"ok\":true}"),
+    (1, "{\"do\":\"join\",\"pad\":\"news\"}", "scanning"),
+    (
+        0,
+        "{\"do\":\"grant\",\"pad\":\"news\",\"author\":\"bob\",\"right\":\"write\"}",
+        "scanning",
+    ),
+    (
+        1,
+        "move",
+        "{\"code\":312,\"error\":\"Denied\",\"ok\":false}",
+    ),
+    (0, "move", "{\"now\":1,\"ok\":true}"),
+    (1, "{\"do\":\"join\",\"pad\":\"news\"}", "scanning"),
+    (1, "move", "{\"now\":1,\"ok\":true,\"visit\":2}"),
+    (
+        2,
+        "{\"do\":\"push\",\"pad\":\"news\",\"op\":{\"author\":\"cyd\",\"kind\":\"insert\",\"name\":[2,1],\"seen\":[[1,1]],\"after\":[3,1],\"first\":[4,2],\"text\":\"!\"}}",
+        "scanning",
+    ),
+    (
+        1,
+        "{\"do\":\"insert\",\"pad\":\"news\",\"rev\":1,\"at\":1,\"text\":\"X\"}",
+        "scanning",
+    ),
+    (
+        2,
+        "move",
+        "{\"dropped\":0,\"now\":2,\"ok\":true,\"released\":0,\"state\":\"delivered\"}",
+    ),
+    (1, "move", "{\"name\":[1,2],\"now\":3,\"ok\":true}"),
+    (0, "{\"do\":\"text\",\"pad\":\"news\"}", "scanning"),
+    (
+        0,
+        "move",
+        "{\"now\":3,\"ok\":true,\"rev\":3,\"text\":\"aXbc!\"}",
+    ),
+    (0, "{\"do\":\"runs\",\"pad\":\"news\"}", "scanning"),
+    (
+        0,
+        "move",
+        "{\"now\":3,\"ok\":true,\"rev\":3,\"runs\":[[\"ann@1\",1],[\"bob@1\",1],[\"ann@1\",2],[\"cyd@2\",1]]}",
+    ),
+    (
+        2,
+        "{\"do\":\"pull\",\"pad\":\"news\",\"seen\":[[1,1],[2,1]],\"max\":4}",
+        "scanning",
+    ),
+    (
+        2,
+        "move",
+        "{\"now\":3,\"ok\":true,\"ops\":[{\"after\":[1,1],\"author\":\"bob\",\"first\":[5,1],\"kind\":\"insert\",\"name\":[1,2],\"seen\":[[2,1]],\"text\":\"X\"}]}",
+    ),
+    (1, "{\"do\":\"create\",\"pad\":\"minutes\"}", "scanning"),
+    (1, "move", "scanning"),
+    (1, "end", "scanning"),
+    (1, "move", "{\"ok\":true}"),
+    (0, "{\"do\":\"who\",\"pad\":\"news\"}", "scanning"),
+    (
+        0,
+        "move",
+        "{\"now\":3,\"ok\":true,\"who\":[{\"author\":\"ann@1\",\"caret\":0,\"visit\":1}]}",
+    ),
+    (0, "look 1", "no name"),
+];
+
+/// How many pads a server has room for, and what its actors are told.
+const TABLES: &[(u32, &[Turn<'static>])] = &[(1, RACE), (3, STEPS), (2, STORY)];
+
+fn count_told_by_new(alloc: Global, cells: u32, turns: &[Turn<'_>]) -> Result<usize, Fail> {
+    let mut server = open(alloc, cells)?;
+    count_told(alloc, &mut server, turns)
+}
+
+#[test]
+fn actors_in_turn(rt: HostRuntime) -> Result<(), Fail> {
+    for (cells, turns) in TABLES {
+        let count = count_told_by_new(rt.alloc(), *cells, turns)?;
+        assert!(rt;
+            count == turns.len(),
+            "not turn {count} with room for {cells}"
+        );
+    }
+    Ok(())
+}
+
+#[test]
+fn limit_actors(rt: HostRuntime) -> Result<(), Fail> {
+    let alloc = rt.alloc();
+    let mut server = open(alloc, 1)?;
+    open_more(alloc, &mut server, 1_021)?;
+    assert!(rt; server.open(alloc) == Err(Refusal::ActorsFull));
+    Ok(())
+}

@@ -1,0 +1,189 @@
+//! The sums of a tree as someone adds them up, how low a tree is however it grew, and that the counts of visits are those
+//! of the calls that are made.
+use crate::index::stone::{Stone, put};
+use std::alloc::Global;
+use std::cmp::Ordering;
+use std::process::Abort;
+use std::test::Fail;
+use weight_tree::{Found, Placed, WeightTree};
+
+fn put_three(rt: &impl Abort, alloc: Global, tree: &mut WeightTree<Stone>) -> Result<(), Fail> {
+    for (number, weight) in [(0, 5), (1, 2), (2, 3)] {
+        put(rt, alloc, tree, tree.len(), Stone { number, weight })?;
+    }
+    Ok(())
+}
+
+// Where the tree finds a number, as a rank and an offset.
+fn place_of(tree: &WeightTree<Stone>, number: u64) -> Option<(usize, u64)> {
+    let Found { rank, offset, .. } = tree.find(number)?;
+    Some((rank, offset))
+}
+
+fn sums_are_those_of_three(rt: &impl Abort, tree: &WeightTree<Stone>) {
+    assert!(rt; tree.len() == 3);
+    assert!(rt; tree.weight() == 10);
+    assert!(rt; tree.before(2) == 7);
+    assert!(rt; tree.get(1).number == 1);
+    for (number, place) in [(5, Some((1, 0))), (9, Some((2, 2))), (10, None)] {
+        assert!(rt; place_of(tree, number) == place);
+    }
+}
+
+#[test]
+fn sums_of_three_stones(rt: HostRuntime) -> Result<(), Fail> {
+    let mut tree = WeightTree::new();
+    put_three(&rt, rt.alloc(), &mut tree)?;
+    sums_are_those_of_three(&rt, &tree);
+    Ok(())
+}
+
+#[tactic(auto, using(weight_tree::proofs::CallerLemmas::sum_replaced_le))]
+fn loses_its_middle(rt: &impl Abort, tree: &mut WeightTree<Stone>) {
+    assert!(rt; tree.len() == 3);
+    assert!(rt; tree.weight() == 10);
+    let weightless = Stone {
+        number: 7,
+        weight: 0,
+    };
+    let old = tree.replace(1, weightless);
+    assert!(rt; old.number == 1);
+    assert!(rt; tree.weight() == 8);
+    assert!(rt; place_of(tree, 5) == Some((2, 0)));
+}
+
+#[test]
+fn weightless_stone_is_not_found(rt: HostRuntime) -> Result<(), Fail> {
+    let mut tree = WeightTree::new();
+    put_three(&rt, rt.alloc(), &mut tree)?;
+    loses_its_middle(&rt, &mut tree);
+    Ok(())
+}
+
+#[test]
+fn empty_tree_is_flat(rt: HostRuntime) {
+    let tree: WeightTree<Stone> = WeightTree::default();
+    assert!(rt; tree.is_empty());
+    assert!(rt; tree.height() == 0);
+    assert!(rt; tree.find(0).is_none());
+    assert!(rt; tree.iter().count() == 0);
+}
+
+// Stones of weight 1, each put at the end, at the front or in the middle of those before it.
+#[derive(Clone, Copy)]
+enum Way {
+    End,
+    Front,
+    Middle,
+}
+
+fn put_many(
+    rt: &impl Abort,
+    alloc: Global,
+    tree: &mut WeightTree<Stone>,
+    count: u64,
+    way: Way,
+) -> Result<(), Fail> {
+    for number in 0..count {
+        let rank = match way {
+            Way::End => tree.len(),
+            Way::Front => 0,
+            Way::Middle => tree.len() / 2,
+        };
+        put(rt, alloc, tree, rank, Stone { number, weight: 1 })?;
+    }
+    Ok(())
+}
+
+// That each number of a thousand is found on a short way down.
+fn finds_each(rt: &impl Abort, tree: &WeightTree<Stone>) {
+    let height = tree.height();
+    assert!(rt; height <= 24, "{height} levels");
+    for number in 0..1023 {
+        let Some(found) = tree.find(number) else {
+            panic!(rt; "{number} is not found");
+        };
+        assert!(rt; found.rank as u64 == number);
+        assert!(rt; found.visits <= height, "{} visits", found.visits);
+    }
+}
+
+// Where a closure that always gives this answer ends, and how often it was called.
+fn place_and_calls(tree: &WeightTree<Stone>, answer: Ordering) -> (Placed, usize) {
+    let mut calls: usize = 0;
+    let placed = tree.rank_by(|_| {
+        calls = calls.wrapping_add(1);
+        answer
+    });
+    (placed, calls)
+}
+
+// That the same answer everywhere leads down one side.
+fn goes_down_one_side(rt: &impl Abort, tree: &WeightTree<Stone>) {
+    for (answer, rank) in [
+        (Ordering::Less, 1023),
+        (Ordering::Equal, 0),
+        (Ordering::Greater, 0),
+    ] {
+        let (placed, calls) = place_and_calls(tree, answer);
+        assert!(rt; placed.rank == rank);
+        assert!(rt; placed.visits == calls);
+        assert!(rt; calls <= tree.height(), "{calls} calls");
+    }
+}
+
+fn stays_low(rt: &impl Abort, alloc: Global, way: Way) -> Result<(), Fail> {
+    let mut tree = WeightTree::new();
+    put_many(rt, alloc, &mut tree, 1023, way)?;
+    finds_each(rt, &tree);
+    goes_down_one_side(rt, &tree);
+    Ok(())
+}
+
+#[test]
+fn a_thousand_stays_low(rt: HostRuntime) -> Result<(), Fail> {
+    for way in [Way::End, Way::Front, Way::Middle] {
+        stays_low(&rt, rt.alloc(), way)?;
+    }
+    Ok(())
+}
+
+fn walks_to(rt: &impl Abort, tree: &WeightTree<Stone>, number: u64) {
+    let mut calls: usize = 0;
+    let placed = tree.rank_by(|stone| {
+        calls = calls.wrapping_add(1);
+        stone.number.cmp(&number)
+    });
+    assert!(rt; placed.rank as u64 == number);
+    assert!(rt; placed.visits == calls);
+    assert!(rt; calls <= tree.height());
+}
+
+#[test]
+fn rank_walks_one_path(rt: HostRuntime) -> Result<(), Fail> {
+    let mut tree = WeightTree::new();
+    put_many(&rt, rt.alloc(), &mut tree, 1023, Way::End)?;
+    for number in 0..1024 {
+        walks_to(&rt, &tree, number);
+    }
+    Ok(())
+}
+
+// How many stones come by, each that of its rank.
+fn count_by_rank(rt: &impl Abort, tree: &WeightTree<Stone>) -> usize {
+    let mut rank: usize = 0;
+    for stone in tree.iter() {
+        assert!(rt; rank < tree.len());
+        assert!(rt; stone.number == tree.get(rank).number);
+        rank += 1;
+    }
+    rank
+}
+
+#[test]
+fn iter_goes_by_rank(rt: HostRuntime) -> Result<(), Fail> {
+    let mut tree = WeightTree::new();
+    put_many(&rt, rt.alloc(), &mut tree, 3000, Way::Middle)?;
+    assert!(rt; count_by_rank(&rt, &tree) == 3000);
+    Ok(())
+}

@@ -5,7 +5,7 @@ ghost use Rattle.server_core.specs.declared.limits.TheConstants.{MAX_CELLS};
 use crate::fault::Fault;
 use block_seq::PlainSeq;
 use command_line::replica_or;
-use pad_core::{Reply, Request};
+use pad_core::Reply;
 use pad_model::Refusal;
 use server_core::{Moved, Server, Step};
 use sessions::Accounts;
@@ -38,6 +38,10 @@ fn make_server(
     Ok(Server::new(alloc, replica, cells, accounts)?)
 }
 
+fn step_of(alloc: Global, line: &str) -> Result<Step, Refusal> {
+    Ok(Step::Ask(read_request(alloc, line.as_bytes())?))
+}
+
 impl Stage {
     /// A new server, of which each later one takes the row and the accounts.
     pub fn new(alloc: Global, replica: u16, cells: u32, accounts: Vec<u8>) -> Result<Stage, Fault>
@@ -64,28 +68,27 @@ impl Stage {
 
     /// The reply line of a request, its LF included.
     pub fn ask(&mut self, alloc: Global, name: &str, line: &str) -> Result<String, Fault> {
-        let reply = match read_request(alloc, line.as_bytes()) {
-            Ok(request) => self.answer(alloc, name, request)?,
+        let reply = match step_of(alloc, line) {
+            Ok(step) => self.answer(alloc, name, &step)?,
             Err(refusal) => Err(refusal),
         };
         Ok(reply_line(alloc, &reply)?)
+    }
+
+    /// Ends a session. It is nobody's then.
+    pub fn end(&mut self, alloc: Global, name: &str) -> Result<(), Fault> {
+        let _ended = self.answer(alloc, name, &Step::End)?;
+        Ok(())
     }
 
     fn answer(
         &mut self,
         alloc: Global,
         name: &str,
-        request: Request,
+        step: &Step,
     ) -> Result<Result<Reply, Refusal>, Fault> {
         let actor = self.actor(alloc, name)?;
-        self.finish(alloc, actor, &Step::Ask(request))
-    }
-
-    /// Ends a session. It is nobody's then.
-    pub fn end(&mut self, alloc: Global, name: &str) -> Result<(), Fault> {
-        let actor = self.actor(alloc, name)?;
-        let _ended = self.finish(alloc, actor, &Step::End)?;
-        Ok(())
+        self.finish(alloc, actor, step)
     }
 
     /// The actor of a session, which is opened at its first use.

@@ -2,6 +2,7 @@
 ghost use Rattle.std.specs.Prelude.{◌≤◌};
 ghost use Rattle.server_core.specs.declared.limits.TheConstants.{MAX_CELLS};
 
+use crate::args::Asked;
 use crate::failure::Failure;
 use block_seq::PlainSeq;
 use pad_core::Request;
@@ -16,7 +17,7 @@ use workers::{Alone, Pads};
 const SOLO: &str = "solo";
 
 /// The accounts of a file, or of the author `solo` alone.
-pub fn read_accounts<'a>(rt: &HostRuntime, path: Option<&'a str>) -> Result<Accounts, Failure<'a>> {
+fn read_accounts<'a>(rt: &HostRuntime, path: Option<&'a str>) -> Result<Accounts, Failure<'a>> {
     let alloc = rt.alloc();
     let Some(path) = path else {
         return Ok(Accounts::read(alloc, b"author solo solo\n")?);
@@ -27,8 +28,20 @@ pub fn read_accounts<'a>(rt: &HostRuntime, path: Option<&'a str>) -> Result<Acco
     }
 }
 
+/// The server that is asked for, whose actor is the author `solo` where there is no accounts file, else nobody.
+pub fn open<'a>(rt: &HostRuntime, asked: Asked<'a>) -> Result<Alone<PlainSeq>, Failure<'a>>
+    requires { (1 ≤ asked.replica) × (asked.cells ≤ MAX_CELLS) }
+{
+    let accounts = read_accounts(rt, asked.accounts)?;
+    let mut pads = open_server(rt.alloc(), asked.replica, asked.cells, accounts)?;
+    if asked.accounts.is_none() {
+        greet(rt.alloc(), &mut pads)?;
+    }
+    Ok(pads)
+}
+
 /// A server with one actor, which is nobody yet.
-pub fn open_server(
+fn open_server(
     alloc: Global,
     replica: u16,
     cells: u32,
@@ -41,12 +54,16 @@ pub fn open_server(
     Ok(Alone::new(server, actor))
 }
 
-/// Logs the author `solo` in.
-pub fn greet(alloc: Global, pads: &mut Alone<PlainSeq>) -> Result<(), Refusal> {
-    let hello = Request::Hello {
+fn hello(alloc: Global) -> Result<Request, Refusal> {
+    Ok(Request::Hello {
         name: Name::from_str(alloc, SOLO)?,
         token: Word::from_str(alloc, SOLO)?,
-    };
+    })
+}
+
+/// Logs the author `solo` in.
+fn greet(alloc: Global, pads: &mut Alone<PlainSeq>) -> Result<(), Refusal> {
+    let hello = hello(alloc)?;
     let _welcome = pads.call(alloc, &hello)?;
     Ok(())
 }

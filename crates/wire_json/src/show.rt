@@ -11,7 +11,7 @@ use anchors::Shown;
 use pad_core::{Entry, Present};
 use pad_model::{Author, AuthorRun, Counted, Name, OpName, Seen, Span, Stamp, Text};
 use rights::Grant;
-use serde_json::{Value, json};
+use serde_json::{Map, Value, json, put};
 use std::alloc::{AllocError, Global};
 
 pub fn op_name_value(alloc: Global, name: OpName) -> Result<Value, AllocError>
@@ -102,15 +102,19 @@ impl ToJson for Shown {
     ghost says = { shown_data };
 
     fn to_json(&self, alloc: Global) -> Result<Value, AllocError> {
-        let at = self.at;
-        let author = author_value(alloc, &self.author)?;
-        let len = self.len;
-        let name = op_name_value(alloc, self.name)?;
-        let resolved = self.resolved;
-        let text = text_value(alloc, &self.text)?;
-        json!(in alloc; {
-            "at": at, "author": author, "len": len, "name": name, "resolved": resolved, "text": text
-        })
+        let mut fields = Map::new(alloc);
+        put(&mut fields, alloc, "at", Value::from(self.at))?;
+        put(
+            &mut fields,
+            alloc,
+            "author",
+            author_value(alloc, &self.author)?,
+        )?;
+        put(&mut fields, alloc, "len", Value::from(self.len))?;
+        put(&mut fields, alloc, "name", op_name_value(alloc, self.name)?)?;
+        put(&mut fields, alloc, "resolved", Value::Bool(self.resolved))?;
+        put(&mut fields, alloc, "text", text_value(alloc, &self.text)?)?;
+        Ok(Value::Object(fields))
     }
 }
 

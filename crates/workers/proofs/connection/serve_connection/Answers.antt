@@ -1,0 +1,15 @@
+use Rattle.std.proofs.Common.{arith}
+use Rattle.std.proofs.lemmas.Grind.{common_steps}
+use Rattle.workers.proofs.connection.serve_connection.Goals as goal
+
+pub returns-clause-all : goal.returns-clause-all
+returns-clause-all c = grind (arith, common_steps)
+
+pub returns-clause-fault : goal.returns-clause-fault
+returns-clause-fault c = grind (arith, common_steps)
+
+pub returns-clause-unread : goal.returns-clause-unread
+returns-clause-unread c = grind (arith, common_steps)
+
+pub returns-clause-written : goal.returns-clause-written
+returns-clause-written c = grind (arith, common_steps)

@@ -12,6 +12,8 @@ pub mod Listed
 pub mod Made
 pub mod Noted
 pub mod Others
+pub mod Peers
+pub mod Pulled
 pub mod Receives
 pub mod Releases
 pub mod Runs

@@ -1,0 +1,12 @@
+use Rattle.std.proofs.Common.{◌≡◌, Some, sym, ap, ◌∙◌}
+use Rattle.std.proofs.lemmas.Slice.Eq.{bytes_eq-Decides}
+use Rattle.pad_core.specs.Machine.{Machine, name_of}
+use Rattle.pad_core.proofs.Peers.{peer_stepped}
+use Rattle.pad_core.proofs.pad.Pad.step.Goals as goal
+
+pub returns-in-Peer : goal.returns-in-Peer
+returns-in-Peer g c =
+    let owned : c.args.self.now.owned ≡ Some c.in-Some.owned = ap (λ (m : Machine). m.owned) (sym c.self.view_is) ∙ c.in-Some.is in
+    let same = c.is.ensures.0 c.if-not-is.false in
+    peer_stepped c.in-Some.owned c.in-Peer.number c.in-Peer.version c.args.event.now.who.now c.args.event.now.visit c.args.event.now.act.now c.args.event.now.pad.now c.args.self.now c.peer_act.new.self c.peer_act.result
+    owned same ((bytes_eq-Decides c.in-Some.owned.name c.args.event.now.pad.now).1 same) c.in-Peer.is (c.peer_act.ensures c.in-Some.owned.name c.in-Peer.number (ap name_of owned))

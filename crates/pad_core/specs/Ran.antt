@@ -1,7 +1,6 @@
 -- A list of events on a pad.
-use Rattle.std.specs.Prelude.{◌≡◌, ◌⊎◌, ℕ, Some, List, [], ◌∷◌, Result, Err, ◌≢◌}
+use Rattle.std.specs.Prelude.{◌≡◌, ◌⊎◌, ℕ, Some, List, [], ◌∷◌, Result, Err, IsOk, ◌≢◌}
 use Rattle.std.specs.List.{AllByRecursion}
-use Rattle.pad_model.specs.Answers.{Answers}
 use Rattle.pad_model.specs.declared.op.Op.{Op}
 use Rattle.pad_model.specs.declared.refusal.Refusal.{Refusal}
 use Rattle.pad_model.specs.declared.refusal.Refusal.TheVariants.{Memory}
@@ -30,9 +29,11 @@ IsCutShort pad who this old new =
 abbrev pub event_step : PadEvent → Machine → Result PadReply Refusal × Machine
 event_step event m = step event.pad.now event.who.now event.visit event.act.now m
 
--- the event was answered as the machine answers it; or it was out of memory and changed nothing, or stopped in a release
+-- the event was answered as the machine answers it; or it was out of memory, on a pad of its name where the answer is no refusal, and changed nothing; or it stopped in a release
 abbrev pub Stepped : Machine → PadEvent → Result PadReply Refusal → Machine → Type 0
-Stepped old event reply new = Answers old (event_step event old) reply new ⊎ ((reply ≡ Err Memory) × IsCutShort event.pad.now event.who.now event.act.now old new)
+Stepped old event reply new =
+    (((reply ≡ Err Memory) × (new ≡ old) × IsOk (event_step event old).0 × (name_of old.owned ≡ Some event.pad.now)) ⊎ (event_step event old ≡ (reply, new)))
+    ⊎ ((reply ≡ Err Memory) × IsCutShort event.pad.now event.who.now event.act.now old new)
 
 -- the machine's replies to a list of events, and its state after them
 abbrev pub run : List PadEvent → Machine → List (Result PadReply Refusal) × Machine
@@ -46,6 +47,6 @@ Ran m [] (reply ∷ replies) new = ⊥
 Ran m (event ∷ events) [] new = ⊥
 Ran m (event ∷ events) (reply ∷ replies) new = (next : Machine) × Stepped m event reply next × Ran next events replies new
 
--- no reply says that there was no memory
+-- no reply says that the pad was out of memory
 abbrev pub FoundMemory : List (Result PadReply Refusal) → Type 0
 FoundMemory replies = AllByRecursion (λ reply. reply ≢ Err Memory) replies

@@ -1,18 +1,38 @@
 -- What the laws of cells say.
-use Rattle.std.specs.Prelude.{◌≡◌, ℕ, ◌+◌, List, [], ◌∷◌, ◌++◌, length, IsTrue, Some, map, take}
+use Rattle.std.specs.Prelude.{◌≡◌, ℕ, ◌+◌, List, [], ◌∷◌, ◌++◌, length, IsTrue, Some, Contains, filter, map, nat_le, take}
 use Rattle.pad_model.specs.Cell.{Cell, IsInOrder, before_at, character_of, cells_at, through_at}
 use Rattle.pad_model.specs.Checked.{are_parts, is_checked}
 use Rattle.pad_model.specs.History.{IsHistory, cells_of}
 use Rattle.pad_model.specs.Laws.{itself}
-use Rattle.pad_model.specs.Legal.{has_stamp}
+use Rattle.pad_model.specs.Legal.{IsTree, has_stamp}
 use Rattle.pad_model.specs.Log.{is_valid}
-use Rattle.pad_model.specs.Operation.{author_of, characters_in}
+use Rattle.pad_model.specs.Operation.{Characters, author_of, characters_in}
+use Rattle.pad_model.specs.Order.{order}
 use Rattle.pad_model.specs.Parts.{parts_fit, with_parts, with_each_part}
 use Rattle.pad_model.specs.Stamp.{Stamp}
 use Rattle.pad_model.specs.Visible.{visible, visible_before, visible_through}
 use Rattle.pad_model.specs.declared.op.Op.{Op}
 use Rattle.pad_model.specs.declared.op.Part.{Part}
 use Rattle.pad_model.specs.declared.who.Author.{Author}
+
+-- a legal set: what was inserted is a tree of insertions, and what is erased was inserted
+pub record IsLegal (set : Characters) : Type 0 where
+  pub tree : IsTree itself set.inserted
+  pub erased : (s : Stamp) → Contains set.erased s → IsTrue (has_stamp itself set.inserted s)
+
+-- what the operations of a history insert and erase is a legal set
+abbrev pub LegalLaw : Type 0
+LegalLaw = (log : List Op) → IsHistory log → IsLegal (characters_in log)
+
+-- the order of cells is the order of their characters
+abbrev pub CellOrderLaw : Type 0
+CellOrderLaw = (cells : List Cell) → map character_of (order character_of cells) ≡ order itself (map character_of cells)
+
+-- the cells of a log that are born by a revision, dead or not, are, in place, the preorder of what its first operations insert
+abbrev pub BirthLaw : Type 0
+BirthLaw =
+    (log : List Op) → IsHistory log → (k : ℕ) →
+    map character_of (filter (λ c. nat_le c.born k) (cells_of log)) ≡ order itself (characters_in (take k log)).inserted
 
 -- the cells of a log that are born by a revision and not dead at it are, in place, what its first operations show
 abbrev pub SliderLaw : Type 0

@@ -8,9 +8,9 @@ use Rattle.pad_model.specs.declared.op.Part.TheVariants.{Insert, Delete, Comment
 use Rattle.pad_model.specs.declared.op.Op.{Op}
 use Rattle.pad_model.specs.declared.limits.TheConstants.{OLD_COUNTER, OLD_REPLICA}
 
--- whether n stamps from this one on can be said
+-- whether n stamps from this one on can be said; it is named also where n is 0
 abbrev pub old_stamps : Stamp → ℕ → Bool
-old_stamps first n = nat_le (first.counter + n) (OLD_COUNTER + 1) && nat_le first.replica OLD_REPLICA
+old_stamps first n = nat_le first.counter OLD_COUNTER && nat_le (first.counter + n) (OLD_COUNTER + 1) && nat_le first.replica OLD_REPLICA
 
 -- whether a parent can be said: the root always can
 abbrev pub old_parent : Option Stamp → Bool

@@ -1,5 +1,5 @@
 //! Laws of the definitions, each the contract of a function that does nothing.
-ghost use Rattle.pad_model.specs.CellLaws.{GrowthLaw, PlaceLaw, SliderLaw, PartsLaw};
+ghost use Rattle.pad_model.specs.CellLaws.{BirthLaw, CellOrderLaw, GrowthLaw, LegalLaw, PartsLaw, PlaceLaw, SliderLaw};
 ghost use Rattle.pad_model.specs.Laws.{TreeLaw, UniquenessLaw, MembersLaw, SetLaw, SubsetLaw, RevisionLaw, ScanLaw, RunLaw, NewestLaw};
 
 /// The walk is the textbook's preorder (Attiya and others 2016).
@@ -65,4 +65,19 @@ pub fn growth_law()
 /// Comment ranges and carets of a revision can be read from the cells.
 pub fn place_law()
     ensures { PlaceLaw }
+{}
+
+/// Histories are legal: their insertions form a tree, and what they erase was inserted (Attiya and others 2016).
+pub fn legal_law()
+    ensures { LegalLaw }
+{}
+
+/// Cells stand in the order of their characters.
+pub fn cell_order_law()
+    ensures { CellOrderLaw }
+{}
+
+/// Each revision of a log can be read from its cells by birth, what was erased included.
+pub fn birth_law()
+    ensures { BirthLaw }
 {}

@@ -65,5 +65,8 @@ fn is_old_parent(parent: Option<Stamp>) -> bool
 fn has_old_stamps(first: Stamp, len: u64) -> bool
     ensures { result ≡ old_stamps first len }
 {
-    first.counter().saturating_add(len) <= OLD_COUNTER + 1 && first.replica() <= OLD_REPLICA
+    let counter = first.counter();
+    counter <= OLD_COUNTER
+        && counter.saturating_add(len) <= OLD_COUNTER + 1
+        && first.replica() <= OLD_REPLICA
 }

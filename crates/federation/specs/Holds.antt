@@ -72,6 +72,7 @@ TypesInPlace m =
 
 -- what holds of a world
 pub record IsFederated (world : World) : Type 0 where
+  pub named : IsDistinct have_one_name world.made
   pub valid : (op : Op) → Contains world.made op → (past : List Op) × IsMadeBehind world.made past op
   pub taken : (server : ℕ) (op : Op) → Contains world.made op → IsTaken (world.machine_of server) op
   pub kept : (server : ℕ) (op : Op) → Contains world.made op → DropsNoFault (world.machine_of server) op

@@ -1,3 +1,4 @@
+pub mod Acts
 pub mod Carries
 pub mod Keeps
 pub mod Numbers

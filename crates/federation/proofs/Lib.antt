@@ -2,3 +2,4 @@ pub mod Acts
 pub mod Carries
 pub mod Keeps
 pub mod Numbers
+pub mod Steps

@@ -3,3 +3,4 @@ pub mod Carries
 pub mod Keeps
 pub mod Numbers
 pub mod Steps
+pub mod Worlds

@@ -1,6 +1,5 @@
 -- What a step of a server's machine leaves, and what it answers to a push.
 use Rattle.std.proofs.Common.{◌≡◌, ◌≢◌, ℕ, ◌≤◌, ◌⊎◌, inl, inr, Bool, true, false, not, cond, List, [], ◌∷◌, ◌++◌, length, Option, Some, None, Result, Ok, Err, refl, sym, ap, ◌∙◌, subst, bytes_eq, unwrap_or}
-use Rattle.pad_model.specs.Answers.{Answers}
 use Rattle.pad_model.specs.Checked.{is_name}
 use Rattle.pad_model.specs.declared.op.Op.{Op}
 use Rattle.pad_model.specs.declared.who.Who.{Who}
@@ -163,7 +162,16 @@ push_step made (Some owned) own log held p pad who visit op m k t =
       kept = k;
     }
 
--- a call that found no memory changed nothing, and another left what was expected
-pub left_by : {A S : Type 0} (old new : S) (expected : Result A Refusal × S) (result : Result A Refusal) → Answers old expected result new → (new ≡ old) ⊎ (new ≡ expected.1)
-left_by old new expected result (inl h) = inl h.1
-left_by old new expected result (inr h) = inr (sym (ap (λ p. p.1) h))
+-- an event leaves what the machine's step leaves, or the machine as it was, or what a release that stopped leaves
+pub data Leaves (old : Machine) (event : PadEvent) (new : Machine) : Type 0 where
+  nothing : new ≡ old → Leaves old event new
+  answer : new ≡ (event_step event old).1 → Leaves old event new
+  stopped : (op : Op) → event.act.now ≡ act.Push op → (n : ℕ) → (new.log, new.held) ≡ both_of (steps n (unsettled (received old.replica op (old.log, old.held)).1)) → new.replica ≡ old.replica → Leaves old event new
+
+pub left_by : (old new : Machine) (event : PadEvent) (told : Result PadReply Refusal) → Stepped old event told new → Leaves old event new
+left_by old new event told (inl (inl h)) = nothing h.1
+left_by old new event told (inl (inr h)) = answer (sym (ap (λ p. p.1) h))
+left_by old new event told (inr h) = cut h.1
+  where
+    cut : IsCutShort event.pad.now event.who.now event.act.now old new → Leaves old event new
+    cut c = stopped c.2 c.3 c.4.1 c.4.2 (ap (λ (m : Machine). m.replica) c.5)

@@ -75,7 +75,7 @@ changes_all own author rev changes log d named low =
     let done = edited own author rev changes log in told_hidden_log own log done.0 done.1 (edits own author rev changes log d named low)
 
 -- each place of a list has an item
-place_there : (xs : List Character) (i : ℕ) → i < length xs → (s : Stamp) × (option_map (λ c. c.stamp) (slice_get xs i) ≡ Some s)
+pub place_there : (xs : List Character) (i : ℕ) → i < length xs → (s : Stamp) × (option_map (λ c. c.stamp) (slice_get xs i) ≡ Some s)
 place_there [] i l = absurd (omega arith)
 place_there (x ∷ xs) zero l = (x.stamp, refl)
 place_there (x ∷ xs) (suc i) l = place_there xs i (omega arith)

@@ -3,4 +3,5 @@ pub mod Carries
 pub mod Keeps
 pub mod Numbers
 pub mod Steps
+pub mod Typing
 pub mod Worlds

@@ -1,28 +1,25 @@
 -- What an act does to the log of a server, and to what it holds.
-use Rattle.std.proofs.Common.{◌≡◌, ◌≢◌, ℕ, zero, suc, ◌+◌, ◌-◌, ◌≤◌, ◌<◌, ◌⊎◌, inl, inr, Bool, true, false, not, ◌&&◌, cond, leb, List, [], ◌∷◌, ◌++◌, length, take, count_by, Option, Some, None, Result, Ok, Err, refl, sym, ap, ◌∙◌, subst, arith, slice_get, option_map, leb-false}
+use Rattle.std.proofs.Common.{◌≡◌, ℕ, zero, suc, ◌+◌, ◌-◌, ◌≤◌, ◌<◌, ◌⊎◌, inl, inr, Bool, true, false, not, leb, List, [], ◌∷◌, ◌++◌, length, Option, Some, None, Result, Ok, Err, refl, sym, ap, ◌∙◌, subst, arith, slice_get, option_map, leb-false}
 use Rattle.std.proofs.lemmas.Bool.{and_from, lt-leb}
 use Rattle.pad_model.specs.Checked.{is_name, is_checked}
-use Rattle.pad_model.specs.Log.{is_comment}
-use Rattle.pad_model.specs.Operation.{Characters, characters_in}
+use Rattle.pad_model.specs.Operation.{Characters}
 use Rattle.pad_model.specs.Seen.{count_in, with_count}
 use Rattle.pad_model.specs.Stamp.{Stamp}
 use Rattle.pad_model.specs.Character.{Character}
 use Rattle.pad_model.specs.Visible.{visible, stamp_at}
-use Rattle.pad_model.specs.declared.limits.TheConstants.{MAX_OPERATIONS, MAX_COMMENTS}
+use Rattle.pad_model.specs.declared.limits.TheConstants.{MAX_OPERATIONS}
 use Rattle.pad_model.specs.declared.op.Op.{Op}
 use Rattle.pad_model.specs.declared.op.OpName.{OpName}
 use Rattle.pad_model.specs.declared.op.Part.{Part}
 use Rattle.pad_model.specs.declared.op.Part.TheVariants.{Comment, Resolve}
 use Rattle.pad_model.specs.declared.refusal.Refusal.{Refusal}
-use Rattle.pad_model.proofs.Newer.{split}
-use Rattle.pad_core.specs.Counts.{characters_at, next_name, op_of, vector_of}
+use Rattle.pad_core.specs.Counts.{characters_at, op_of, vector_of}
 use Rattle.pad_core.specs.Delivered.{IsDelivered, delivery_refusal}
 use Rattle.pad_core.specs.Edits.{edit_refusal, edited, insert, delete, edit, made_parts, told_hidden, told_name}
 use Rattle.pad_core.specs.Notes.{noted, comment, comment_refusal, comment_between, comment_parts, resolve, resolve_refusal, has_comment}
 use Rattle.pad_core.specs.declared.act.Change.{Change}
 use Rattle.pad_core.specs.declared.act.Change.TheVariants as change
 use Rattle.pad_core.specs.declared.edit.Edited.{Edited}
-use Rattle.pad_core.specs.declared.reply.PadReply.{PadReply}
 use Rattle.pad_core.proofs.Allowed.{unless}
 use Rattle.pad_core.proofs.Made.{edit_checked, edit_fits, edit_made, edit_refused, delivered}
 use Rattle.pad_core.proofs.Noted.{commentable, comment_checked, comment_fits, resolve_checked}

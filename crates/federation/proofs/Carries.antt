@@ -1,18 +1,17 @@
 -- An operation that is valid behind a past is valid behind each log that has the past and no further operations of its origin.
-use Rattle.std.proofs.Common.{◌≡◌, ℕ, ◌+◌, ◌<◌, inl, inr, Bool, true, false, not, ◌&&◌, ◌||◌, cond, eqb, leb, ltb, List, [], ◌∷◌, Option, Some, None, refl, sym, ap, ◌∙◌, subst, flat_map, arith, eqb-true}
-use Rattle.std.proofs.lemmas.Bool.{and_parts, and_from, or_left, or_right, or_cases, both_ways, false≢true}
-use Rattle.std.specs.List.{AllByRecursion, IsDistinct, list_all, list_any}
+use Rattle.std.proofs.Common.{◌≡◌, ℕ, inl, inr, Bool, true, false, not, ◌&&◌, ◌||◌, eqb, ltb, List, [], ◌∷◌, Option, Some, None, refl, sym, ap, ◌∙◌, subst, flat_map, eqb-true}
+use Rattle.std.proofs.lemmas.Bool.{and_parts, and_from, or_left, or_right, or_cases, false≢true}
+use Rattle.std.specs.List.{AllByRecursion, IsDistinct, list_all}
 use Rattle.pad_model.specs.Stamp.{Stamp, same_stamp}
 use Rattle.pad_model.specs.Character.{Character, next, run_characters}
-use Rattle.pad_model.specs.Checked.{is_checked, is_part, is_within, fits_clock}
+use Rattle.pad_model.specs.Checked.{is_checked, is_part}
 use Rattle.pad_model.specs.History.{IsHistory}
 use Rattle.pad_model.specs.Laws.{itself}
-use Rattle.pad_model.specs.Legal.{has_stamp, has_parent, counter_of, same_item}
+use Rattle.pad_model.specs.Legal.{has_stamp, has_parent, same_item}
 use Rattle.pad_model.specs.Log.{is_valid, is_comment, part_is_valid, same_name, stands_before, all_differ}
 use Rattle.pad_model.specs.Operation.{span_stamps, author_of, part_inserts, inserted_by, characters_in}
 use Rattle.pad_model.specs.Order.{order}
 use Rattle.pad_model.specs.Subsequence.{IsSubsequence, done, keep, skip}
-use Rattle.pad_model.specs.declared.limits.TheConstants.{MAX_TEXT}
 use Rattle.pad_model.specs.declared.op.Op.{Op}
 use Rattle.pad_model.specs.declared.op.Part.{Part}
 use Rattle.pad_model.specs.declared.op.Run.{Run}

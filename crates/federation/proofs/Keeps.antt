@@ -1,13 +1,12 @@
 -- What a server keeps of the operations that were made, through pushes and releases.
-use Rattle.std.proofs.Common.{◌≡◌, ◌≢◌, ℕ, zero, suc, ◌+◌, ◌≤◌, ◌<◌, ◌⊎◌, inl, inr, Bool, true, false, not, ◌&&◌, ◌||◌, cond, eqb, leb, ltb, nat_le, List, [], ◌∷◌, ◌++◌, length, Option, Some, None, Result, Ok, Err, refl, sym, ap, ◌∙◌, subst, arith, eqb-true, leb-true, le-leb}
-use Rattle.std.proofs.lemmas.Bool.{and_parts, or_left, or_right, both_ways, cases_eq, cond-true, cond-false}
+use Rattle.std.proofs.Common.{◌≡◌, ◌≢◌, ℕ, zero, suc, ◌+◌, ◌≤◌, ◌⊎◌, inl, inr, Bool, true, false, not, ◌||◌, cond, eqb, leb, ltb, nat_le, List, [], ◌∷◌, ◌++◌, length, Option, Some, None, Result, Ok, Err, refl, sym, ap, ◌∙◌, subst, arith, eqb-true, leb-true, le-leb}
+use Rattle.std.proofs.lemmas.Bool.{and_parts, or_left, both_ways, cases_eq, cond-true, cond-false}
 use Rattle.std.specs.List.{find}
-use Rattle.pad_model.specs.Checked.{is_checked}
 use Rattle.pad_model.specs.History.{IsHistory}
-use Rattle.pad_model.specs.Log.{is_valid, limit_passed, is_comment}
+use Rattle.pad_model.specs.Log.{is_valid}
 use Rattle.pad_model.specs.Operation.{characters_in, inserted_by}
-use Rattle.pad_model.specs.Seen.{count_in, with_count}
-use Rattle.pad_model.specs.declared.limits.TheConstants.{MAX_CHARACTERS, MAX_OPERATIONS, MAX_COMMENTS}
+use Rattle.pad_model.specs.Seen.{count_in}
+use Rattle.pad_model.specs.declared.limits.TheConstants.{MAX_CHARACTERS, MAX_OPERATIONS}
 use Rattle.pad_model.specs.declared.op.Op.{Op}
 use Rattle.pad_model.specs.declared.op.OpName.{OpName}
 use Rattle.pad_model.specs.declared.seen.Counted.{Counted}

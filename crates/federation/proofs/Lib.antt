@@ -1,5 +1,6 @@
 pub mod Acts
 pub mod Carries
+pub mod Federated
 pub mod Keeps
 pub mod Numbers
 pub mod Steps

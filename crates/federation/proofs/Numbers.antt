@@ -1,8 +1,7 @@
 -- Numbers and names: a log has an operation for each number up to a count, and a name decides its operation.
-use Rattle.std.proofs.Common.{◌≡◌, ℕ, zero, ◌+◌, ◌≤◌, ◌<◌, inl, inr, ◌⊎◌, eqb, true, false, List, [], ◌∷◌, fold, refl, sym, ap, ◌∙◌, subst, arith, eqb-true}
+use Rattle.std.proofs.Common.{◌≡◌, ℕ, ◌+◌, ◌≤◌, ◌<◌, inl, inr, ◌⊎◌, eqb, false, List, [], ◌∷◌, fold, refl, sym, ap, ◌∙◌, subst, arith, eqb-true}
 use Rattle.std.proofs.lemmas.Bool.{and_parts, cases_eq, eqb-false}
 use Rattle.std.specs.List.{AllByRecursion, IsDistinct}
-use Rattle.pad_model.specs.Log.{same_name}
 use Rattle.pad_model.specs.Seen.{IsVector, count_in}
 use Rattle.pad_model.specs.declared.op.Op.{Op}
 use Rattle.pad_model.specs.declared.seen.Counted.{Counted}

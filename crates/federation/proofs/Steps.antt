@@ -1,17 +1,17 @@
 -- What a step of a server's machine leaves, and what it answers to a push.
-use Rattle.std.proofs.Common.{◌≡◌, ◌≢◌, ℕ, ◌≤◌, ◌⊎◌, inl, inr, Bool, true, false, not, cond, List, [], ◌∷◌, ◌++◌, length, Option, Some, None, Result, Ok, Err, refl, sym, ap, ◌∙◌, subst, bytes_eq, unwrap_or}
+use Rattle.std.proofs.Common.{◌≡◌, ◌≢◌, ℕ, ◌≤◌, ◌⊎◌, inl, inr, true, List, length, Option, Some, None, Result, Ok, Err, refl, sym, ap, bytes_eq, unwrap_or}
 use Rattle.pad_model.specs.Checked.{is_name}
 use Rattle.pad_model.specs.declared.op.Op.{Op}
 use Rattle.pad_model.specs.declared.who.Who.{Who}
 use Rattle.pad_model.specs.declared.who.Who.TheVariants.{Nobody, Author, Peer}
 use Rattle.pad_model.specs.declared.who.Version.{Version}
 use Rattle.pad_model.specs.declared.refusal.Refusal.{Refusal}
-use Rattle.pad_model.specs.declared.refusal.Refusal.TheVariants.{BadOp, PeerFault, NoPad, NotPeer, Memory}
+use Rattle.pad_model.specs.declared.refusal.Refusal.TheVariants.{BadOp, PeerFault, NoPad, NotPeer}
 use Rattle.pad_model.proofs.Newer.{split}
 use Rattle.sessions.specs.Presence.{Presence}
 use Rattle.sessions.specs.Session.{IsNamed}
 use Rattle.pad_core.specs.Delivered.{IsDelivered}
-use Rattle.pad_core.specs.Exchange.{both_of, push, received, settle, settled, steps, unsettled}
+use Rattle.pad_core.specs.Exchange.{both_of, received, settled, steps, unsettled}
 use Rattle.pad_core.specs.Machine.{Machine, author_act, author_refusal, author_step, on_delivery, peer_act, session_step, step}
 use Rattle.pad_core.specs.Ran.{IsCutShort, Stepped, event_step}
 use Rattle.pad_core.specs.declared.act.Act.{Act}
@@ -22,7 +22,7 @@ use Rattle.pad_core.specs.declared.reply.PadReply.{PadReply}
 use Rattle.pad_core.specs.declared.reply.PadReply.TheVariants as reply
 use Rattle.pad_core.specs.declared.reply.Pushed.{Pushed}
 use Rattle.federation.proofs.Acts.{Makes, inserts, deletes, changes_all, comments, resolutions}
-use Rattle.federation.proofs.Keeps.{IsMade, Keeps, IsTakenIn, takes_in, keeps_steps}
+use Rattle.federation.proofs.Keeps.{IsMade, Keeps, IsTakenIn, keeps_steps}
 
 -- the parts of a machine that the federation speaks of
 abbrev pub pad_with : Option Owned → ℕ → List Op → List Op → Presence → Machine

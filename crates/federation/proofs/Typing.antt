@@ -1,5 +1,5 @@
 -- A text that is put in at a place of the present revision stands at that place of the next.
-use Rattle.std.proofs.Common.{◌≡◌, ℕ, zero, suc, ◌+◌, ◌≤◌, ◌<◌, ◌⊎◌, inl, inr, Bool, true, false, not, cond, List, [], ◌∷◌, ◌++◌, length, map, filter, flat_map, fold, max, take, drop, Option, Some, None, Result, Ok, Err, refl, sym, ap, ap₂, ◌∙◌, subst, arith, append-nil, slice_get, option_map, bytes_eq, unwrap_or, ltb, ltb-false}
+use Rattle.std.proofs.Common.{◌≡◌, ℕ, zero, suc, ◌+◌, ◌≤◌, ◌<◌, Bool, true, false, not, cond, List, [], ◌∷◌, ◌++◌, length, map, filter, take, drop, Option, Some, None, Result, Ok, Err, refl, sym, ap, ap₂, ◌∙◌, subst, arith, append-nil, bytes_eq, ltb, ltb-false}
 use Rattle.std.proofs.Math.Seq.{take-length}
 use Rattle.std.proofs.lemmas.Bool.{both_ways}
 use Rattle.std.proofs.lemmas.List.Concat.{flat_map-append}
@@ -9,11 +9,11 @@ use Rattle.pad_model.specs.Stamp.{Stamp, newer, same_stamp}
 use Rattle.pad_model.specs.Character.{Character, next, run_characters}
 use Rattle.pad_model.specs.History.{IsHistory, clock_of_characters}
 use Rattle.pad_model.specs.Laws.{itself}
-use Rattle.pad_model.specs.Legal.{has_stamp, same_item}
-use Rattle.pad_model.specs.Operation.{Characters, author_of, characters_in, inserted_by, erased_by}
+use Rattle.pad_model.specs.Legal.{same_item}
+use Rattle.pad_model.specs.Operation.{Characters, author_of, characters_in, erased_by}
 use Rattle.pad_model.specs.Order.{order}
 use Rattle.pad_model.specs.Scan.{put_right_behind}
-use Rattle.pad_model.specs.Visible.{is_erased, visible, stamp_at}
+use Rattle.pad_model.specs.Visible.{is_erased, visible}
 use Rattle.pad_model.specs.declared.op.Op.{Op}
 use Rattle.pad_model.specs.declared.op.OpName.{OpName}
 use Rattle.pad_model.specs.declared.who.Author.{Author as Writer}
@@ -33,14 +33,11 @@ use Rattle.pad_model.proofs.Rising.{IsDistinct-parts, distinct-permutation}
 use Rattle.pad_model.proofs.Runs.{order-newest, IsRun-run_characters}
 use Rattle.pad_model.proofs.Sets.{Has-each, item_of_stamp}
 use Rattle.sessions.specs.Presence.{Presence}
-use Rattle.pad_core.specs.Counts.{characters_at, next_name, op_of}
-use Rattle.pad_core.specs.Edits.{before_place, edit_refusal, edited, insert, made_parts, told_name}
+use Rattle.pad_core.specs.Counts.{characters_at, op_of}
+use Rattle.pad_core.specs.Edits.{before_place, edit_refusal, insert, made_parts, told_name}
 use Rattle.pad_core.specs.Machine.{Machine, author_refusal, author_step, on_log, session_step, step}
-use Rattle.pad_core.specs.declared.act.Act.{Act}
 use Rattle.pad_core.specs.declared.act.Act.TheVariants as act
-use Rattle.pad_core.specs.declared.act.Change.{Change}
 use Rattle.pad_core.specs.declared.act.Change.TheVariants as change
-use Rattle.pad_core.specs.declared.edit.Edited.{Edited}
 use Rattle.pad_core.specs.declared.owned.Owned.{Owned}
 use Rattle.pad_core.specs.declared.reply.PadReply.{PadReply}
 use Rattle.pad_core.specs.declared.reply.PadReply.TheVariants as reply
@@ -151,9 +148,10 @@ in_place own author at text log h none =
     let shown : visible (characters_in (log ++ op ∷ [])) ≡ filter (λ c. not (is_erased set.erased c.stamp)) (put_right_behind itself p block (order itself set.inserted)) =
     ap₂ (λ (e : List Stamp) (xs : List Character). filter (λ c. not (is_erased e c.stamp)) xs) gone ordered
     in
-    let distinct = distinct-permutation itself set.inserted (order itself set.inserted) (order-permutation itself set.inserted tree) tree.distinct in
-    (
-      block, within, run_text first p text (author_of op),
+    let distinct = distinct-permutation itself set.inserted (order itself set.inserted) (order-permutation itself set.inserted tree) tree.distinct in (
+      block,
+      within,
+      run_text first p text (author_of op),
       shown
           ∙ ap (λ s. filter (λ c. not (is_erased set.erased c.stamp)) (put_right_behind itself (before_place s at) block (order itself set.inserted))) present
           ∙ placed set block at distinct kept within,

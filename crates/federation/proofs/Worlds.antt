@@ -1,22 +1,19 @@
 -- Every world that events lead to keeps what its servers need to take each other's operations.
-use Rattle.std.proofs.Common.{◌≡◌, ◌≢◌, ℕ, zero, suc, ◌+◌, ◌≤◌, ◌⊎◌, inl, inr, Bool, true, false, cond, eqb, List, [], ◌∷◌, ◌++◌, length, drop, Result, Ok, Err, refl, sym, ap, ◌∙◌, subst, arith, append-nil, eq-eqb, ne_eqb, le_antisymm}
+use Rattle.std.proofs.Common.{◌≡◌, ◌≢◌, ℕ, ◌+◌, ◌≤◌, ◌⊎◌, inl, inr, true, cond, eqb, List, [], ◌∷◌, ◌++◌, length, drop, refl, sym, ap, ◌∙◌, subst, arith, append-nil, eq-eqb, ne_eqb, le_antisymm}
 use Rattle.std.proofs.lemmas.Bool.{cases_eq, cond-true, cond-false}
-use Rattle.pad_model.specs.Checked.{is_checked}
 use Rattle.pad_model.specs.Log.{is_valid}
 use Rattle.pad_model.specs.Seen.{count_in, with_count}
 use Rattle.pad_model.specs.declared.op.Op.{Op}
-use Rattle.pad_model.specs.declared.refusal.Refusal.{Refusal}
 use Rattle.pad_model.proofs.Growth.{IsHistory-push}
 use Rattle.pad_model.proofs.Sets.{Has, Has-from_Contains, Contains-from_Has}
-use Rattle.pad_core.specs.Counts.{AreNumbered, vector_of}
+use Rattle.pad_core.specs.Counts.{vector_of}
 use Rattle.pad_core.specs.Delivered.{IsDelivered}
-use Rattle.pad_core.specs.Exchange.{both_of, received, steps, unsettled}
+use Rattle.pad_core.specs.Exchange.{received, unsettled}
 use Rattle.pad_core.specs.Machine.{Machine, step}
 use Rattle.pad_core.specs.Ran.{Stepped, event_step}
 use Rattle.pad_core.specs.declared.act.Act.{Act}
 use Rattle.pad_core.specs.declared.act.Act.TheVariants as act
 use Rattle.pad_core.specs.declared.event.PadEvent.{PadEvent}
-use Rattle.pad_core.specs.declared.reply.PadReply.{PadReply}
 use Rattle.pad_core.proofs.Counted.{AreNumbered-push}
 use Rattle.pad_core.proofs.Entered.{IsDelivered-push}
 use Rattle.pad_core.proofs.Judged.{allowed}

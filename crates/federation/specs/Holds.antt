@@ -1,5 +1,5 @@
 -- What holds of a world of servers.
-use Rattle.std.specs.Prelude.{◌≡◌, ◌≢◌, ◌↔◌, ℕ, ◌≤◌, Bool, List, ◌++◌, length, take, drop, map, Contains, IsTrue, Option, Some, Result, Ok, Err}
+use Rattle.std.specs.Prelude.{◌≡◌, ◌≢◌, ◌↔◌, ℕ, ◌≤◌, Bool, List, ◌++◌, length, take, drop, map, Contains, IsTrue, Option, Some, Ok, Err}
 use Rattle.std.specs.List.{IsDistinct, find}
 use Rattle.pad_model.specs.Character.{Character}
 use Rattle.pad_model.specs.Laws.{itself}
@@ -13,7 +13,6 @@ use Rattle.pad_model.specs.Subsequence.{IsSubsequence}
 use Rattle.pad_model.specs.Visible.{visible}
 use Rattle.pad_model.specs.declared.op.Op.{Op}
 use Rattle.pad_model.specs.declared.op.OpName.{OpName}
-use Rattle.pad_model.specs.declared.refusal.Refusal.{Refusal}
 use Rattle.pad_model.specs.declared.refusal.Refusal.TheVariants.{BadOp, PeerFault}
 use Rattle.pad_model.specs.declared.who.Who.{Who}
 use Rattle.holdback.specs.Held.{is_ready}
@@ -23,7 +22,6 @@ use Rattle.pad_core.specs.Exchange.{received, steps, unsettled}
 use Rattle.pad_core.specs.Laws.{ShowSame}
 use Rattle.pad_core.specs.Machine.{Machine, step}
 use Rattle.pad_core.specs.declared.act.Act.TheVariants as act
-use Rattle.pad_core.specs.declared.reply.PadReply.{PadReply}
 use Rattle.pad_core.specs.declared.reply.PadReply.TheVariants as reply
 use Rattle.federation.specs.Past.{IsWithin, IsMadeBehind}
 use Rattle.federation.specs.World.{World}
@@ -49,7 +47,8 @@ have_one_name a b = same_name a.name b.name
 pub record IsUpToCounts (made log : List Op) : Type 0 where
   pub within : IsWithin log made
   pub counts : (op : Op) → Contains made op → Contains log op ↔ (op.name.number ≤ count_in (vector_of log) op.name.origin)
-  pub each : (name : OpName) → 1 ≤ name.number → name.number ≤ count_in (vector_of log) name.origin → (op : Op) × Contains log op × (op.name ≡ name)
+  pub each : (name : OpName) → 1 ≤ name.number → name.number ≤ count_in (vector_of log) name.origin →
+      (op : Op) × Contains log op × (op.name ≡ name)
   pub once : IsDistinct have_one_name log
 
 -- the characters are a tree of insertions, and what is erased was inserted
@@ -77,7 +76,8 @@ pub record IsFederated (world : World) : Type 0 where
   pub taken : (server : ℕ) (op : Op) → Contains world.made op → IsTaken (world.machine_of server) op
   pub kept : (server : ℕ) (op : Op) → Contains world.made op → DropsNoFault (world.machine_of server) op
   pub whole : (server : ℕ) → IsUpToCounts world.made (world.machine_of server).log
-  pub alike : (one other : ℕ) → vector_of (world.machine_of one).log ≡ vector_of (world.machine_of other).log → ShowSame (world.machine_of one).log (world.machine_of other).log
+  pub alike : (one other : ℕ) → vector_of (world.machine_of one).log ≡ vector_of (world.machine_of other).log →
+      ShowSame (world.machine_of one).log (world.machine_of other).log
   pub legal : IsLegal (characters_in world.made)
   pub ordered : (server : ℕ) → ShowsPart world.made (world.machine_of server).log
   pub typed : (server : ℕ) → TypesInPlace (world.machine_of server)

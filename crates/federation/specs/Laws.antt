@@ -21,4 +21,5 @@ FederationLaw = (start now : World) (events : List (ℕ × PadEvent)) → Begins
 
 -- whatever may happen leads on to a world
 abbrev pub GoesOnLaw : Type 0
-GoesOnLaw = (world : World) (server : ℕ) (event : PadEvent) → MayHappen world server event → (next : World) × Happens server event world next
+GoesOnLaw =
+    (world : World) (server : ℕ) (event : PadEvent) → MayHappen world server event → (next : World) × Happens server event world next

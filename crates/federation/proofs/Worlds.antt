@@ -20,7 +20,7 @@ use Rattle.pad_core.proofs.Judged.{allowed}
 use Rattle.pad_core.proofs.SameSet.{has_front, has_behind, has_either}
 use Rattle.federation.specs.Laws.{GoesOnLaw}
 use Rattle.federation.specs.Past.{IsMadeBehind}
-use Rattle.federation.specs.World.{World, Begins, Happens, IsHonest, Leads, MayHappen, made_by}
+use Rattle.federation.specs.World.{World, Begins, Happens, IsHonest, Leads, HasSameOperations, MayHappen, made_by}
 use Rattle.federation.proofs.Acts.{IsLocal, Makes}
 use Rattle.federation.proofs.Carries.{carries}
 use Rattle.federation.proofs.Keeps.{IsMade, Keeps, keeps_steps, takes_in}
@@ -169,16 +169,20 @@ honest_made this op made is honest = Has-from_Contains made op (subst (λ a. IsH
 abbrev pushed_to : PadEvent → Op → Machine → Machine
 pushed_to event op m = (step event.pad.now event.who.now event.visit (act.Push op) m).1
 
+-- a machine with the same operations keeps what the server's does
+keeps_same : (made : List Op) (server : ℕ) (old here : Machine) → HasSameOperations old here → Keeps made server old.log old.held → Keeps made server here.log here.held
+keeps_same made server old here same k = subst (λ l. Keeps made server l here.held) (sym same.log) (subst (Keeps made server old.log) (sym same.held) k)
+
 -- the step of the machine of a server
-goes_step : (world : World) (server : ℕ) (event : PadEvent) (m : Machine) → Stands world → MayHappen world server event → m ≡ world.machine_of server → (new : Machine) → new ≡ (event_step event m).1 →
+goes_step : (world : World) (server : ℕ) (event : PadEvent) (m : Machine) → Stands world → MayHappen world server event → HasSameOperations (world.machine_of server) m → (new : Machine) → new ≡ (event_step event m).1 →
     Goes world.made server (world.made ++ made_by event.act.now m.log new.log) new
 goes_step world server event m s may is new next = at (push_or_not event.act.now)
   where
     replica : m.replica ≡ server
-    replica = ap (λ (x : Machine). x.replica) is ∙ s.numbered server
+    replica = is.replica ∙ s.numbered server
 
     kept : Keeps world.made server m.log m.held
-    kept = subst (λ (x : Machine). Keeps world.made server x.log x.held) (sym is) (s.keeps server)
+    kept = keeps_same world.made server (world.machine_of server) m is (s.keeps server)
 
     kept_here : Keeps world.made m.replica m.log m.held
     kept_here = subst (λ n. Keeps world.made n m.log m.held) (sym replica) kept
@@ -197,29 +201,29 @@ goes_step world server event m s may is new next = at (push_or_not event.act.now
         goes_makes world.made server m.log m.held event.act.now new s.made kept none (done.replica ∙ replica) done.waits (subst (λ n. Makes n m.log new.log) replica done.makes)
 
 -- an event leaves the machine of its server so
-goes : (world : World) (server : ℕ) (event : PadEvent) (m new : Machine) → Stands world → MayHappen world server event → m ≡ world.machine_of server → Leaves m event new →
+goes : (world : World) (server : ℕ) (event : PadEvent) (m new : Machine) → Stands world → MayHappen world server event → HasSameOperations (world.machine_of server) m → Leaves m event new →
     Goes world.made server (world.made ++ made_by event.act.now m.log new.log) new
 goes world server event m new s may is (nothing same) =
-    let here : new ≡ world.machine_of server = same ∙ is in
     goes_on_same world.made server (made_by event.act.now m.log new.log) new (made_nothing event.act.now m.log new.log (ap (λ (x : Machine). x.log) same)) s.made
-    (ap (λ (x : Machine). x.replica) here ∙ s.numbered server) (subst (λ (x : Machine). Keeps world.made server x.log x.held) (sym here) (s.keeps server))
+    (ap (λ (x : Machine). x.replica) same ∙ is.replica ∙ s.numbered server)
+    (subst (λ (x : Machine). Keeps world.made server x.log x.held) (sym same) (keeps_same world.made server (world.machine_of server) m is (s.keeps server)))
 goes world server event m new s may is (answer next) = goes_step world server event m s may is new next
 goes world server event m new s may is (stopped op this n now replica) =
-    let number : m.replica ≡ server = ap (λ (x : Machine). x.replica) is ∙ s.numbered server in
-    let kept : Keeps world.made m.replica m.log m.held = subst (λ k. Keeps world.made k m.log m.held) (sym number) (subst (λ (x : Machine). Keeps world.made server x.log x.held) (sym is) (s.keeps server)) in
+    let number : m.replica ≡ server = is.replica ∙ s.numbered server in
+    let kept : Keeps world.made m.replica m.log m.held = subst (λ k. Keeps world.made k m.log m.held) (sym number) (keeps_same world.made server (world.machine_of server) m is (s.keeps server)) in
     let taken = takes_in world.made m.replica op m.log m.held s.made kept (honest_made event.act.now op world.made this may.honest) in
     let released = keeps_steps world.made m.replica n (unsettled (received m.replica op (m.log, m.held)).1) s.made taken.kept in
     goes_on_same world.made server (made_by event.act.now m.log new.log) new (brings_nothing event.act.now op m.log new.log this) s.made (replica ∙ number)
     (subst (λ k. Keeps world.made k new.log new.held) number (subst (λ (p : List Op × List Op). Keeps world.made m.replica p.0 p.1) (sym now) released))
 
 -- all that was made once an event has happened
-abbrev all_made : World → World → ℕ → PadEvent → List Op
-all_made old new server event = old.made ++ made_by event.act.now (old.machine_of server).log (new.machine_of server).log
+abbrev all_made : World → Machine → World → ℕ → PadEvent → List Op
+all_made old here new server event = old.made ++ made_by event.act.now here.log (new.machine_of server).log
 
 -- an event keeps what stands
 stands_on : (old new : World) (server : ℕ) (event : PadEvent) → Stands old → Happens server event old new → Stands new
 stands_on old new server event s h =
-    let g = goes old server event (old.machine_of server) (new.machine_of server) s h.may refl (left_by (old.machine_of server) (new.machine_of server) event h.reply h.steps) in
+    let g = goes old server event h.here (new.machine_of server) s h.may h.same (left_by h.here (new.machine_of server) event h.reply h.steps) in
     let all = sym h.made in
     record {
       made = subst IsMade all g.made_all;
@@ -227,14 +231,14 @@ stands_on old new server event s h =
       keeps = λ other. subst (λ l. Keeps l other (new.machine_of other).log (new.machine_of other).held) all (keep g other (cases_eq other server));
     }
   where
-    number : Goes old.made server (all_made old new server event) (new.machine_of server) → (other : ℕ) → (other ≡ server) ⊎ (other ≡ server → ⊥) → (new.machine_of other).replica ≡ other
+    number : Goes old.made server (all_made old h.here new server event) (new.machine_of server) → (other : ℕ) → (other ≡ server) ⊎ (other ≡ server → ⊥) → (new.machine_of other).replica ≡ other
     number g other (inl same) = subst (λ o. (new.machine_of o).replica ≡ o) (sym same) g.replica
     number g other (inr apart) = ap (λ (x : Machine). x.replica) (h.others other apart) ∙ s.numbered other
 
-    keep : Goes old.made server (all_made old new server event) (new.machine_of server) → (other : ℕ) → (other ≡ server) ⊎ (other ≡ server → ⊥) → Keeps (all_made old new server event) other (new.machine_of other).log (new.machine_of other).held
-    keep g other (inl same) = subst (λ o. Keeps (all_made old new server event) o (new.machine_of o).log (new.machine_of o).held) (sym same) g.kept
+    keep : Goes old.made server (all_made old h.here new server event) (new.machine_of server) → (other : ℕ) → (other ≡ server) ⊎ (other ≡ server → ⊥) → Keeps (all_made old h.here new server event) other (new.machine_of other).log (new.machine_of other).held
+    keep g other (inl same) = subst (λ o. Keeps (all_made old h.here new server event) o (new.machine_of o).log (new.machine_of o).held) (sym same) g.kept
     keep g other (inr apart) =
-        subst (λ (x : Machine). Keeps (all_made old new server event) other x.log x.held) (sym (h.others other apart)) (g.rest other (old.machine_of other).log (old.machine_of other).held apart (s.keeps other))
+        subst (λ (x : Machine). Keeps (all_made old h.here new server event) other x.log x.held) (sym (h.others other apart)) (g.rest other (old.machine_of other).log (old.machine_of other).held apart (s.keeps other))
 
 -- at the beginning it stands
 stands_first : (world : World) → Begins world → Stands world
@@ -275,6 +279,8 @@ goes_on world server event may =
     let next = (event_step event m).1 in
     let happens : Happens server event world (turned world server event next) = record {
       may = may;
+      here = m;
+      same = record { replica = refl; log = refl; held = refl };
       reply = (event_step event m).0;
       steps = subst (Stepped m event (event_step event m).0) (sym (cond-true (eqb server server) next m (eq-eqb server server refl))) (inl (inr refl));
       others = λ other apart. cond-false (eqb other server) next (world.machine_of other) (ne_eqb other server apart);

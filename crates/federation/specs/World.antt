@@ -42,13 +42,21 @@ abbrev pub made_by : Act → List Op → List Op → List Op
 made_by (act.Push op) old new = []
 made_by other old new = drop (length old) new
 
+-- a pad that was claimed since, or that somebody joined or left: it has the same operations
+pub record HasSameOperations (old here : Machine) : Type 0 where
+  pub replica : here.replica ≡ old.replica
+  pub log : here.log ≡ old.log
+  pub held : here.held ≡ old.held
+
 -- an event on a server: its machine goes on as the pad that it runs does, out of memory too, and no other changes
 pub record Happens (server : ℕ) (event : PadEvent) (old new : World) : Type 0 where
   pub may : MayHappen old server event
+  pub here : Machine
+  pub same : HasSameOperations (old.machine_of server) here
   pub reply : Result PadReply Refusal
-  pub steps : Stepped (old.machine_of server) event reply (new.machine_of server)
+  pub steps : Stepped here event reply (new.machine_of server)
   pub others : (other : ℕ) → other ≢ server → new.machine_of other ≡ old.machine_of other
-  pub made : new.made ≡ old.made ++ made_by event.act.now (old.machine_of server).log (new.machine_of server).log
+  pub made : new.made ≡ old.made ++ made_by event.act.now here.log (new.machine_of server).log
 
 -- events lead from one world to another, one after the other
 abbrev pub Leads : World → List (ℕ × PadEvent) → World → Type 0

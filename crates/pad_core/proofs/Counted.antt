@@ -34,7 +34,7 @@ count_in-counted v op h = count_in-with_count v h op.name.origin (count_in v op.
 pub count_in-other : (v : List Counted) (op : Op) (origin : ℕ) → origin ≢ op.name.origin → count_in (counted v op) origin ≡ count_in v origin
 count_in-other v op origin differs = count_in-with_other v op.name.origin (count_in v op.name.origin + 1) origin differs
 
-counted_most : (v : List Counted) (op : Op) (origin : ℕ) → IsVector v → (count_in (counted v op) origin ≤ count_in v origin + 1) × (count_in v origin ≤ count_in (counted v op) origin)
+pub counted_most : (v : List Counted) (op : Op) (origin : ℕ) → IsVector v → (count_in (counted v op) origin ≤ count_in v origin + 1) × (count_in v origin ≤ count_in (counted v op) origin)
 counted_most v op origin h =
     split (eqb origin op.name.origin)
     (λ e. let same : origin ≡ op.name.origin = eqb-true origin op.name.origin e in

@@ -45,7 +45,7 @@ use Rattle.pad_core.proofs.Counted.{AreNumbered-push, name_fresh, vector_of-push
 use Rattle.pad_core.proofs.Judged.{Allowed, allowed}
 
 -- the characters of a longer log
-inserted-push : (log : List Op) (op : Op) → (characters_in (log ++ op ∷ [])).inserted ≡ (characters_in log).inserted ++ inserted_by op
+pub inserted-push : (log : List Op) (op : Op) → (characters_in (log ++ op ∷ [])).inserted ≡ (characters_in log).inserted ++ inserted_by op
 inserted-push log op = flat_map-append inserted_by log (op ∷ []) ∙ ap (λ l. (characters_in log).inserted ++ l) (append-nil (inserted_by op))
 
 -- a log that may be delivered, with an operation that may be delivered next

@@ -202,7 +202,7 @@ no_memory : (n : ℕ) → (let r : Result ℕ Refusal = Ok n in r) ≡ Err Memor
 no_memory n q = cc
 
 -- where nothing is refused, the operation is made
-edit_made : (own rev : ℕ) (author : List ℕ) (changes : List Change) (log : List Op) → edit_refusal rev changes log ≡ None →
+pub edit_made : (own rev : ℕ) (author : List ℕ) (changes : List Change) (log : List Op) → edit_refusal rev changes log ≡ None →
     edited own author rev changes log ≡ answered (next_name own log) (Ok (hidden_by (erased_by (op_of own author (made_parts own rev changes log) log)) (characters_in log)), log ++ op_of own author (made_parts own rev changes log) log ∷ [])
 edit_made own rev author changes log none = rw none refl
 

@@ -33,14 +33,14 @@ use Rattle.pad_core.proofs.Made.{op_checked, delivered}
 use Rattle.pad_core.proofs.Others.{not_zero, IsNamed, each_named}
 
 -- the stamp at a place of a list
-abbrev stamp_in : {A : Type 0} → (A → Character) → List A → ℕ → Option Stamp
+abbrev pub stamp_in : {A : Type 0} → (A → Character) → List A → ℕ → Option Stamp
 stamp_in at xs i = option_map (λ x. (at x).stamp) (slice_get xs i)
 
-is_stamp : (s b : Stamp) → (let o : Option Stamp = Some s in o) ≡ Some b → s ≡ b
+pub is_stamp : (s b : Stamp) → (let o : Option Stamp = Some s in o) ≡ Some b → s ≡ b
 is_stamp s b e = cc
 
 -- a stamp of what a test keeps is one of all
-kept_has : {A : Type 0} (at : A → Character) (t : A → Bool) (xs : List A) (i : ℕ) (s : Stamp) → stamp_in at (filter t xs) i ≡ Some s → has_stamp at xs s ≡ true
+pub kept_has : {A : Type 0} (at : A → Character) (t : A → Bool) (xs : List A) (i : ℕ) (s : Stamp) → stamp_in at (filter t xs) i ≡ Some s → has_stamp at xs s ≡ true
 kept_has at t [] i s e = absurd (cc)
 kept_has at t (x ∷ xs) i s e = kept (t x) i (λ k f. kept_has at t xs k s f) e
   where
@@ -50,7 +50,7 @@ kept_has at t (x ∷ xs) i s e = kept (t x) i (λ k f. kept_has at t xs k s f) e
     kept false i more e = or_right (same_stamp (at x).stamp s) (has_stamp at xs s) (more i e)
 
 -- a stamp of the rest is not that of the first item
-other_stamp : {A : Type 0} (at : A → Character) (x : A) (xs : List A) (s : Stamp) → IsDistinct (same_item at) (x ∷ xs) → has_stamp at xs s ≡ true → same_stamp (at x).stamp s ≡ false
+pub other_stamp : {A : Type 0} (at : A → Character) (x : A) (xs : List A) (s : Stamp) → IsDistinct (same_item at) (x ∷ xs) → has_stamp at xs s ≡ true → same_stamp (at x).stamp s ≡ false
 other_stamp at x xs s d h =
     let found = found_has (λ y. same_stamp (at y).stamp s) (λ y. same_stamp (at x).stamp (at y).stamp ≡ false) xs h (IsDistinct-parts at x xs d).0 in
     subst (λ z. same_stamp (at x).stamp z ≡ false) (same_stamp-true (at found.0).stamp s found.1.0) found.1.1

@@ -26,16 +26,16 @@ use Rattle.pad_core.proofs.ByName.{AreByName, by_name-permutation, by_name_rises
 use Rattle.pad_core.proofs.Commented.{Bare, bare_part, bare_in, bare_of, shown_bare, flat_map-same, comments_of-bare}
 
 -- what a list has, in front and behind
-has_front : {A : Type 0} (xs ys : List A) (c : A) → Has xs c → Has (xs ++ ys) c
+pub has_front : {A : Type 0} (xs ys : List A) (c : A) → Has xs c → Has (xs ++ ys) c
 has_front [] ys c h = absurd h
 has_front (x ∷ xs) ys c (inl e) = inl e
 has_front (x ∷ xs) ys c (inr h) = inr (has_front xs ys c h)
 
-has_behind : {A : Type 0} (xs ys : List A) (c : A) → Has ys c → Has (xs ++ ys) c
+pub has_behind : {A : Type 0} (xs ys : List A) (c : A) → Has ys c → Has (xs ++ ys) c
 has_behind [] ys c h = h
 has_behind (x ∷ xs) ys c h = inr (has_behind xs ys c h)
 
-has_either : {A : Type 0} (xs ys : List A) (c : A) → Has (xs ++ ys) c → Has xs c ⊎ Has ys c
+pub has_either : {A : Type 0} (xs ys : List A) (c : A) → Has (xs ++ ys) c → Has xs c ⊎ Has ys c
 has_either [] ys c h = inr h
 has_either (x ∷ xs) ys c (inl e) = inl (inl e)
 has_either (x ∷ xs) ys c (inr h) = either (has_either xs ys c h)
@@ -45,12 +45,12 @@ has_either (x ∷ xs) ys c (inr h) = either (has_either xs ys c h)
     either (inr k) = inr k
 
 -- what a list's items make, the same items make
-made_from : {A B : Type 0} (f : A → List B) (xs : List A) (x : A) (c : B) → Has xs x → Has (f x) c → Has (flat_map f xs) c
+pub made_from : {A B : Type 0} (f : A → List B) (xs : List A) (x : A) (c : B) → Has xs x → Has (f x) c → Has (flat_map f xs) c
 made_from f [] x c h k = absurd h
 made_from f (y ∷ xs) x c (inl e) k = has_front (f y) (flat_map f xs) c (subst (λ z. Has (f z) c) (sym e) k)
 made_from f (y ∷ xs) x c (inr h) k = has_behind (f y) (flat_map f xs) c (made_from f xs x c h k)
 
-made_by : {A B : Type 0} (f : A → List B) (xs : List A) (c : B) → Has (flat_map f xs) c → (x : A) × (Has xs x × Has (f x) c)
+pub made_by : {A B : Type 0} (f : A → List B) (xs : List A) (c : B) → Has (flat_map f xs) c → (x : A) × (Has xs x × Has (f x) c)
 made_by f [] c h = absurd h
 made_by f (y ∷ xs) c h = either (has_either (f y) (flat_map f xs) c h) (λ k. made_by f xs c k)
   where
@@ -58,16 +58,16 @@ made_by f (y ∷ xs) c h = either (has_either (f y) (flat_map f xs) c h) (λ k. 
     either (inl k) rest = (y, (inl refl, k))
     either (inr k) rest = let found = rest k in (found.0, (inr found.1.0, found.1.1))
 
-made_alike : {A B : Type 0} (f : A → List B) (xs ys : List A) → ((x : A) → Has xs x → Has ys x) → (c : B) → Has (flat_map f xs) c → Has (flat_map f ys) c
+pub made_alike : {A B : Type 0} (f : A → List B) (xs ys : List A) → ((x : A) → Has xs x → Has ys x) → (c : B) → Has (flat_map f xs) c → Has (flat_map f ys) c
 made_alike f xs ys into c h = let found = made_by f xs c h in made_from f ys found.0 c (into found.0 found.1.0) found.1.1
 
 -- lists of the same items pass a test alike
-passes_from : {A : Type 0} (t : A → Bool) (xs : List A) (x : A) → Has xs x → t x ≡ true → list_any t xs ≡ true
+pub passes_from : {A : Type 0} (t : A → Bool) (xs : List A) (x : A) → Has xs x → t x ≡ true → list_any t xs ≡ true
 passes_from t [] x h e = absurd h
 passes_from t (y ∷ xs) x (inl is) e = or_left (t y) (list_any t xs) (ap t is ∙ e)
 passes_from t (y ∷ xs) x (inr h) e = or_right (t y) (list_any t xs) (passes_from t xs x h e)
 
-passes_by : {A : Type 0} (t : A → Bool) (xs : List A) → list_any t xs ≡ true → (x : A) × (Has xs x × (t x ≡ true))
+pub passes_by : {A : Type 0} (t : A → Bool) (xs : List A) → list_any t xs ≡ true → (x : A) × (Has xs x × (t x ≡ true))
 passes_by t [] e = absurd (false≢true e)
 passes_by t (y ∷ xs) e = either (or_cases (t y) (list_any t xs) e) (λ k. passes_by t xs k)
   where
@@ -75,7 +75,7 @@ passes_by t (y ∷ xs) e = either (or_cases (t y) (list_any t xs) e) (λ k. pass
     either (inl here) rest = (y, (inl refl, here))
     either (inr later) rest = let found = rest later in (found.0, (inr found.1.0, found.1.1))
 
-passes_into : {A : Type 0} (t : A → Bool) (xs ys : List A) → ((x : A) → Has xs x → Has ys x) → list_any t xs ≡ true → list_any t ys ≡ true
+pub passes_into : {A : Type 0} (t : A → Bool) (xs ys : List A) → ((x : A) → Has xs x → Has ys x) → list_any t xs ≡ true → list_any t ys ≡ true
 passes_into t xs ys into e = let found = passes_by t xs e in passes_from t ys found.0 (into found.0 found.1.0) found.1.1
 
 any_alike : {A : Type 0} (t : A → Bool) (xs ys : List A) → ((x : A) → Has xs x → Has ys x) → ((x : A) → Has ys x → Has xs x) → list_any t xs ≡ list_any t ys

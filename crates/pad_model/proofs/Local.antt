@@ -60,7 +60,7 @@ greatest_start : {A : Type 0} (at : A → Character) (xs : List A) (a : ℕ) →
 greatest_start at [] a = omega arith
 greatest_start at (x ∷ xs) a = omega (arith, greatest_start at xs (max a (at x).stamp.counter))
 
-greatest_bound : {A : Type 0} (at : A → Character) (xs : List A) (a : ℕ) → AllByRecursion (λ x. (at x).stamp.counter ≤ fold (λ most x. max most (at x).stamp.counter) a xs) xs
+pub greatest_bound : {A : Type 0} (at : A → Character) (xs : List A) (a : ℕ) → AllByRecursion (λ x. (at x).stamp.counter ≤ fold (λ most x. max most (at x).stamp.counter) a xs) xs
 greatest_bound at [] a = tt
 greatest_bound at (x ∷ xs) a = (omega (arith, greatest_start at xs (max a (at x).stamp.counter)), greatest_bound at xs (max a (at x).stamp.counter))
 

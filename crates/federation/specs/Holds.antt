@@ -1,0 +1,83 @@
+-- What holds of a world of servers.
+use Rattle.std.specs.Prelude.{◌≡◌, ◌≢◌, ◌↔◌, ℕ, ◌≤◌, Bool, List, ◌++◌, length, take, drop, map, Contains, IsTrue, Option, Some, Ok, Err}
+use Rattle.std.specs.List.{IsDistinct, find}
+use Rattle.pad_model.specs.Character.{Character}
+use Rattle.pad_model.specs.Laws.{itself}
+use Rattle.pad_model.specs.Legal.{IsTree, has_stamp}
+use Rattle.pad_model.specs.Log.{same_name}
+use Rattle.pad_model.specs.Operation.{Characters, characters_in}
+use Rattle.pad_model.specs.Order.{order}
+use Rattle.pad_model.specs.Seen.{count_in}
+use Rattle.pad_model.specs.Stamp.{Stamp}
+use Rattle.pad_model.specs.Subsequence.{IsSubsequence}
+use Rattle.pad_model.specs.Visible.{visible}
+use Rattle.pad_model.specs.declared.op.Op.{Op}
+use Rattle.pad_model.specs.declared.op.OpName.{OpName}
+use Rattle.pad_model.specs.declared.refusal.Refusal.TheVariants.{BadOp, PeerFault}
+use Rattle.pad_model.specs.declared.who.Who.{Who}
+use Rattle.holdback.specs.Held.{is_ready}
+use Rattle.pad_core.specs.Counts.{characters_at, vector_of}
+use Rattle.pad_core.specs.Delivered.{delivery_refusal}
+use Rattle.pad_core.specs.Exchange.{received, steps, unsettled}
+use Rattle.pad_core.specs.Laws.{ShowSame}
+use Rattle.pad_core.specs.Machine.{Machine, step}
+use Rattle.pad_core.specs.declared.act.Act.TheVariants as act
+use Rattle.pad_core.specs.declared.reply.PadReply.TheVariants as reply
+use Rattle.federation.specs.Past.{IsWithin, IsMadeBehind}
+use Rattle.federation.specs.World.{World}
+
+-- whoever pushes an operation is not told that it is out of its limits, nor that it is at fault
+abbrev pub IsTaken : Machine → Op → Type 0
+IsTaken m op =
+    (pad : List ℕ) (who : Who) (visit : Option ℕ) →
+    ((step pad who visit (act.Push op) m).0 ≢ Err BadOp) × ((step pad who visit (act.Push op) m).0 ≢ Err PeerFault)
+
+-- no step of the release behind it drops an operation as one at fault
+abbrev pub DropsNoFault : Machine → Op → Type 0
+DropsNoFault m op =
+    (n : ℕ) (next : Op) →
+    let d = steps n (unsettled (received m.replica op (m.log, m.held)).1) in
+    find (is_ready (vector_of d.log)) d.held ≡ Some next → delivery_refusal next d.log ≢ Some PeerFault
+
+-- whether two operations have one name
+abbrev pub have_one_name : Op → Op → Bool
+have_one_name a b = same_name a.name b.name
+
+-- of the operations that were made, a log has those of each origin up to its count, one for each number, and no others
+pub record IsUpToCounts (made log : List Op) : Type 0 where
+  pub within : IsWithin log made
+  pub counts : (op : Op) → Contains made op → Contains log op ↔ (op.name.number ≤ count_in (vector_of log) op.name.origin)
+  pub each : (name : OpName) → 1 ≤ name.number → name.number ≤ count_in (vector_of log) name.origin →
+      (op : Op) × Contains log op × (op.name ≡ name)
+  pub once : IsDistinct have_one_name log
+
+-- the characters are a tree of insertions, and what is erased was inserted
+pub record IsLegal (set : Characters) : Type 0 where
+  pub tree : IsTree itself set.inserted
+  pub erased : (s : Stamp) → Contains set.erased s → IsTrue (has_stamp itself set.inserted s)
+
+-- at each revision a log shows a part of the order of all characters
+abbrev pub ShowsPart : List Op → List Op → Type 0
+ShowsPart made log = (rev : ℕ) → IsSubsequence (visible (characters_at rev log)) (order itself (characters_in made).inserted)
+
+-- a text that is put in at a place of the present revision stands at that place of the next one, and the rest is as it was
+abbrev pub TypesInPlace : Machine → Type 0
+TypesInPlace m =
+    (pad : List ℕ) (who : Who) (visit : Option ℕ) (at : ℕ) (text : List ℕ) (now : ℕ) (name : OpName) (new : Machine) →
+    step pad who visit (act.Insert (length m.log) at text) m ≡ (Ok (reply.Made now name), new) →
+    let shown = visible (characters_in m.log) in
+    (typed : List Character) × (at ≤ length shown) × (map (λ c. c.character) typed ≡ text)
+    × (visible (characters_in new.log) ≡ take at shown ++ typed ++ drop at shown)
+
+-- what holds of a world
+pub record IsFederated (world : World) : Type 0 where
+  pub named : IsDistinct have_one_name world.made
+  pub valid : (op : Op) → Contains world.made op → (past : List Op) × IsMadeBehind world.made past op
+  pub taken : (server : ℕ) (op : Op) → Contains world.made op → IsTaken (world.machine_of server) op
+  pub kept : (server : ℕ) (op : Op) → Contains world.made op → DropsNoFault (world.machine_of server) op
+  pub whole : (server : ℕ) → IsUpToCounts world.made (world.machine_of server).log
+  pub alike : (one other : ℕ) → vector_of (world.machine_of one).log ≡ vector_of (world.machine_of other).log →
+      ShowSame (world.machine_of one).log (world.machine_of other).log
+  pub legal : IsLegal (characters_in world.made)
+  pub ordered : (server : ℕ) → ShowsPart world.made (world.machine_of server).log
+  pub typed : (server : ℕ) → TypesInPlace (world.machine_of server)

@@ -1,0 +1,25 @@
+-- What the laws of federation say.
+use Rattle.std.specs.Prelude.{ℕ, List, IsTrue}
+use Rattle.pad_model.specs.Checked.{is_checked}
+use Rattle.pad_model.specs.History.{IsHistory}
+use Rattle.pad_model.specs.Log.{is_valid}
+use Rattle.pad_model.specs.declared.op.Op.{Op}
+use Rattle.pad_core.specs.declared.event.PadEvent.{PadEvent}
+use Rattle.federation.specs.Holds.{IsFederated}
+use Rattle.federation.specs.Past.{Extends}
+use Rattle.federation.specs.World.{World, Begins, Happens, Leads, MayHappen}
+
+-- an operation that is valid behind a past is valid behind each log that has the past and no further operations of its origin
+abbrev pub CarriesLaw : Type 0
+CarriesLaw =
+    (past log : List Op) (op : Op) → IsHistory past → IsHistory log → Extends op.name.origin past log → IsTrue (is_checked op) →
+    IsTrue (is_valid op past) → IsTrue (is_valid op log)
+
+-- whatever happens among servers
+abbrev pub FederationLaw : Type 0
+FederationLaw = (start now : World) (events : List (ℕ × PadEvent)) → Begins start → Leads start events now → IsFederated now
+
+-- whatever may happen leads on to a world
+abbrev pub GoesOnLaw : Type 0
+GoesOnLaw =
+    (world : World) (server : ℕ) (event : PadEvent) → MayHappen world server event → (next : World) × Happens server event world next

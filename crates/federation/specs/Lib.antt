@@ -1,0 +1,4 @@
+pub mod Past
+pub mod World
+pub mod Holds
+pub mod Laws

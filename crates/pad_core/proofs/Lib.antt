@@ -1,5 +1,6 @@
 pub mod Acted
 pub mod Admitted
+pub mod Alike
 pub mod Allowed
 pub mod Booked
 pub mod ByName

@@ -116,7 +116,7 @@ by_name_unique (x ∷ xs) (y ∷ ys) rise other into back =
     ap₂ (λ (z : Op) l. z ∷ l) same (by_name_unique xs ys rise.1 other.1 inside outside)
 
 -- the same operations by name are one list
-by_name-alike : (log other : List Op) → IsDelivered log → IsDelivered other → ((op : Op) → Has log op → Has other op) → ((op : Op) → Has other op → Has log op) → by_name log ≡ by_name other
+pub by_name-alike : (log other : List Op) → IsDelivered log → IsDelivered other → ((op : Op) → Has log op → Has other op) → ((op : Op) → Has other op → Has log op) → by_name log ≡ by_name other
 by_name-alike log other d e into back =
     let p = by_name-permutation log in
     let q = by_name-permutation other in

@@ -3,9 +3,8 @@ ghost use Rattle.std.specs.Prelude.{◌≡◌, ◌⊎◌, ℕ, ◌+◌, ◌≤�
 ghost use Rattle.pad_model.specs.Answers.{Answers};
 ghost use Rattle.pad_model.specs.Checked.{is_name};
 ghost use Rattle.pad_model.specs.declared.limits.TheConstants.{MAX_REPLICA};
-ghost use Rattle.pad_model.specs.declared.op.Op.{Op};
 ghost use Rattle.pad_core.specs.Delivered.{IsDelivered};
-ghost use Rattle.pad_core.specs.Laws.{HaveSame, ShowSame};
+ghost use Rattle.pad_core.specs.Laws.{LastReadsAlike};
 ghost use Rattle.pad_model.specs.declared.who.Who.TheVariants as Who;
 ghost use Rattle.pad_core.specs.declared.act.Act.{Act};
 ghost use Rattle.pad_core.specs.Machine.{IsAdmitted, author_act as author_acted, author_step as author_stepped, claim as claimed, name_of, nobody_present, peer_act as peer_acted, step as machine_step};
@@ -148,8 +147,9 @@ impl<S: Sequence> Pad<S> {
         // The replies and the pad are the machine's, where no event met want of memory.
         ensures machine { IfOk result (λ replies. FoundMemory replies.items → machine_run events.now self.old ≡ (replies.items, self.new)) }
 
-        // What the pad shows then depends on the set of its operations alone: any other pad with the same ones shows the same.
-        ensures alike { OnOk result ((other : List Op) → IsDelivered other → HaveSame self.new.log other → ShowSame self.new.log other) }
+        // What was read last of the present text, authors or comments depends on the set of the pad's operations alone: it is the
+        // answer of any other pad with the same ones.
+        ensures alike { IfOk result (λ replies. LastReadsAlike events.now replies.items self.new.log) }
     {
         let mut replies = match Vec::with_capacity(alloc, events.len()) {
             Ok(replies) => replies,

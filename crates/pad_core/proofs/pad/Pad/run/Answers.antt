@@ -2,7 +2,7 @@ use Rattle.std.proofs.Common.{◌≡◌, ◌+◌, ◌++◌, ◌∷◌, [], sym, 
 use Rattle.std.proofs.lemmas.List.{take_more}
 use Rattle.pad_core.specs.Ran.{Ran}
 use Rattle.pad_core.proofs.Runs.{Ran-push, Ran-machine}
-use Rattle.pad_core.proofs.SameSet.{same_members}
+use Rattle.pad_core.proofs.Alike.{last_reads}
 use Rattle.pad_core.proofs.pad.Pad.run.Goals as goal
 
 pub loop-event-preserved : goal.loop-event-preserved
@@ -21,4 +21,6 @@ returns-clause-machine g c found =
     Ran-machine c.args.self.now c.loop-event.self c.args.events.now c.loop-event.replies.items (subst (λ es. Ran c.args.self.now es c.loop-event.replies.items c.loop-event.self) all c.loop-event.invariant.ran) found
 
 pub returns-clause-alike : goal.returns-clause-alike
-returns-clause-alike g c other delivered same = same_members c.loop-event.self.log other c.revision-now.ensures.delivered delivered same
+returns-clause-alike g c =
+    let all : take c.loop-event.event-index c.args.events.now ≡ c.args.events.now = take_all c.loop-event.event-index c.args.events.now c.loop-event-test.false in
+    last_reads c.args.self.now c.loop-event.self c.args.events.now c.loop-event.replies.items (subst (λ es. Ran c.args.self.now es c.loop-event.replies.items c.loop-event.self) all c.loop-event.invariant.ran) c.revision-now.ensures.delivered

@@ -8,7 +8,7 @@ use clap::Error;
 use clap::error::ErrorKind;
 use std::process::ExitCode;
 
-/// 0 after `--help`, 1 for want of memory, else 2.
+/// 0 after `--help`, 1 where memory ran out, else 2.
 pub fn status_of(error: &Error) -> ExitCode
     ensures { exit_status result ≡ status (kind_of error.now) }
 {

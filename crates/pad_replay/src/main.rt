@@ -33,7 +33,9 @@ fn main(rt: HostRuntime) -> anyhow::Result<ExitCode> {
         Ok(accounts) => accounts,
         Err(cause) => {
             let path = asked.accounts;
-            let _told = eprintln!(rt; "pad_replay: the accounts file {path} cannot be read: {cause}");
+            let _told = eprintln!(rt;
+                "pad_replay: the accounts file {path} cannot be read: {cause}"
+            );
             return Ok(ExitCode::FAILURE);
         }
     };

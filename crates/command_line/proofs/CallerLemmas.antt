@@ -1,5 +1,5 @@
 -- From what the matches of a command line hold to what its words give.
-use Rattle.std.proofs.Common.{◌≡◌, ◌∙◌, ℕ, List, Option, ap, sym, subst, true}
+use Rattle.std.proofs.Common.{◌≡◌, ◌∙◌, ℕ, List, Option, ap, subst, true}
 use Rattle.clap.specs.Words.{App, HasMatchesOf, app_of, first_of, first_value, found_of, is_simple, matches_of, one_of, rows_of}
 use Rattle.clap.specs.declared.builder.command.Command.{Command}
 use Rattle.clap.specs.declared.parser.matches.ArgMatches.{ArgMatches}

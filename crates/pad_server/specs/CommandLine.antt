@@ -1,5 +1,5 @@
 -- The command line of the program, and what it asks for.
-use Rattle.std.specs.Prelude.{◌≡◌, List, ℕ, Some, None, codes, option_map, true}
+use Rattle.std.specs.Prelude.{◌≡◌, List, ℕ, Some, codes, option_map, true}
 use Rattle.clap.specs.Words.{App, Rule, new_app, new_rule, with_rule}
 use Rattle.clap.specs.declared.builder.action.ArgAction.TheVariants.{SetTrue}
 use Rattle.command_line.specs.Options.{Gives, accounts_rule, cells_rule, replica_rule, text_given}

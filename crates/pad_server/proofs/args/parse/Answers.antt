@@ -1,9 +1,9 @@
-use Rattle.std.proofs.Common.{◌≡◌, ◌∙◌, List, map, string_bytes, codes, refl, ap, subst, rules, ℕ, true, []}
+use Rattle.std.proofs.Common.{◌≡◌, ◌∙◌, map, string_bytes, codes, refl, ap, subst, true, []}
 use Rattle.clap.specs.Faults.{fault_of, is_simple_and_free}
-use Rattle.clap.specs.Words.{App, FailsBy, app_of, found_of, is_simple, matches_of, rows_of}
+use Rattle.clap.specs.Words.{App, is_simple}
 use Rattle.command_line.proofs.CallerLemmas.{gives_number, gives_text, rows_found}
 use Rattle.server_core.specs.declared.limits.TheConstants.{MAX_CELLS}
-use Rattle.pad_server.specs.CommandLine.{AsksFor, line}
+use Rattle.pad_server.specs.CommandLine.{line}
 use Rattle.pad_server.proofs.args.parse.Goals as goal
 
 is_simple_line : is_simple line ≡ true

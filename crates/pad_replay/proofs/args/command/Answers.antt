@@ -1,6 +1,6 @@
 use Rattle.std.proofs.Common.{◌≡◌, ◌∙◌, ap, ap₂, codes, false, rules}
 use Rattle.std.proofs.lemmas.Result.{IfOk-weaker}
-use Rattle.clap.specs.Words.{App, app_of, new_app, rule_of, with_rule}
+use Rattle.clap.specs.Words.{app_of, new_app, rule_of, with_rule}
 use Rattle.command_line.specs.Options.{accounts_rule, cells_rule, replica_rule}
 use Rattle.pad_replay.specs.CommandLine.{mandatory}
 use Rattle.pad_replay.proofs.args.command.Goals as goal

@@ -99,6 +99,16 @@ CASES = [
         1,
         Has("pad_server: ", "accounts", "Is a directory (os error 21)"),
     ),
+    Case(
+        "an accounts file that does not fit in memory",
+        ARGS,
+        HELLO,
+        "",
+        1,
+        Has("pad_server: ", "accounts", "out of memory"),
+        (("accounts", "#" * 30_000_000 + "\n"),),
+        memory=10_000_000,
+    ),
     Case("no accounts file, standard error closed", ARGS, HELLO, "", 1, errors_to=CLOSED),
 ]
 

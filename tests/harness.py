@@ -57,6 +57,7 @@ class Case:
 
     `files` are put into the test's folder, in which the program runs. `stdin` is a text or bytes, or one of the devices
     CLOSED and FOLDER; `to` and `errors_to` may be CLOSED, FULL or UNREAD, and then nothing of that stream is compared.
+    `memory` is how many bytes the program may map, its own code among them.
     """
 
     name: str
@@ -69,6 +70,7 @@ class Case:
     program: str = "pad_server"
     to: Optional[str] = None
     errors_to: Optional[str] = None
+    memory: Optional[int] = None
     seconds: float = SECONDS
 
     def test(self):
@@ -117,8 +119,6 @@ def play(case):
     stdin = subprocess.PIPE
     if case.stdin == FOLDER:
         stdin = os.open(".", os.O_RDONLY)
-    # a descriptor that is to be closed is closed in the child, after the streams were put in their places
-    closed = [number for number, device in enumerate([case.stdin, case.to, case.errors_to]) if device == CLOSED]
     if case.stdin == CLOSED:
         stdin = subprocess.DEVNULL
     process = start(
@@ -127,7 +127,7 @@ def play(case):
         stdin=stdin,
         stdout=open_output(case.to),
         stderr=open_output(case.errors_to),
-        preexec_fn=lambda: [os.close(number) for number in closed],
+        preexec_fn=lambda: set_up(case),
     )
     wrote, said = process.communicate(given if stdin == subprocess.PIPE else None)
     said = (said or b"").decode(errors="replace")
@@ -140,6 +140,15 @@ def play(case):
         problems += differences("standard error", said.encode(), case.stderr)
     if problems:
         raise Failed("; ".join(problems) + (f" (standard error: {said.strip()[:300]!r})" if said else ""))
+
+
+def set_up(case):
+    """In the program's process, once the streams stand in their places, and before it begins."""
+    for number, device in enumerate([case.stdin, case.to, case.errors_to]):
+        if device == CLOSED:
+            os.close(number)
+    if case.memory is not None:
+        resource.setrlimit(resource.RLIMIT_AS, (case.memory, case.memory))
 
 
 def differences(what, got, wanted):

@@ -232,6 +232,17 @@ COMMAND_LINE = [
     Case("a bad line of accounts", ARGS, "# x\n", "", 2, "pad_replay: 500 BadAccounts line 2\n", (("accounts", "author ann t1\nauthor ann t1\n"),), "pad_replay"),
     Case("a bad line of accounts, standard error full", ARGS, "# x\n", "", 2, "", (("accounts", "x\n"),), "pad_replay", errors_to=FULL),
     run("no accounts file", "# x\n", "", 1, Has("pad_replay: ", "nowhere", "No such file or directory (os error 2)"), args=ARGS.replace("accounts accounts", "accounts nowhere")),
+    Case(
+        "an accounts file that does not fit in memory",
+        ARGS,
+        "# x\n",
+        "",
+        1,
+        Has("pad_replay: ", "out of memory"),
+        (("accounts", "#" * 30_000_000 + "\n"),),
+        "pad_replay",
+        memory=10_000_000,
+    ),
     run("a folder as accounts file", "# x\n", "", 1, Has("pad_replay: ", "Is a directory (os error 21)"), args=ARGS.replace("accounts accounts", "accounts .")),
     run("another replica", f"a\t{HELLO['ann']}\n", f"a\t{welcome('ann', 300)}\n", args=ARGS.replace("replica 1", "replica 300")),
 ]

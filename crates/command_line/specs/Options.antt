@@ -1,21 +1,32 @@
 -- What the options of a command line hold, and the status of a program that gets none.
-use Rattle.std.specs.Prelude.{◌≡◌, ◌≤◌, ℕ, zero, suc, List, Option, Some, None, option_map, pos}
+use Rattle.std.specs.Prelude.{◌≡◌, ◌≤◌, ℕ, zero, suc, List, Option, Some, None, codes, pos, true}
 use Rattle.std.specs.Str.Parse.{IsNumeral, digits_value, without_leading_plus}
-use Rattle.clap.specs.Words.{found_of, one_text}
-use Rattle.clap.specs.declared.builder.arg.Arg.{Arg}
+use Rattle.clap.specs.Words.{App, Rule, first_of, found_of, matches_of, new_rule, one_of, one_text}
 use Rattle.clap.specs.declared.builder.value_parser.ValueParser.TheVariants as parser
 use Rattle.clap.specs.declared.error.kind.ErrorKind.{ErrorKind}
 use Rattle.clap.specs.declared.error.kind.ErrorKind.TheVariants as kind
 use Rattle.clap.specs.declared.parser.matches.ArgMatches.{ArgMatches}
+use Rattle.server_core.specs.declared.limits.TheConstants.{MAX_CELLS}
 
--- the option has this name, by which its value is read back too
-pub record IsNamed (name : List ℕ) (option : Arg) : Type 0 where
-  pub id : option.id.now ≡ name
-  pub long : option_map (λ long. long.now) option.long ≡ Some name
+-- an option `--name` that takes one value, as clap's words have it
+abbrev pub option_rule : List ℕ → Rule
+option_rule name = record (new_rule name) { long = Some name; value_names = 1 }
 
--- the option takes numbers from `low` to `high`, and no other text
-abbrev pub TakesNumbers : ℕ → ℕ → Arg → Type 0
-TakesNumbers low high option = option.value_parser ≡ Some (parser.Signed (pos low) (pos high))
+-- the same, of a value that is a number from `low` to `high`
+abbrev pub number_rule : List ℕ → ℕ → ℕ → Rule
+number_rule name low high = record (option_rule name) { parser = Some (parser.Signed (pos low) (pos high)) }
+
+-- `--replica N`, which has to be there
+abbrev pub replica_rule : Rule
+replica_rule = record (number_rule (codes "replica") 1 65535) { required = true }
+
+-- `--cells N`
+abbrev pub cells_rule : Rule
+cells_rule = number_rule (codes "cells") 1 MAX_CELLS
+
+-- `--accounts PATH`
+abbrev pub accounts_rule : Rule
+accounts_rule = option_rule (codes "accounts")
 
 -- the number that a text of digits writes, of which a plus may stand in front
 abbrev pub number_of : List ℕ → ℕ
@@ -31,10 +42,23 @@ abbrev pub ReadsNumber : ℕ → ℕ → ℕ → List ℕ → ℕ → Type 0
 ReadsNumber low high other text result =
     (IsNumber low high text → result ≡ number_of text) × ((IsNumber low high text → ⊥) → result ≡ other)
 
--- the same of the text that the matches hold under a name; it is `other` too where they hold none
-pub record Holds (name : List ℕ) (low high other : ℕ) (matches : ArgMatches) (result : ℕ) : Type 0 where
-  pub absent : one_text (found_of matches) name ≡ None → result ≡ other
-  pub given : (text : List ℕ) → one_text (found_of matches) name ≡ Some text → ReadsNumber low high other text result
+-- the same of a text that may be absent; it is `other` then too
+pub record ReadsHeld (low high other : ℕ) (held : Option (List ℕ)) (result : ℕ) : Type 0 where
+  pub absent : held ≡ None → result ≡ other
+  pub given : (text : List ℕ) → held ≡ Some text → ReadsNumber low high other text result
+
+-- the same of the text that the matches hold under a name
+abbrev pub Holds : List ℕ → ℕ → ℕ → ℕ → ArgMatches → ℕ → Type 0
+Holds name low high other matches result = ReadsHeld low high other (one_text (found_of matches) name) result
+
+-- the same of the text that the words of a command line give under a name
+abbrev pub Gives : App → List (List ℕ) → List ℕ → ℕ → ℕ → ℕ → ℕ → Type 0
+Gives command words name low high other result =
+    ReadsHeld low high other (one_of name (matches_of command words)) result
+
+-- the text that the words of a command line give under a name
+abbrev pub text_given : App → List (List ℕ) → List ℕ → Option (List ℕ)
+text_given command words name = first_of name (matches_of command words)
 
 -- the replica number that is named, or else the other one: 0 names none
 abbrev pub named_or : Option ℕ → ℕ → ℕ
@@ -42,7 +66,7 @@ named_or None other = other
 named_or (Some zero) other = other
 named_or (Some (suc n)) other = suc n
 
--- 0 after help, 1 for want of memory, else 2
+-- 0 after help, 1 where memory ran out, else 2
 abbrev pub status : ErrorKind → ℕ
 status kind.DisplayHelp = 0
 status kind.OutOfMemory = 1

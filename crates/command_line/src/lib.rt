@@ -10,4 +10,4 @@ mod status;
 
 pub use number::{cells_of, replica_of, replica_or};
 pub use option::{accounts_option, cells_option, replica_option};
-pub use status::status_of;
+pub use status::{report, status_of};

@@ -1,7 +1,7 @@
 //! The options that more than one program has.
-ghost use Rattle.std.specs.Prelude.{◌≡◌, Some, None, codes, true, false};
-ghost use Rattle.server_core.specs.declared.limits.TheConstants.{MAX_CELLS};
-ghost use Rattle.command_line.specs.Options.{IsNamed, TakesNumbers};
+ghost use Rattle.std.specs.Prelude.{◌≡◌, Some, false};
+ghost use Rattle.clap.specs.Words.{rule_of};
+ghost use Rattle.command_line.specs.Options.{accounts_rule, cells_rule, replica_rule};
 
 use clap::{Arg, value_parser};
 use server_core::MAX_CELLS;
@@ -9,9 +9,8 @@ use std::alloc::Global;
 
 /// `--replica N`, which has to be there.
 pub fn replica_option<'a>(alloc: Global, help: &'a str) -> Arg<'a>
-    ensures name { IsNamed (codes "replica") result }
-    ensures range { TakesNumbers 1 65535 result }
-    ensures rest { (result.required ≡ true) × (result.action ≡ None) × (result.help ≡ Some help.entry) }
+    ensures rule { rule_of result ≡ replica_rule }
+    ensures rest { (result.global ≡ false) × (result.help ≡ Some help.entry) }
 {
     Arg::new(alloc, "replica")
         .long("replica")
@@ -23,9 +22,8 @@ pub fn replica_option<'a>(alloc: Global, help: &'a str) -> Arg<'a>
 
 /// `--cells N`.
 pub fn cells_option<'a>(alloc: Global, help: &'a str) -> Arg<'a>
-    ensures name { IsNamed (codes "cells") result }
-    ensures range { TakesNumbers 1 MAX_CELLS result }
-    ensures rest { (result.required ≡ false) × (result.action ≡ None) × (result.help ≡ Some help.entry) }
+    ensures rule { rule_of result ≡ cells_rule }
+    ensures rest { (result.global ≡ false) × (result.help ≡ Some help.entry) }
 {
     Arg::new(alloc, "cells")
         .long("cells")
@@ -36,8 +34,8 @@ pub fn cells_option<'a>(alloc: Global, help: &'a str) -> Arg<'a>
 
 /// `--accounts PATH`.
 pub fn accounts_option<'a>(alloc: Global, help: &'a str) -> Arg<'a>
-    ensures name { IsNamed (codes "accounts") result }
-    ensures rest { (result.required ≡ false) × (result.action ≡ None) × (result.value_parser ≡ None) × (result.help ≡ Some help.entry) }
+    ensures rule { rule_of result ≡ accounts_rule }
+    ensures rest { (result.global ≡ false) × (result.help ≡ Some help.entry) }
 {
     Arg::new(alloc, "accounts")
         .long("accounts")

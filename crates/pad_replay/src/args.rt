@@ -1,8 +1,11 @@
 //! The command line.
-ghost use Rattle.std.specs.Prelude.{◌≤◌, IfOk};
+ghost use Rattle.std.specs.Prelude.{◌≡◌, ◌≤◌, IfOk, map, string_bytes};
+ghost use Rattle.clap.specs.Faults.{fault_of};
+ghost use Rattle.clap.specs.Words.{FailsBy, app_of, rule_of};
 ghost use Rattle.server_core.specs.declared.limits.TheConstants.{MAX_CELLS};
+ghost use Rattle.pad_replay.specs.CommandLine.{AsksFor, line, mandatory};
 
-use clap::{Command, Error};
+use clap::{Arg, Command, Error};
 use command_line::{accounts_option, cells_of, cells_option, replica_of, replica_option};
 use std::alloc::{AllocError, Global};
 
@@ -17,19 +20,31 @@ pub struct Asked<'a> {
     pub accounts: &'a str,
 }
 
-fn command<'a>(alloc: Global) -> Result<Command<'a>, AllocError> {
+// The option, which has to be there.
+fn mandatory<'a>(option: Arg<'a>) -> Arg<'a>
+    ensures rule { rule_of result ≡ mandatory (rule_of option.entry) }
+    ensures local { result.global ≡ option.entry.global }
+{
+    option.required(true)
+}
+
+fn command<'a>(alloc: Global) -> Result<Command<'a>, AllocError>
+    ensures { IfOk result (λ command. app_of command ≡ line) }
+{
     let replica_help = "The replica number of a server whose title names none, 1 to 65535";
     let cells_help = "How many pads a server has room for, 1 to 64";
     Command::new(alloc, "pad_replay")
         .about("Plays sessions against a pad server, from lines NAME<TAB>REQUEST")
         .arg(replica_option(alloc, replica_help))?
-        .arg(cells_option(alloc, cells_help).required(true))?
-        .arg(accounts_option(alloc, "The accounts file").required(true))
+        .arg(mandatory(cells_option(alloc, cells_help)))?
+        .arg(mandatory(accounts_option(alloc, "The accounts file")))
 }
 
 /// What the words of the command line ask for, or what is wrong with them.
 pub fn parse<'a>(alloc: Global, words: &'a [String]) -> Result<Asked<'a>, Error>
-    ensures { IfOk result (λ asked. (1 ≤ asked.replica) × (asked.cells ≤ MAX_CELLS)) }
+    ensures asked { IfOk result (AsksFor (map string_bytes words.now)) }
+    ensures refused { FailsBy (fault_of line (map string_bytes words.now)) result }
+    ensures limits { IfOk result (λ asked. (1 ≤ asked.replica) × (asked.cells ≤ MAX_CELLS)) }
 {
     let matches = command(alloc)?.try_get_matches_from(words)?;
     Ok(Asked {

@@ -1,7 +1,12 @@
 //! Why a story could not be played.
+ghost use Rattle.std.specs.Prelude.{◌≡◌};
+ghost use Rattle.std.specs.Process.{exit_status};
+ghost use Rattle.pad_replay.specs.Status.{status};
+
 use pad_model::Refusal;
 use sessions::AccountsError;
 use std::alloc::{AllocError, AllocFailed};
+use std::process::ExitCode;
 use std::{fmt, io};
 
 /// Why a story could not be played.
@@ -11,6 +16,8 @@ pub enum Fault {
     BadAccounts { line: u64 },
     /// A line of the story, counted from 1, has no form of a story.
     NoStory { line: u64 },
+    /// A title, at this line of the story, names no number that a replica can have.
+    NoReplica { line: u64 },
     /// There was no room for a session, or no memory.
     Refused(Refusal),
     /// A step was not answered.
@@ -19,11 +26,26 @@ pub enum Fault {
     Broken(io::Error),
 }
 
+impl Fault {
+    /// 2 for a bad line of the accounts file, else 1.
+    pub fn status(&self) -> ExitCode
+        ensures { exit_status result ≡ status self.now }
+    {
+        match self {
+            Fault::BadAccounts { .. } => ExitCode::from(2),
+            _ => ExitCode::FAILURE,
+        }
+    }
+}
+
 impl fmt::Display for Fault {
     fn fmt<W: fmt::Write>(&self, f: &mut fmt::Formatter<W>) -> fmt::Result {
         match self {
             Fault::BadAccounts { line } => write!(f, "500 BadAccounts line {line}"),
             Fault::NoStory { line } => write!(f, "line {line} is none of a story"),
+            Fault::NoReplica { line } => {
+                write!(f, "line {line}: a replica number is 1 to 65535")
+            }
             Fault::Refused(refusal) => {
                 let code = refusal.code();
                 let name = refusal.name();

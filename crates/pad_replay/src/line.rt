@@ -1,4 +1,5 @@
 //! The lines of a story.
+ghost use Rattle.std.specs.Prelude.{◌≤◌, IfSome};
 
 /// What a line of a story says.
 #[derive(Clone, Copy)]
@@ -8,35 +9,53 @@ pub enum Line<'a> {
     /// A note or an empty line.
     Note,
     /// The session with this name ends.
-    End { name: &'a str },
+    End { name: &'a [u8] },
     /// The session with this name asks something.
-    Ask { name: &'a str, request: &'a str },
+    Ask { name: &'a [u8], request: &'a [u8] },
+    /// A title whose number is no replica's.
+    NoReplica,
     /// None of these: there is no tab in it.
     Unknown,
 }
 
 impl<'a> Line<'a> {
-    pub fn read(text: &'a str) -> Line<'a> {
-        if text.is_empty() || text.starts_with('#') {
+    /// Reads the bytes of a line, without its line feed. Names and requests need not be UTF-8.
+    pub fn read(line: &'a [u8]) -> Line<'a> {
+        if line.is_empty() || line.starts_with(b"#") {
             return Line::Note;
         }
-        if let Some(title) = text.strip_prefix("=== ") {
-            return Line::Title {
-                replica: replica_in(title),
-            };
+        if let Some(title) = line.strip_prefix(b"=== ".as_slice()) {
+            return Line::title(title);
         }
-        if let Some(name) = text.strip_prefix('!') {
+        if let Some(name) = line.strip_prefix(b"!".as_slice()) {
             return Line::End { name };
         }
-        match text.split_once('\t') {
-            Some((name, request)) => Line::Ask { name, request },
-            None => Line::Unknown,
+        let mut parts = line.splitn(2, |byte| *byte == b'\t');
+        match (parts.next(), parts.next()) {
+            (Some(name), Some(request)) => Line::Ask { name, request },
+            _ => Line::Unknown,
+        }
+    }
+
+    // The last word of a title has to be a replica number where the word `replica` stands in front of it.
+    fn title(title: &[u8]) -> Line<'static> {
+        let mut words = title.rsplitn(3, |byte| *byte == b' ');
+        match (words.next(), words.next(), words.next()) {
+            (Some(number), Some(b"replica"), Some(_)) => match read_replica(number) {
+                Some(replica) => Line::Title {
+                    replica: Some(replica),
+                },
+                None => Line::NoReplica,
+            },
+            _ => Line::Title { replica: None },
         }
     }
 }
 
-/// The number at the end of a title, behind the word `replica`.
-fn replica_in(title: &str) -> Option<u16> {
-    let (_, number) = title.rsplit_once(" replica ")?;
-    number.parse::<u16>().ok()
+/// The replica number that a word writes: 1 to 65,535.
+fn read_replica(word: &[u8]) -> Option<u16>
+    ensures { IfSome result (λ replica. 1 ≤ replica) }
+{
+    let number = str::from_utf8(word).ok()?;
+    number.parse::<u16>().ok().filter(|replica| *replica >= 1)
 }

@@ -4,14 +4,18 @@
 //! each request behind the same name, and repeats titles, notes and empty lines.
 #![tactic(auto)]
 
+ghost use Rattle.std.specs.Prelude.{◌≤◌};
+ghost use Rattle.server_core.specs.declared.limits.TheConstants.{MAX_CELLS};
+
 mod args;
 mod fault;
 mod line;
 mod play;
 mod stage;
 
-use args::parse;
-use command_line::status_of;
+use args::{Asked, parse};
+use command_line::report;
+use fault::Fault;
 use play::play;
 use stage::Stage;
 use std::fs;
@@ -23,26 +27,35 @@ fn main(rt: HostRuntime) -> anyhow::Result<ExitCode> {
     let words: Vec<String> = std::env::args(&rt)?.collect(alloc)?;
     let asked = match parse(alloc, words.as_slice()) {
         Ok(asked) => asked,
-        Err(error) => {
-            error.print(&rt)?;
-            return Ok(status_of(&error));
+        Err(error) => return Ok(report(&rt, &error)),
+    };
+    let accounts = match fs::read(&rt, asked.accounts) {
+        Ok(accounts) => accounts,
+        Err(cause) => {
+            let path = asked.accounts;
+            let _told = eprintln!(rt;
+                "pad_replay: the accounts file {path} cannot be read: {cause}"
+            );
+            return Ok(ExitCode::FAILURE);
         }
     };
-    let accounts = fs::read(&rt, asked.accounts)?;
-    let mut stage = match Stage::new(alloc, asked.replica, asked.cells, accounts) {
-        Ok(stage) => stage,
-        Err(fault) => {
-            eprintln!(rt; "pad_replay: {fault}")?;
-            return Ok(ExitCode::from(2));
-        }
-    };
-    let input = BufReader::new(alloc, rt.reader())?;
-    let mut output = BufWriter::new(alloc, std::io::writer(&rt))?;
-    match play(alloc, &mut stage, input, &mut output) {
+    match play_all(&rt, asked, accounts) {
         Ok(()) => Ok(ExitCode::SUCCESS),
         Err(fault) => {
-            eprintln!(rt; "pad_replay: {fault}")?;
-            Ok(ExitCode::FAILURE)
+            // The status says it too, where standard error is closed.
+            let _told = eprintln!(rt; "pad_replay: {fault}");
+            Ok(fault.status())
         }
     }
+}
+
+/// Plays the story of standard input.
+fn play_all(rt: &HostRuntime, asked: Asked<'_>, accounts: Vec<u8>) -> Result<(), Fault>
+    requires { (1 ≤ asked.replica) × (asked.cells ≤ MAX_CELLS) }
+{
+    let alloc = rt.alloc();
+    let mut stage = Stage::new(alloc, asked.replica, asked.cells, accounts)?;
+    let mut input = BufReader::new(alloc, rt.reader())?;
+    let mut output = BufWriter::new(alloc, std::io::writer(rt))?;
+    play(alloc, &mut stage, &mut input, &mut output)
 }

@@ -5,42 +5,55 @@ use crate::stage::Stage;
 use std::alloc::Global;
 use std::io::{BufRead, Write};
 
-/// Plays the lines of a reader to its end.
-pub fn play<R: BufRead + Drop, W: Write>(
+/// Plays the lines of a reader to its end. Each line is answered before the next one is read.
+pub fn play<R: BufRead, W: Write>(
     alloc: Global,
     stage: &mut Stage,
-    reader: R,
+    reader: &mut R,
     writer: &mut W,
 ) -> Result<(), Fault> {
-    for (text, number) in reader.lines(alloc).zip(1_u64..) {
-        let text = text?;
-        play_line(alloc, stage, text.as_str(), number, writer)?;
+    let mut line = Vec::new(alloc);
+    for number in 1..u64::MAX {
+        line.clear();
+        if reader.read_until(b'\n', &mut line)? == 0 {
+            return Ok(());
+        }
+        play_line(alloc, stage, without_end(line.as_slice()), number, writer)?;
+        writer.flush()?;
     }
-    writer.flush()?;
     Ok(())
+}
+
+// A line without the LF, or CR and LF, that ends it.
+fn without_end(line: &[u8]) -> &[u8] {
+    match line.strip_suffix(b"\n".as_slice()) {
+        Some(text) => text.strip_suffix(b"\r".as_slice()).unwrap_or(text),
+        None => line,
+    }
 }
 
 fn play_line<W: Write>(
     alloc: Global,
     stage: &mut Stage,
-    text: &str,
+    line: &[u8],
     number: u64,
     writer: &mut W,
 ) -> Result<(), Fault> {
-    match Line::read(text) {
-        Line::Note => repeat(text, writer),
+    match Line::read(line) {
+        Line::Note => repeat(line, writer),
         Line::Title { replica } => {
             stage.renew(alloc, replica)?;
-            repeat(text, writer)
+            repeat(line, writer)
         }
         Line::End { name } => stage.end(alloc, name),
         Line::Ask { name, request } => tell(alloc, stage, name, request, writer),
+        Line::NoReplica => Err(Fault::NoReplica { line: number }),
         Line::Unknown => Err(Fault::NoStory { line: number }),
     }
 }
 
-fn repeat<W: Write>(text: &str, writer: &mut W) -> Result<(), Fault> {
-    writer.write_all(text.as_bytes())?;
+fn repeat<W: Write>(line: &[u8], writer: &mut W) -> Result<(), Fault> {
+    writer.write_all(line)?;
     writer.write_all(b"\n")?;
     Ok(())
 }
@@ -49,15 +62,15 @@ fn repeat<W: Write>(text: &str, writer: &mut W) -> Result<(), Fault> {
 fn tell<W: Write>(
     alloc: Global,
     stage: &mut Stage,
-    name: &str,
-    request: &str,
+    name: &[u8],
+    request: &[u8],
     writer: &mut W,
 ) -> Result<(), Fault> {
     if request.is_empty() {
         return Ok(());
     }
     let reply = stage.ask(alloc, name, request)?;
-    writer.write_all(name.as_bytes())?;
+    writer.write_all(name)?;
     writer.write_all(b"\t")?;
     writer.write_all(reply.as_bytes())?;
     Ok(())

@@ -20,7 +20,7 @@ pub struct Stage {
     cells: u32,
     accounts: Vec<u8>,
     server: Server<PlainSeq>,
-    names: Vec<String>,
+    names: Vec<Vec<u8>>,
     ghost numbered: { 1 ≤ replica },
     ghost in_row: { cells ≤ MAX_CELLS },
 }
@@ -38,8 +38,8 @@ fn make_server(
     Ok(Server::new(alloc, replica, cells, accounts)?)
 }
 
-fn step_of(alloc: Global, line: &str) -> Result<Step, Refusal> {
-    Ok(Step::Ask(read_request(alloc, line.as_bytes())?))
+fn step_of(alloc: Global, line: &[u8]) -> Result<Step, Refusal> {
+    Ok(Step::Ask(read_request(alloc, line)?))
 }
 
 impl Stage {
@@ -67,7 +67,7 @@ impl Stage {
     }
 
     /// The reply line of a request, its LF included.
-    pub fn ask(&mut self, alloc: Global, name: &str, line: &str) -> Result<String, Fault> {
+    pub fn ask(&mut self, alloc: Global, name: &[u8], line: &[u8]) -> Result<String, Fault> {
         let reply = match step_of(alloc, line) {
             Ok(step) => self.answer(alloc, name, &step)?,
             Err(refusal) => Err(refusal),
@@ -76,7 +76,7 @@ impl Stage {
     }
 
     /// Ends a session. It is nobody's then.
-    pub fn end(&mut self, alloc: Global, name: &str) -> Result<(), Fault> {
+    pub fn end(&mut self, alloc: Global, name: &[u8]) -> Result<(), Fault> {
         let _ended = self.answer(alloc, name, &Step::End)?;
         Ok(())
     }
@@ -84,7 +84,7 @@ impl Stage {
     fn answer(
         &mut self,
         alloc: Global,
-        name: &str,
+        name: &[u8],
         step: &Step,
     ) -> Result<Result<Reply, Refusal>, Fault> {
         let actor = self.actor(alloc, name)?;
@@ -92,13 +92,13 @@ impl Stage {
     }
 
     /// The actor of a session, which is opened at its first use.
-    fn actor(&mut self, alloc: Global, name: &str) -> Result<u32, Fault> {
+    fn actor(&mut self, alloc: Global, name: &[u8]) -> Result<u32, Fault> {
         for (known, number) in self.names.iter().zip(0..) {
-            if known.as_str() == name {
+            if known.as_slice() == name {
                 return Ok(number);
             }
         }
-        self.names.push(String::from_str(alloc, name)?)?;
+        self.names.push(Vec::from_slice(alloc, name)?)?;
         Ok(self.server.open(alloc)?)
     }
 

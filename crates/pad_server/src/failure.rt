@@ -1,6 +1,11 @@
 //! Why the server does not start, or ends before its input.
+ghost use Rattle.std.specs.Prelude.{◌≡◌};
+ghost use Rattle.std.specs.Process.{exit_status};
+ghost use Rattle.pad_server.specs.Status.{status};
+
 use pad_model::Refusal;
 use sessions::AccountsError;
+use std::io;
 use std::process::ExitCode;
 use thiserror::Error;
 use wire_lines::Fault;
@@ -8,19 +13,31 @@ use wire_lines::Fault;
 /// Why the server does not start, or ends before its input.
 #[derive(Clone, Copy, Debug, Error)]
 pub enum Failure<'a> {
-    #[error("the accounts file {path} cannot be read")]
-    Unread { path: &'a str },
+    #[error("the accounts file {path} cannot be read: {cause}")]
+    Unread { path: &'a str, cause: io::Error },
     #[error("500 BadAccounts line {line}")]
     BadAccounts { line: u64 },
     #[error("{code} {name}")]
     Refused { code: u16, name: &'static str },
     #[error("{0}")]
     Fault(Fault),
+    #[error("{fault}: {cause}")]
+    Broken { fault: Fault, cause: io::Error },
 }
 
 impl Failure<'_> {
+    /// A connection's fault, with what its device said of it, where it said something.
+    pub fn of(fault: Fault, cause: Option<io::Error>) -> Failure<'static> {
+        match cause {
+            Some(cause) => Failure::Broken { fault, cause },
+            None => Failure::Fault(fault),
+        }
+    }
+
     /// 2 for a bad line of the accounts file, else 1.
-    pub fn status(self) -> ExitCode {
+    pub fn status(self) -> ExitCode
+        ensures { exit_status result ≡ status self.entry }
+    {
         match self {
             Failure::BadAccounts { .. } => ExitCode::from(2),
             _ => ExitCode::FAILURE,

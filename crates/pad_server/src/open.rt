@@ -24,7 +24,7 @@ fn read_accounts<'a>(rt: &HostRuntime, path: Option<&'a str>) -> Result<Accounts
     };
     match fs::read(rt, path) {
         Ok(bytes) => Ok(Accounts::read(alloc, bytes.as_slice())?),
-        Err(_) => Err(Failure::Unread { path }),
+        Err(cause) => Err(Failure::Unread { path, cause }),
     }
 }
 

@@ -1,0 +1,30 @@
+use Rattle.std.proofs.Common.{◌≡◌, ◌∙◌, map, string_bytes, codes, refl, ap, subst, true, []}
+use Rattle.clap.specs.Faults.{fault_of, is_simple_and_free}
+use Rattle.clap.specs.Words.{App, is_simple}
+use Rattle.command_line.proofs.CallerLemmas.{gives_number, gives_text, rows_found}
+use Rattle.server_core.specs.declared.limits.TheConstants.{MAX_CELLS}
+use Rattle.pad_server.specs.CommandLine.{line}
+use Rattle.pad_server.proofs.args.parse.Goals as goal
+
+is_simple_line : is_simple line ≡ true
+is_simple_line = refl
+
+is_free_line : is_simple_and_free line ≡ true
+is_free_line = refl
+
+pub returns-clause-asked : goal.returns-clause-asked
+returns-clause-asked c =
+    let words = map string_bytes c.args.words.now in
+    let m = c.in_ok-matches.matches in
+    let rows = rows_found c.in_ok-command.field-0 line words m c.in_ok-command.ensures is_simple_line c.in_ok-matches.ensures.matches in
+    record {
+      replica = gives_number line words m (codes "replica") 1 65535 1 c.replica_of.result rows c.replica_of.ensures.value;
+      cells = gives_number line words m (codes "cells") 0 MAX_CELLS MAX_CELLS c.cells_of.result rows c.cells_of.ensures.value;
+      accounts = c.get_str.ensures ∙ gives_text line words m (codes "accounts") rows;
+    }
+
+pub returns-clause-refused : goal.returns-clause-refused
+returns-clause-refused c =
+    let words = map string_bytes c.args.words.now in
+    subst (λ (a : App). fault_of a words ≡ []) c.in_ok-command.ensures
+    (c.in_ok-matches.ensures.kinds (ap is_simple_and_free c.in_ok-command.ensures ∙ is_free_line))

@@ -1,0 +1,74 @@
+"""The command line of the server: what it takes, what it refuses, and the status."""
+from harness import CLOSED, FULL, Case, Has
+
+CREATE = '{"do":"create","pad":"p"}\n'
+CREATED = '{"now":0,"ok":true,"visit":1}\n'
+INSERT = '{"do":"insert","pad":"p","rev":0,"at":0,"text":"hello"}\n'
+NO_SLOT = '{"code":302,"error":"NoSlot","ok":false}\n'
+NO_PAD = '{"code":300,"error":"NoPad","ok":false}\n'
+OPTIONS = Has("Usage: pad_server", "--stdin", "--replica <N>", "--accounts <PATH>", "--cells <N>", "--help")
+
+
+def refused(name, args, *parts):
+    """A command line that asks for nothing that the server does: status 2, a reason, and nothing is served."""
+    return Case(name, args, stdin=CREATE, status=2, stderr=Has(*parts))
+
+
+def first_name(replica):
+    return f'{{"name":[{replica},1],"now":1,"ok":true}}\n'
+
+
+def numbered(replica):
+    """A server of this number gives it to its operations."""
+    return Case(f"replica {replica}", f"--stdin --replica {replica}", CREATE + INSERT, CREATED + first_name(replica))
+
+
+def creates(count):
+    return "".join(f'{{"do":"create","pad":"p{number}"}}\n' for number in range(count))
+
+
+def rooms(name, args, count):
+    """There is room for so many pads and no more; a pad that was created stays."""
+    asked = creates(count + 1) + '{"do":"join","pad":"none"}\n{"do":"text","pad":"p0"}\n'
+    text = '{"now":0,"ok":true,"rev":0,"text":""}\n'
+    return Case(name, args, asked, CREATED * count + NO_SLOT + NO_PAD + text)
+
+
+CASES = [
+    Case("help", "--help", stdout=OPTIONS),
+    Case("help by its short name", "-h", stdout=OPTIONS),
+    Case("help that cannot be printed", "--help", status=1, to=FULL),
+    refused("no words", "", "--stdin", "--replica"),
+    refused("no --replica", "--stdin", "--replica"),
+    refused("no --stdin", "--replica 1", "--stdin"),
+    refused("an unknown option", "--stdin --replica 1 --colour", "--colour"),
+    refused("an unknown word", "--stdin --replica 1 serve", "serve"),
+    refused("--stdin twice", "--stdin --stdin --replica 1", "--stdin"),
+    refused("--stdin with a value", "--stdin=yes --replica 1", "--stdin"),
+    refused("--replica twice", "--stdin --replica 1 --replica 2", "--replica"),
+    refused("--cells twice", "--stdin --replica 1 --cells 1 --cells 2", "--cells"),
+    refused("--accounts twice", "--stdin --replica 1 --accounts a --accounts b", "--accounts"),
+    refused("--replica without a number", "--stdin --replica", "--replica"),
+    refused("--cells without a number", "--stdin --replica 1 --cells", "--cells"),
+    refused("--accounts without a path", "--stdin --replica 1 --accounts", "--accounts"),
+    *[
+        refused(f"replica {text or 'of no digits'}", f"--stdin --replica={text}", "--replica")
+        for text in ["0", "65536", "70000", "-1", "1.0", "one", "0x1", "18446744073709551617", ""]
+    ],
+    *[refused(f"cells {text}", f"--stdin --replica 1 --cells={text}", "--cells") for text in ["0", "65", "-1", "two", "4294967297"]],
+    numbered(1),
+    numbered(255),
+    numbered(300),
+    numbered(65535),
+    Case("replica by an equals sign", "--stdin --replica=7", CREATE + INSERT, CREATED + first_name(7)),
+    Case("options in another order", "--cells 1 --replica 9 --stdin", CREATE + INSERT, CREATED + first_name(9)),
+    rooms("cells 1", "--stdin --replica 1 --cells 1", 1),
+    rooms("cells 2", "--stdin --replica 1 --cells 2", 2),
+    rooms("cells 64", "--stdin --replica 1 --cells 64", 64),
+    rooms("no --cells", "--stdin --replica 1", 64),
+    Case("an unknown word, standard error closed", "--wrong", status=2, errors_to=CLOSED),
+    Case("an unknown word, standard error full", "--wrong", status=2, errors_to=FULL),
+    Case("replica 0, standard error closed", "--stdin --replica 0", status=2, errors_to=CLOSED),
+]
+
+TESTS = [case.test() for case in CASES]

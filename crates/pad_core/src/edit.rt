@@ -201,7 +201,8 @@ fn refuse_insert<S: Sequence>(ledger: &Ledger<S>, rev: u64, at: u64, text: &Text
     ensures value { result ≡ edit_refusal rev (Insert at text.now ∷ []) ledger.now }
     ensures sound { IsDelivered ledger.now }
 {
-    if ledger.len() < rev {
+    let now = ledger.len();
+    if now < rev {
         return Some(Refusal::NoRevision);
     }
     if ledger.len_at(rev) < at {

@@ -312,6 +312,7 @@ struct Client<'a> {
     given: usize,
     replies: &'a Cell<usize>,
     failures: u64,
+    reads: u64,
 }
 
 impl Source for Client<'_> {
@@ -319,7 +320,10 @@ impl Source for Client<'_> {
 
     ghost failures = { λ c. c.failures };
 
+    ghost reads = { λ c. c.reads };
+
     fn read(&mut self, buffer: &mut [u8]) -> Result<usize, ReadError> {
+        self.reads = self.reads.saturating_add(1);
         let line = match self.lines.get(self.given) {
             None => return Ok(0),
             Some(line) => line.as_bytes(),
@@ -367,6 +371,7 @@ fn a_client_that_waits(rt: HostRuntime) -> Result<(), Fail> {
         given: 0,
         replies: &replies,
         failures: 0,
+        reads: 0,
     };
     let mut sent = Sent {
         output: Output::new(alloc),

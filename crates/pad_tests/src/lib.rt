@@ -16,6 +16,8 @@ mod replies;
 #[cfg(test)]
 mod rig;
 #[cfg(test)]
+mod runs;
+#[cfg(test)]
 mod scan;
 #[cfg(test)]
 mod seeded;

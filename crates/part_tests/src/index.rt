@@ -5,3 +5,4 @@ mod places;
 mod stone;
 mod stone_run;
 mod trees;
+mod visits;

@@ -61,7 +61,8 @@ impl Actor {
     ) -> Moved
         ensures { (cells : List Machine) → Acted (Step.Ask request.now) cells self.old (stepped replica accounts.now (Step.Ask request.now) self.old cells) result self.new cells }
     {
-        if is_busy(&self.task) {
+        let busy = is_busy(&self.task);
+        if busy {
             return Moved::Refused(Refusal::Busy);
         }
         let (session, task) = (&mut self.session, &mut self.task);

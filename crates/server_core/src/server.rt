@@ -6,7 +6,7 @@ ghost use Rattle.pad_model.specs.declared.op.Op.{Op};
 ghost use Rattle.pad_model.specs.declared.refusal.Refusal.{Refusal};
 ghost use Rattle.server_core.specs.declared.limits.TheConstants.{MAX_CELLS};
 ghost use Rattle.pad_core.specs.Delivered.{IsDelivered};
-ghost use Rattle.pad_core.specs.Laws.{HaveSame, ShowSame};
+ghost use Rattle.pad_core.specs.Laws.{HaveSame, ReadAlike};
 ghost use Rattle.pad_core.specs.Machine.{Machine};
 ghost use Rattle.server_core.specs.Machine.{new_server, with_newcomer, run as machine_run, unnamed};
 ghost use Rattle.server_core.specs.Served.{FoundMemory, Ran, Served};
@@ -108,11 +108,12 @@ impl<S: Sequence> Server<S> {
     pub fn run(&mut self, alloc: Global, steps: &[(u32, Step)]) -> Result<Vec<Moved>, Refusal>
         ensures ran { MatchResult result (λ answers. Ran self.old steps.now answers.items self.new) (λ e. (e ≡ Refusal.Memory) × (self.new ≡ self.old)) }
 
-        // What the actors are told and the server are the machine's, where no step met want of memory.
+        // What the actors are told and the server are the machine's, where no step was out of memory.
         ensures machine { IfOk result (λ answers. FoundMemory answers.items → machine_run steps.now self.old ≡ (answers.items, self.new)) }
 
-        // What a pad shows then depends on the set of its operations alone: any other log of a pad with the same ones shows the same.
-        ensures alike { OnOk result ((m : Machine) → Contains self.new.cells m → (other : List Op) → IsDelivered other → HaveSame m.log other → ShowSame m.log other) }
+        // What a reader of a pad's present text, authors or comments is answered then depends on the set of its operations alone:
+        // any other log of a pad with the same ones answers the same.
+        ensures alike { OnOk result ((m : Machine) → Contains self.new.cells m → (other : List Op) → IsDelivered other → HaveSame m.log other → ReadAlike m.log other) }
     {
         let mut answers = match Vec::with_capacity(alloc, steps.len()) {
             Ok(answers) => answers,

@@ -2,7 +2,7 @@ use Rattle.std.proofs.Common.{◌≡◌, ◌+◌, ◌++◌, ◌∷◌, [], sym, 
 use Rattle.std.proofs.lemmas.List.{take_more}
 use Rattle.pad_core.specs.Delivered.{IsDelivered}
 use Rattle.pad_core.specs.Machine.{Machine}
-use Rattle.pad_core.proofs.SameSet.{same_members}
+use Rattle.pad_core.proofs.Alike.{read_alike}
 use Rattle.server_core.specs.Served.{Ran}
 use Rattle.server_core.proofs.Served.{Ran-push, Ran-machine, each_has}
 use Rattle.server_core.proofs.server.Server.run.Goals as goal
@@ -24,4 +24,4 @@ returns-clause-machine g c found =
 
 pub returns-clause-alike : goal.returns-clause-alike
 returns-clause-alike g c m there other delivered same =
-    same_members m.log other (each_has (λ (m : Machine). IsDelivered m.log) _ m c.know_delivered.ensures (subst (λ cells. Contains cells m) (sym (c.as_slice.ensures.value ∙ ap (λ s. s.cells) c.self.view_is)) there)) delivered same
+    read_alike m.log other (each_has (λ (m : Machine). IsDelivered m.log) _ m c.know_delivered.ensures (subst (λ cells. Contains cells m) (sym (c.as_slice.ensures.value ∙ ap (λ s. s.cells) c.self.view_is)) there)) delivered same

@@ -71,13 +71,22 @@ TypesInPlace m =
 
 -- what holds of a world
 pub record IsFederated (world : World) : Type 0 where
+  -- no two operations have one name
   pub named : IsDistinct have_one_name world.made
+  -- each was valid where it was made, behind what its number and its vector name
   pub valid : (op : Op) → Contains world.made op → (past : List Op) × IsMadeBehind world.made past op
+  -- no server refuses one as false
   pub taken : (server : ℕ) (op : Op) → Contains world.made op → IsTaken (world.machine_of server) op
+  -- or drops one
   pub kept : (server : ℕ) (op : Op) → Contains world.made op → DropsNoFault (world.machine_of server) op
+  -- each log is what its counts say
   pub whole : (server : ℕ) → IsUpToCounts world.made (world.machine_of server).log
+  -- equal counts mean equal pads
   pub alike : (one other : ℕ) → vector_of (world.machine_of one).log ≡ vector_of (world.machine_of other).log →
       ShowSame (world.machine_of one).log (world.machine_of other).log
+  -- all characters together are a tree
   pub legal : IsLegal (characters_in world.made)
+  -- and all servers show parts of its order (the strong list specification)
   pub ordered : (server : ℕ) → ShowsPart world.made (world.machine_of server).log
+  -- what is typed stands where it was typed
   pub typed : (server : ℕ) → TypesInPlace (world.machine_of server)

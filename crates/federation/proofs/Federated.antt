@@ -19,7 +19,8 @@ use Rattle.pad_core.specs.Counts.{vector_of}
 use Rattle.pad_core.specs.Exchange.{received, steps, unsettled}
 use Rattle.pad_core.specs.Laws.{ShowSame}
 use Rattle.pad_core.proofs.SameSet.{has_front, made_alike, passes_from, same_set}
-use Rattle.federation.specs.Holds.{DropsNoFault, IsLegal, IsTaken, IsUpToCounts, ShowsPart}
+use Rattle.pad_model.specs.CellLaws.{IsLegal}
+use Rattle.federation.specs.Holds.{DropsNoFault, IsTaken, IsUpToCounts, ShowsPart}
 use Rattle.federation.specs.Laws.{FederationLaw}
 use Rattle.federation.specs.World.{World}
 use Rattle.federation.proofs.Keeps.{IsMade, Keeps, found_no_fault, keeps_steps, takes_in}

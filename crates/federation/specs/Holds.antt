@@ -1,14 +1,13 @@
 -- What holds of a world of servers.
-use Rattle.std.specs.Prelude.{◌≡◌, ◌≢◌, ◌↔◌, ℕ, ◌≤◌, Bool, List, ◌++◌, length, take, drop, map, Contains, IsTrue, Option, Some, Ok, Err}
+use Rattle.std.specs.Prelude.{◌≡◌, ◌≢◌, ◌↔◌, ℕ, ◌≤◌, Bool, List, ◌++◌, length, take, drop, map, Contains, Option, Some, Ok, Err}
 use Rattle.std.specs.List.{IsDistinct, find}
 use Rattle.pad_model.specs.Character.{Character}
 use Rattle.pad_model.specs.Laws.{itself}
-use Rattle.pad_model.specs.Legal.{IsTree, has_stamp}
+use Rattle.pad_model.specs.CellLaws.{IsLegal}
 use Rattle.pad_model.specs.Log.{same_name}
-use Rattle.pad_model.specs.Operation.{Characters, characters_in}
+use Rattle.pad_model.specs.Operation.{characters_in}
 use Rattle.pad_model.specs.Order.{order}
 use Rattle.pad_model.specs.Seen.{count_in}
-use Rattle.pad_model.specs.Stamp.{Stamp}
 use Rattle.pad_model.specs.Subsequence.{IsSubsequence}
 use Rattle.pad_model.specs.Visible.{visible}
 use Rattle.pad_model.specs.declared.op.Op.{Op}
@@ -50,11 +49,6 @@ pub record IsUpToCounts (made log : List Op) : Type 0 where
   pub each : (name : OpName) → 1 ≤ name.number → name.number ≤ count_in (vector_of log) name.origin →
       (op : Op) × Contains log op × (op.name ≡ name)
   pub once : IsDistinct have_one_name log
-
--- the characters are a tree of insertions, and what is erased was inserted
-pub record IsLegal (set : Characters) : Type 0 where
-  pub tree : IsTree itself set.inserted
-  pub erased : (s : Stamp) → Contains set.erased s → IsTrue (has_stamp itself set.inserted s)
 
 -- at each revision a log shows a part of the order of all characters
 abbrev pub ShowsPart : List Op → List Op → Type 0

@@ -20,7 +20,7 @@ stepped m next event reply (inl (inl h)) no_memory = absurd (no_memory h.0)
 stepped m next event reply (inl (inr h)) no_memory = h
 stepped m next event reply (inr h) no_memory = absurd (no_memory h.0)
 
--- a run that met no want of memory is the machine's
+-- a run that was never out of memory is the machine's
 pub Ran-machine : (m new : Machine) (events : List PadEvent) (replies : List (Result PadReply Refusal)) → Ran m events replies new → FoundMemory replies → run events m ≡ (replies, new)
 Ran-machine m new [] [] r f = ap (λ k. ([], k)) (sym r)
 Ran-machine m new [] (x ∷ replies) r f = absurd r

@@ -144,7 +144,7 @@ impl<S: Sequence> Pad<S> {
     ) -> Result<Vec<Result<PadReply, Refusal>>, Refusal>
         ensures ran { MatchResult result (λ replies. Ran self.old events.now replies.items self.new) (λ e. (e ≡ Refusal.Memory) × (self.new ≡ self.old)) }
 
-        // The replies and the pad are the machine's, where no event met want of memory.
+        // The replies and the pad are the machine's, where no event ran out of memory.
         ensures machine { IfOk result (λ replies. FoundMemory replies.items → machine_run events.now self.old ≡ (replies.items, self.new)) }
 
         // What was read last of the present text, authors or comments depends on the set of the pad's operations alone: it is the

@@ -69,6 +69,13 @@ impl IdentIndex {
         self.entries.len()
     }
 
+    /// Does nothing. Its clause tells a caller's proof that the index is sound.
+    pub fn note_sound(&self)
+        ensures { IsSound self.now }
+    {
+        let _ = &self.entries;
+    }
+
     /// The block that begins with this stamp.
     pub fn get(&self, first: Stamp) -> Option<Entry>
         ensures value { result ≡ map.get self.now first }

@@ -1,4 +1,6 @@
 pub mod Applied
+pub mod BlockCells
+pub mod BlockScan
 pub mod Fronts
 pub mod Kept
 pub mod PartSteps

@@ -1,13 +1,12 @@
 -- Which stamps the cells of blocks have, and which cells they are when texts and authors join.
-use Rattle.std.proofs.Common.{◌≡◌, ℕ, zero, suc, ◌+◌, ◌-◌, ◌≤◌, ◌<◌, ◌⊎◌, inl, inr, Bool, true, false, not, cond, ◌&&◌, ◌||◌, eqb, leb, ltb, List, [], ◌∷◌, ◌++◌, length, take, drop, map, flat_map, sum_by, Option, Some, None, refl, sym, ap, ap₂, ◌∙◌, subst, arith, slice_get, append_assoc, length-append, length-take, length-drop, eq-eqb, le-leb, lt-ltb, leb-true, ltb-true, eqb-true}
+use Rattle.std.proofs.Common.{◌≡◌, ℕ, zero, suc, ◌+◌, ◌≤◌, ◌<◌, inl, inr, Bool, true, false, not, cond, ◌&&◌, ◌||◌, eqb, ltb, List, [], ◌∷◌, ◌++◌, length, take, drop, map, sum_by, Option, Some, None, refl, sym, ap, ap₂, ◌∙◌, arith, slice_get, length-append, length-take, length-drop, eq-eqb, le-leb, le-ltb, lt-ltb, leb-true, is_some, MatchOption, fold, max, ltb-true, eqb-true}
 use Rattle.std.specs.List.{AllByRecursion, list_any, list_all}
-use Rattle.std.specs.Option.{IsSomeAnd}
-use Rattle.std.proofs.lemmas.Bool.{and_parts, and_from, or_left, or_right}
+use Rattle.std.proofs.lemmas.Bool.{and_parts, and_from, cases_lt}
 use Rattle.std.proofs.lemmas.List.Folds.{list_any-append}
 use Rattle.std.proofs.lemmas.List.Sums.{sum_by-cons}
 use Rattle.std.proofs.lemmas.List.{get_or_append_left}
 use Rattle.pad_model.specs.Stamp.{Stamp, same_stamp}
-use Rattle.pad_model.specs.Cell.{Cell, character_of, born_at}
+use Rattle.pad_model.specs.Cell.{Cell, character_of, born_at, last_of}
 use Rattle.pad_model.specs.Character.{next, run_characters}
 use Rattle.pad_model.specs.Legal.{has_stamp}
 use Rattle.pad_model.specs.Operation.{stamps_from}
@@ -15,11 +14,12 @@ use Rattle.pad_model.specs.Visible.{is_erased}
 use Rattle.pad_model.specs.declared.who.Author.{Author}
 use Rattle.pad_model.proofs.Newer.{split}
 use Rattle.pad_model.proofs.Erase.{in_span, is_erased-stamps_from}
-use Rattle.ident_index.specs.Index.{Index, Covers, Holds, HoldsNone}
+use Rattle.ident_index.specs.Index.{Index, Covers, Holds, HoldsNone, stamp_behind}
 use Rattle.blocks.specs.declared.block.Block.{Block}
-use Rattle.blocks.specs.Blocks.{IsListed}
+use Rattle.blocks.specs.declared.find.Spot.{Spot}
+use Rattle.blocks.specs.Blocks.{IsListed, IsSpot}
 use Rattle.blocks.specs.Cells.{author_at, run_cells, stretch, block_cells, cells_of, IsWithin}
-use Rattle.blocks.proofs.Parts.{holds_here, what_holds}
+use Rattle.blocks.proofs.Parts.{holds_here, what_holds, some_block}
 
 -- how many cells a run has
 pub length-run_cells : (author : Author) (born : ℕ) (died : Option ℕ) (first : Stamp) (p : Option Stamp) (text : List ℕ) → length (run_cells author born died first p text) ≡ length text
@@ -146,3 +146,88 @@ stretch_last [] [] (suc n) h = absurd (omega arith)
 stretch_last [] (y ∷ more) zero h = absurd (omega arith)
 stretch_last [] (y ∷ more) (suc n) h = ap (λ l. y ∷ l) (stretch_last [] more n (omega arith))
 stretch_last (x ∷ text) more n h = stretch_last text more n h
+
+-- ---- what a look-up tells of the cells
+pub spot_block : (bs : List Block) (s : Stamp) (rank offset : ℕ) → IsSpot bs s rank offset → (b : Block) × (slice_get bs rank ≡ Some b) × Covers b.first b.len s
+spot_block bs s rank offset h =
+    let found = some_block (slice_get bs rank) (λ (b : Block). (s ≡ stamp_behind b.first offset) × (offset < b.len)) h in
+    let counter = ap (λ (x : Stamp). x.counter) found.2.0 in
+    let inside = found.2.1 in
+    (found.0, found.1, (sym (ap (λ (x : Stamp). x.replica) found.2.0), omega arith, omega arith))
+
+pub found_has : (authors : List Author) (text : List ℕ) (m : Index) (bs : List Block) (s : Stamp) (o : Option Spot) → IsListed m bs → AllByRecursion (IsWithin (length authors) (length text)) bs
+    → MatchOption o (HoldsNone m s) (λ spot. IsSpot bs s spot.rank spot.offset) → is_some o ≡ has_stamp character_of (cells_of authors text bs) s
+found_has authors text m bs s None k w h = sym (none_held authors text m bs s k w h)
+found_has authors text m bs s (Some spot) k w h =
+    let found = spot_block bs s spot.rank spot.offset h in
+    sym (held_cell authors text m bs s found.0.first k w (holds_here m bs spot.rank found.0 s k found.1 found.2))
+
+-- the test of a stamp against those of its replica, by the greatest of them
+above_here : (first : Stamp) (last : ℕ) (s : Stamp) → last < first.counter → (s.replica ≡ first.replica → s.counter ≤ last) → (not (eqb s.replica first.replica) || ltb s.counter first.counter) ≡ true
+above_here first last s less bound =
+    split (eqb s.replica first.replica)
+    (λ e. let low = bound (eqb-true s.replica first.replica e) in rw e (lt-ltb s.counter first.counter (omega arith)))
+    (λ e. rw e refl)
+
+not_above_here : (first : Stamp) (last : ℕ) → first.counter ≤ last → (not (eqb first.replica first.replica) || ltb last first.counter) ≡ false
+not_above_here first last more = rw (eq-eqb first.replica first.replica refl) (le-ltb last first.counter more)
+
+pub above_test : (authors : List Author) (text : List ℕ) (m : Index) (bs : List Block) (first : Stamp) (last : ℕ) → IsListed m bs → AllByRecursion (IsWithin (length authors) (length text)) bs → 1 ≤ first.counter
+    → ((f s : Stamp) → s.replica ≡ first.replica → Holds m f s → s.counter ≤ last) → (1 ≤ last → (f : Stamp) × Holds m f (record { counter = last; replica = first.replica }))
+    → ltb last first.counter ≡ list_all (λ c. not (eqb c.stamp.replica first.replica) || ltb c.stamp.counter first.counter) (cells_of authors text bs)
+above_test authors text m bs first last k w some bound there =
+    elim (cases_lt last first.counter) [
+      | inl less ↦
+          lt-ltb last first.counter less
+          ∙ sym (all_stamps (λ s. not (eqb s.replica first.replica) || ltb s.counter first.counter) (cells_of authors text bs)
+          (λ s h. above_here first last s less (λ same. let held = cell_held authors text m bs s k w h in bound held.0 s same held.1)))
+      | inr more ↦
+          let held = there (omega arith) in
+          le-ltb last first.counter more
+          ∙ sym (one_fails (λ s. not (eqb s.replica first.replica) || ltb s.counter first.counter) (cells_of authors text bs) (record { counter = last; replica = first.replica })
+          (held_cell authors text m bs (record { counter = last; replica = first.replica }) held.0 k w held.1) (not_above_here first last more))
+    ]
+
+-- ---- the greatest counter
+abbrev most_from : ℕ → ℕ → List Cell → ℕ
+most_from replica low cells = fold (λ most c. cond (eqb c.stamp.replica replica) (max most c.stamp.counter) most) low cells
+
+most_least : (replica low : ℕ) (cells : List Cell) → low ≤ most_from replica low cells
+most_least replica low [] = omega arith
+most_least replica low (c ∷ cells) =
+    split (eqb c.stamp.replica replica)
+    (λ e. let rest = most_least replica (max low c.stamp.counter) cells in rw e (omega (arith, rest)))
+    (λ e. rw e (most_least replica low cells))
+
+most_bounds : (replica low : ℕ) (cells : List Cell) (s : Stamp) → s.replica ≡ replica → has_stamp character_of cells s ≡ true → s.counter ≤ most_from replica low cells
+most_bounds replica low [] s r h = absurd (cc)
+most_bounds replica low (c ∷ cells) s r h =
+    split (same_stamp c.stamp s)
+    (λ e. let same = Rattle.pad_model.proofs.Newer.same_stamp-true c.stamp s e in
+    let counter = ap (λ (x : Stamp). x.counter) same in
+    let mine : eqb c.stamp.replica replica ≡ true = eq-eqb c.stamp.replica replica (ap (λ (x : Stamp). x.replica) same ∙ r) in
+    let rest = most_least replica (max low c.stamp.counter) cells in
+    rw mine (omega (arith, rest, counter)))
+    (λ e. let h' = rw e at h in
+    split (eqb c.stamp.replica replica) (λ f. rw f (most_bounds replica (max low c.stamp.counter) cells s r h')) (λ f. rw f (most_bounds replica low cells s r h')))
+
+most_within : (replica low most : ℕ) (cells : List Cell) → low ≤ most → ((s : Stamp) → s.replica ≡ replica → has_stamp character_of cells s ≡ true → s.counter ≤ most) → most_from replica low cells ≤ most
+most_within replica low most [] l h = l
+most_within replica low most (c ∷ cells) l h =
+    let here = λ (e : eqb c.stamp.replica replica ≡ true). h c.stamp (eqb-true c.stamp.replica replica e) (ap (λ b. b || has_stamp character_of cells c.stamp) (Rattle.pad_model.proofs.Newer.same_stamp-refl c.stamp)) in
+    let later : (s : Stamp) → s.replica ≡ replica → has_stamp character_of cells s ≡ true → s.counter ≤ most = λ s r g. h s r (split (same_stamp c.stamp s) (λ f. rw f refl) (λ f. rw f g)) in
+    split (eqb c.stamp.replica replica)
+    (λ e. let low_here = here e in rw e (most_within replica (max low c.stamp.counter) most cells (omega (arith, low_here, l)) later))
+    (λ e. rw e (most_within replica low most cells l later))
+
+pub greatest_held : (authors : List Author) (text : List ℕ) (m : Index) (bs : List Block) (replica last : ℕ) → IsListed m bs → AllByRecursion (IsWithin (length authors) (length text)) bs
+    → ((f s : Stamp) → s.replica ≡ replica → Holds m f s → s.counter ≤ last) → (1 ≤ last → (f : Stamp) × Holds m f (record { counter = last; replica = replica })) → last ≡ last_of replica (cells_of authors text bs)
+greatest_held authors text m bs replica last k w bound there =
+    let above = most_within replica 0 last (cells_of authors text bs) (omega arith) (λ s r h. let held = cell_held authors text m bs s k w h in bound held.0 s r held.1) in
+    elim (cases_lt 0 last) [
+      | inl some ↦
+          let held = there (omega arith) in
+          let below = most_bounds replica 0 (cells_of authors text bs) (record { counter = last; replica = replica }) refl (held_cell authors text m bs (record { counter = last; replica = replica }) held.0 k w held.1) in
+          omega (arith, above, below)
+      | inr none ↦ omega (arith, above)
+    ]

@@ -1,9 +1,11 @@
 -- What the sequence of blocks keeps.
-use Rattle.std.specs.Prelude.{◌≡◌, ℕ, List, length, sum_by}
-use Rattle.std.specs.List.{AllByRecursion}
-use Rattle.pad_model.specs.Cell.{IsInOrder}
+use Rattle.std.specs.Prelude.{◌≡◌, ℕ, suc, ◌-◌, ◌<◌, List, ◌++◌, length, sum_by, take, drop, Option, Some, None, slice_get}
+use Rattle.std.specs.List.{AllByRecursion, prefix_len}
+use Rattle.pad_model.specs.Cell.{Cell, IsInOrder, character_of}
+use Rattle.pad_model.specs.Scan.{put}
+use Rattle.pad_model.specs.Stamp.{Stamp, newer}
 use Rattle.pad_model.specs.declared.who.Author.{Author}
-use Rattle.ident_index.specs.Index.{Index}
+use Rattle.ident_index.specs.Index.{Index, Covers, stamp_behind}
 use Rattle.blocks.specs.Blocks.{IsKept}
 use Rattle.blocks.specs.Cells.{cells_of, IsWithin}
 use Rattle.blocks.specs.declared.block.Block.{Block}
@@ -14,3 +16,27 @@ pub record IsBlockSeq (authors : List Author) (text : List ℕ) (m : Index) (bs 
   pub within : AllByRecursion (IsWithin (length authors) (length text)) bs
   pub full : length text ≡ sum_by (λ b. b.len) bs
   pub order : IsInOrder (cells_of authors text bs)
+
+-- the block before the rank is the one that ends with the stamp, and none before it holds the stamp
+pub record IsBehind (bs : List Block) (p : Stamp) (rank : ℕ) : Type 0 where
+  pub at : ℕ
+  pub block : Block
+  pub next : rank ≡ suc at
+  pub there : slice_get bs at ≡ Some block
+  pub ends : p ≡ stamp_behind block.first (block.len - 1)
+  pub first : (i : ℕ) (b : Block) → i < at → slice_get bs i ≡ Some b → Covers b.first b.len p → ⊥
+
+-- the search for a run's place begins at this rank: at the start, or behind its parent
+abbrev pub StartsAt : Option Stamp → List Block → ℕ → Type 0
+StartsAt None bs rank = rank ≡ 0
+StartsAt (Some p) bs rank = IsBehind bs p rank
+
+-- a run goes to this rank: behind its parent, past each block that begins with a newer stamp
+abbrev pub IsPlaceFor : Option Stamp → Stamp → List Block → ℕ → Type 0
+IsPlaceFor parent first bs rank =
+    (authors : List Author) (text : List ℕ) → AllByRecursion (IsWithin (length authors) (length text)) bs → (new : List Cell) →
+    put character_of parent first new (cells_of authors text bs) ≡ cells_of authors text (take rank bs) ++ (new ++ cells_of authors text (drop rank bs))
+
+-- how many blocks in front begin with a newer stamp
+abbrev pub passes : Stamp → List Block → ℕ
+passes first bs = prefix_len (λ b. newer b.first first) bs

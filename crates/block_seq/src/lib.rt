@@ -9,7 +9,10 @@ mod place;
 mod plain;
 mod put;
 mod readers;
+mod rows;
+mod run_place;
 mod stretches;
 
 pub use place::PlainCell;
 pub use plain::PlainSeq;
+pub use rows::BlockSeq;

@@ -43,7 +43,7 @@ none_parts : (x : Block) (bs : List Block) (s : Stamp) → entry_of (x ∷ bs) s
 none_parts x bs s h = split (eq_by_cmp stamp_cmp s x.first) (λ e. let h' = rw e at h in absurd (cc)) (λ e. let h' = rw e at h in (e, h'))
 
 -- a stamp at which no block begins is not that of a block
-differs : (bs : List Block) (i : ℕ) (b : Block) (s : Stamp) → IsApart bs → slice_get bs i ≡ Some b → entry_of bs s ≡ None → s ≡ b.first → ⊥
+pub differs : (bs : List Block) (i : ℕ) (b : Block) (s : Stamp) → IsApart bs → slice_get bs i ≡ Some b → entry_of bs s ≡ None → s ≡ b.first → ⊥
 differs bs i b s a e none same =
     let here = entry_here bs i b a e in
     let gone : entry_of bs b.first ≡ None = subst (λ (q : Stamp). entry_of bs q ≡ None) same none in

@@ -1,0 +1,123 @@
+//! The sequence of blocks: a balanced tree of them, an index of their stamps, and one text that they only add to.
+ghost use Rattle.std.specs.Prelude.{◌≡◌, ◌+◌, ◌≤◌, ◌++◌, [], IsTrue, MatchResult, length, vec_len, vec_capacity};
+ghost use Rattle.std.specs.List.{AllByRecursion};
+ghost use Rattle.pad_model.specs.Answers.{Answers};
+ghost use Rattle.pad_model.specs.Cell.{IsBy, IsInOrder, character_of, insert_run as insert_cells, last_of as greatest_of};
+ghost use Rattle.pad_model.specs.Legal.{has_stamp};
+ghost use Rattle.pad_model.specs.Checked.{is_run};
+
+use crate::authors::place_author;
+use crate::run_place::{has_character, place_run, run_fits};
+use blocks::{Block, put_block};
+use ident_index::IdentIndex;
+use pad_model::{Author, MAX_CHARACTERS, Refusal, Run, Stamp};
+use std::alloc::Global;
+use std::marker::Model;
+use weight_tree::WeightTree;
+
+/// A text in blocks.
+#[derive(Drop)]
+pub struct BlockSeq {
+    tree: WeightTree<Block>,
+    index: IdentIndex,
+    text: Vec<char>,
+    authors: Vec<Author>,
+}
+
+impl Model for BlockSeq {
+    ghost use Rattle.std.specs.Prelude.{List};
+    ghost use Rattle.pad_model.specs.Cell.{Cell};
+
+    ghost Value = { List Cell };
+
+    ghost use Rattle.blocks.specs.Cells.{cells_of};
+    ghost use Rattle.block_seq.specs.Rows.{IsBlockSeq};
+
+    ghost view = { λ s. cells_of s.authors.items s.text.items s.tree.items };
+
+    ghost invariant = { λ s. IsBlockSeq s.authors.items s.text.items s.index s.tree.items };
+}
+
+/// Adds characters in room that was made before.
+fn push_text(text: &mut Vec<char>, more: &[char])
+    requires { vec_len text.old + length more.now ≤ vec_capacity text.old }
+    ensures { text.new.items ≡ text.old.items ++ more.now }
+{
+    for character in more {
+        text.push_reserved(*character);
+    }
+}
+
+impl BlockSeq {
+    /// The sequence without characters.
+    pub fn empty(alloc: Global) -> Result<BlockSeq, Refusal>
+        ensures { MatchResult result (λ s. s ≡ []) (λ e. e ≡ Refusal.Memory) }
+    {
+        Ok(BlockSeq {
+            tree: WeightTree::new(),
+            index: IdentIndex::new(alloc),
+            text: Vec::new(alloc),
+            authors: Vec::new(alloc),
+        })
+    }
+
+    /// Puts a run at its place in the preorder.
+    pub fn insert_run(
+        &mut self,
+        alloc: Global,
+        run: &Run,
+        author: &Author,
+        rev: u64,
+    ) -> Result<(), Refusal>
+        requires checked { IsTrue (is_run author.now.origin run.now) }
+        requires latest { AllByRecursion (IsBy rev) self.old }
+        ensures { Answers self.old (insert_cells rev run.now author.now self.old) result self.new }
+    {
+        if !run_fits(&self.tree, &self.index, run.first, run.after) {
+            return Err(Refusal::PeerFault);
+        }
+        if MAX_CHARACTERS < self.text.len() as u64 + run.text.len() as u64 {
+            return Err(Refusal::PadFull);
+        }
+        let author = place_author(&mut self.authors, author)?;
+        self.text.reserve(run.text.len())?;
+        let rank = place_run(alloc, &mut self.tree, &mut self.index, run.first, run.after)?;
+        let block = Block {
+            first: run.first,
+            parent: run.after,
+            author,
+            born: rev,
+            died: None,
+            label: 0,
+            start: self.text.len(),
+            len: run.text.len() as u64,
+        };
+        put_block(alloc, &mut self.tree, &mut self.index, rank, block)?;
+        push_text(&mut self.text, run.text.as_slice());
+        Ok(())
+    }
+
+    /// Whether a character is there, erased or not.
+    pub fn has(&self, stamp: Stamp) -> bool
+        ensures { result ≡ has_stamp character_of self.now stamp }
+    {
+        has_character(&self.tree, &self.index, stamp)
+    }
+
+    /// The greatest counter of a replica's characters, or 0.
+    pub fn last_of(&self, replica: u16) -> u64
+        ensures { result ≡ greatest_of replica self.now }
+    {
+        let _kept = &self.tree;
+        self.index.last_of(replica)
+    }
+
+    /// How many characters there are, those that are erased included.
+    pub fn cell_count(&self) -> u64
+        ensures value { result ≡ length self.now }
+        ensures order { IsInOrder self.now }
+    {
+        let _kept = &self.tree;
+        self.text.len() as u64
+    }
+}

@@ -10,3 +10,4 @@ mod order;
 mod ready;
 
 pub use held::{Hold, MAX_HELD, Offer};
+pub use ready::is_ready;

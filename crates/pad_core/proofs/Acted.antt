@@ -26,7 +26,7 @@ use Rattle.pad_core.specs.declared.reply.PadReply.TheVariants.{Done}
 -- an act on the log
 pub log_answers : (o : Option Owned) (replica : ℕ) (log new held : List Op) (p : Presence) (expected : Result PadReply Refusal × List Op) (result : Result PadReply Refusal) → Answers log expected result new →
     (let m : Machine = record { owned = o; replica = replica; log = log; held = held; presence = p } in Answers m (on_log m expected) result (record { owned = o; replica = replica; log = new; held = held; presence = p }))
-log_answers o replica log new held p expected result (inl h) = inl (h.0, ap (λ l. let m : Machine = record { owned = o; replica = replica; log = l; held = held; presence = p } in m) h.1)
+log_answers o replica log new held p expected result (inl h) = inl (h.0, ap (λ l. let m : Machine = record { owned = o; replica = replica; log = l; held = held; presence = p } in m) h.1, h.2)
 log_answers o replica log new held p expected result (inr h) = inr (ap (λ d. (d.0, (let m : Machine = record { owned = o; replica = replica; log = d.1; held = held; presence = p } in m))) h)
 
 -- an edit by an author

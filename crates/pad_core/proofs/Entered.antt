@@ -92,7 +92,7 @@ edit-book log op edits = book_of-push log op ∙ edits_enter (length log + 1) op
 pub edit_enters : (log : List Op) (op : Op) (cells new : List Cell) (comments : List kept.Comment) (parts : List Part) (author : Author) (rev : ℕ) (result : Result ℕ Refusal) →
     IsDelivered log → cells ≡ cells_of log → comments ≡ book_of log → parts ≡ op.parts → author ≡ author_of op → rev ≡ length log + 1 →
     is_checked op ≡ true → list_all is_edit op.parts ≡ true → delivery_refusal op log ≡ None → Answers cells (apply rev parts author cells) result new → Enters log op (cells, comments) result (new, comments)
-edit_enters log op cells new comments parts author rev result d held commented made who at checked edits none (inl h) = inl (h.0, ap (λ l. (l, comments)) h.1)
+edit_enters log op cells new comments parts author rev result d held commented made who at checked edits none (inl h) = inl (h.0, ap (λ l. (l, comments)) h.1, refl)
 edit_enters log op cells new comments parts author rev result d held commented made who at checked edits none (inr h) =
     let a : Allowed log op = allowed log op none in
     let both : (Ok (hidden_by (erased_by op) (characters_in log)), cells_of (log ++ op ∷ [])) ≡ (result, new) =
@@ -251,7 +251,7 @@ append_answers log longer op old new hidden (inr h) longer_is = inr (ap₂ (λ (
 
 -- and where it was not
 pub append_fails : (log same : List Op) (op : Op) (old new : List Cell × List kept.Comment) (e : Refusal) → Enters log op old (Err e) new → same ≡ log → Answers log (Ok (hidden_by (erased_by op) (characters_in log)), log ++ op ∷ []) (Err e) same
-append_fails log same op old new e (inl h) same_is = inl (h.0, same_is)
+append_fails log same op old new e (inl h) same_is = inl (h.0, same_is, refl)
 append_fails log same op old new e (inr h) same_is = absurd (ok_err (hidden_by (erased_by op) (characters_in log)) e (ap (λ p. p.0) h))
   where
     ok_err : (n : ℕ) (e : Refusal) → (let ok : Result ℕ Refusal = Ok n in ok) ≡ Err e → ⊥

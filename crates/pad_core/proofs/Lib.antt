@@ -12,9 +12,11 @@ pub mod Listed
 pub mod Made
 pub mod Noted
 pub mod Others
+pub mod Pulled
 pub mod Receives
 pub mod Releases
 pub mod Runs
 pub mod SameSet
+pub mod Sessions
 pub mod Shows
 pub mod Told

@@ -1,5 +1,5 @@
 -- A release step by step: what it takes out, and where it stands still.
-use Rattle.std.proofs.Common.{◌≡◌, ℕ, zero, suc, ◌+◌, ◌-◌, ◌≤◌, Bool, true, false, not, cond, inl, inr, List, [], ◌∷◌, ◌++◌, length, Ok, Option, Some, None, option_map, IsTrue, refl, sym, ap, ap₂, ◌∙◌, subst, arith, eqb-true}
+use Rattle.std.proofs.Common.{◌≡◌, ℕ, zero, suc, ◌+◌, ◌-◌, ◌≤◌, Bool, true, false, not, cond, inl, inr, List, [], ◌∷◌, ◌++◌, length, Result, Ok, Err, Option, Some, None, option_map, IsTrue, refl, sym, ap, ap₂, ◌∙◌, subst, arith, eqb-true}
 use Rattle.std.proofs.lemmas.Bool.{and_parts}
 use Rattle.std.specs.List.{AllByRecursion, find}
 use Rattle.pad_model.specs.Answers.{Answers}
@@ -9,13 +9,14 @@ use Rattle.pad_model.specs.declared.op.Op.{Op}
 use Rattle.pad_model.specs.declared.op.OpName.{OpName}
 use Rattle.pad_model.specs.declared.seen.Counted.{Counted}
 use Rattle.pad_model.specs.declared.refusal.Refusal.{Refusal}
+use Rattle.pad_model.specs.declared.refusal.Refusal.TheVariants.{Memory}
 use Rattle.pad_model.proofs.Newer.{split}
 use Rattle.holdback.specs.Held.{IsRising, has_name, is_ready, with_held, without}
 use Rattle.pad_model.specs.Log.{precedes}
 use Rattle.holdback.proofs.Next.{named_first}
 use Rattle.pad_core.specs.Counts.{vector_of}
 use Rattle.pad_core.specs.Delivered.{delivery_refusal}
-use Rattle.pad_core.specs.Exchange.{Delivery, release, settle, steps, taken_out}
+use Rattle.pad_core.specs.Exchange.{IsStuck, Delivery, release, settle, steps, taken_out}
 
 -- each held operation is in its limits
 abbrev pub AreChecked : List Op → Type 0
@@ -53,39 +54,22 @@ with_checked op (x ∷ held) one h = placed_checked (precedes x.name op.name) x 
 some_none : (name : OpName) → Some name ≡ None → ⊥
 some_none name q = cc
 
--- the operation that the name of the next one finds is the next one
-pub next_found : (seen : List Counted) (held : List Op) (name : OpName) (op : Op) → IsRising held → Some name ≡ option_map (λ (o : Op). o.name) (find (is_ready seen) held) → Some op ≡ find (has_name name) held →
-    (find (is_ready seen) held ≡ Some op) × (op.name ≡ name)
-next_found seen held name op rising next found = at (find (is_ready seen) held) refl
+-- the operation that the name of the next one finds is the next one, by the counts of a log
+pub next_of : (log held : List Op) (seen : List Counted) (name : OpName) → seen ≡ vector_of log → IsRising held → Some name ≡ option_map (λ (o : Op). o.name) (find (is_ready seen) held) →
+    find (has_name name) held ≡ find (is_ready (vector_of log)) held
+next_of log held seen name counts rising next = at (find (is_ready (vector_of log)) held) refl
   where
-    same_some : (a b : Op) → Some a ≡ Some b → a ≡ b
-    same_some a b q = cc
+    named_so : (a b : OpName) → Some a ≡ Some b → a ≡ b
+    named_so a b q = cc
 
-    same_name : (a b : OpName) → Some a ≡ Some b → a ≡ b
-    same_name a b q = cc
+    said : Some name ≡ option_map (λ (o : Op). o.name) (find (is_ready (vector_of log)) held)
+    said = next ∙ ap (λ (v : List Counted). option_map (λ (o : Op). o.name) (find (is_ready v) held)) counts
 
-    at : (r : Option Op) → find (is_ready seen) held ≡ r → (find (is_ready seen) held ≡ Some op) × (op.name ≡ name)
-    at None e = absurd (some_none name (next ∙ ap (option_map (λ (o : Op). o.name)) e))
+    at : (r : Option Op) → find (is_ready (vector_of log)) held ≡ r → find (has_name name) held ≡ find (is_ready (vector_of log)) held
+    at None e = absurd (some_none name (said ∙ ap (option_map (λ (o : Op). o.name)) e))
     at (Some x) e =
-        let named : name ≡ x.name = same_name name x.name (next ∙ ap (option_map (λ (o : Op). o.name)) e) in
-        let it : op ≡ x = same_some op x (found ∙ ap (λ n. find (has_name n) held) named ∙ named_first (is_ready seen) held x rising e) in
-        (e ∙ ap Some (sym it), ap (λ (o : Op). o.name) it ∙ sym named)
-
--- and it finds one
-pub next_there : (seen : List Counted) (held : List Op) (name : OpName) → IsRising held → Some name ≡ option_map (λ (o : Op). o.name) (find (is_ready seen) held) → None ≡ find (has_name name) held → find (is_ready seen) held ≡ None
-next_there seen held name rising next gone = at (find (is_ready seen) held) refl
-  where
-    same_name : (a b : OpName) → Some a ≡ Some b → a ≡ b
-    same_name a b q = cc
-
-    none_some : (x : Op) → (let none : Option Op = None in none) ≡ Some x → ⊥
-    none_some x q = cc
-
-    at : (r : Option Op) → find (is_ready seen) held ≡ r → find (is_ready seen) held ≡ None
-    at None e = e
-    at (Some x) e =
-        let named : name ≡ x.name = same_name name x.name (next ∙ ap (option_map (λ (o : Op). o.name)) e) in
-        absurd (none_some x (gone ∙ ap (λ n. find (has_name n) held) named ∙ named_first (is_ready seen) held x rising e))
+        let named : name ≡ x.name = named_so name x.name (said ∙ ap (option_map (λ (o : Op). o.name)) e) in
+        ap (λ n. find (has_name n) held) named ∙ named_first (is_ready (vector_of log)) held x rising e ∙ sym e
 
 -- none is next where none has a name
 pub next_none : (seen : List Counted) (held : List Op) → None ≡ option_map (λ (o : Op). o.name) (find (is_ready seen) held) → find (is_ready seen) held ≡ None
@@ -97,12 +81,6 @@ next_none seen held none = at (find (is_ready seen) held) refl
     at : (r : Option Op) → find (is_ready seen) held ≡ r → find (is_ready seen) held ≡ None
     at None e = e
     at (Some x) e = absurd (none_some x.name (none ∙ ap (option_map (λ (o : Op). o.name)) e))
-
--- the same where it is read by the counts of a log, and copied
-pub next_is : (log held : List Op) (seen : List Counted) (name : OpName) (lent op : Op) → seen ≡ vector_of log → IsRising held → Some name ≡ option_map (λ (o : Op). o.name) (find (is_ready seen) held) → Some lent ≡ find (has_name name) held → op ≡ lent →
-    (find (is_ready (vector_of log)) held ≡ Some op) × (op.name ≡ name)
-next_is log held seen name lent op counts rising next found copied =
-    next_found (vector_of log) held name op rising (next ∙ ap (λ (v : List Counted). option_map (λ (o : Op). o.name) (find (is_ready v) held)) counts) (ap Some copied ∙ found)
 
 -- a step takes the operation that is found
 pub release_found : (d : Delivery) (op : Op) (r : Option Refusal) → find (is_ready (vector_of d.log)) d.held ≡ Some op → delivery_refusal op d.log ≡ r → release d ≡ taken_out op r d
@@ -116,6 +94,19 @@ release_idle d none = rw (none) refl
 pub appended_ok : (old new grown : List Op) (n k : ℕ) → Answers old (Ok n, grown) (Ok k) new → new ≡ grown
 appended_ok old new grown n k (inl h) = absurd (cc)
 appended_ok old new grown n k (inr h) = sym (ap (λ p. p.1) h)
+
+-- and one that is not
+pub appended_err : (old new grown : List Op) (n : ℕ) (e : Refusal) → Answers old (Ok n, grown) (Err e) new → (e ≡ Memory) × (new ≡ old)
+appended_err old new grown n e (inl h) = (cc, h.1)
+appended_err old new grown n e (inr h) = absurd (ok_err (ap (λ p. p.0) h))
+  where
+    ok_err : (let r : Result ℕ Refusal = Ok n in r) ≡ Err e → ⊥
+    ok_err q = cc
+
+-- an operation that is ready and could not be delivered is stuck
+pub stuck : (log new held : List Op) (lent op : Op) (r : Option Refusal) → Some lent ≡ find (is_ready (vector_of log)) held → op ≡ lent → r ≡ delivery_refusal lent log → r ≡ None → new ≡ log → IsStuck (new, held)
+stuck log new held lent op r found same judged fine kept =
+    (op, ap (λ l. find (is_ready (vector_of l)) held) kept ∙ sym found ∙ ap Some (sym same), ap₂ delivery_refusal same kept ∙ sym judged ∙ fine)
 
 -- where a step stands still, all further ones do
 pub steps_idle : (n k : ℕ) (d : Delivery) → release (steps n d) ≡ steps n d → steps (k + n) d ≡ steps n d

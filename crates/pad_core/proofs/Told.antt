@@ -4,7 +4,8 @@ use Rattle.pad_model.specs.Visible.{text_of}
 use Rattle.pad_model.specs.declared.op.Op.{Op}
 use Rattle.pad_model.specs.declared.refusal.Refusal.{Refusal}
 use Rattle.pad_core.specs.Counts.{characters_at}
-use Rattle.pad_core.specs.Reads.{Tells, at_revision, read_text, revision_of}
+use Rattle.pad_model.specs.Answers.{Tells}
+use Rattle.pad_core.specs.Reads.{at_revision, read_text, revision_of}
 use Rattle.pad_core.specs.declared.reply.PadReply.{PadReply}
 use Rattle.pad_core.specs.declared.reply.PadReply.TheVariants.{Text}
 

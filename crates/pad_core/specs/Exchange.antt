@@ -40,6 +40,12 @@ given Two ops = Ok ops
 given One [] = Ok []
 given One (op ∷ ops) = if op_in_v1 op then Ok (op ∷ sayable ops) else Err OldPeer
 
+-- whether a peer can be given anything: an old one has to be able to read the first operation that it lacks, if any
+abbrev pub can_give : Version → Option Op → Bool
+can_give Two first = true
+can_give One None = true
+can_give One (Some op) = op_in_v1 op
+
 -- the first operations that a peer lacks
 abbrev pub pull : Version → List Counted → ℕ → List Op → Result PadReply Refusal
 pull version seen most log =
@@ -93,6 +99,10 @@ abbrev pub delivered : Op → Option Refusal → List Op → List Op → Result 
 delivered op (Some refusal) log held = (Err refusal, (log, held))
 delivered op None log held = (Ok Delivered, (log ++ op ∷ [], held))
 
+-- an operation that has to wait is held, unless too many are
+abbrev pub waiting : Op → List Op → Result Pushed Refusal × List Op
+waiting op held = if nat_le MAX_HELD (length held) then (Err HoldFull, held) else (Ok Held, with_held op held)
+
 -- what becomes of a pushed operation before the release, and the log and what is held then
 abbrev pub received : ℕ → Op → List Op × List Op → Result Pushed Refusal × (List Op × List Op)
 received own op (log, held) =
@@ -112,6 +122,11 @@ settled (Ok state, now) = let d = settle (unsettled now) in (Ok (reply.Pushed (l
 abbrev pub push : ℕ → Op → List Op × List Op → Result PadReply Refusal × (List Op × List Op)
 push own op now = settled (received own op now)
 
--- a push was received, and its release stopped after some steps
+-- the next operation of a release would be delivered, which takes memory
+abbrev pub IsStuck : List Op × List Op → Type 0
+IsStuck now = (op : Op) × (find (is_ready (vector_of now.0)) now.1 ≡ Some op) × (delivery_refusal op now.0 ≡ None)
+
+-- a push was received, and its release stopped after some steps, with an operation ready to be delivered that is still held
 abbrev pub Stopped : ℕ → Op → List Op × List Op → List Op × List Op → Type 0
-Stopped own op old new = IsOk (received own op old).0 × (n : ℕ) × (new ≡ both_of (steps n (unsettled (received own op old).1)))
+Stopped own op old new =
+    IsOk (received own op old).0 × (n : ℕ) × (new ≡ both_of (steps n (unsettled (received own op old).1))) × IsStuck new

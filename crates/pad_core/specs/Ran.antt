@@ -1,30 +1,39 @@
 -- A list of events on a pad.
-use Rattle.std.specs.Prelude.{◌≡◌, ◌⊎◌, List, [], ◌∷◌, Result, Err, ◌≢◌}
+use Rattle.std.specs.Prelude.{◌≡◌, ◌⊎◌, ℕ, Some, List, [], ◌∷◌, Result, Err, IsOk, ◌≢◌}
 use Rattle.std.specs.List.{AllByRecursion}
-use Rattle.pad_model.specs.Answers.{Answers}
 use Rattle.pad_model.specs.declared.op.Op.{Op}
 use Rattle.pad_model.specs.declared.refusal.Refusal.{Refusal}
 use Rattle.pad_model.specs.declared.refusal.Refusal.TheVariants.{Memory}
+use Rattle.pad_model.specs.declared.who.Who.{Who}
+use Rattle.pad_model.specs.declared.who.Who.TheVariants.{Nobody, Author, Peer}
 use Rattle.pad_core.specs.Exchange.{Stopped}
-use Rattle.pad_core.specs.Machine.{Machine, step}
+use Rattle.pad_core.specs.Machine.{Machine, name_of, step}
 use Rattle.pad_core.specs.declared.act.Act.{Act}
 use Rattle.pad_core.specs.declared.act.Act.TheVariants as act
 use Rattle.pad_core.specs.declared.event.PadEvent.{PadEvent}
 use Rattle.pad_core.specs.declared.reply.PadReply.{PadReply}
 
--- a push was received, and the release that it began found no memory for an operation, which is still held: those before it were released
-abbrev pub IsCutShort : Act → Machine → Machine → Type 0
-IsCutShort this old new =
-    (op : Op) × (this ≡ act.Push op) × Stopped old.replica op (old.log, old.held) (new.log, new.held)
+-- the session is a peer's
+abbrev pub IsPeer : Who → Type 0
+IsPeer Nobody = ⊥
+IsPeer (Author name) = ⊥
+IsPeer (Peer number version) = Unit {0}
+
+-- a peer's push to this pad was received, and the release that it began was out of memory for an operation that is ready and still held: those before it were released
+abbrev pub IsCutShort : List ℕ → Who → Act → Machine → Machine → Type 0
+IsCutShort pad who this old new =
+    IsPeer who × (name_of old.owned ≡ Some pad) × (op : Op) × (this ≡ act.Push op) × Stopped old.replica op (old.log, old.held) (new.log, new.held)
     × (new ≡ record old { log = new.log; held = new.held })
 
 -- the machine's step at an event
 abbrev pub event_step : PadEvent → Machine → Result PadReply Refusal × Machine
 event_step event m = step event.pad.now event.who.now event.visit event.act.now m
 
--- the event was answered as the machine answers it; or it found no memory and changed nothing, or stopped in a release
+-- the event was answered as the machine answers it; or it was out of memory, on a pad of its name where the answer is no refusal, and changed nothing; or it stopped in a release
 abbrev pub Stepped : Machine → PadEvent → Result PadReply Refusal → Machine → Type 0
-Stepped old event reply new = Answers old (event_step event old) reply new ⊎ ((reply ≡ Err Memory) × IsCutShort event.act.now old new)
+Stepped old event reply new =
+    (((reply ≡ Err Memory) × (new ≡ old) × IsOk (event_step event old).0 × (name_of old.owned ≡ Some event.pad.now)) ⊎ (event_step event old ≡ (reply, new)))
+    ⊎ ((reply ≡ Err Memory) × IsCutShort event.pad.now event.who.now event.act.now old new)
 
 -- the machine's replies to a list of events, and its state after them
 abbrev pub run : List PadEvent → Machine → List (Result PadReply Refusal) × Machine
@@ -38,6 +47,6 @@ Ran m [] (reply ∷ replies) new = ⊥
 Ran m (event ∷ events) [] new = ⊥
 Ran m (event ∷ events) (reply ∷ replies) new = (next : Machine) × Stepped m event reply next × Ran next events replies new
 
--- no reply says that there was no memory
+-- no reply says that the pad was out of memory
 abbrev pub FoundMemory : List (Result PadReply Refusal) → Type 0
 FoundMemory replies = AllByRecursion (λ reply. reply ≢ Err Memory) replies

@@ -1,12 +1,12 @@
 -- What a log answers to who reads it.
-use Rattle.std.specs.Prelude.{◌≡◌, ◌⊎◌, ℕ, suc, ◌+◌, ◌==◌, ◌||◌, nat_lt, if◌then◌else◌, List, [], ◌∷◌, length, take, Option, Some, None, Result, Ok, Err}
+use Rattle.std.specs.Prelude.{ℕ, suc, ◌+◌, ◌==◌, ◌||◌, nat_lt, if◌then◌else◌, List, [], ◌∷◌, length, take, Option, Some, None, Result, Ok, Err}
 use Rattle.pad_model.specs.Operation.{author_of, characters_in}
 use Rattle.pad_model.specs.Visible.{visible, text_of, runs_of}
 use Rattle.pad_model.specs.declared.op.Op.{Op}
 use Rattle.pad_model.specs.declared.op.Part.{Part}
 use Rattle.pad_model.specs.declared.op.Part.TheVariants as part
 use Rattle.pad_model.specs.declared.refusal.Refusal.{Refusal}
-use Rattle.pad_model.specs.declared.refusal.Refusal.TheVariants.{NoRevision, Empty, TooMuch, Memory}
+use Rattle.pad_model.specs.declared.refusal.Refusal.TheVariants.{NoRevision, Empty, TooMuch}
 use Rattle.revisions.specs.Log.{entries}
 use Rattle.pad_core.specs.Comments.{comments_of}
 use Rattle.pad_core.specs.Counts.{characters_at}
@@ -16,10 +16,6 @@ use Rattle.pad_core.specs.declared.reply.Kind.{Kind}
 use Rattle.pad_core.specs.declared.reply.Kind.TheVariants as kind
 use Rattle.pad_core.specs.declared.reply.PadReply.{PadReply}
 use Rattle.pad_core.specs.declared.reply.PadReply.TheVariants.{Text, Runs, Comments, Revs, Entries}
-
--- the call found no memory, or answered this
-abbrev pub Tells : {A : Type 0} → Result A Refusal → Result A Refusal → Type 0
-Tells expected result = (result ≡ Err Memory) ⊎ (expected ≡ result)
 
 -- the revision that is asked for, or the present one
 abbrev pub revision_of : Option ℕ → List Op → ℕ

@@ -10,6 +10,7 @@ ghost use Rattle.pad_model.specs.Visible.{visible};
 ghost use Rattle.pad_model.specs.declared.limits.TheConstants.{MAX_COUNTER, MAX_PARTS, MAX_REPLICA, MAX_TEXT};
 ghost use Rattle.pad_core.specs.Counts.{characters_at, op_of, next_name as name_next};
 ghost use Rattle.pad_core.specs.Delivered.{IsDelivered};
+ghost use Rattle.pad_core.specs.declared.act.Change.TheVariants.{Insert};
 ghost use Rattle.pad_core.specs.Edits.{before_place, delete as deleted, edit as many_edited, edit_refusal, edited, growth_refusal, part_from, growth_of as change_growth, insert as inserted, is_outside as lies_outside, is_blank as does_nothing, made_parts, size_of as change_size};
 
 use crate::act::Change;
@@ -42,9 +43,12 @@ pub fn insert<S: Sequence>(
     requires author { IsTrue (is_name author.now) }
     ensures { Answers ledger.old (inserted replica author.now rev at text.now ledger.old) result ledger.new }
 {
+    if let Some(refusal) = refuse_insert(ledger, rev, at, text) {
+        return Err(refusal);
+    }
     let text = text.clone()?;
     let changes = [Change::Insert { at, text }];
-    match make_edit(alloc, ledger, replica, author, rev, changes.as_slice()) {
+    match make_allowed(alloc, ledger, replica, author, rev, changes.as_slice()) {
         Ok(edit) => Ok(PadReply::Made {
             now: ledger.len(),
             name: edit.name,
@@ -110,6 +114,24 @@ fn make_edit<S: Sequence>(
     if let Some(refusal) = refuse_edit(ledger, rev, changes) {
         return Err(refusal);
     }
+    make_allowed(alloc, ledger, replica, author, rev, changes)
+}
+
+/// Makes the operation of some changes that nothing speaks against, and delivers it.
+fn make_allowed<S: Sequence>(
+    alloc: Global,
+    ledger: &mut Ledger<S>,
+    replica: u16,
+    author: &Name,
+    rev: u64,
+    changes: &[Change],
+) -> Result<Edited, Refusal>
+    requires replica { 1 ≤ replica }
+    requires author { IsTrue (is_name author.now) }
+    requires sound { IsDelivered ledger.old }
+    requires allowed { edit_refusal rev changes.now ledger.old ≡ None }
+    ensures { Answers ledger.old (edited replica author.now rev changes.now ledger.old) result ledger.new }
+{
     let parts = match make_parts(alloc, ledger, replica, rev, changes) {
         Ok(parts) => parts,
         Err(refusal) => return Err(refusal),
@@ -172,6 +194,27 @@ fn refuse_edit<S: Sequence>(ledger: &Ledger<S>, rev: u64, changes: &[Change]) ->
         return Some(Refusal::TooMuch);
     }
     refuse_growth(ledger, total_growth(changes))
+}
+
+/// The same of one insertion, before its text is copied.
+fn refuse_insert<S: Sequence>(ledger: &Ledger<S>, rev: u64, at: u64, text: &Text) -> Option<Refusal>
+    ensures value { result ≡ edit_refusal rev (Insert at text.now ∷ []) ledger.now }
+    ensures sound { IsDelivered ledger.now }
+{
+    if ledger.len() < rev {
+        return Some(Refusal::NoRevision);
+    }
+    if ledger.len_at(rev) < at {
+        return Some(Refusal::OutOfRange);
+    }
+    let growth = text.len() as u64;
+    if growth == 0 {
+        return Some(Refusal::Empty);
+    }
+    if MAX_TEXT < growth {
+        return Some(Refusal::TooMuch);
+    }
+    refuse_growth(ledger, growth)
 }
 
 fn is_any_outside(shown: u64, changes: &[Change]) -> bool

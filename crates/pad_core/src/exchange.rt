@@ -1,8 +1,9 @@
 //! What a peer is told and given.
-ghost use Rattle.std.specs.Prelude.{◌≡◌, IfOk};
-ghost use Rattle.pad_core.specs.Exchange.{can_tell as can_be_told, given, sayable, pull as pulled, read_vector as vector_read};
+ghost use Rattle.std.specs.Prelude.{◌≡◌, IfOk, filter, slice_get};
+ghost use Rattle.pad_core.specs.Exchange.{can_give as can_be_given, can_tell as can_be_told, given, sayable, pull as pulled, read_vector as vector_read};
+ghost use Rattle.revisions.specs.Log.{is_missing};
 ghost use Rattle.pad_model.specs.declared.who.Version.TheVariants.{One};
-ghost use Rattle.pad_core.specs.Reads.{Tells};
+ghost use Rattle.pad_model.specs.Answers.{Tells};
 
 use crate::ledger::Ledger;
 use crate::reply::PadReply;
@@ -53,6 +54,9 @@ pub fn pull<S: Sequence>(
     if MAX_PULL < max {
         return Err(Refusal::TooMuch);
     }
+    if !can_give(ledger, version, seen) {
+        return Err(Refusal::OldPeer);
+    }
     let missing = match ledger.missing(alloc, seen, max) {
         Ok(missing) => missing,
         Err(refusal) => return Err(refusal),
@@ -63,6 +67,19 @@ pub fn pull<S: Sequence>(
             ops,
         }),
         Err(refusal) => Err(refusal),
+    }
+}
+
+/// Whether a peer can be given anything: an old one has to be able to read the first operation that it lacks, if any.
+fn can_give<S: Sequence>(ledger: &Ledger<S>, version: Version, seen: &Seen) -> bool
+    ensures { result ≡ can_be_given version (slice_get (filter (is_missing seen.now) ledger.now) 0) }
+{
+    match version {
+        Version::Two => true,
+        Version::One => match ledger.first_missing(seen) {
+            Some(op) => op_in_v1(op),
+            None => true,
+        },
     }
 }
 

@@ -2,7 +2,7 @@
 ghost use Rattle.std.specs.Prelude.{◌≡◌};
 ghost use Rattle.pad_model.specs.Answers.{Answers};
 ghost use Rattle.pad_core.specs.Grants.{grant as granted, read_rights as rights_read};
-ghost use Rattle.pad_core.specs.Reads.{Tells};
+ghost use Rattle.pad_model.specs.Answers.{Tells};
 
 use crate::reply::PadReply;
 use pad_model::{Name, Refusal};

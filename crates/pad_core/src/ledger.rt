@@ -1,5 +1,5 @@
 //! The operations that were delivered, and what they show.
-ghost use Rattle.std.specs.Prelude.{◌≡◌, ℕ, ◌+◌, ◌≤◌, [], ◌∷◌, ◌++◌, length, take, count_by, Option, None, Ok, IsTrue, IfErr, MatchResult};
+ghost use Rattle.std.specs.Prelude.{◌≡◌, ℕ, ◌+◌, ◌≤◌, [], ◌∷◌, ◌++◌, length, take, filter, slice_get, option_copied, count_by, Option, None, Ok, IsTrue, IfErr, MatchResult};
 ghost use Rattle.pad_model.specs.Answers.{Answers};
 ghost use Rattle.pad_model.specs.Checked.{is_checked};
 ghost use Rattle.pad_model.specs.History.{clock_of_characters};
@@ -7,7 +7,7 @@ ghost use Rattle.pad_model.specs.Log.{is_comment};
 ghost use Rattle.pad_model.specs.Operation.{characters_in, erased_by};
 ghost use Rattle.pad_model.specs.Seen.{count_in};
 ghost use Rattle.pad_model.specs.Visible.{caret_of, hidden_by, runs_of, spans_of, stamp_at, text_of, visible};
-ghost use Rattle.revisions.specs.Log.{entries as entries_of, missing as missing_of};
+ghost use Rattle.revisions.specs.Log.{entries as entries_of, is_missing, missing as missing_of};
 ghost use Rattle.pad_core.specs.Comments.{comments_of};
 ghost use Rattle.pad_core.specs.Counts.{characters_at, vector_of};
 ghost use Rattle.pad_core.specs.Delivered.{IsDelivered, delivery_refusal};
@@ -167,6 +167,13 @@ impl<S: Sequence> Ledger<S> {
         ensures { result.now ≡ entries_of self.now from count }
     {
         self.log.entries(from, count)
+    }
+
+    /// The first operation that `seen` does not cover.
+    pub fn first_missing(&self, seen: &Seen) -> Option<&Op>
+        ensures { option_copied result ≡ slice_get (filter (is_missing seen.now) self.now) 0 }
+    {
+        self.log.first_missing(seen)
     }
 
     /// Copies of the first `max` operations that `seen` does not cover.

@@ -6,6 +6,7 @@ ghost use Rattle.pad_model.specs.declared.limits.TheConstants.{MAX_REPLICA};
 ghost use Rattle.pad_model.specs.declared.op.Op.{Op};
 ghost use Rattle.pad_core.specs.Delivered.{IsDelivered};
 ghost use Rattle.pad_core.specs.Laws.{HaveSame, ShowSame};
+ghost use Rattle.pad_model.specs.declared.who.Who.TheVariants as Who;
 ghost use Rattle.pad_core.specs.declared.act.Act.{Act};
 ghost use Rattle.pad_core.specs.Machine.{IsAdmitted, author_act as author_acted, author_step as author_stepped, claim as claimed, name_of, nobody_present, peer_act as peer_acted, step as machine_step};
 ghost use Rattle.pad_core.specs.Ran.{IsCutShort, Stepped, run as machine_run, Ran, FoundMemory};
@@ -236,9 +237,9 @@ impl<S: Sequence> Pad<S> {
         }
     }
 
-    /// A peer's act.
+    /// A peer's act on the pad of this name.
     fn peer_act(&mut self, alloc: Global, version: Version, act: &Act) -> Result<PadReply, Refusal>
-        ensures { Answers self.old (peer_acted version act.now self.old) result self.new ⊎ ((result ≡ Err Refusal.Memory) × IsCutShort act.now self.old self.new) }
+        ensures { (name : _) (number : ℕ) → name_of self.old.owned ≡ Some name → Answers self.old (peer_acted version act.now self.old) result self.new ⊎ ((result ≡ Err Refusal.Memory) × IsCutShort name (Who.Peer number version) act.now self.old self.new) }
     {
         match act {
             Act::Vector => read_vector(&self.ledger, version),

@@ -3,7 +3,7 @@ ghost use Rattle.std.specs.Prelude.{◌≡◌, IfOk, length, map, true};
 ghost use Rattle.std.specs.List.{list_any};
 ghost use Rattle.pad_model.specs.Answers.{Answers};
 ghost use Rattle.sessions.specs.Presence.{has_number};
-ghost use Rattle.pad_core.specs.Reads.{Tells};
+ghost use Rattle.pad_model.specs.Answers.{Tells};
 ghost use Rattle.pad_core.specs.Presence.{join as joined, leave as left, put_caret as caret_put, departed, read_who as who_read, shown_visit};
 
 use crate::edit::stamp_before;

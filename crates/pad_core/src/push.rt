@@ -1,5 +1,5 @@
 //! A pushed operation, and the release of those that waited for it.
-ghost use Rattle.std.specs.Prelude.{◌≡◌, ◌⊎◌, ℕ, ◌+◌, ◌<◌, ◌||◌, ◌==◌, List, IsTrue, Ok, Err, Some, None, IfOk, IfErr, OnOk, MatchResult, false};
+ghost use Rattle.std.specs.Prelude.{◌≡◌, ◌⊎◌, ℕ, ◌+◌, ◌<◌, ◌||◌, ◌==◌, List, IsTrue, Ok, Err, Some, None, option_map, IfOk, IfErr, OnOk, MatchResult, false};
 ghost use Rattle.std.specs.List.{AllByRecursion, find};
 ghost use Rattle.holdback.specs.Held.{is_covered, is_held, is_ready};
 ghost use Rattle.pad_model.specs.declared.op.Op.{Op};
@@ -7,13 +7,13 @@ ghost use Rattle.pad_core.specs.Counts.{vector_of};
 ghost use Rattle.pad_core.specs.Delivered.{delivery_refusal};
 ghost use Rattle.pad_model.specs.Answers.{Answers};
 ghost use Rattle.pad_model.specs.Checked.{is_checked};
-ghost use Rattle.pad_core.specs.Exchange.{both_of, delivered, push as pushed, received, release as released_one, settle as settled_from, steps, unsettled, Stopped};
+ghost use Rattle.pad_core.specs.Exchange.{IsStuck, both_of, delivered, push as pushed, received, release as released_one, settle as settled_from, steps, unsettled, waiting, Stopped};
 ghost use Rattle.pad_core.specs.Released.{delivery};
 
 use crate::ledger::Ledger;
 use crate::reply::{PadReply, Pushed};
-use holdback::{Hold, Offer};
-use pad_model::{Op, OpName, Refusal, Sequence};
+use holdback::{Hold, MAX_HELD, Offer, is_ready};
+use pad_model::{Op, OpName, Refusal, Seen, Sequence};
 use std::alloc::Global;
 
 /// What a release did with held operations.
@@ -70,27 +70,25 @@ fn receive<S: Sequence>(
     if op.name.origin == replica {
         return Err(Refusal::PeerFault);
     }
-    let op = op.clone()?;
-    take(alloc, ledger, held, op)
+    if is_ready(op, ledger.seen()) {
+        return deliver(alloc, ledger, op);
+    }
+    hold_back(held, op, ledger.seen())
 }
 
-/// Delivers a new operation of another server, or holds it back where it has to wait.
-fn take<S: Sequence>(
-    alloc: Global,
-    ledger: &mut Ledger<S>,
-    held: &mut Hold,
-    op: Op,
-) -> Result<Pushed, Refusal>
-    requires checked { IsTrue (is_checked op) }
-    requires new { (is_covered (vector_of ledger.old) op.name || is_held op.name held.old) ≡ false }
-    requires held { AllByRecursion (λ op. IsTrue (is_checked op)) held.old }
-    ensures answer { (own : ℕ) → (op.name.origin == own) ≡ false → Answers (ledger.old, held.old) (received own op (ledger.old, held.old)) result (ledger.new, held.new) }
-    ensures held { AllByRecursion (λ op. IsTrue (is_checked op)) held.new }
+/// Holds a new operation of another server back, which has to wait for others.
+fn hold_back(held: &mut Hold, op: &Op, seen: &Seen) -> Result<Pushed, Refusal>
+    requires new { (is_covered seen.now op.now.name || is_held op.now.name held.old) ≡ false }
+    requires waits { is_ready seen.now op.now ≡ false }
+    ensures answer { Answers held.old (waiting op.now held.old) result held.new }
 {
-    match held.offer(op, ledger.seen()) {
-        Ok(Offer::Ready(op)) => deliver(alloc, ledger, op),
+    if held.len() >= MAX_HELD {
+        return Err(Refusal::HoldFull);
+    }
+    let op = op.clone()?;
+    match held.offer(op, seen) {
         Ok(Offer::Held) => Ok(Pushed::Held),
-        Ok(Offer::Repeat) => Ok(Pushed::Repeat),
+        Ok(Offer::Ready(_)) | Ok(Offer::Repeat) => unreachable!(),
         Err(refusal) => Err(refusal),
     }
 }
@@ -109,14 +107,15 @@ fn is_known<S: Sequence>(ledger: &Ledger<S>, held: &Hold, name: OpName) -> bool
 }
 
 /// Delivers an operation that is ready, unless it is refused.
-fn deliver<S: Sequence>(alloc: Global, ledger: &mut Ledger<S>, op: Op) -> Result<Pushed, Refusal>
-    requires checked { IsTrue (is_checked op) }
-    requires ready { IsTrue (is_ready (vector_of ledger.old) op) }
-    ensures { (held : List Op) → Answers (ledger.old, held) (delivered op (delivery_refusal op ledger.old) ledger.old held) result (ledger.new, held) }
+fn deliver<S: Sequence>(alloc: Global, ledger: &mut Ledger<S>, op: &Op) -> Result<Pushed, Refusal>
+    requires checked { IsTrue (is_checked op.now) }
+    requires ready { IsTrue (is_ready (vector_of ledger.old) op.now) }
+    ensures { (held : List Op) → Answers (ledger.old, held) (delivered op.now (delivery_refusal op.now ledger.old) ledger.old held) result (ledger.new, held) }
 {
-    if let Some(refusal) = ledger.refusal_of(&op) {
+    if let Some(refusal) = ledger.refusal_of(op) {
         return Err(refusal);
     }
+    let op = op.clone()?;
     match ledger.append(alloc, op) {
         Ok(_) => Ok(Pushed::Delivered),
         Err(refusal) => Err(refusal),
@@ -131,7 +130,7 @@ fn settle<S: Sequence>(
 ) -> Result<Released, Refusal>
     requires held { AllByRecursion (λ op. IsTrue (is_checked op)) held.old }
     ensures ok { IfOk result (λ released. delivery released ledger.new held.new ≡ settled_from (unsettled (ledger.old, held.old))) }
-    ensures memory { IfErr result (λ e. (e ≡ Refusal.Memory) × (n : ℕ) × ((ledger.new, held.new) ≡ both_of (steps n (unsettled (ledger.old, held.old))))) }
+    ensures memory { IfErr result (λ e. (e ≡ Refusal.Memory) × (n : ℕ) × ((ledger.new, held.new) ≡ both_of (steps n (unsettled (ledger.old, held.old)))) × IsStuck (ledger.new, held.new)) }
     ensures held { AllByRecursion (λ op. IsTrue (is_checked op)) held.new }
 {
     let mut released = Released {
@@ -160,62 +159,35 @@ fn release<S: Sequence>(
     requires few { released.old.delivered + released.old.dropped < u64.MAX }
     ensures ok { OnOk result (delivery released.new ledger.new held.new ≡ released_one (delivery released.old ledger.old held.old)) }
     ensures settled { result ≡ Ok false → find (is_ready (vector_of ledger.old)) held.old ≡ None }
-    ensures memory { IfErr result (λ e. (e ≡ Refusal.Memory) × (delivery released.new ledger.new held.new ≡ delivery released.old ledger.old held.old)) }
+    ensures memory { IfErr result (λ e. (e ≡ Refusal.Memory) × (delivery released.new ledger.new held.new ≡ delivery released.old ledger.old held.old) × IsStuck (ledger.new, held.new)) }
     ensures held { AllByRecursion (λ op. IsTrue (is_checked op)) held.new }
 {
-    match next_op(ledger, held) {
-        Ok(Some(op)) => match release_op(alloc, ledger, held, released, op) {
-            Ok(()) => Ok(true),
-            Err(refusal) => Err(refusal),
-        },
-        Ok(None) => Ok(false),
-        Err(refusal) => Err(refusal),
-    }
-}
-
-/// A copy of the ready operation of the least origin.
-fn next_op<S: Sequence>(ledger: &Ledger<S>, held: &Hold) -> Result<Option<Op>, Refusal>
-    ensures { MatchResult result (λ op. op ≡ find (is_ready (vector_of ledger.now)) held.now) (λ e. e ≡ Refusal.Memory) }
-{
-    let Some(name) = held.next_ready(ledger.seen()) else {
-        return Ok(None);
+    let Some(op) = next_op(ledger, held) else {
+        return Ok(false);
     };
-    match held.get(name) {
-        Some(op) => {
-            let op = op.clone()?;
-            Ok(Some(op))
-        }
-        None => Ok(None),
-    }
-}
-
-/// Takes the operation that is next out: it is delivered, or dropped where it is refused.
-fn release_op<S: Sequence>(
-    alloc: Global,
-    ledger: &mut Ledger<S>,
-    held: &mut Hold,
-    released: &mut Released,
-    op: Op,
-) -> Result<(), Refusal>
-    requires next { find (is_ready (vector_of ledger.old)) held.old ≡ Some op }
-    requires held { AllByRecursion (λ op. IsTrue (is_checked op)) held.old }
-    requires few { released.old.delivered + released.old.dropped < u64.MAX }
-    ensures ok { OnOk result (delivery released.new ledger.new held.new ≡ released_one (delivery released.old ledger.old held.old)) }
-    ensures memory { IfErr result (λ e. (e ≡ Refusal.Memory) × (delivery released.new ledger.new held.new ≡ delivery released.old ledger.old held.old)) }
-    ensures held { AllByRecursion (λ op. IsTrue (is_checked op)) held.new }
-{
     let name = op.name;
-    if let Some(_refusal) = ledger.refusal_of(&op) {
+    if let Some(_refusal) = ledger.refusal_of(op) {
         held.take(name);
         released.dropped += 1;
-        return Ok(());
+        return Ok(true);
     }
+    let op = op.clone()?;
     match ledger.append(alloc, op) {
         Ok(_) => {
             held.take(name);
             released.delivered += 1;
-            Ok(())
+            Ok(true)
         }
         Err(refusal) => Err(refusal),
+    }
+}
+
+/// The ready operation of the least origin.
+fn next_op<'a, S: Sequence>(ledger: &Ledger<S>, held: &'a Hold) -> Option<&'a Op>
+    ensures { option_map (λ op. op.now) result ≡ find (is_ready (vector_of ledger.now)) held.now }
+{
+    match held.next_ready(ledger.seen()) {
+        Some(name) => held.get(name),
+        None => None,
     }
 }

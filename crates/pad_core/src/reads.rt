@@ -1,6 +1,7 @@
 //! What authors read of a pad's log.
 ghost use Rattle.std.specs.Prelude.{◌≡◌, ℕ, ◌+◌, ◌≤◌, IfOk, length, MatchResult};
-ghost use Rattle.pad_core.specs.Reads.{Tells, entries_from, entry_of, kind_of as kind, read_comments as comments_read, read_entries as entries_read, read_revs as revs_read, read_runs as runs_read, read_text as text_read};
+ghost use Rattle.pad_model.specs.Answers.{Tells};
+ghost use Rattle.pad_core.specs.Reads.{entries_from, entry_of, kind_of as kind, read_comments as comments_read, read_entries as entries_read, read_revs as revs_read, read_runs as runs_read, read_text as text_read};
 
 use crate::ledger::Ledger;
 use crate::reply::{Entry, Kind, PadReply};

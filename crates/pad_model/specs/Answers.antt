@@ -1,8 +1,12 @@
--- What a call leaves that may find no memory.
-use Rattle.std.specs.Prelude.{◌≡◌, ◌⊎◌, Result, Err}
+-- What a call leaves that may be out of memory. Every other refusal comes before that one.
+use Rattle.std.specs.Prelude.{◌≡◌, ◌⊎◌, Result, Err, IsOk}
 use Rattle.pad_model.specs.declared.refusal.Refusal.{Refusal}
 use Rattle.pad_model.specs.declared.refusal.Refusal.TheVariants.{Memory}
 
--- the call found no memory and changed nothing, or it answered and left what was expected
+-- the call answered and left what was expected; or, where that is no refusal, it was out of memory and changed nothing
 abbrev pub Answers : {A S : Type 0} → S → Result A Refusal × S → Result A Refusal → S → Type 0
-Answers old expected result new = ((result ≡ Err Memory) × (new ≡ old)) ⊎ (expected ≡ (result, new))
+Answers old expected result new = ((result ≡ Err Memory) × (new ≡ old) × IsOk expected.0) ⊎ (expected ≡ (result, new))
+
+-- the same of a call that changes nothing
+abbrev pub Tells : {A : Type 0} → Result A Refusal → Result A Refusal → Type 0
+Tells expected result = ((result ≡ Err Memory) × IsOk expected) ⊎ (expected ≡ result)

@@ -4,6 +4,7 @@ use Rattle.std.specs.List.{AllByRecursion, find, list_any}
 use Rattle.std.proofs.lemmas.Bool.{eqb-true, and_right, lt-leb}
 use Rattle.std.proofs.lemmas.List.{map_more, get_or-map, length-map}
 use Rattle.std.proofs.lemmas.List.Folds.{list_any-append}
+use Rattle.std.proofs.lemmas.Option.{slice_get-get_or}
 use Rattle.pad_model.specs.declared.op.Op.{Op}
 use Rattle.pad_model.specs.declared.seen.Counted.{Counted}
 use Rattle.pad_model.specs.Seen.{count_in}
@@ -136,3 +137,14 @@ next_here seen from ops None is missing = absurd (cc)
 next_here seen from ops (Some op) is missing =
     sym (first_here (λ place op. leb from place && is_missing seen op) 0 ops from op (sym is) (rw (le-leb from (0 + from) (omega arith)) missing) (λ k o less. rw (lt-leb from k (omega arith)) refl)
     ∙ ap Some (let m : 0 + from ≡ from = omega arith in m))
+
+-- the operation that is found first is the first of those that pass
+pub first_found : (f : Op → Bool) (k : ℕ) (ops : List Op) → first_place (λ place op. leb 0 place && f op) 0 ops ≡ Some k → slice_get ops k ≡ slice_get (filter f ops) 0
+first_found f k [] e = absurd (cc)
+first_found f k (o ∷ ops) e =
+    let all = o ∷ ops in
+    slice_get-get_or all k o (found_within f 0 k all e) ∙ sym (ap (λ (xs : List Op). slice_get xs 0) (sym (picked_all f 0 0 all (omega arith)) ∙ found_first f 0 k all o e))
+
+-- and where none is found none passes
+pub none_found : (f : Op → Bool) (ops : List Op) → first_place (λ place op. leb 0 place && f op) 0 ops ≡ None → slice_get (filter f ops) 0 ≡ None
+none_found f ops e = ap (λ (xs : List Op). slice_get xs 0) (sym (picked_all f 0 0 ops (omega arith)) ∙ picked_none f 0 0 ops e)

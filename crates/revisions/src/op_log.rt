@@ -1,5 +1,5 @@
 ghost use Rattle.std.specs.Prelude.{◌≡◌, ℕ, ◌+◌, ◌-◌, ◌≤◌, [], ◌∷◌, ◌++◌, length, nat_le, ◌&&◌, option_copied, slice_get, IfOk, IfErr, IsOk, OnOk};
-ghost use Rattle.std.specs.List.{position};
+ghost use Rattle.std.specs.List.{filter, position};
 ghost use Rattle.pad_model.specs.declared.refusal.Refusal.{Refusal};
 ghost use Rattle.revisions.specs.Log.{entries, count_of, has_name, is_missing, missing};
 ghost use Rattle.revisions.specs.Index.{first_place, is_missing_in};
@@ -117,6 +117,16 @@ impl OpLog {
             from = place + 1;
         }
         Ok(answer)
+    }
+
+    /// The first operation that `seen` does not cover.
+    pub fn first_missing(&self, seen: &Seen) -> Option<&Op>
+        ensures { option_copied result ≡ slice_get (filter (is_missing seen.now) self.now.operations) 0 }
+    {
+        match self.next_missing(seen, 0) {
+            Some(place) => self.get(place),
+            None => None,
+        }
     }
 
     /// The place of the first operation from a place on that `seen` does not cover.

@@ -10,7 +10,7 @@ use Rattle.pad_core.specs.Machine.{Machine}
 use Rattle.pad_core.specs.declared.request.Request.{Request}
 use Rattle.server_core.specs.Actor.{Actor}
 use Rattle.server_core.specs.AtCell.{RowAnswer, row_answer}
-use Rattle.server_core.specs.Served.{Acted, FoundNone, IsTaskCut}
+use Rattle.server_core.specs.Served.{Acted, FoundNone, IsCutAt, ScanFoundNone}
 use Rattle.server_core.specs.Steps.{actor_step, goes_on, leave_first, left_room, move, scanned}
 use Rattle.server_core.specs.declared.step.Moved.{Moved}
 use Rattle.server_core.specs.declared.step.Step.{Step}
@@ -47,14 +47,28 @@ step-cells replica accounts (Look cell) a cells = refl
 step-cells replica accounts (Relay number) a cells = refl
 step-cells replica accounts End a cells = refl
 
-cut-cells : (task : Task) (cells after : List Machine) → IsTaskCut task cells after → length after ≡ length cells
-cut-cells Resting cells after h = absurd h
-cut-cells (Scanning request cell) cells after (name, act, old, new, on, there, cut, e) = ap length e ∙ length-set cells cell new
-cut-cells Leaving cells after h = absurd h
+cut-cells : (who : Who) (request : Request) (cell : ℕ) (cells after : List Machine) → IsCutAt who request cell cells after → length after ≡ length cells
+cut-cells who request cell cells after (name, act, old, new, on, there, cut, e) = ap length e ∙ length-set cells cell new
 
--- also where it finds no memory
+scan-cells : (request : Request) (cell : ℕ) (a : Actor) (cells : List Machine) (answer : Moved) (new : Actor) (after : List Machine) → ScanFoundNone request cell a cells answer new after → length after ≡ length cells
+scan-cells request cell a cells answer new after (told, same, inl kept) = ap length kept.0
+scan-cells request cell a cells answer new after (told, same, inr cut) = cut-cells a.who request cell cells after cut
+
+none-cells : (step : Step) (task : Task) (a : Actor) (cells : List Machine) (expected answer : Moved) (new : Actor) (after : List Machine) → FoundNone step task a cells expected answer new after → length after ≡ length cells
+none-cells (Ask request) Resting a cells expected answer new after h = ap length h.2
+none-cells (Ask request) (Scanning asked cell) a cells expected answer new after h = absurd h
+none-cells (Ask request) Leaving a cells expected answer new after h = absurd h
+none-cells Move Resting a cells expected answer new after h = absurd h
+none-cells Move (Scanning request cell) a cells expected answer new after h = scan-cells request cell a cells answer new after h
+none-cells Move Leaving a cells expected answer new after h = absurd h
+none-cells (Look cell) Resting a cells expected answer new after h = ap length h.2
+none-cells (Look cell) (Scanning asked at) a cells expected answer new after h = absurd h
+none-cells (Look cell) Leaving a cells expected answer new after h = absurd h
+none-cells (Relay number) task a cells expected answer new after h = absurd h
+none-cells End task a cells expected answer new after h = absurd h
+
+-- also where it is out of memory
 pub acted-cells : (replica : ℕ) (accounts : Accounts) (step : Step) (a : Actor) (cells : List Machine) (answer : Moved) (new : Actor) (after : List Machine) →
-    Acted cells a (actor_step replica accounts step a cells) answer new after → length after ≡ length cells
+    Acted step cells a (actor_step replica accounts step a cells) answer new after → length after ≡ length cells
 acted-cells replica accounts step a cells answer new after (inl v) = sym (ap (λ d. length d.2) v) ∙ step-cells replica accounts step a cells
-acted-cells replica accounts step a cells answer new after (inr (refused, same, inl kept)) = ap length kept
-acted-cells replica accounts step a cells answer new after (inr (refused, same, inr cut)) = cut-cells a.task cells after cut
+acted-cells replica accounts step a cells answer new after (inr h) = none-cells step a.task a cells (actor_step replica accounts step a cells).0 answer new after h

@@ -6,3 +6,4 @@ pub mod Own
 pub mod Places
 pub mod Rows
 pub mod Served
+pub mod Visits

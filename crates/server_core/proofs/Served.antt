@@ -7,21 +7,24 @@ use Rattle.pad_model.specs.declared.refusal.Refusal.TheVariants.{Memory}
 use Rattle.pad_core.specs.Machine.{Machine}
 use Rattle.server_core.specs.Actor.{Actor}
 use Rattle.server_core.specs.Machine.{Server, server_step, run, with_actor}
-use Rattle.server_core.specs.Served.{Acted, FoundMemory, Ran, Served, StepFoundNone}
+use Rattle.server_core.specs.Served.{Acted, FoundMemory, FoundNone, Ran, Served, StepFoundNone}
 use Rattle.server_core.specs.Steps.{actor_step}
 use Rattle.server_core.specs.declared.step.Moved.{Moved}
 use Rattle.server_core.specs.declared.step.Moved.TheVariants.{Idle, Refused}
 use Rattle.server_core.specs.declared.step.Step.{Step}
+use Rattle.server_core.specs.declared.step.Step.TheVariants.{Ask, Move, Look, Relay, End}
+use Rattle.server_core.specs.declared.task.Task.{Task}
+use Rattle.server_core.specs.declared.task.Task.TheVariants.{Resting, Scanning, Leaving}
 
 -- what an actor does is what the server does
 pub served : (old s : Server) (at : ℕ) (step : Step) (a d : Actor) (row : List Machine) (answer : Moved) (actor : Actor) (cells : List Machine) → s ≡ old → at < length s.actors →
-    a ≡ slice_index_or s.actors at d → row ≡ s.cells → Acted row a (actor_step s.replica s.accounts step a row) answer actor cells →
+    a ≡ slice_index_or s.actors at d → row ≡ s.cells → Acted step row a (actor_step s.replica s.accounts step a row) answer actor cells →
     Served old at step answer (record s { actors = slice_set s.actors at actor; cells = cells })
 served old s at step a d row answer actor cells view low is_a is_row v =
-    subst (λ k. Served k at step answer (record s { actors = slice_set s.actors at actor; cells = cells })) view (by_case (subst (λ k. Acted k (slice_index_or s.actors at d) (actor_step s.replica s.accounts step (slice_index_or s.actors at d) k) answer actor cells) is_row
-    (subst (λ k. Acted row k (actor_step s.replica s.accounts step k row) answer actor cells) is_a v)))
+    subst (λ k. Served k at step answer (record s { actors = slice_set s.actors at actor; cells = cells })) view (by_case (subst (λ k. Acted step k (slice_index_or s.actors at d) (actor_step s.replica s.accounts step (slice_index_or s.actors at d) k) answer actor cells) is_row
+    (subst (λ k. Acted step row k (actor_step s.replica s.accounts step k row) answer actor cells) is_a v)))
   where
-    by_case : Acted s.cells (slice_index_or s.actors at d) (actor_step s.replica s.accounts step (slice_index_or s.actors at d) s.cells) answer actor cells →
+    by_case : Acted step s.cells (slice_index_or s.actors at d) (actor_step s.replica s.accounts step (slice_index_or s.actors at d) s.cells) answer actor cells →
         Served s at step answer (record s { actors = slice_set s.actors at actor; cells = cells })
     by_case (inl v) = inl (rw (slice_get-get_or s.actors at d low) (ap (λ done. with_actor at s done) v))
     by_case (inr n) = inr (rw (slice_get-get_or s.actors at d low) (actor, cells, n, refl))
@@ -38,15 +41,29 @@ Ran-push s now next [] (x ∷ answers) event answer r a = absurd r
 Ran-push s now next (e ∷ events) [] event answer r a = absurd r
 Ran-push s now next (e ∷ events) (x ∷ answers) event answer r a = (r.0, r.1, Ran-push r.0 now next events answers event answer r.2 a)
 
-told_memory : (s next : Server) (at : ℕ) (o : Option Actor) (answer : Moved) → StepFoundNone s at o answer next → answer ≡ Refused Memory
-told_memory s next at None answer n = absurd n
-told_memory s next at (Some a) answer n = n.2.0
+none_told : (step : Step) (task : Task) (a : Actor) (cells : List Machine) (expected answer : Moved) (new : Actor) (after : List Machine) → FoundNone step task a cells expected answer new after → answer ≡ Refused Memory
+none_told (Ask request) Resting a cells expected answer new after h = h.0
+none_told (Ask request) (Scanning asked cell) a cells expected answer new after h = absurd h
+none_told (Ask request) Leaving a cells expected answer new after h = absurd h
+none_told Move Resting a cells expected answer new after h = absurd h
+none_told Move (Scanning request cell) a cells expected answer new after h = h.0
+none_told Move Leaving a cells expected answer new after h = absurd h
+none_told (Look cell) Resting a cells expected answer new after h = h.0
+none_told (Look cell) (Scanning asked at) a cells expected answer new after h = absurd h
+none_told (Look cell) Leaving a cells expected answer new after h = absurd h
+none_told (Relay number) task a cells expected answer new after h = absurd h
+none_told End task a cells expected answer new after h = absurd h
+
+-- a step that was out of memory says so
+pub told_memory : (s next : Server) (at : ℕ) (step : Step) (o : Option Actor) (answer : Moved) → StepFoundNone s at step o answer next → answer ≡ Refused Memory
+told_memory s next at step None answer n = absurd n
+told_memory s next at step (Some a) answer n = none_told step a.task a s.cells (actor_step s.replica s.accounts step a s.cells).0 answer n.0 n.1 n.2
 
 found : (s next : Server) (at : ℕ) (step : Step) (answer : Moved) → Served s at step answer next → (answer ≡ Refused Memory → ⊥) → server_step at step s ≡ (answer, next)
 found s next at step answer (inl h) no_memory = h
-found s next at step answer (inr h) no_memory = absurd (no_memory (told_memory s next at (slice_get s.actors at) answer h))
+found s next at step answer (inr h) no_memory = absurd (no_memory (told_memory s next at step (slice_get s.actors at) answer h))
 
--- a run that met no want of memory is the machine's
+-- a run that was never out of memory is the machine's
 pub Ran-machine : (s new : Server) (events : List (ℕ × Step)) (answers : List Moved) → Ran s events answers new → FoundMemory answers → run events s ≡ (answers, new)
 Ran-machine s new [] [] r f = ap (λ k. ([], k)) (sym r)
 Ran-machine s new [] (x ∷ answers) r f = absurd r

@@ -1,11 +1,13 @@
 //! An actor: a session, and what it is doing.
-ghost use Rattle.std.specs.Prelude.{◌≡◌, ◌⊎◌, ◌≤◌, length, option_map};
+ghost use Rattle.std.specs.Prelude.{◌≡◌, ◌⊎◌, ◌≤◌, List, length, option_map};
 ghost use Rattle.pad_model.specs.declared.refusal.Refusal.TheVariants as refusal;
 ghost use Rattle.server_core.specs.Actor.{is_busy as busy, nobody};
 ghost use Rattle.server_core.specs.Served.{Acted};
 ghost use Rattle.server_core.specs.Steps.{actor_step as stepped, name_at};
 ghost use Rattle.server_core.specs.declared.limits.TheConstants.{MAX_CELLS};
+ghost use Rattle.pad_core.specs.Machine.{Machine};
 ghost use Rattle.server_core.specs.declared.step.Moved.TheVariants as moved;
+ghost use Rattle.server_core.specs.declared.step.Step.TheVariants as Step;
 
 use crate::ask::{ask, tell};
 use crate::leave::end;
@@ -14,7 +16,7 @@ use crate::opening::relay;
 use crate::scan::go_on;
 use crate::step::{Moved, Step};
 use crate::task::Task;
-use pad_core::Pad;
+use pad_core::{Pad, Request};
 use pad_model::{Name, Refusal, Sequence};
 use sessions::{Accounts, Session};
 use std::alloc::Global;
@@ -49,6 +51,23 @@ impl Actor {
         }
     }
 
+    /// Asks a request, which touches no cell yet.
+    pub fn ask(
+        &mut self,
+        alloc: Global,
+        replica: u16,
+        accounts: &Accounts,
+        request: &Request,
+    ) -> Moved
+        ensures { (cells : List Machine) → Acted (Step.Ask request.now) cells self.old (stepped replica accounts.now (Step.Ask request.now) self.old cells) result self.new cells }
+    {
+        if is_busy(&self.task) {
+            return Moved::Refused(Refusal::Busy);
+        }
+        let (session, task) = (&mut self.session, &mut self.task);
+        ask(alloc, replica, accounts, session, task, request)
+    }
+
     /// Makes one step, on a row of cells.
     pub fn step<S: Sequence>(
         &mut self,
@@ -59,20 +78,24 @@ impl Actor {
         step: &Step,
     ) -> Moved
         requires { length cells.old ≤ MAX_CELLS }
-        ensures { Acted cells.old self.old (stepped replica accounts.now step.now self.old cells.old) result self.new cells.new }
+        ensures { Acted step.now cells.old self.old (stepped replica accounts.now step.now self.old cells.old) result self.new cells.new }
     {
         match step {
+            Step::Ask(request) => self.ask(alloc, replica, accounts, request),
             Step::Move => go_on(alloc, cells, &mut self.session, &mut self.task),
             Step::End => end(&mut self.session, &mut self.task),
-            Step::Ask(_) | Step::Look(_) | Step::Relay(_) if is_busy(&self.task) => {
-                Moved::Refused(Refusal::Busy)
+            Step::Look(cell) => {
+                if is_busy(&self.task) {
+                    return Moved::Refused(Refusal::Busy);
+                }
+                look(alloc, cells, *cell)
             }
-            Step::Ask(request) => {
-                let (session, task) = (&mut self.session, &mut self.task);
-                ask(alloc, replica, accounts, session, task, request)
+            Step::Relay(number) => {
+                if is_busy(&self.task) {
+                    return Moved::Refused(Refusal::Busy);
+                }
+                tell(relay(replica, *number, &mut self.session))
             }
-            Step::Look(cell) => look(alloc, cells, *cell),
-            Step::Relay(number) => tell(relay(replica, *number, &mut self.session)),
         }
     }
 }

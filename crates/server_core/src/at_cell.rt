@@ -1,7 +1,7 @@
 //! What a request does at one cell. Memory for a room is taken before the pad is asked.
 ghost use Rattle.std.specs.Prelude.{◌≡◌, ◌≤◌, IsTrue, IfErr, IfOk};
 ghost use Rattle.pad_model.specs.Checked.{is_name};
-ghost use Rattle.pad_core.specs.declared.act.Act.TheVariants as act;
+ghost use Rattle.pad_core.specs.declared.act.Act.TheVariants as Act;
 ghost use Rattle.pad_core.specs.declared.request.Request.TheVariants as request;
 ghost use Rattle.server_core.specs.Actor.{visit_on as visit_there};
 ghost use Rattle.server_core.specs.AtCell.{act_at as acted_at, create_at as created_at, passed_on as passed, request_at as requested_at, rooms_after as rooms_then};
@@ -23,7 +23,7 @@ pub fn request_at<S: Sequence>(
 ) -> Result<Option<Reply>, Refusal>
     requires { IsAsked request.now }
     ensures who { session.new.who ≡ session.old.who }
-    ensures visited { Visited request.now session.old.rooms cell.old (requested_at session.old.who request.now place session.old.rooms cell.old) result session.new.rooms cell.new }
+    ensures visited { Visited session.old.who request.now session.old.rooms cell.old (requested_at session.old.who request.now place session.old.rooms cell.old) result session.new.rooms cell.new }
 {
     match request {
         Request::Create { pad } => create_at(alloc, cell, place, session, pad),
@@ -41,9 +41,12 @@ fn act_at<S: Sequence>(
     act: &Act,
 ) -> Result<Option<Reply>, Refusal>
     ensures who { session.new.who ≡ session.old.who }
-    ensures visited { Visited (request.On pad.now act.now) session.old.rooms cell.old (acted_at session.old.who pad.now act.now place session.old.rooms cell.old) result session.new.rooms cell.new }
+    ensures visited { Visited session.old.who (request.On pad.now act.now) session.old.rooms cell.old (acted_at session.old.who pad.now act.now place session.old.rooms cell.old) result session.new.rooms cell.new }
 {
-    let name = make_room(alloc, session, pad, act)?;
+    let name = match make_room(alloc, session, pad, act) {
+        Ok(name) => name,
+        Err(refusal) => return Err(refusal),
+    };
     let event = PadEvent {
         pad: pad.as_str(),
         who: session.who(),
@@ -74,7 +77,7 @@ fn make_room(
 ) -> Result<Option<Name>, Refusal>
     ensures same { (session.new.who ≡ session.old.who) × (session.new.rooms ≡ session.old.rooms) }
     ensures room { IfOk result (λ name. HasRoom act.now pad.now name session.new.spare) }
-    ensures memory { IfErr result (λ e. e ≡ Refusal.Memory) }
+    ensures memory { IfErr result (λ e. (e ≡ Refusal.Memory) × (act.now ≡ Act.Join)) }
 {
     match act {
         Act::Join => {
@@ -134,7 +137,7 @@ fn create_at<S: Sequence>(
 ) -> Result<Option<Reply>, Refusal>
     requires { IsTrue (is_name pad.now) }
     ensures who { session.new.who ≡ session.old.who }
-    ensures visited { Visited (request.Create pad.now) session.old.rooms cell.old (created_at session.old.who pad.now place session.old.rooms cell.old) result session.new.rooms cell.new }
+    ensures visited { Visited session.old.who (request.Create pad.now) session.old.rooms cell.old (created_at session.old.who pad.now place session.old.rooms cell.old) result session.new.rooms cell.new }
 {
     let name = pad.clone()?;
     session.reserve()?;

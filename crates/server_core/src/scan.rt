@@ -5,6 +5,7 @@ ghost use Rattle.server_core.specs.AtCell.{past_row as row_passed, row_answer as
 ghost use Rattle.server_core.specs.Rooms.{IsAsked, IsSoundTask};
 ghost use Rattle.server_core.specs.Served.{Acted, RowVisited};
 ghost use Rattle.server_core.specs.Steps.{concluded, goes_on as going_on, move as moved_on};
+ghost use Rattle.server_core.specs.declared.step.Step.TheVariants as step;
 ghost use Rattle.server_core.specs.declared.limits.TheConstants.{MAX_CELLS};
 
 use crate::at_cell::request_at;
@@ -26,7 +27,7 @@ pub fn go_on<S: Sequence>(
 ) -> Moved
     requires row { length cells.old ≤ MAX_CELLS }
     requires sound { IsSoundTask task.old }
-    ensures acted { Acted cells.old (actor_of session.old task.old) (moved_on task.old (actor_of session.old task.old) cells.old) result (actor_of session.new task.new) cells.new }
+    ensures acted { Acted step.Move cells.old (actor_of session.old task.old) (moved_on task.old (actor_of session.old task.old) cells.old) result (actor_of session.new task.new) cells.new }
     ensures sound { IsSoundTask task.new }
 {
     match task {
@@ -56,7 +57,7 @@ fn answer_at<S: Sequence>(
 ) -> Result<Option<Reply>, Refusal>
     requires { IsAsked request.now }
     ensures who { session.new.who ≡ session.old.who }
-    ensures visited { RowVisited request.now place session.old.rooms cells.old (row_answered session.old.who request.now place session.old.rooms cells.old) result session.new.rooms cells.new }
+    ensures visited { RowVisited session.old.who request.now place session.old.rooms cells.old (row_answered session.old.who request.now place session.old.rooms cells.old) result session.new.rooms cells.new }
 {
     let index = place as usize;
     if index >= cells.len() {

@@ -10,11 +10,12 @@ ghost use Rattle.pad_core.specs.Laws.{HaveSame, ShowSame};
 ghost use Rattle.pad_core.specs.Machine.{Machine};
 ghost use Rattle.server_core.specs.Machine.{new_server, with_newcomer, run as machine_run, unnamed};
 ghost use Rattle.server_core.specs.Served.{FoundMemory, Ran, Served};
+ghost use Rattle.server_core.specs.declared.step.Step.TheVariants as Step;
 
 use crate::actor::Actor;
 use crate::limits::{MAX_ACTORS, MAX_CELLS};
 use crate::step::{Moved, Step};
-use pad_core::Pad;
+use pad_core::{Pad, Request};
 use pad_model::{Refusal, Sequence};
 use sessions::Accounts;
 use std::alloc::Global;
@@ -76,6 +77,17 @@ impl<S: Sequence> Server<S> {
         }
         self.actors.push(Actor::new(alloc))?;
         Ok(count as u32)
+    }
+
+    /// Asks a request as the step `Ask` does, by an actor that was opened.
+    pub fn ask(&mut self, alloc: Global, actor: u32, request: &Request) -> Moved
+        ensures { Served self.old actor (Step.Ask request.now) result self.new }
+    {
+        let index = actor as usize;
+        if index >= self.actors.len() {
+            return Moved::Idle;
+        }
+        self.actors[index].ask(alloc, self.replica, &self.accounts, request)
     }
 
     /// Makes one step of an actor that was opened.

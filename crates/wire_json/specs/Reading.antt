@@ -1,5 +1,5 @@
 -- How values are read: a form of values says what each value of the form stands for, and nothing of others.
-use Rattle.std.specs.Prelude.{◌≡◌, ◌⊎◌, ℕ, ◌==◌, nat_lt, nat_le, if◌then◌else◌, List, [], ◌∷◌, Option, Some, None, option_map, option_and_then, is_some, Result, MatchResult}
+use Rattle.std.specs.Prelude.{◌≡◌, ◌⊎◌, ℕ, ◌==◌, nat_lt, nat_le, if◌then◌else◌, List, [], ◌∷◌, Option, Some, None, option_map, option_and_then, is_some, Result, Err, MatchResult}
 use Rattle.std.specs.Str.{chars}
 use Rattle.serde_json.specs.Data.{Data, Items, no_items, item}
 use Rattle.serde_json.specs.Find.{get, as_number, as_u64, as_str, as_array, as_null}
@@ -24,6 +24,10 @@ IsForm expected result = MatchResult result (λ found. expected ≡ Some found) 
 abbrev pub IsRead : {A : Type 0} → Option A → Result A Refusal → Type 0
 IsRead expected result =
     MatchResult result (λ found. expected ≡ Some found) (λ refusal. (refusal ≡ Memory) ⊎ ((refusal ≡ NotRequest) × (expected ≡ None)))
+
+-- a line was read so; or memory ran out while it was read, which is told at once: what follows in the line was not looked at
+abbrev pub IsLine : {A : Type 0} → Result A Refusal → Result A Refusal → Type 0
+IsLine expected result = (result ≡ Err Memory) ⊎ (expected ≡ result)
 
 -- what is made of two things, if both are there
 abbrev pub of_two : {A B C : Type 0} → (A → B → C) → Option A → Option B → Option C

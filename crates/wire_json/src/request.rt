@@ -1,9 +1,8 @@
 //! From a line to a request.
 ghost use Rattle.std.specs.Prelude.{◌≡◌, ◌⊎◌, Some, None, MatchResult};
 ghost use Rattle.serde_json.specs.View.{view};
-ghost use Rattle.pad_core.specs.Reads.{Tells};
 ghost use Rattle.wire_json.specs.Lines.{request, value_of};
-ghost use Rattle.wire_json.specs.Reading.{IsForm, IsRead};
+ghost use Rattle.wire_json.specs.Reading.{IsForm, IsLine, IsRead};
 ghost use Rattle.wire_json.specs.Words.{deed_of_word};
 ghost use Rattle.wire_json.specs.Requests.{request_in, hello_in, peer_in, create_in, on_in};
 
@@ -19,7 +18,7 @@ use std::alloc::Global;
 
 /// The request of a line, or why there is none: NotJson, NotRequest, or Memory.
 pub fn read_request(alloc: Global, line: &[u8]) -> Result<Request, Refusal>
-    ensures { Tells (request line.now) result }
+    ensures { IsLine (request line.now) result }
 {
     let value = read_value(alloc, line)?;
     request_of(alloc, &value)

@@ -1,3 +1,4 @@
+pub mod Counts
 pub mod Feeds
 pub mod InOrder
 pub mod Taken

@@ -2,6 +2,7 @@
 use Rattle.std.specs.Prelude.{◌≡◌, ℕ, true, false, List, [], ⊤, Option, None, Some, Result, Ok, Err}
 use Rattle.wire_lines.specs.Lines.{first_line, behind_line, is_too_long}
 use Rattle.wire_lines.specs.Buffer.{ahead}
+use Rattle.wire_lines.specs.Causes.{HasCause}
 use Rattle.wire_lines.specs.declared.fault.Fault.{Fault}
 use Rattle.wire_lines.specs.declared.lines.Lines.{Lines}
 use Rattle.wire_lines.specs.declared.lines.Line.{Line}
@@ -40,3 +41,16 @@ IsAnswered (Ok (line.Text text)) (Some bytes) (Some rest) = rest ≡ behind_line
 IsAnswered (Ok line.TooLong) (Some bytes) (Some rest) = rest ≡ bytes
 IsAnswered (Ok line.End) (Some bytes) (Some rest) = rest ≡ bytes
 IsAnswered (Err fault) (Some bytes) (Some rest) = rest ≡ bytes
+
+-- how many calls of the reader have failed
+abbrev pub failures_of : {R : Type 0} → (R → ℕ) → Lines R → ℕ
+failures_of failures lines = failures lines.source
+
+-- how many reads were made for the lines
+abbrev pub reads_of : {R : Type 0} → Lines R → ℕ
+reads_of lines = lines.buffer.reads
+
+-- a fault has its cause: the one of before is answered again, and a new one comes as it does to a search for a line
+abbrev pub IsCaused : Option Fault → Result Line Fault → ℕ → ℕ → ℕ → Type 0
+IsCaused (Some fault) answer old new reads = answer ≡ Err fault
+IsCaused None answer old new reads = HasCause answer old new reads

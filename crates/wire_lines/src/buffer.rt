@@ -5,7 +5,7 @@ ghost use Rattle.std.specs.Result.{result_err};
 ghost use Rattle.std.specs.Io.KnownBytes.{Keeps, IsAtEnd, prepend_known};
 ghost use Rattle.wire_lines.specs.Lines.{line_end};
 ghost use Rattle.wire_lines.specs.Buffer.{ahead, budget, Finds, Shows, ShowsBefore, IsPart};
-ghost use Rattle.wire_lines.specs.Causes.{HasCause, CountsFailure};
+ghost use Rattle.wire_lines.specs.Causes.{AreCounted, CountsFailure, CountsRead, HasCause};
 ghost use Rattle.wire_lines.specs.declared.fault.Fault.TheVariants.{Memory};
 
 use crate::device::{ReadError, Source};
@@ -110,6 +110,8 @@ impl LineBuffer {
         ensures budget { result ≡ Ok Found.Text → budget self.new < budget self.old }
         ensures cause { IfNone self.old.fault
             (HasCause result (R.failures source.old) (R.failures source.new) self.new.reads) }
+        ensures counted { IfNone self.old.fault
+            (AreCounted result (R.reads source.old) (R.reads source.new) self.old.reads self.new.reads) }
     {
         if let Some(fault) = self.fault {
             return Err(fault);
@@ -132,6 +134,7 @@ impl LineBuffer {
         ensures budget { result ≡ Ok Found.Text → budget self.new < budget self.old }
         ensures fault { self.new.fault ≡ self.old.fault }
         ensures cause { HasCause result (R.failures source.old) (R.failures source.new) self.new.reads }
+        ensures counted { AreCounted result (R.reads source.old) (R.reads source.new) self.old.reads self.new.reads }
     {
         loop {
             if let Some(found) = self.take_line() {
@@ -143,7 +146,10 @@ impl LineBuffer {
             if self.reads >= MAX_READS {
                 return Err(Fault::ReadFault);
             }
-            self.read_more(source)?;
+            match self.read_more(source) {
+                Ok(()) => {}
+                Err(fault) => return Err(fault),
+            }
         }
     }
 
@@ -207,6 +213,8 @@ impl LineBuffer {
         ensures budget { budget self.new < budget self.old }
         ensures fault { self.new.fault ≡ self.old.fault }
         ensures cause { CountsFailure result (R.failures source.old) (R.failures source.new) }
+        ensures reads { self.new.reads ≡ self.old.reads + 1 }
+        ensures counted { CountsRead result (R.reads source.old) (R.reads source.new) }
     {
         drop_front(&mut self.held, self.start);
         self.searched -= self.start;
@@ -247,6 +255,7 @@ fn read_once<R: Source>(
     ensures behind { (more : List ℕ) × (held.new.items ≡ held.old.items ++ more) }
     ensures err { OnErr result (held.new.items ≡ held.old.items) }
     ensures cause { CountsFailure result (R.failures source.old) (R.failures source.new) }
+    ensures counted { CountsRead result (R.reads source.old) (R.reads source.new) }
 {
     held.reserve(chunk.len())?;
     match source.read(chunk.as_mut_slice()) {

@@ -1,7 +1,7 @@
 //! What a reader and a writer may do: cut, be interrupted, fail.
 ghost use Rattle.std.specs.Prelude.{◌≡◌, ℕ, ◌≤◌, List, Option, IfOk, length};
 ghost use Rattle.std.specs.Io.KnownBytes.{Keeps, ReadConsumes, WriteAppends};
-ghost use Rattle.wire_lines.specs.Device.{after_read, after_write, after_flush};
+ghost use Rattle.wire_lines.specs.Device.{after_read, after_write, after_flush, one_more};
 
 /// Why a read gave nothing.
 #[derive(Clone, Copy, Debug, PartialEq, Eq)]
@@ -24,11 +24,15 @@ pub trait Source {
     /// How many calls have failed, as far as a `u64` counts.
     ghost failures: { Self → ℕ };
 
+    /// How many calls were made, as far as a `u64` counts.
+    ghost reads: { Self → ℕ };
+
     /// Reads once. 0 bytes come only at the end, or where the buffer has no room.
     fn read(&mut self, buffer: &mut [u8]) -> Result<usize, ReadError>
         ensures bound { IfOk result (λ count. count ≤ length buffer.new) }
         ensures bytes { ReadConsumes (remaining self.old) (remaining self.new) result buffer.new }
-        ensures failures { failures self.new ≡ after_read result (failures self.old) };
+        ensures failures { failures self.new ≡ after_read result (failures self.old) }
+        ensures reads { reads self.new ≡ one_more (reads self.old) };
 }
 
 /// Bytes that go out.
@@ -55,6 +59,8 @@ impl<S: Source> Source for &mut S {
     ghost remaining = { λ s. S.remaining s.now };
 
     ghost failures = { λ s. S.failures s.now };
+
+    ghost reads = { λ s. S.reads s.now };
 
     fn read(&mut self, buffer: &mut [u8]) -> Result<usize, ReadError> {
         Source::read(&mut **self, buffer)

@@ -3,7 +3,7 @@ ghost use Rattle.std.specs.Prelude.{◌≡◌, None, IfOk, IfErr};
 ghost use Rattle.std.specs.Result.{result_err};
 ghost use Rattle.std.specs.Borrow.{sem};
 ghost use Rattle.std.specs.Io.BufRead.{Rests};
-ghost use Rattle.wire_lines.specs.Reader.{lines_ahead, fault_of, source_of, GivesLine, IsAnswered};
+ghost use Rattle.wire_lines.specs.Reader.{lines_ahead, failures_of, fault_of, reads_of, source_of, GivesLine, IsAnswered, IsCaused};
 ghost use Rattle.wire_lines.specs.contracts.lines.Lines.{the_row};
 ghost use Rattle.wire_lines.specs.declared.fault.Fault.TheVariants.{Memory};
 
@@ -48,7 +48,8 @@ impl<R: Source> Lines<R> {
     pub fn next(&mut self) -> Result<Line<'_>, Fault>
         ensures line { GivesLine (lines_ahead R.remaining self.old) result }
         ensures* after_borrow { sem 𝓛 (Rests (the_row R.row) self.entry (λ new.
-            IsAnswered result (lines_ahead R.remaining self.old) (lines_ahead R.remaining new) × (fault_of new ≡ result_err result))) }
+            IsAnswered result (lines_ahead R.remaining self.old) (lines_ahead R.remaining new) × (fault_of new ≡ result_err result)
+            × IsCaused (fault_of self.old) result (failures_of R.failures self.old) (failures_of R.failures new) (reads_of new))) }
     {
         match self.buffer.find_line(&mut self.source)? {
             Found::Text => Ok(Line::Text(self.buffer.line())),

@@ -65,6 +65,8 @@ impl Source for Input<'_> {
 
     ghost failures = { λ i. i.failures };
 
+    ghost reads = { λ i. i.calls };
+
     fn read(&mut self, buffer: &mut [u8]) -> Result<usize, ReadError> {
         self.calls = one_more(self.calls);
         if self.calls == self.fails_at {

@@ -10,6 +10,7 @@ use std::io::{ErrorKind, Read, Write};
 pub struct Std<T> {
     inner: T,
     failures: u64,
+    reads: u64,
 }
 
 impl<T> Std<T> {
@@ -19,7 +20,11 @@ impl<T> Std<T> {
     pub fn new(inner: T) -> Std<T>
         ensures { std_inner result ≡ inner }
     {
-        Std { inner, failures: 0 }
+        Std {
+            inner,
+            failures: 0,
+            reads: 0,
+        }
     }
 }
 
@@ -35,7 +40,10 @@ impl<R: Read> Source for Std<R> {
 
     ghost failures = { λ s. s.failures };
 
+    ghost reads = { λ s. s.reads };
+
     fn read(&mut self, buffer: &mut [u8]) -> Result<usize, ReadError> {
+        self.reads = one_more(self.reads);
         match self.inner.read(buffer) {
             Ok(count) => Ok(count),
             Err(error) if error.kind() == ErrorKind::Interrupted => Err(ReadError::Interrupted),

@@ -19,6 +19,7 @@ use Rattle.server_core.specs.declared.step.Step.TheVariants.{Move}
 use Rattle.server_core.specs.declared.task.Task.{Task}
 use Rattle.server_core.specs.declared.task.Task.TheVariants.{Resting, Scanning, Leaving}
 use Rattle.server_core.proofs.Lengths.{step-cells}
+use Rattle.server_core.proofs.Served.{told_memory}
 use Rattle.server_core.proofs.Named.{get-set_same}
 use Rattle.workers.specs.Fuel.{task_left, actor_left, moves_left}
 
@@ -61,7 +62,7 @@ from_actor : (s : Server) (actor : ℕ) (answer : Moved) (new : Server) (o : Opt
     → moves_left actor new < moves_left actor s
 from_actor s actor answer new None is (inl e) scans = let told = rw is at (ap (λ d. d.0) e) in cc
 from_actor s actor answer new None is (inr h) scans = absurd (rw is at h)
-from_actor s actor answer new (Some a) is (inr h) scans = let found = rw is at h in let told = found.2.0 in let same = ap (λ d. d.0) found.3 in cc
+from_actor s actor answer new (Some a) is (inr h) scans = let told = told_memory s new actor Move (Some a) answer (rw is at h) in cc
 from_actor s actor answer new (Some a) is (inl e) scans =
     let done : Moved × Actor × List Machine = move a.task a s.cells in
     let step : with_actor actor s done ≡ (answer, new) = rw is at e in

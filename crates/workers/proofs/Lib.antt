@@ -1,4 +1,5 @@
 pub mod CallerLemmas
+pub mod Causes
 pub mod Ends
 pub mod Rests
 pub mod Serving

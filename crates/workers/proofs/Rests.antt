@@ -94,14 +94,29 @@ put : (s new : Server) (actor : ℕ) (a : Actor) (done : Moved × Actor × List 
 put s new actor a done answer is step leaves =
     subst (λ d. LeavesAt actor d.0 d.1) step (done.1, get-set_same s.actors actor done.1 (slice_get_within s.actors actor a is), leaves)
 
+-- a step that was out of memory leaves the actor at rest
+none_leaves : (step : Step) (task : Task) (a : Actor) (cells : List Machine) (expected answer : Moved) (new : Actor) (after : List Machine) → a.task ≡ task → FoundNone step task a cells expected answer new after →
+    (answer ≡ moved.Refused Memory) × (new.task ≡ Resting)
+none_leaves (Ask asked) Resting a cells expected answer new after is h = (h.0, ap (λ (b : Actor). b.task) h.1 ∙ is)
+none_leaves (Ask asked) (Scanning request cell) a cells expected answer new after is h = absurd h
+none_leaves (Ask asked) Leaving a cells expected answer new after is h = absurd h
+none_leaves Move Resting a cells expected answer new after is h = absurd h
+none_leaves Move (Scanning request cell) a cells expected answer new after is h = (h.0, ap (λ (b : Actor). b.task) h.1)
+none_leaves Move Leaving a cells expected answer new after is h = absurd h
+none_leaves (Look cell) Resting a cells expected answer new after is h = (h.0, ap (λ (b : Actor). b.task) h.1 ∙ is)
+none_leaves (Look cell) (Scanning request at) a cells expected answer new after is h = absurd h
+none_leaves (Look cell) Leaving a cells expected answer new after is h = absurd h
+none_leaves (Relay number) task a cells expected answer new after is h = absurd h
+none_leaves End task a cells expected answer new after is h = absurd h
+
 -- any step whose machine's leaves so much
 leaves_at : (s new : Server) (actor : ℕ) (step : Step) (a : Actor) (answer : Moved) → slice_get s.actors actor ≡ Some a
     → Leaves (actor_step s.replica s.accounts step a s.cells).0 (actor_step s.replica s.accounts step a s.cells).1 → Served s actor step answer new → LeavesAt actor answer new
 leaves_at s new actor step a answer is leaves (inl e) = put s new actor a (actor_step s.replica s.accounts step a s.cells) answer is (rw is at e) leaves
 leaves_at s new actor step a answer is leaves (inr h) =
     let found = rw is at h in
-    let told = found.2.0 in
-    put s new actor a (answer, found.0, found.1) answer is found.3 (subst (λ m. Leaves m found.0) (sym told) (subst (λ b. b.task ≡ Resting) (sym found.2.1) refl))
+    let so = none_leaves step a.task a s.cells (actor_step s.replica s.accounts step a s.cells).0 answer found.0 found.1 refl found.2 in
+    put s new actor a (answer, found.0, found.1) answer is found.3 (subst (λ m. Leaves m found.0) (sym so.0) so.1)
 
 pub step_leaves : (s new : Server) (actor : ℕ) (step : Step) (answer : Moved) → IsAtRest s actor → IsCall step → Served s actor step answer new → LeavesAt actor answer new
 step_leaves s new actor step answer rest call served =
@@ -118,13 +133,3 @@ rests actor (moved.Done reply) new not leaves = (tt, leaves)
 rests actor (moved.Refused refusal) new not leaves = (tt, leaves)
 rests actor moved.Idle new not leaves = absurd leaves.2
 rests actor (moved.Named name) new not leaves = absurd leaves.2
-
--- a step of an actor at rest that finds no memory leaves all as it was
-pub nothing_found : (s : Server) (actor : ℕ) (step : Step) → IsAtRest s actor → Served s actor step (moved.Refused Memory) s
-nothing_found s actor step rest =
-    let a : Actor = rest.0 in
-    let same : rested a ≡ a = subst (λ t. record a { task = t } ≡ a) rest.2 refl in
-    let row : slice_set s.actors actor (rested a) ≡ s.actors =
-    ap (slice_set s.actors actor) (same ∙ sym (get_or_from_slice_get s.actors actor a a rest.1)) ∙ set-get_or s.actors actor a in
-    inr (subst (λ o. StepFoundNone s actor o (moved.Refused Memory) s) (sym rest.1)
-    (rested a, s.cells, (refl, refl, inl refl), ap (λ actors. (moved.Refused Memory, record s { actors = actors })) row))

@@ -2,6 +2,7 @@
 use Rattle.std.specs.Prelude.{◌≡◌, ◌⊎◌, ℕ, List, [], ◌∷◌, ◌++◌, length, take, Option, Result, Ok, Err}
 use Rattle.std.specs.Io.KnownBytes.{Appends, prepend_known}
 use Rattle.pad_core.specs.declared.request.Request.{Request}
+use Rattle.wire_lines.specs.Causes.{most_reads, with_more}
 use Rattle.wire_lines.specs.Device.{one_more}
 use Rattle.wire_lines.specs.declared.fault.Fault.{Fault}
 use Rattle.wire_lines.specs.declared.fault.Fault.TheVariants.{ReadFault, WriteFault, PeerReply, Memory}
@@ -17,6 +18,15 @@ HasWriteCause (Err ReadFault) old new = ⊥
 HasWriteCause (Err WriteFault) old new = new ≡ one_more old
 HasWriteCause (Err PeerReply) old new = ⊥
 HasWriteCause (Err Memory) old new = new ≡ old
+
+-- a connection ends in a fault by what its devices did: the reader failed, or all reads that may be made were made; the writer failed; or none failed, and it was out of memory
+abbrev pub HasFaultCause : {X : Type 0} → Result X Fault → ℕ → ℕ → ℕ → ℕ → ℕ → ℕ → Type 0
+HasFaultCause (Ok x) unread unread_then made made_then unwritten unwritten_then = (unread_then ≡ unread) × (unwritten_then ≡ unwritten)
+HasFaultCause (Err ReadFault) unread unread_then made made_then unwritten unwritten_then =
+    ((unread_then ≡ one_more unread) ⊎ ((unread_then ≡ unread) × (count : ℕ) × (count ≡ most_reads) × (made_then ≡ with_more made count))) × (unwritten_then ≡ unwritten)
+HasFaultCause (Err WriteFault) unread unread_then made made_then unwritten unwritten_then = (unread_then ≡ unread) × (unwritten_then ≡ one_more unwritten)
+HasFaultCause (Err PeerReply) unread unread_then made made_then unwritten unwritten_then = ⊥
+HasFaultCause (Err Memory) unread unread_then made made_then unwritten unwritten_then = (unread_then ≡ unread) × (unwritten_then ≡ unwritten)
 
 -- what was reached is ended
 abbrev pub ThenEnds : {P : Type 0} → (P → Type 0) → (P → P → Type 0) → P → Type 0

@@ -3,11 +3,10 @@ ghost use Rattle.std.specs.Prelude.{◌≡◌, ℕ, [], ◌∷◌, take, Err, If
 ghost use Rattle.std.specs.Io.KnownBytes.{Appends};
 ghost use Rattle.wire_json.specs.Lines.{request};
 ghost use Rattle.wire_json.specs.Replies.{line_of};
-ghost use Rattle.wire_lines.specs.Device.{one_more};
-ghost use Rattle.wire_lines.specs.declared.fault.Fault.TheVariants.{ReadFault, WriteFault, Memory};
+ghost use Rattle.wire_lines.specs.declared.fault.Fault.TheVariants.{ReadFault, Memory};
 ghost use Rattle.workers.specs.Session.{Answers, ServesSome};
 ghost use Rattle.workers.specs.Delivered.{delivered_of};
-ghost use Rattle.workers.specs.Connection.{ServesAll, ServesOne, BreaksOff, ServesRead, HasWriteCause, ThenEnds};
+ghost use Rattle.workers.specs.Connection.{ServesAll, ServesOne, BreaksOff, ServesRead, HasFaultCause, HasWriteCause, ThenEnds};
 
 use crate::delivered::delivered_by;
 use crate::gate::Gate;
@@ -68,7 +67,10 @@ pub fn serve_connection<P: Pads, R: Source, W: Sink, G: Gate>(
         (ServesRead P.calls pads.old (R.remaining reader.old) (R.remaining reader.new)
         (W.contents writer.old) (W.contents writer.new))
         P.ends pads.new }
-    ensures written { result ≡ Err WriteFault → W.failures writer.new ≡ one_more (W.failures writer.old) }
+
+    // Which fault it is, the devices tell.
+    ensures cause { HasFaultCause result (R.failures reader.old) (R.failures reader.new) (R.reads reader.old) (R.reads reader.new)
+        (W.failures writer.old) (W.failures writer.new) }
 {
     let served = serve_lines(alloc, pads, reader, writer, connection, gate);
     pads.end(alloc);
@@ -90,7 +92,10 @@ fn serve_lines<P: Pads, R: Source, W: Sink, G: Gate>(
         (W.contents writer.old) (W.contents writer.new) pads.new) }
     ensures unread { result ≡ Err ReadFault → ServesRead P.calls pads.old (R.remaining reader.old) (R.remaining reader.new)
         (W.contents writer.old) (W.contents writer.new) pads.new }
-    ensures written { result ≡ Err WriteFault → W.failures writer.new ≡ one_more (W.failures writer.old) }
+
+    // Which fault it is, the devices tell.
+    ensures cause { HasFaultCause result (R.failures reader.old) (R.failures reader.new) (R.reads reader.old) (R.reads reader.new)
+        (W.failures writer.old) (W.failures writer.new) }
 {
     let mut buffer = LineBuffer::new(alloc)?;
     let mut served = Served {

@@ -5,7 +5,7 @@ ghost use Rattle.server_core.specs.declared.step.Step.TheVariants.{Ask, Look};
 ghost use Rattle.workers.specs.Calls.{IsAtRest, IsUnderWay, IsCall, IsAnswer, IsNamed, Made, Finishes};
 
 use pad_core::Request;
-use pad_model::{Refusal, Sequence};
+use pad_model::Sequence;
 use server_core::{Moved, Server, Step};
 use std::alloc::Global;
 
@@ -21,9 +21,9 @@ pub fn ask<S: Sequence>(
     ensures answer { IsAnswer result }
     ensures rest { IsAtRest server.new actor }
 {
-    match request.clone() {
-        Ok(request) => make(alloc, server, actor, &Step::Ask(request)),
-        Err(_) => Moved::Refused(Refusal::Memory),
+    match server.ask(alloc, actor, request) {
+        Moved::Scanning => finish(alloc, server, actor),
+        told => told,
     }
 }
 

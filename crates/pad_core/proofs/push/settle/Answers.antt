@@ -29,7 +29,7 @@ returns-in-Ok-false-clause-ok g c =
 
 pub returns-in-Err-clause-memory : goal.returns-in-Err-clause-memory
 returns-in-Err-clause-memory g c =
-    (c.in-Err.ensures.memory.0, c.loop-n._n, ap both_of (c.in-Err.ensures.memory.1 ∙ c.loop-n.invariant.done))
+    (c.in-Err.ensures.memory.0, c.loop-n._n, ap both_of (c.in-Err.ensures.memory.1 ∙ c.loop-n.invariant.done), c.in-Err.ensures.memory.2)
 
 pub loop-n-preserved : goal.loop-n-preserved
 loop-n-preserved g c = record {

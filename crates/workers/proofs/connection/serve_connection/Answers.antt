@@ -11,5 +11,5 @@ returns-clause-fault c = grind (arith, common_steps)
 pub returns-clause-unread : goal.returns-clause-unread
 returns-clause-unread c = grind (arith, common_steps)
 
-pub returns-clause-written : goal.returns-clause-written
-returns-clause-written c = grind (arith, common_steps)
+pub returns-clause-cause : goal.returns-clause-cause
+returns-clause-cause c = grind (arith, common_steps)

@@ -1,5 +1,6 @@
 use Rattle.std.proofs.Common.{◌≡◌, None}
 use Rattle.wire_lines.specs.Buffer.{ahead, budget}
+use Rattle.wire_lines.specs.Causes.{with_more}
 use Rattle.workers.proofs.Serving.{IsServing}
 use Rattle.workers.proofs.connection.serve_lines.Given as goal
 
@@ -10,6 +11,8 @@ invariant-loop-buffer g l = record {
       (g.W.Sink.contents l.fn.writer) (g.W.Sink.contents l.writer);
   fault : l.buffer.fault ≡ None;
   failures : g.W.Sink.failures l.writer ≡ g.W.Sink.failures l.fn.writer;
+  unread : g.R.Source.failures l.reader ≡ g.R.Source.failures l.fn.reader;
+  counted : g.R.Source.reads l.reader ≡ with_more (g.R.Source.reads l.fn.reader) l.buffer.reads;
 }
 
 -- the bytes and reads that are left

@@ -3,7 +3,7 @@ use Rattle.std.proofs.lemmas.List.{with_items_is, length-map}
 use Rattle.std.specs.List.{list_all}
 use Rattle.pad_model.specs.Cell.{character_of, is_hidden_by as hidden_by}
 use Rattle.pad_model.specs.Parts.{part_fits, spans_in, with_parts}
-use Rattle.pad_model.proofs.Exits.{answers_memory}
+use Rattle.pad_model.proofs.Exits.{answers_memory, is_answered}
 use Rattle.block_seq.specs.Plain.{IsPlain, cells_of, is_hidden_by, erased_at}
 use Rattle.block_seq.proofs.Applied.{runs_checked, spans_checked, length-inserts_in, parts_fit-view, parts_joined, apply-fault, apply-full, apply-ok}
 use Rattle.block_seq.proofs.Kept.{distinct_kept, length-cells_of, grown, hidden-cells_of}
@@ -34,7 +34,12 @@ pub invariant_of-self : goal.invariant_of-self
 invariant_of-self c = (grown c.self.inside.authors.items c.place_author.new.authors.items c.args.author.now c.self.inside.cells.items c.self.invariant c.place_author.ensures.more).0
 
 pub returns-in_err-author : goal.returns-in_err-author
-returns-in_err-author c = answers_memory c.from_residual.result c.from_residual.ensures.1 ((grown c.self.inside.authors.items c.place_author.new.authors.items c.args.author.now c.self.inside.cells.items c.self.invariant c.place_author.ensures.more).1 ∙ c.self.view_is)
+returns-in_err-author c =
+    let kept : length c.as_slice.result.now ≡ length c.self.inside.cells.items = ap length c.as_slice.ensures.value in
+    answers_memory c.from_residual.result c.from_residual.ensures.1 ((grown c.self.inside.authors.items c.place_author.new.authors.items c.args.author.now c.self.inside.cells.items c.self.invariant c.place_author.ensures.more).1 ∙ c.self.view_is)
+    (is_answered (apply-ok c.args.rev c.args.parts.now c.args.author.now c.args.self.now c.requires.checked
+    (parts_fit-view c.self.inside.authors.items c.self.inside.cells.items c.as_slice.result.now c.args.self.now c.args.parts.now c.each_fits.result c.self.view_is c.as_slice.ensures.value c.each_fits.ensures ∙ c.if-not-each_fits.false)
+    (omega (arith, length-cells_of c.self.inside.authors.items c.self.inside.cells.items c.args.self.now c.self.view_is, kept, c.as_slice.ensures.len, length-inserts_in c.args.author.now c.args.parts.now))))
 
 pub invariant_of-self-in_err-reserve : goal.invariant_of-self-in_err-reserve
 invariant_of-self-in_err-reserve c =
@@ -43,9 +48,13 @@ invariant_of-self-in_err-reserve c =
 
 pub returns-in_err-reserve : goal.returns-in_err-reserve
 returns-in_err-reserve c =
+    let kept : length c.as_slice.result.now ≡ length c.self.inside.cells.items = ap length c.as_slice.ensures.value in
     answers_memory c.from_residual-in_err-reserve.result c.from_residual-in_err-reserve.ensures.1
     (ap (cells_of c.place_author.new.authors.items) c.reserve.ensures.items
     ∙ (grown c.self.inside.authors.items c.place_author.new.authors.items c.args.author.now c.self.inside.cells.items c.self.invariant c.place_author.ensures.more).1 ∙ c.self.view_is)
+    (is_answered (apply-ok c.args.rev c.args.parts.now c.args.author.now c.args.self.now c.requires.checked
+    (parts_fit-view c.self.inside.authors.items c.self.inside.cells.items c.as_slice.result.now c.args.self.now c.args.parts.now c.each_fits.result c.self.view_is c.as_slice.ensures.value c.each_fits.ensures ∙ c.if-not-each_fits.false)
+    (omega (arith, length-cells_of c.self.inside.authors.items c.self.inside.cells.items c.args.self.now c.self.view_is, kept, c.as_slice.ensures.len, length-inserts_in c.args.author.now c.args.parts.now))))
 
 pub put_runs-requires-clause-checked : goal.put_runs-requires-clause-checked
 put_runs-requires-clause-checked c = runs_checked c.args.author.now.origin c.args.parts.now c.requires.checked

@@ -1,6 +1,7 @@
 use Rattle.std.proofs.Common.{◌≡◌, ◌≤◌}
 use Rattle.std.specs.Io.KnownBytes.{Keeps}
 use Rattle.wire_lines.specs.Buffer.{ahead, budget}
+use Rattle.wire_lines.proofs.Counts.{Counted}
 use Rattle.wire_lines.proofs.buffer.LineBuffer.search.Given as goal
 
 -- nothing of what is to come was lost, and no call has failed
@@ -10,6 +11,7 @@ invariant-loop-found g l = record {
   less : budget l.self ≤ budget l.fn.self;
   fault : l.self.fault ≡ l.fn.self.fault;
   failures : g.R.Source.failures l.source ≡ g.R.Source.failures l.fn.source;
+  counted : Counted (g.R.Source.reads l.fn.source) (g.R.Source.reads l.source) l.fn.self.reads l.self.reads;
 }
 
 abbrev pub decreases-loop-found : goal.decreases-loop-found

@@ -1,0 +1,32 @@
+use Rattle.std.proofs.Common.{rules, refl, ap, sym, ◌∙◌, ◌+◌, ◌≡◌, arith}
+use Rattle.std.proofs.lemmas.Grind.{common_steps}
+use Rattle.wire_lines.specs.declared.buffer.Found.{Found}
+use Rattle.wire_lines.proofs.Counts.{counted_none, counted_more, counted_fault}
+use Rattle.wire_lines.proofs.buffer.LineBuffer.search.Goals as goal
+
+pub loop-found-init : goal.loop-found-init
+loop-found-init g c = record {
+  kept = search rules;
+  less = omega arith;
+  fault = refl;
+  failures = refl;
+  counted = counted_none (g.R.Source.reads c.args.source.now) c.args.self.now.reads;
+}
+
+pub loop-found-preserved : goal.loop-found-preserved
+loop-found-preserved g c =
+    let before = c.loop-found.invariant in
+    record {
+      kept = grind (arith, common_steps);
+      less = grind (arith, common_steps);
+      fault = grind (arith, common_steps);
+      failures = grind (arith, common_steps);
+      counted =
+          counted_more (g.R.Source.reads c.args.source.now) (g.R.Source.reads c.loop-found.source) (g.R.Source.reads c.read_more.new.source) c.args.self.now.reads c.loop-found.self.reads c.read_more.new.self.reads
+          before.counted (c.read_more.ensures.reads ∙ ap (λ n. n + 1) c.take_line.ensures.reads) c.in-Ok.ensures.counted;
+    }
+
+pub returns-in-Err-clause-counted : goal.returns-in-Err-clause-counted
+returns-in-Err-clause-counted g c =
+    counted_fault (Unit {0}) Found (g.R.Source.reads c.args.source.now) (g.R.Source.reads c.loop-found.source) (g.R.Source.reads c.read_more.new.source) c.args.self.now.reads c.loop-found.self.reads c.read_more.new.self.reads
+    c.in-Err.fault c.loop-found.invariant.counted (c.read_more.ensures.reads ∙ ap (λ n. n + 1) c.take_line.ensures.reads) c.in-Err.ensures.counted

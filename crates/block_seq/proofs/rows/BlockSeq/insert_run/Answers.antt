@@ -3,7 +3,7 @@ use Rattle.std.specs.Result.{IsErrAnd}
 use Rattle.pad_model.specs.Cell.{character_of, with_run}
 use Rattle.pad_model.specs.Log.{run_may_join}
 use Rattle.pad_model.proofs.Cells.{insert_run-fault, insert_run-full, insert_run-ok}
-use Rattle.pad_model.proofs.Exits.{answers_memory}
+use Rattle.pad_model.proofs.Exits.{answers_memory, is_answered}
 use Rattle.blocks.specs.declared.block.Block.{Block}
 use Rattle.blocks.specs.Cells.{cells_of, SameCells}
 use Rattle.blocks.proofs.Cells.{same_itself, same_unlabelled, same_then}
@@ -44,6 +44,8 @@ invariant_of-self c = (author_joined (goal.at.invariant_of-self c).After-place_a
 
 pub returns-in_err-author : goal.returns-in_err-author
 returns-in_err-author c = answers_memory c.from_residual.result c.from_residual.ensures.1 ((author_joined (goal.at.returns-in_err-author c).After-place_author).1 ∙ c.self.view_is)
+    (is_answered (insert_run-ok c.args.rev c.args.run.now c.args.author.now c.args.self.now (fit (goal.at.returns-in_err-author c).After-run_fits true c.if-not-run_fits.false)
+    (let s = size (goal.at.returns-in_err-author c).After-run_fits in omega (arith, s, c.self.inside.text.ok.0))))
 
 pub invariant_of-self-in_err-reserve : goal.invariant_of-self-in_err-reserve
 invariant_of-self-in_err-reserve c =
@@ -53,6 +55,8 @@ pub returns-in_err-reserve : goal.returns-in_err-reserve
 returns-in_err-reserve c =
     answers_memory c.from_residual-in_err-reserve.result c.from_residual-in_err-reserve.ensures.1
     (ap (λ t. cells_of c.place_author.new.authors.items t c.self.inside.tree.items) c.reserve.ensures.items ∙ (author_joined (goal.at.returns-in_err-reserve c).After-place_author).1 ∙ c.self.view_is)
+    (is_answered (insert_run-ok c.args.rev c.args.run.now c.args.author.now c.args.self.now (fit (goal.at.returns-in_err-reserve c).After-run_fits true c.if-not-run_fits.false)
+    (let s = size (goal.at.returns-in_err-reserve c).After-run_fits in omega (arith, s, c.self.inside.text.ok.0))))
 
 -- what a cut or other labels leave
 moved : (c : After-place_author) (text : _) (n : _) (after : _) → text ≡ c.self.inside.text.items → Rattle.blocks.specs.Blocks.IsKept n after → SameCells c.self.inside.tree.items after → IsBlockSeq c.place_author.new.authors.items text n after
@@ -69,6 +73,8 @@ pub returns-in_err-rank : goal.returns-in_err-rank
 returns-in_err-rank c =
     answers_memory c.from_residual-in_err-rank.result (subst (λ m. IsErrAnd c.from_residual-in_err-rank.result (λ e. e ≡ m)) c.in_err-rank.ensures.memory c.from_residual-in_err-rank.ensures.1)
     (moved (goal.at.returns-in_err-rank c).After-place_author c.reserve.new.self.items c.place_run.new.index c.place_run.new.tree.items c.reserve.ensures.items c.place_run.ensures.kept c.place_run.ensures.cells).1
+    (is_answered (insert_run-ok c.args.rev c.args.run.now c.args.author.now c.args.self.now (fit (goal.at.returns-in_err-rank c).After-run_fits true c.if-not-run_fits.false)
+    (let s = size (goal.at.returns-in_err-rank c).After-run_fits in omega (arith, s, c.self.inside.text.ok.0))))
 
 pub put_block-requires-clause-fresh : goal.put_block-requires-clause-fresh
 put_block-requires-clause-fresh c =
@@ -95,6 +101,8 @@ returns-in_err-put_block c =
     answers_memory c.from_residual-in_err-put_block.result (subst (λ m. IsErrAnd c.from_residual-in_err-put_block.result (λ e. e ≡ m)) c.in_err-put_block.ensures.memory c.from_residual-in_err-put_block.ensures.1)
     (moved (goal.at.returns-in_err-put_block c).After-place_author c.reserve.new.self.items c.put_block.new.index c.put_block.new.tree.items c.reserve.ensures.items c.put_block.ensures.kept
     (same_then c.self.inside.tree.items c.place_run.new.tree.items c.put_block.new.tree.items c.place_run.ensures.cells (same_unlabelled c.place_run.new.tree.items c.put_block.new.tree.items c.in_err-put_block.ensures.err))).1
+    (is_answered (insert_run-ok c.args.rev c.args.run.now c.args.author.now c.args.self.now (fit (goal.at.returns-in_err-put_block c).After-run_fits true c.if-not-run_fits.false)
+    (let s = size (goal.at.returns-in_err-put_block c).After-run_fits in omega (arith, s, c.self.inside.text.ok.0))))
 
 done : (c : After-push_text) → run_may_join character_of c.args.self.now c.args.run.now.first c.args.run.now.after ≡ true
     → IsBlockSeq c.place_author.new.authors.items c.push_text.new.text.items c.put_block.new.index c.put_block.new.tree.items

@@ -1,6 +1,7 @@
 pub mod Applied
 pub mod BlockCells
 pub mod BlockScan
+pub mod RowErase
 pub mod RowSteps
 pub mod Fronts
 pub mod Kept

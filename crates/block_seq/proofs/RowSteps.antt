@@ -4,8 +4,10 @@ use Rattle.std.specs.List.{AllByRecursion, insert}
 use Rattle.std.proofs.lemmas.List.{take-map, drop-map}
 use Rattle.std.proofs.lemmas.List.Sums.{sum_by-insert}
 use Rattle.std.proofs.lemmas.List.Concat.{flat_map-append}
-use Rattle.pad_model.specs.Cell.{Cell, IsInOrder, character_of, new_cells, with_run}
-use Rattle.pad_model.specs.Log.{run_may_join}
+use Rattle.pad_model.specs.Cell.{Cell, IsInOrder, character_of, new_cells, with_run, delete_spans, is_hidden_by, without_spans}
+use Rattle.pad_model.specs.Log.{run_may_join, has_spans}
+use Rattle.pad_model.specs.declared.op.Span.{Span}
+use Rattle.std.proofs.Common.{Ok, count_by}
 use Rattle.pad_model.specs.Scan.{put}
 use Rattle.pad_model.specs.Stamp.{Stamp, same_stamp}
 use Rattle.pad_model.specs.declared.op.Run.{Run}
@@ -120,3 +122,11 @@ nothing_kept authors text m bs none blank new = rw (none, blank, new) (record {
   full = refl;
   order = record { tree = record { distinct = Rattle.pad_model.proofs.Rising.IsDistinct-nil character_of; rooted = tt; later = tt }; is = refl };
 })
+
+-- the same where the authors stay
+pub same_cells_kept : (authors : List Author) (text : List ℕ) (m n : Index) (bs after : List Block) → IsBlockSeq authors text m bs → IsKept n after → SameCells bs after
+    → IsBlockSeq authors text n after × (cells_of authors text after ≡ cells_of authors text bs)
+same_cells_kept authors text m n bs after s kept same = unchanged authors authors (record { name = []; origin = 0 }) text m n bs after s (inl refl) kept same
+
+pub delete-ok : (rev : ℕ) (spans : List Span) (now : List Cell) → has_spans character_of now spans ≡ true → delete_spans rev spans now ≡ (Ok (count_by (is_hidden_by spans) now), without_spans rev spans now)
+delete-ok rev spans now e = rw e refl

@@ -1,12 +1,15 @@
 -- What the sequence of blocks keeps.
-use Rattle.std.specs.Prelude.{◌≡◌, ℕ, suc, ◌-◌, ◌<◌, List, ◌++◌, length, sum_by, take, drop, Option, Some, None, slice_get}
+use Rattle.std.specs.Prelude.{◌≡◌, ℕ, suc, ◌-◌, ◌<◌, List, ◌++◌, length, sum_by, take, drop, Option, Some, None, slice_get, Bool, ◌&&◌, is_none, flat_map, if◌then◌else◌}
 use Rattle.std.specs.List.{AllByRecursion, prefix_len}
 use Rattle.pad_model.specs.Cell.{Cell, IsInOrder, character_of}
 use Rattle.pad_model.specs.Scan.{put}
 use Rattle.pad_model.specs.Stamp.{Stamp, newer}
 use Rattle.pad_model.specs.declared.who.Author.{Author}
 use Rattle.ident_index.specs.Index.{Index, Covers, stamp_behind}
-use Rattle.blocks.specs.Blocks.{IsKept}
+use Rattle.pad_model.specs.Operation.{span_stamps}
+use Rattle.pad_model.specs.Visible.{is_erased}
+use Rattle.pad_model.specs.declared.op.Span.{Span}
+use Rattle.blocks.specs.Blocks.{IsKept, IsEdge}
 use Rattle.blocks.specs.Cells.{cells_of, IsWithin}
 use Rattle.blocks.specs.declared.block.Block.{Block}
 
@@ -40,3 +43,19 @@ IsPlaceFor parent first bs rank =
 -- how many blocks in front begin with a newer stamp
 abbrev pub passes : Stamp → List Block → ℕ
 passes first bs = prefix_len (λ b. newer b.first first) bs
+
+-- no block reaches over the beginning of a span, nor over its end
+abbrev pub IsCutOut : Index → Span → Type 0
+IsCutOut m span = IsEdge m span.first × IsEdge m (stamp_behind span.first span.len)
+
+-- whether a deletion hides a block anew, by its first stamp
+abbrev pub is_killed : List Span → Block → Bool
+is_killed spans b = is_erased (flat_map span_stamps spans) b.first && is_none b.died
+
+-- a block after a deletion
+abbrev pub killed : ℕ → List Span → Block → Block
+killed rev spans b = if is_killed spans b then record b { died = Some rev } else b
+
+-- how many characters of a block a deletion hides anew
+abbrev pub hidden_len : List Span → Block → ℕ
+hidden_len spans b = if is_killed spans b then b.len else 0

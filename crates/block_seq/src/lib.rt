@@ -9,6 +9,7 @@ mod place;
 mod plain;
 mod put;
 mod readers;
+mod row_erase;
 mod rows;
 mod run_place;
 mod stretches;

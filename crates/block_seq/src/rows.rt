@@ -1,16 +1,17 @@
 //! The sequence of blocks: a balanced tree of them, an index of their stamps, and one text that they only add to.
 ghost use Rattle.std.specs.Prelude.{◌≡◌, ◌+◌, ◌≤◌, ◌++◌, [], IsTrue, MatchResult, length, vec_len, vec_capacity};
-ghost use Rattle.std.specs.List.{AllByRecursion};
+ghost use Rattle.std.specs.List.{AllByRecursion, list_all};
 ghost use Rattle.pad_model.specs.Answers.{Answers};
-ghost use Rattle.pad_model.specs.Cell.{IsBy, IsInOrder, character_of, insert_run as insert_cells, last_of as greatest_of};
+ghost use Rattle.pad_model.specs.Cell.{IsBy, IsInOrder, character_of, delete_spans as delete_cells, insert_run as insert_cells, last_of as greatest_of};
 ghost use Rattle.pad_model.specs.Legal.{has_stamp};
-ghost use Rattle.pad_model.specs.Checked.{is_run};
+ghost use Rattle.pad_model.specs.Checked.{is_run, is_span};
 
 use crate::authors::place_author;
+use crate::row_erase::{cut_spans, has_spans, kill_named};
 use crate::run_place::{has_character, place_run, run_fits};
 use blocks::{Block, put_block};
 use ident_index::IdentIndex;
-use pad_model::{Author, MAX_CHARACTERS, Refusal, Run, Stamp};
+use pad_model::{Author, MAX_CHARACTERS, Refusal, Run, Span, Stamp};
 use std::alloc::Global;
 use std::marker::Model;
 use weight_tree::WeightTree;
@@ -95,6 +96,20 @@ impl BlockSeq {
         put_block(alloc, &mut self.tree, &mut self.index, rank, block)?;
         push_text(&mut self.text, run.text.as_slice());
         Ok(())
+    }
+
+    /// Erases the characters of the spans that are not erased yet, and answers their number.
+    pub fn delete_spans(&mut self, spans: &[Span], rev: u64) -> Result<u64, Refusal>
+        requires checked { IsTrue (list_all is_span spans.now) }
+        requires latest { AllByRecursion (IsBy rev) self.old }
+        ensures { Answers self.old (delete_cells rev spans.now self.old) result self.new }
+    {
+        if !has_spans(&self.tree, &self.index, spans) {
+            return Err(Refusal::PeerFault);
+        }
+        let alloc = *self.text.allocator();
+        cut_spans(alloc, &mut self.tree, &mut self.index, spans)?;
+        Ok(kill_named(&mut self.tree, &self.index, spans, rev))
     }
 
     /// Whether a character is there, erased or not.

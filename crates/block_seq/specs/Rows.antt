@@ -1,7 +1,7 @@
 -- What the sequence of blocks keeps.
-use Rattle.std.specs.Prelude.{◌≡◌, ℕ, suc, ◌-◌, ◌<◌, List, ◌++◌, length, sum_by, take, drop, Option, Some, None, slice_get, Bool, ◌&&◌, is_none, flat_map, if◌then◌else◌}
+use Rattle.std.specs.Prelude.{◌≡◌, ℕ, suc, ◌-◌, ◌<◌, List, ◌++◌, length, sum_by, take, drop, Option, Some, None, slice_get, [], ◌∷◌, Bool, nat_le, nat_lt, ◌&&◌, is_none, flat_map, if◌then◌else◌}
 use Rattle.std.specs.List.{AllByRecursion, prefix_len}
-use Rattle.pad_model.specs.Cell.{Cell, IsInOrder, character_of}
+use Rattle.pad_model.specs.Cell.{Cell, IsInOrder, character_of, is_after}
 use Rattle.pad_model.specs.Scan.{put}
 use Rattle.pad_model.specs.Stamp.{Stamp, newer}
 use Rattle.pad_model.specs.declared.who.Author.{Author}
@@ -10,7 +10,7 @@ use Rattle.pad_model.specs.Operation.{span_stamps}
 use Rattle.pad_model.specs.Visible.{is_erased}
 use Rattle.pad_model.specs.declared.op.Span.{Span}
 use Rattle.blocks.specs.Blocks.{IsKept, IsEdge}
-use Rattle.blocks.specs.Cells.{cells_of, IsWithin}
+use Rattle.blocks.specs.Cells.{cells_of, stretch, IsWithin}
 use Rattle.blocks.specs.declared.block.Block.{Block}
 
 -- the index is that of the blocks, their stretches and authors are there, they fill the text, and the cells stand in preorder
@@ -59,3 +59,20 @@ killed rev spans b = if is_killed spans b then record b { died = Some rev } else
 -- how many characters of a block a deletion hides anew
 abbrev pub hidden_len : List Span → Block → ℕ
 hidden_len spans b = if is_killed spans b then b.len else 0
+
+-- whether a block is visible at a revision
+abbrev pub shows : ℕ → Block → Bool
+shows rev b = nat_le b.born rev && is_after rev b.died
+
+-- how many characters of a block are visible at a revision
+abbrev pub shown_len : ℕ → Block → ℕ
+shown_len rev b = if shows rev b then b.len else 0
+
+-- the visible characters of a block
+abbrev pub shown_stretch : ℕ → List ℕ → Block → List ℕ
+shown_stretch rev text b = if shows rev b then stretch text b else []
+
+-- the stamp of the visible character at a place
+abbrev pub stamp_in : ℕ → List Block → ℕ → Option Stamp
+stamp_in rev [] i = None
+stamp_in rev (b ∷ bs) i = if nat_lt i (shown_len rev b) then Some (stamp_behind b.first i) else stamp_in rev bs (i - shown_len rev b)

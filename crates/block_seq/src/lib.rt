@@ -10,6 +10,8 @@ mod plain;
 mod put;
 mod readers;
 mod row_erase;
+mod row_parts;
+mod row_readers;
 mod rows;
 mod run_place;
 mod stretches;

@@ -2,16 +2,19 @@
 ghost use Rattle.std.specs.Prelude.{◌≡◌, ◌+◌, ◌≤◌, ◌++◌, [], IsTrue, MatchResult, length, vec_len, vec_capacity};
 ghost use Rattle.std.specs.List.{AllByRecursion, list_all};
 ghost use Rattle.pad_model.specs.Answers.{Answers};
-ghost use Rattle.pad_model.specs.Cell.{IsBy, IsInOrder, character_of, delete_spans as delete_cells, insert_run as insert_cells, last_of as greatest_of};
+ghost use Rattle.pad_model.specs.Cell.{IsBy, clock_of, IsInOrder, cells_at, cell_stamp_at, text_at as cells_text, character_of, delete_spans as delete_cells, insert_run as insert_cells, last_of as greatest_of};
 ghost use Rattle.pad_model.specs.Legal.{has_stamp};
-ghost use Rattle.pad_model.specs.Checked.{is_run, is_span};
+ghost use Rattle.pad_model.specs.Parts.{part_fits};
+ghost use Rattle.pad_model.specs.Checked.{are_parts, is_run, is_span};
 
 use crate::authors::place_author;
 use crate::row_erase::{cut_spans, has_spans, kill_named};
+use crate::row_parts::parts_fit;
+use crate::row_readers::{count_visible, find_visible, greatest_counter, read_text};
 use crate::run_place::{has_character, place_run, run_fits};
 use blocks::{Block, put_block};
 use ident_index::IdentIndex;
-use pad_model::{Author, MAX_CHARACTERS, Refusal, Run, Span, Stamp};
+use pad_model::{Author, MAX_CHARACTERS, Part, Refusal, Run, Span, Stamp, Text};
 use std::alloc::Global;
 use std::marker::Model;
 use weight_tree::WeightTree;
@@ -134,5 +137,46 @@ impl BlockSeq {
     {
         let _kept = &self.tree;
         self.text.len() as u64
+    }
+
+    /// How many characters are visible.
+    pub fn len_at(&self, rev: u64) -> u64
+        ensures { result ≡ length (cells_at rev self.now) }
+    {
+        let _text = &self.text;
+        count_visible(&self.tree, rev)
+    }
+
+    /// The stamp of the visible character at a place, from 0.
+    pub fn stamp_at(&self, rev: u64, place: u64) -> Option<Stamp>
+        ensures { result ≡ cell_stamp_at rev self.now place }
+    {
+        let _text = &self.text;
+        find_visible(&self.tree, rev, place)
+    }
+
+    /// The text that is visible.
+    pub fn text_at(&self, alloc: Global, rev: u64) -> Result<Text, Refusal>
+        ensures { MatchResult result (λ text. text ≡ cells_text rev self.now) (λ e. e ≡ Refusal.Memory) }
+    {
+        let text = self.text.as_slice();
+        Ok(Text::from_vec(read_text(alloc, &self.tree, text, self.authors.len(), rev)?))
+    }
+
+    /// The greatest counter of any character, or 0.
+    pub fn clock(&self) -> u64
+        ensures { result ≡ clock_of self.now }
+    {
+        let _text = &self.text;
+        greatest_counter(&self.tree)
+    }
+
+    /// Whether each part of one operation of an origin fits what stands there, as `apply` wants it.
+    pub fn fits(&self, parts: &[Part], _origin: u16) -> bool
+        requires checked { IsTrue (are_parts _origin parts.now) }
+        ensures { result ≡ list_all (part_fits character_of self.now) parts.now }
+    {
+        let _text = &self.text;
+        parts_fit(&self.tree, &self.index, parts)
     }
 }

@@ -7,12 +7,8 @@ use Rattle.pad_model.specs.Operation.{span_stamps}
 use Rattle.pad_model.specs.declared.op.Span.{Span}
 use Rattle.pad_model.proofs.Erase.{has_spans-each}
 use Rattle.blocks.specs.Cells.{cells_of}
+use Rattle.block_seq.proofs.RowReads.{passes_one}
 use Rattle.block_seq.proofs.row_erase.has_spans.Goals as goal
-
-passes_one : (f : Span → Bool) (spans : List Span) (i : Rattle.std.proofs.Common.ℕ) (span : Span) → Rattle.std.proofs.Common.◌<◌ i (Rattle.std.proofs.Common.length spans) → span ≡ get_or spans i span → f span ≡ true
-    → list_all f (drop i spans) ≡ list_all f spans → list_all f (drop (i + 1) spans) ≡ list_all f spans
-passes_one f spans i span h is pass so_far =
-    sym (ap (list_all f) (drop-cons spans i span h) ∙ (let first : f (get_or spans i span) ≡ true = ap f (sym is) ∙ pass in rw (first, add-one i) Rattle.std.proofs.Common.refl)) ∙ so_far
 
 pub returns-then-not-has_span : goal.returns-then-not-has_span
 returns-then-not-has_span c = λ authors text w.

@@ -5,12 +5,13 @@ use Rattle.std.proofs.lemmas.Bool.{cases_lt}
 use Rattle.std.proofs.lemmas.List.{map-append}
 use Rattle.std.proofs.lemmas.List.Elements.{filter-append}
 use Rattle.std.proofs.lemmas.List.Sums.{sum_by-cons}
-use Rattle.pad_model.specs.Cell.{Cell, cells_at, shown_at, is_after, text_at, cell_stamp_at}
+use Rattle.pad_model.specs.Cell.{Cell, character_of, cells_at, shown_at, is_after, text_at, cell_stamp_at}
 use Rattle.pad_model.specs.Character.{next}
-use Rattle.pad_model.specs.Stamp.{Stamp}
+use Rattle.pad_model.specs.Stamp.{Stamp, same_stamp}
+use Rattle.pad_model.specs.Visible.{shown_before}
 use Rattle.pad_model.specs.declared.who.Author.{Author}
-use Rattle.pad_model.proofs.Newer.{split}
-use Rattle.ident_index.specs.Index.{stamp_behind}
+use Rattle.pad_model.proofs.Newer.{split, same_stamp-refl, same_stamp-true}
+use Rattle.ident_index.specs.Index.{Covers, stamp_behind}
 use Rattle.ident_index.proofs.Order.{same_stamps}
 use Rattle.blocks.specs.declared.block.Block.{Block}
 use Rattle.blocks.specs.Blocks.{IsSized}
@@ -137,3 +138,64 @@ clock-blocks authors text (b ∷ bs) low w z =
 pub passes_one : {A : Type 0} (f : A → Bool) (xs : List A) (i : ℕ) (x : A) → i < length xs → x ≡ get_or xs i x → f x ≡ true → list_all f (drop i xs) ≡ list_all f xs → list_all f (drop (i + 1) xs) ≡ list_all f xs
 passes_one f xs i x h is pass so_far =
     sym (ap (list_all f) (drop-cons xs i x h) ∙ (let first : f (get_or xs i x) ≡ true = ap f (sym is) ∙ pass in rw (first, add-one i) refl)) ∙ so_far
+
+-- ---- what stands before a character
+pub sum_take : {A : Type 0} (g : A → ℕ) (xs : List A) (i : ℕ) (x : A) → slice_get xs i ≡ Some x → sum_by g (take (i + 1) xs) ≡ sum_by g (take i xs) + g x
+sum_take g [] i x e = absurd (cc)
+sum_take g (y ∷ xs) zero x e = let same : y ≡ x = cc in sum_by-cons g y [] ∙ (let gs = ap g same in omega (arith, gs))
+sum_take g (y ∷ xs) (suc i) x e =
+    let rest = sum_take g xs i x e in
+    rw Rattle.std.proofs.Common.suc-add (rw (sum_by-cons g y (take (i + 1) xs), sum_by-cons g y (take i xs)) (omega (arith, rest)))
+
+pub front_small : (rev : ℕ) (bs : List Block) (i : ℕ) → sum_by (shown_len rev) (take i bs) ≤ sum_by (λ b. b.len) bs
+front_small rev [] zero = omega arith
+front_small rev [] (suc i) = omega arith
+front_small rev (b ∷ bs) zero = omega arith
+front_small rev (b ∷ bs) (suc i) =
+    let rest = front_small rev bs i in
+    let here : shown_len rev b ≤ b.len = split (shows rev b) (λ e. rw e (omega arith)) (λ e. rw e (omega arith)) in
+    rw (sum_by-cons (shown_len rev) b (take i bs), sum_by-cons (λ (x : Block). x.len) b bs) (omega (arith, rest, here))
+
+module _ (rev : ℕ) (author : Author) (born : ℕ) (died : Option ℕ) (a : Stamp) (rest : List Cell) where
+  apart_from : (s : Stamp) (n : ℕ) → (Covers s (suc n) a → ⊥) → same_stamp s a ≡ false
+  apart_from s n none = split (same_stamp s a)
+      (λ e. let same = same_stamp-true s a e in
+      let counter = ap (λ (k : Stamp). k.counter) same in
+      absurd (none (ap (λ (k : Stamp). k.replica) same, omega arith, omega arith))) (λ e. e)
+
+  before_misses : (s : Stamp) (p : Option Stamp) (text : List ℕ) → (Covers s (length text) a → ⊥) →
+      shown_before character_of (shown_at rev) (run_cells author born died s p text ++ rest) a ≡ cond (nat_le born rev && is_after rev died) (length text) 0 + shown_before character_of (shown_at rev) rest a
+  before_misses s p [] none = split (nat_le born rev && is_after rev died) (λ e. rw e (omega arith)) (λ e. rw e (omega arith))
+  before_misses s p (c ∷ text) none =
+      let more = before_misses (next s) (Some s) text (λ k. none (k.0, omega arith, omega arith)) in
+      rw (apart_from s (length text) none) (split (nat_le born rev && is_after rev died) (λ e. let m = rw e at more in rw e (omega (arith, m))) (λ e. let m = rw e at more in rw e (omega (arith, m))))
+
+  before_hits : (s : Stamp) (p : Option Stamp) (text : List ℕ) (o : ℕ) → a ≡ stamp_behind s o → o < length text →
+      shown_before character_of (shown_at rev) (run_cells author born died s p text ++ rest) a ≡ cond (nat_le born rev && is_after rev died) o 0
+  before_hits s p [] o is h = absurd (omega arith)
+  before_hits s p (c ∷ text) zero is h =
+      let same : s ≡ a = same_stamps s a (let e : a.counter ≡ s.counter + 0 = ap (λ (k : Stamp). k.counter) is in omega (arith, e)) (sym (ap (λ (k : Stamp). k.replica) is)) in
+      let here : same_stamp s a ≡ true = subst (λ (k : Stamp). same_stamp s k ≡ true) same (same_stamp-refl s) in
+      rw here (split (nat_le born rev && is_after rev died) (λ e. rw e refl) (λ e. rw e refl))
+  before_hits s p (c ∷ text) (suc o) is h =
+      let counter : a.counter ≡ s.counter + suc o = ap (λ (k : Stamp). k.counter) is in
+      let apart : same_stamp s a ≡ false = split (same_stamp s a) (λ e. let k = ap (λ (k : Stamp). k.counter) (same_stamp-true s a e) in absurd (omega arith)) (λ e. e) in
+      let more = before_hits (next s) (Some s) text o (is ∙ same_stamps _ _ (omega arith) refl) (omega arith) in
+      rw apart (split (nat_le born rev && is_after rev died) (λ e. let m = rw e at more in rw e (omega (arith, m))) (λ e. let m = rw e at more in rw e (omega (arith, m))))
+
+pub before-blocks : (rev : ℕ) (authors : List Author) (text : List ℕ) (bs : List Block) (r o : ℕ) (b : Block) (a : Stamp) → AllByRecursion (IsWithin (length authors) (length text)) bs → slice_get bs r ≡ Some b → a ≡ stamp_behind b.first o → o < b.len
+    → ((i : ℕ) (x : Block) → i < r → slice_get bs i ≡ Some x → Covers x.first x.len a → ⊥)
+    → shown_before character_of (shown_at rev) (cells_of authors text bs) a ≡ sum_by (shown_len rev) (take r bs) + cond (shows rev b) o 0
+before-blocks rev authors text [] r o b a w e is h none = absurd (cc)
+before-blocks rev authors text (x ∷ bs) zero o b a w e is h none =
+    let same : x ≡ b = cc in
+    let all = length-stretch text x w.0.1 in
+    let len : x.len ≡ b.len = ap (λ (y : Block). y.len) same in
+    before_hits rev (author_at authors x.author) x.born x.died a (cells_of authors text bs) x.first x.parent (stretch text x) o (subst (λ (y : Block). a ≡ stamp_behind y.first o) (sym same) is) (omega (arith, all))
+    ∙ ap (λ (y : Block). cond (shows rev y) o 0) same ∙ (let plain : cond (shows rev b) o 0 ≡ 0 + cond (shows rev b) o 0 = omega arith in plain)
+before-blocks rev authors text (x ∷ bs) (suc r) o b a w e is h none =
+    let all = length-stretch text x w.0.1 in
+    let rest = before-blocks rev authors text bs r o b a w.1 e is h (λ i y l. none (suc i) y (omega arith)) in
+    before_misses rev (author_at authors x.author) x.born x.died a (cells_of authors text bs) x.first x.parent (stretch text x) (λ c. none 0 x (omega arith) refl (subst (λ n. Covers x.first n a) all c))
+    ∙ ap (λ n. cond (shows rev x) n 0 + shown_before character_of (shown_at rev) (cells_of authors text bs) a) all
+    ∙ rw (sum_by-cons (shown_len rev) x (take r bs)) (omega (arith, rest))

@@ -1,5 +1,6 @@
 //! What the blocks show at a revision, by one walk along the tree.
-ghost use Rattle.std.specs.Prelude.{◌≡◌, ◌+◌, ◌≤◌, ◌++◌, [], ◌-◌, length, sum_by, flat_map, fold, max, IfOk};
+ghost use Rattle.std.specs.Prelude.{◌≡◌, ◌+◌, ◌≤◌, ◌++◌, [], ◌-◌, length, sum_by, flat_map, fold, max, IfOk, ◌<◌, Some, take, slice_get, if◌then◌else◌};
+ghost use Rattle.blocks.specs.declared.block.Block.{Block as BlockValue};
 ghost use Rattle.std.specs.List.{AllByRecursion};
 ghost use Rattle.blocks.specs.Cells.{IsWithin};
 ghost use Rattle.block_seq.specs.Rows.{shows, shown_len, shown_stretch, stamp_in};
@@ -98,4 +99,32 @@ pub fn greatest_counter(tree: &WeightTree<Block>) -> u64
         most = most.max(last);
     }
     most
+}
+
+/// How many characters of the blocks before a rank are visible.
+fn count_front(tree: &WeightTree<Block>, rank: usize, rev: u64) -> u64
+    requires within { rank ≤ length tree.now.items }
+    requires small { sum_by (λ b. b.len) tree.now.items ≤ MAX_CHARACTERS }
+    ensures { result ≡ sum_by (shown_len rev) (take rank tree.now.items) }
+{
+    let mut count = 0;
+    for place in 0..rank {
+        count += visible_len(tree.get(place), rev);
+    }
+    count
+}
+
+/// How many visible characters stand before one, given where it is: those of its block, if it is visible, and of those before.
+pub fn count_before(tree: &WeightTree<Block>, rank: usize, offset: u64, rev: u64) -> u64
+    requires within { rank < length tree.now.items }
+    requires small { sum_by (λ b. b.len) tree.now.items ≤ MAX_CHARACTERS }
+    requires inside { offset ≤ MAX_CHARACTERS }
+    ensures { (b : BlockValue) → slice_get tree.now.items rank ≡ Some b → result ≡ sum_by (shown_len rev) (take rank tree.now.items) + (if shows rev b then offset else 0) }
+{
+    let front = count_front(tree, rank, rev);
+    if is_visible(tree.get(rank), rev) {
+        front + offset
+    } else {
+        front
+    }
 }

@@ -2,7 +2,7 @@
 ghost use Rattle.std.specs.Prelude.{◌≡◌, ◌+◌, ◌≤◌, ◌++◌, [], IsTrue, MatchResult, length, vec_len, vec_capacity};
 ghost use Rattle.std.specs.List.{AllByRecursion, list_all};
 ghost use Rattle.pad_model.specs.Answers.{Answers};
-ghost use Rattle.pad_model.specs.Cell.{IsBy, clock_of, IsInOrder, cells_at, cell_stamp_at, text_at as cells_text, character_of, delete_spans as delete_cells, insert_run as insert_cells, last_of as greatest_of};
+ghost use Rattle.pad_model.specs.Cell.{IsBy, before_at, clock_of, IsInOrder, cells_at, cell_stamp_at, text_at as cells_text, character_of, delete_spans as delete_cells, insert_run as insert_cells, last_of as greatest_of};
 ghost use Rattle.pad_model.specs.Legal.{has_stamp};
 ghost use Rattle.pad_model.specs.Parts.{part_fits};
 ghost use Rattle.pad_model.specs.Checked.{are_parts, is_run, is_span};
@@ -10,9 +10,9 @@ ghost use Rattle.pad_model.specs.Checked.{are_parts, is_run, is_span};
 use crate::authors::place_author;
 use crate::row_erase::{cut_spans, has_spans, kill_named};
 use crate::row_parts::parts_fit;
-use crate::row_readers::{count_visible, find_visible, greatest_counter, read_text};
+use crate::row_readers::{count_before, count_visible, find_visible, greatest_counter, read_text};
 use crate::run_place::{has_character, place_run, run_fits};
-use blocks::{Block, put_block};
+use blocks::{Block, find_block, put_block};
 use ident_index::IdentIndex;
 use pad_model::{Author, MAX_CHARACTERS, Part, Refusal, Run, Span, Stamp, Text};
 use std::alloc::Global;
@@ -178,5 +178,13 @@ impl BlockSeq {
     {
         let _text = &self.text;
         parts_fit(&self.tree, &self.index, parts)
+    }
+
+    /// How many visible characters stand before a character; None where it is missing.
+    pub fn before(&self, stamp: Stamp, rev: u64) -> Option<u64>
+        ensures { result ≡ before_at rev self.now stamp }
+    {
+        let spot = find_block(&self.tree, &self.index, stamp)?;
+        Some(count_before(&self.tree, spot.rank, spot.offset, rev))
     }
 }

@@ -8,7 +8,7 @@ use Rattle.std.proofs.lemmas.List.Sums.{sum_by-cons}
 use Rattle.pad_model.specs.Cell.{Cell, character_of, cells_at, shown_at, is_after, text_at, cell_stamp_at}
 use Rattle.pad_model.specs.Character.{next}
 use Rattle.pad_model.specs.Stamp.{Stamp, same_stamp}
-use Rattle.pad_model.specs.Visible.{shown_before}
+use Rattle.pad_model.specs.Visible.{shown_before, shown_through}
 use Rattle.pad_model.specs.declared.who.Author.{Author}
 use Rattle.pad_model.proofs.Newer.{split, same_stamp-refl, same_stamp-true}
 use Rattle.ident_index.specs.Index.{Covers, stamp_behind}
@@ -198,4 +198,43 @@ before-blocks rev authors text (x ∷ bs) (suc r) o b a w e is h none =
     let rest = before-blocks rev authors text bs r o b a w.1 e is h (λ i y l. none (suc i) y (omega arith)) in
     before_misses rev (author_at authors x.author) x.born x.died a (cells_of authors text bs) x.first x.parent (stretch text x) (λ c. none 0 x (omega arith) refl (subst (λ n. Covers x.first n a) all c))
     ∙ ap (λ n. cond (shows rev x) n 0 + shown_before character_of (shown_at rev) (cells_of authors text bs) a) all
+    ∙ rw (sum_by-cons (shown_len rev) x (take r bs)) (omega (arith, rest))
+
+-- ---- and up to it
+module _ (rev : ℕ) (author : Author) (born : ℕ) (died : Option ℕ) (a : Stamp) (rest : List Cell) where
+  through_misses : (s : Stamp) (p : Option Stamp) (text : List ℕ) → (Covers s (length text) a → ⊥) →
+      shown_through character_of (shown_at rev) (run_cells author born died s p text ++ rest) a ≡ cond (nat_le born rev && is_after rev died) (length text) 0 + shown_through character_of (shown_at rev) rest a
+  through_misses s p [] none = split (nat_le born rev && is_after rev died) (λ e. rw e (omega arith)) (λ e. rw e (omega arith))
+  through_misses s p (c ∷ text) none =
+      let more = through_misses (next s) (Some s) text (λ k. none (k.0, omega arith, omega arith)) in
+      rw (apart_from rev author born died a rest s (length text) none) (split (nat_le born rev && is_after rev died) (λ e. let m = rw e at more in rw e (omega (arith, m))) (λ e. let m = rw e at more in rw e (omega (arith, m))))
+
+  through_hits : (s : Stamp) (p : Option Stamp) (text : List ℕ) (o : ℕ) → a ≡ stamp_behind s o → o < length text →
+      shown_through character_of (shown_at rev) (run_cells author born died s p text ++ rest) a ≡ cond (nat_le born rev && is_after rev died) (o + 1) 0
+  through_hits s p [] o is h = absurd (omega arith)
+  through_hits s p (c ∷ text) zero is h =
+      let same : s ≡ a = same_stamps s a (let e : a.counter ≡ s.counter + 0 = ap (λ (k : Stamp). k.counter) is in omega (arith, e)) (sym (ap (λ (k : Stamp). k.replica) is)) in
+      let here : same_stamp s a ≡ true = subst (λ (k : Stamp). same_stamp s k ≡ true) same (same_stamp-refl s) in
+      rw here (split (nat_le born rev && is_after rev died) (λ e. rw e refl) (λ e. rw e refl))
+  through_hits s p (c ∷ text) (suc o) is h =
+      let counter : a.counter ≡ s.counter + suc o = ap (λ (k : Stamp). k.counter) is in
+      let apart : same_stamp s a ≡ false = split (same_stamp s a) (λ e. let k = ap (λ (k : Stamp). k.counter) (same_stamp-true s a e) in absurd (omega arith)) (λ e. e) in
+      let more = through_hits (next s) (Some s) text o (is ∙ same_stamps _ _ (omega arith) refl) (omega arith) in
+      rw apart (split (nat_le born rev && is_after rev died) (λ e. let m = rw e at more in rw e (omega (arith, m))) (λ e. let m = rw e at more in rw e (omega (arith, m))))
+
+pub through-blocks : (rev : ℕ) (authors : List Author) (text : List ℕ) (bs : List Block) (r o : ℕ) (b : Block) (a : Stamp) → AllByRecursion (IsWithin (length authors) (length text)) bs → slice_get bs r ≡ Some b → a ≡ stamp_behind b.first o → o < b.len
+    → ((i : ℕ) (x : Block) → i < r → slice_get bs i ≡ Some x → Covers x.first x.len a → ⊥)
+    → shown_through character_of (shown_at rev) (cells_of authors text bs) a ≡ sum_by (shown_len rev) (take r bs) + cond (shows rev b) (o + 1) 0
+through-blocks rev authors text [] r o b a w e is h none = absurd (cc)
+through-blocks rev authors text (x ∷ bs) zero o b a w e is h none =
+    let same : x ≡ b = cc in
+    let all = length-stretch text x w.0.1 in
+    let len : x.len ≡ b.len = ap (λ (y : Block). y.len) same in
+    through_hits rev (author_at authors x.author) x.born x.died a (cells_of authors text bs) x.first x.parent (stretch text x) o (subst (λ (y : Block). a ≡ stamp_behind y.first o) (sym same) is) (omega (arith, all))
+    ∙ ap (λ (y : Block). cond (shows rev y) (o + 1) 0) same ∙ (let plain : cond (shows rev b) (o + 1) 0 ≡ 0 + cond (shows rev b) (o + 1) 0 = omega arith in plain)
+through-blocks rev authors text (x ∷ bs) (suc r) o b a w e is h none =
+    let all = length-stretch text x w.0.1 in
+    let rest = through-blocks rev authors text bs r o b a w.1 e is h (λ i y l. none (suc i) y (omega arith)) in
+    through_misses rev (author_at authors x.author) x.born x.died a (cells_of authors text bs) x.first x.parent (stretch text x) (λ c. none 0 x (omega arith) refl (subst (λ n. Covers x.first n a) all c))
+    ∙ ap (λ n. cond (shows rev x) n 0 + shown_through character_of (shown_at rev) (cells_of authors text bs) a) all
     ∙ rw (sum_by-cons (shown_len rev) x (take r bs)) (omega (arith, rest))

@@ -2,7 +2,7 @@
 ghost use Rattle.std.specs.Prelude.{◌≡◌, ◌+◌, ◌≤◌, ◌++◌, [], IsTrue, MatchResult, length, vec_len, vec_capacity};
 ghost use Rattle.std.specs.List.{AllByRecursion, list_all};
 ghost use Rattle.pad_model.specs.Answers.{Answers};
-ghost use Rattle.pad_model.specs.Cell.{IsBy, before_at, clock_of, IsInOrder, cells_at, cell_stamp_at, text_at as cells_text, character_of, delete_spans as delete_cells, insert_run as insert_cells, last_of as greatest_of};
+ghost use Rattle.pad_model.specs.Cell.{IsBy, before_at, through_at, clock_of, IsInOrder, cells_at, cell_stamp_at, text_at as cells_text, character_of, delete_spans as delete_cells, insert_run as insert_cells, last_of as greatest_of};
 ghost use Rattle.pad_model.specs.Legal.{has_stamp};
 ghost use Rattle.pad_model.specs.Parts.{part_fits};
 ghost use Rattle.pad_model.specs.Checked.{are_parts, is_run, is_span};
@@ -186,5 +186,13 @@ impl BlockSeq {
     {
         let spot = find_block(&self.tree, &self.index, stamp)?;
         Some(count_before(&self.tree, spot.rank, spot.offset, rev))
+    }
+
+    /// How many visible characters stand up to and including a character; None where it is missing.
+    pub fn through(&self, stamp: Stamp, rev: u64) -> Option<u64>
+        ensures { result ≡ through_at rev self.now stamp }
+    {
+        let spot = find_block(&self.tree, &self.index, stamp)?;
+        Some(count_before(&self.tree, spot.rank, spot.offset + 1, rev))
     }
 }

@@ -1,5 +1,5 @@
 -- The cells of blocks after a cut and under other labels.
-use Rattle.std.proofs.Common.{◌≡◌, ℕ, zero, suc, ◌+◌, ◌-◌, ◌≤◌, ◌<◌, List, [], ◌∷◌, ◌++◌, length, take, drop, map, flat_map, Option, Some, None, refl, sym, ap, ap₂, ◌∙◌, subst, arith, slice_get, slice_set, append_assoc, length-take, length-drop}
+use Rattle.std.proofs.Common.{◌≡◌, ℕ, zero, suc, ◌+◌, ◌-◌, ◌≤◌, ◌<◌, List, [], ◌∷◌, ◌++◌, length, take, drop, Option, Some, refl, sym, ap, ap₂, ◌∙◌, subst, arith, slice_get, slice_set, append_assoc, length-take, length-drop}
 use Rattle.std.specs.List.{AllByRecursion, insert}
 use Rattle.pad_model.specs.Cell.{Cell}
 use Rattle.pad_model.specs.Character.{next}
@@ -10,7 +10,7 @@ use Rattle.ident_index.proofs.Order.{same_stamps}
 use Rattle.blocks.specs.declared.block.Block.{Block}
 use Rattle.blocks.specs.Blocks.{left_part, right_part, unlabelled, without_labels}
 use Rattle.blocks.proofs.Entries.{each_get, each_set, each_insert}
-use Rattle.blocks.specs.Cells.{author_at, run_cells, stretch, block_cells, cells_of, IsWithin, SameCells}
+use Rattle.blocks.specs.Cells.{author_at, run_cells, block_cells, cells_of, IsWithin, SameCells}
 
 -- a run in two parts
 run_split : (author : Author) (born : ℕ) (died : Option ℕ) (first : Stamp) (p : Option Stamp) (x : ℕ) (xs ys : List ℕ) (s q : Stamp) → s ≡ stamp_behind first (length xs + 1) → q ≡ stamp_behind first (length xs)

@@ -1,20 +1,18 @@
 -- What the index keeps of blocks, after one of them is changed and after one more.
 use Rattle.std.proofs.Common.{◌≡◌, ℕ, zero, suc, ◌+◌, ◌^◌, ◌≤◌, ◌<◌, Bool, true, false, cond, List, [], ◌∷◌, length, Option, Some, None, refl, sym, ap, ◌∙◌, subst, arith, slice_get, slice_set, sum_by}
 use Rattle.std.specs.List.{AllByRecursion, insert}
-use Rattle.std.specs.Option.{IsSomeAnd}
 use Rattle.std.specs.Ordering.{eq_by_cmp}
-use Rattle.std.specs.FinMap as map
-use Rattle.std.specs.FinMap.{get, get-insert}
+use Rattle.std.specs.FinMap.{get}
 use Rattle.std.proofs.lemmas.List.Sums.{sum_by-cons, sum_by-insert}
 use Rattle.pad_model.specs.Stamp.{Stamp}
-use Rattle.pad_model.specs.declared.limits.TheConstants.{MAX_CHARACTERS, MAX_COUNTER}
+use Rattle.pad_model.specs.declared.limits.TheConstants.{MAX_CHARACTERS}
 use Rattle.pad_model.proofs.Newer.{split}
 use Rattle.ident_index.specs.Index.{Index, stamp_cmp}
 use Rattle.ident_index.specs.declared.place.Entry.{Entry}
-use Rattle.ident_index.proofs.Order.{stamp_cmp_total, same_from_tied, tied, apart_stamps}
+use Rattle.ident_index.proofs.Order.{same_from_tied, tied, apart_stamps}
 use Rattle.weight_tree.proofs.CallerLemmas.{sum_replaced, sum_replaced_le}
 use Rattle.blocks.specs.declared.block.Block.{Block}
-use Rattle.blocks.specs.Blocks.{entry, entry_of, IsApart, IsSized, IsListed, weight_of, HoldsNoMore, IsEdge, KeepsEdges}
+use Rattle.blocks.specs.Blocks.{entry, entry_of, IsApart, IsSized, IsListed, weight_of, HoldsNoMore, KeepsEdges}
 
 cond_twice : {A : Type 0} (b : Bool) (x y z : A) → cond b x z ≡ cond b x (cond b y z)
 cond_twice true x y z = refl

@@ -2,13 +2,12 @@
 use Rattle.std.proofs.Common.{◌≡◌, ℕ, zero, suc, ◌+◌, ◌-◌, ◌≤◌, ◌<◌, ◌^◌, inl, inr, List, [], ◌∷◌, length, Option, Some, None, refl, sym, ap, ◌∙◌, subst, arith, slice_get, slice_set, sum_by}
 use Rattle.std.specs.FinMap.{get, get-insert}
 use Rattle.std.specs.FinMap as map
-use Rattle.std.specs.List.{AllByRecursion, insert}
-use Rattle.std.specs.Option.{IfSome, IsSomeAnd}
+use Rattle.std.specs.List.{insert}
+use Rattle.std.specs.Option.{IsSomeAnd}
 use Rattle.std.proofs.Math.ListN.{length-set}
-use Rattle.std.proofs.lemmas.List.Edits.{length-insert}
 use Rattle.pad_model.specs.Stamp.{Stamp}
 use Rattle.pad_model.specs.declared.limits.TheConstants.{MAX_CHARACTERS}
-use Rattle.ident_index.specs.Index.{Index, stamp_behind, Covers, Holds, IsSound, IsBlock, IsNew}
+use Rattle.ident_index.specs.Index.{Index, stamp_behind, Covers, Holds, IsSound, IsNew}
 use Rattle.ident_index.specs.declared.place.Entry.{Entry}
 use Rattle.ident_index.proofs.CallerLemmas.{covers_itself, get-from_new}
 use Rattle.ident_index.proofs.Order.{stamp_cmp_total, apart_stamps}
@@ -16,8 +15,8 @@ use Rattle.ident_index.proofs.Sound.{holds_insert, not_tied}
 use Rattle.weight_tree.proofs.CallerLemmas.{sum_replaced, sum_replaced_le}
 use Rattle.blocks.specs.declared.block.Block.{Block}
 use Rattle.blocks.specs.declared.block.TheConstants.{LAST_LABEL}
-use Rattle.blocks.specs.Blocks.{entry, entry_of, weight_of, IsSized, IsListed, IsKept, IsEdge, KeepsEdges, HoldsNoMore, Rises, below, above, left_part, right_part, without_labels, unlabelled}
-use Rattle.blocks.specs.Cells.{IsWithin, SameCells}
+use Rattle.blocks.specs.Blocks.{entry, entry_of, weight_of, IsSized, IsListed, IsKept, IsEdge, KeepsEdges, below, above, left_part, right_part, without_labels, unlabelled}
+use Rattle.blocks.specs.Cells.{SameCells}
 use Rattle.blocks.proofs.Cells.{cells-cut, within_cut}
 use Rattle.blocks.proofs.Entries.{entry_here, entry_set, listed_set, listed_insert, each_get, weights_small, weight-le-len, len_small, count_small}
 use Rattle.blocks.proofs.Labels.{Rises-insert, Rises-set, below-get, above-set, get-set}

@@ -1,8 +1,7 @@
-use Rattle.std.proofs.Common.{◌≡◌, ◌<◌, ◌+◌, subst, sym, arith, inl, inr}
+use Rattle.std.proofs.Common.{◌+◌, arith, inl, inr}
 use Rattle.std.proofs.lemmas.Bool.{cases_lt}
 use Rattle.pad_model.specs.declared.limits.TheConstants.{MAX_COUNTER}
 use Rattle.ident_index.specs.Index.{stamp_behind}
-use Rattle.blocks.specs.Blocks.{IsEdge}
 use Rattle.blocks.proofs.Cells.{same_then}
 use Rattle.block_seq.proofs.RowErase.{edge_past}
 use Rattle.block_seq.proofs.row_erase.cut_span.Goals as goal

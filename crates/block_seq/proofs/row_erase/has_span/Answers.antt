@@ -1,4 +1,4 @@
-use Rattle.std.proofs.Common.{◌≡◌, ◌+◌, ◌≤◌, sym, ap, subst, arith, leb, leb-true, length, refl}
+use Rattle.std.proofs.Common.{◌+◌, sym, subst, arith, leb, leb-true, refl}
 use Rattle.std.proofs.lemmas.Bool.{and_parts}
 use Rattle.std.proofs.lemmas.Option.{slice_get_within}
 use Rattle.pad_model.specs.Cell.{character_of}

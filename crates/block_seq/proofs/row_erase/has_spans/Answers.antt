@@ -1,10 +1,9 @@
-use Rattle.std.proofs.Common.{◌≡◌, ◌+◌, ◌∷◌, Bool, true, ◌&&◌, sym, ap, ◌∙◌, drop, get_or, drop-cons, add-one, drop_of_length-le, List}
+use Rattle.std.proofs.Common.{sym, ap, ◌∙◌, drop_of_length-le}
 use Rattle.std.specs.List.{list_all}
 use Rattle.std.proofs.lemmas.List.Folds.{list_all_at}
 use Rattle.pad_model.specs.Cell.{character_of}
 use Rattle.pad_model.specs.Legal.{has_stamp}
 use Rattle.pad_model.specs.Operation.{span_stamps}
-use Rattle.pad_model.specs.declared.op.Span.{Span}
 use Rattle.pad_model.proofs.Erase.{has_spans-each}
 use Rattle.blocks.specs.Cells.{cells_of}
 use Rattle.block_seq.proofs.RowReads.{passes_one}

@@ -1,4 +1,4 @@
-use Rattle.std.proofs.Common.{◌≡◌, true, ℕ, List, take, length}
+use Rattle.std.proofs.Common.{◌≡◌, ℕ, List, length}
 use Rattle.std.specs.List.{list_all, AllByRecursion}
 use Rattle.pad_model.specs.Cell.{character_of}
 use Rattle.pad_model.specs.Legal.{has_stamp}

@@ -1,6 +1,6 @@
 use Rattle.std.proofs.Common.{◌≡◌, false, true, sym, ap, subst, ◌∙◌, slice_set, Some}
 use Rattle.blocks.specs.declared.block.Block.{Block}
-use Rattle.block_seq.specs.Rows.{is_killed, killed, hidden_len}
+use Rattle.block_seq.specs.Rows.{is_killed}
 use Rattle.block_seq.proofs.RowErase.{set_same}
 use Rattle.block_seq.proofs.row_erase.kill_at.Goals as goal
 

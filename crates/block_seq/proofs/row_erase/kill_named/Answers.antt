@@ -1,6 +1,5 @@
-use Rattle.std.proofs.Common.{◌≡◌, ◌+◌, ◌++◌, take, drop, map, length, sum_by, slice_get, slice_set, Some, sym, ap, ◌∙◌, arith, add-zero}
-use Rattle.blocks.specs.Blocks.{IsSized}
-use Rattle.blocks.proofs.Entries.{some_at, each_get}
+use Rattle.std.proofs.Common.{◌+◌, length, slice_get, slice_set, sym, ap, ◌∙◌, arith}
+use Rattle.blocks.proofs.Entries.{some_at}
 use Rattle.block_seq.specs.Rows.{killed, hidden_len}
 use Rattle.block_seq.proofs.RowErase.{killed_more, sum_more, length-killed_front, hidden_small}
 use Rattle.block_seq.proofs.row_erase.kill_named.Goals as goal

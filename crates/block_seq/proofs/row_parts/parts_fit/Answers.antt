@@ -1,4 +1,4 @@
-use Rattle.std.proofs.Common.{◌≡◌, sym, ap, ◌∙◌, drop_of_length-le}
+use Rattle.std.proofs.Common.{sym, ap, ◌∙◌, drop_of_length-le}
 use Rattle.std.specs.List.{list_all}
 use Rattle.std.proofs.lemmas.List.Folds.{list_all_at}
 use Rattle.pad_model.specs.Cell.{character_of}

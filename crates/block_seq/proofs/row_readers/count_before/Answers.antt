@@ -1,5 +1,4 @@
 use Rattle.std.proofs.Common.{◌≡◌, true, false, sym, ap, ◌∙◌, arith}
-use Rattle.blocks.specs.declared.block.Block.{Block}
 use Rattle.block_seq.specs.Rows.{shows}
 use Rattle.block_seq.proofs.RowReads.{front_small}
 use Rattle.block_seq.proofs.row_readers.count_before.Goals as goal

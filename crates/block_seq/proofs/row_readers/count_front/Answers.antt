@@ -1,4 +1,4 @@
-use Rattle.std.proofs.Common.{◌≡◌, ◌+◌, arith}
+use Rattle.std.proofs.Common.{◌+◌, arith}
 use Rattle.block_seq.specs.Rows.{shown_len}
 use Rattle.block_seq.proofs.RowReads.{sum_take, front_small}
 use Rattle.block_seq.proofs.row_readers.count_front.Goals as goal

@@ -1,4 +1,4 @@
-use Rattle.std.proofs.Common.{◌≡◌, ◌+◌, sum_by, ap, ◌∙◌, arith}
+use Rattle.std.proofs.Common.{sum_by, ap, ◌∙◌, arith}
 use Rattle.std.proofs.lemmas.List.Sums.{sum_by-cons}
 use Rattle.block_seq.specs.Rows.{shown_len}
 use Rattle.block_seq.proofs.RowReads.{shown_small}

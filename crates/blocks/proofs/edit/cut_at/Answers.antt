@@ -1,5 +1,4 @@
-use Rattle.std.proofs.Common.{◌≡◌, ◌+◌, ◌<◌, refl, sym, ap, ◌∙◌, subst, Some, None, Option, slice_get, arith}
-use Rattle.std.specs.Option.{IsSomeAnd}
+use Rattle.std.proofs.Common.{◌≡◌, ◌<◌, sym, ap, ◌∙◌, slice_get, arith}
 use Rattle.pad_model.specs.Stamp.{Stamp}
 use Rattle.ident_index.specs.Index.{Holds, stamp_behind}
 use Rattle.ident_index.proofs.Order.{same_stamps}

@@ -1,6 +1,6 @@
 use Rattle.std.proofs.Common.{◌≡◌, Bool, true, false, inr, Ok, sym, ap, ap₂, ◌∙◌, subst, count_by}
 use Rattle.std.specs.Result.{IsErrAnd}
-use Rattle.pad_model.specs.Cell.{Cell, character_of, delete_spans, is_hidden_by, without_spans}
+use Rattle.pad_model.specs.Cell.{character_of, is_hidden_by, without_spans}
 use Rattle.pad_model.specs.Log.{has_spans}
 use Rattle.pad_model.proofs.Exits.{answers_memory, is_answered}
 use Rattle.blocks.specs.Cells.{cells_of}

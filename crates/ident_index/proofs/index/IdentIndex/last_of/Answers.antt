@@ -1,5 +1,4 @@
-use Rattle.std.proofs.Common.{◌≡◌, ◌≤◌, ◌+◌, ◌-◌, refl, sym, arith}
-use Rattle.pad_model.specs.Stamp.{Stamp}
+use Rattle.std.proofs.Common.{refl, arith}
 use Rattle.pad_model.specs.declared.limits.TheConstants.{MAX_COUNTER}
 use Rattle.ident_index.specs.Index.{IsBlock, IsSound}
 use Rattle.ident_index.specs.View.{stamp_of}

@@ -1,4 +1,9 @@
 pub mod Applied
+pub mod BlockCells
+pub mod BlockScan
+pub mod RowErase
+pub mod RowReads
+pub mod RowSteps
 pub mod Fronts
 pub mod Kept
 pub mod PartSteps

@@ -9,7 +9,13 @@ mod place;
 mod plain;
 mod put;
 mod readers;
+mod row_erase;
+mod row_parts;
+mod row_readers;
+mod rows;
+mod run_place;
 mod stretches;
 
 pub use place::PlainCell;
 pub use plain::PlainSeq;
+pub use rows::BlockSeq;

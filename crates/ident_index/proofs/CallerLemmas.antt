@@ -83,7 +83,7 @@ IsNew-from_ends m first len ends s covers other h =
     let apart = subst (λ o. IfSome o (λ e. (other.counter + e.len ≤ first.counter) ⊎ (first.counter + len ≤ other.counter))) found.1 (ends other (held.0 ∙ sym covers.0)) in
     no_overlap other.counter found.0.len first.counter len s.counter apart covers.1 covers.2 held.1 held.2
 
-covers_itself : (m : Index) (first : Stamp) (o : Option Entry) → get m first ≡ o → IfSome o (IsBlock first) → (Holds m first first → ⊥) → o ≡ None
+pub covers_itself : (m : Index) (first : Stamp) (o : Option Entry) → get m first ≡ o → IfSome o (IsBlock first) → (Holds m first first → ⊥) → o ≡ None
 covers_itself m first None is block none = refl
 covers_itself m first (Some e) is block none =
     let sized = block.sized in

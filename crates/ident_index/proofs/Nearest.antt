@@ -1,5 +1,5 @@
 -- The last block that begins no later than a stamp, in the keys' order, is the only one that may hold it.
-use Rattle.std.proofs.Common.{◌≡◌, ℕ, ◌-◌, ◌≤◌, ◌<◌, ◌⊎◌, inl, inr, false, Some, None, List, [], ◌∷◌, ◌++◌, refl, ◌∙◌, sym, subst, arith}
+use Rattle.std.proofs.Common.{◌≡◌, ℕ, ◌+◌, ◌-◌, ◌≤◌, ◌<◌, ◌⊎◌, inl, inr, false, Some, None, List, [], ◌∷◌, ◌++◌, refl, ◌∙◌, sym, subst, arith}
 use Rattle.std.specs.Option.{IfSome, IsSome, IsSomeAnd}
 use Rattle.std.specs.declared.cmp.Ordering.{Ordering}
 use Rattle.std.specs.declared.cmp.Ordering.TheVariants.{Less, Equal, Greater}
@@ -10,6 +10,7 @@ use Rattle.std.specs.BTreeMap.Range.{IsInRange, IsRangeOf}
 use Rattle.std.specs.declared.ops.Bound.TheVariants.{Included, Unbounded}
 use Rattle.std.proofs.lemmas.Cmp.{ranked}
 use Rattle.pad_model.specs.Stamp.{Stamp}
+use Rattle.pad_model.specs.declared.limits.TheConstants.{MAX_COUNTER}
 use Rattle.ident_index.specs.declared.place.Entry.{Entry}
 use Rattle.ident_index.specs.Index.{Index, stamp_behind, Covers, Holds, HoldsNone, IsBlock, IsSound, IsPlace}
 use Rattle.ident_index.proofs.Order.{same_stamps}
@@ -111,6 +112,54 @@ module _ (b : BTreeMap Key Entry) (m : Index) (s : Stamp) (r : List (Key × Entr
             (part.4 (k, e) t ends (key_of other) (in_part other replica counter) (subst (λ o. IsSome o) (get-kept b.entries m other kept) some));
       }
 
+  -- where it has nothing there, no block begins there
+  pub none_begins : r ≡ [] → (other : Stamp) → other.replica ≡ s.replica → other.counter ≤ s.counter → get m other ≡ None
+  none_begins nil other replica counter = get-kept b.entries m other kept ∙ part.5 nil (key_of other) (in_part other replica counter)
+
   -- where it has nothing there, no block holds s
   pub none_from_range : r ≡ [] → HoldsNone m s
   none_from_range nil = none_holds m s (λ other replica counter. get-kept b.entries m other kept ∙ part.5 nil (key_of other) (in_part other replica counter))
+
+-- no stamp of the replica that a block holds is behind the end of the nearest block to a stamp that none is behind
+pub nearest_bounds : (m : Index) (last first : Stamp) (e : Entry) → IsSound m → IsNearest m last first e → first.replica ≡ last.replica → last.counter ≡ MAX_COUNTER
+    → (other s : Stamp) → s.replica ≡ last.replica → Holds m other s → s.counter < first.counter + e.len
+nearest_bounds m last first e sound nearest same most other s replica h =
+    let found = some_entry (get m other) (λ x. Covers other x.len s) h in
+    let covers = found.2 in
+    let some : IsSome (get m other) = subst (λ o. IsSome o) (sym found.1) refl in
+    let block : IsBlock other found.0 = subst (λ o. IfSome o (IsBlock other)) found.1 (sound.blocks other) in
+    let limits = block.limits in
+    let placed = between_both first.replica last.replica other.replica first.counter last.counter other.counter nearest.begins (nearest.last other (covers.0 ∙ replica) (omega arith) some) (covers.0 ∙ replica) in
+    elim (Rattle.std.proofs.lemmas.Bool.cases_lt s.counter (first.counter + e.len)) [
+      | inl before ↦ before
+      | inr behind ↦
+          let sized : 1 ≤ e.len = (nearest_block m last first e sound nearest).sized in
+          let by_other : Holds m other first = subst (λ o. IsSomeAnd o (λ x. Covers other x.len first)) (sym found.1) (omega arith, omega arith, omega arith) in
+          let by_first : Holds m first first = subst (λ o. IsSomeAnd o (λ x. Covers first x.len first)) (sym nearest.here) (refl, omega arith, omega arith) in
+          let one : other ≡ first = sound.apart first other first by_other by_first in
+          let held : Holds m first s = subst (λ (x : Stamp). Holds m x s) one h in
+          let inside = subst (λ o. IsSomeAnd o (λ x. Covers first x.len s)) nearest.here held in
+          absurd (omega arith)
+    ]
+
+-- and that end is held
+pub nearest_end : (m : Index) (last first : Stamp) (e : Entry) (s : Stamp) → IsSound m → IsNearest m last first e → s.replica ≡ first.replica → s.counter ≡ first.counter + (e.len - 1) → Holds m first s
+nearest_end m last first e s sound nearest replica counter =
+    let sized : 1 ≤ e.len = (nearest_block m last first e sound nearest).sized in
+    subst (λ o. IsSomeAnd o (λ x. Covers first x.len s)) (sym nearest.here) (sym replica, omega arith, omega arith)
+
+-- what holds a stamp begins by the greatest counter
+pub holder_begins : (m : Index) (other s : Stamp) → IsSound m → Holds m other s → (other.counter ≤ MAX_COUNTER) × (other.replica ≡ s.replica) × IsSome (get m other)
+holder_begins m other s sound h =
+    let found = some_entry (get m other) (λ x. Covers other x.len s) h in
+    let block : IsBlock other found.0 = subst (λ o. IfSome o (IsBlock other)) found.1 (sound.blocks other) in
+    let limits = block.limits in
+    (limits.1, found.2.0, subst (λ o. IsSome o) (sym found.1) refl)
+
+-- where the nearest block is of another replica, none of the replica holds anything
+pub nearest_other : (m : Index) (last first : Stamp) (e : Entry) → IsSound m → IsNearest m last first e → (first.replica ≡ last.replica → ⊥) → last.counter ≡ MAX_COUNTER
+    → (other s : Stamp) → s.replica ≡ last.replica → Holds m other s → ⊥
+nearest_other m last first e sound nearest differ most other s replica h =
+    let begins = holder_begins m other s sound h in
+    let placed = between_both first.replica last.replica other.replica first.counter last.counter other.counter nearest.begins (nearest.last other (begins.1 ∙ replica) (omega arith) begins.2) (begins.1 ∙ replica) in
+    differ placed.0

@@ -1,12 +1,12 @@
 ghost use Rattle.std.specs.Prelude.{◌≡◌, ◌+◌, ◌<◌, ◌≤◌, OnOk, OnErr, IsSome, MatchOption};
 ghost use Rattle.std.specs.Option.{IsSomeAnd};
 ghost use Rattle.std.specs.FinMap as map;
-ghost use Rattle.pad_model.specs.Stamp.{IsInLimits};
+ghost use Rattle.pad_model.specs.Stamp.{IsInLimits, Stamp as StampValue};
 ghost use Rattle.pad_model.specs.declared.limits.TheConstants.{MAX_COUNTER};
-ghost use Rattle.ident_index.specs.Index.{IsNew, IsCut, IsRelabelled, IsPlace, HoldsNone, IsSound};
+ghost use Rattle.ident_index.specs.Index.{IsNew, IsCut, IsRelabelled, IsPlace, Holds, HoldsNone, IsSound};
 
 use crate::place::{Entry, Place};
-use pad_model::Stamp;
+use pad_model::{MAX_COUNTER, Stamp};
 use std::alloc::{AllocError, Global};
 use std::collections::BTreeMap;
 use std::marker::Model;
@@ -69,6 +69,13 @@ impl IdentIndex {
         self.entries.len()
     }
 
+    /// Does nothing. Its clause tells a caller's proof that the index is sound.
+    pub fn note_sound(&self)
+        ensures { IsSound self.now }
+    {
+        let _ = &self.entries;
+    }
+
     /// The block that begins with this stamp.
     pub fn get(&self, first: Stamp) -> Option<Entry>
         ensures value { result ≡ map.get self.now first }
@@ -112,6 +119,25 @@ impl IdentIndex {
             offset,
             label: entry.label,
         })
+    }
+
+    /// The greatest counter of a replica's characters, or 0.
+    pub fn last_of(&self, replica: u16) -> u64
+        ensures bound { (first s : StampValue) → s.replica ≡ replica → Holds self.now first s → s.counter ≤ result }
+        ensures there { (1 ≤ result → (first : StampValue) × Holds self.now first (record { counter = result; replica = replica })) }
+        ensures sound { IsSound self.now }
+    {
+        let last = Key {
+            replica,
+            counter: MAX_COUNTER,
+        };
+        let Some((key, entry)) = self.entries.range(..=last).next_back() else {
+            return 0;
+        };
+        if key.replica != replica {
+            return 0;
+        }
+        key.counter + (entry.len - 1)
     }
 
     /// Cuts a block in two: the left part keeps its label, and the right part gets this one.

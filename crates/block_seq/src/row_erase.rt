@@ -1,0 +1,138 @@
+//! Erasing characters of the sequence of blocks by spans of stamps.
+ghost use Rattle.std.specs.Prelude.{◌≡◌, ℕ, ◌+◌, ◌*◌, ◌≤◌, ◌<◌, List, Some, slice_get, slice_set, IsTrue, OnOk, IfErr, length, map, sum_by};
+ghost use Rattle.std.specs.List.{AllByRecursion, list_all};
+ghost use Rattle.pad_model.specs.Cell.{character_of};
+ghost use Rattle.pad_model.specs.Checked.{is_span};
+ghost use Rattle.pad_model.specs.Legal.{has_stamp};
+ghost use Rattle.pad_model.specs.Log.{has_spans as holds_spans};
+ghost use Rattle.pad_model.specs.Operation.{span_stamps};
+ghost use Rattle.pad_model.specs.declared.who.Author.{Author as AuthorValue};
+ghost use Rattle.blocks.specs.Blocks.{IsKept, KeepsEdges};
+ghost use Rattle.blocks.specs.Cells.{cells_of, IsWithin, SameCells};
+ghost use Rattle.block_seq.specs.Rows.{IsCutOut, is_killed, killed, hidden_len};
+ghost use Rattle.blocks.specs.declared.block.Block.{Block as BlockValue};
+
+use crate::erase::is_named;
+use blocks::{Block, cut_at, find_block, kill};
+use ident_index::IdentIndex;
+use pad_model::{Refusal, Span, Stamp};
+use std::alloc::Global;
+use weight_tree::WeightTree;
+
+/// Whether each character of a span is there, by one step for each block.
+fn has_span(tree: &WeightTree<Block>, index: &IdentIndex, span: &Span) -> bool
+    requires kept { IsKept index.now tree.now.items }
+    requires checked { IsTrue (is_span span.now) }
+    ensures { (authors : List AuthorValue) (text : List ℕ) → AllByRecursion (IsWithin (length authors) (length text)) tree.now.items → result ≡ list_all (λ s. has_stamp character_of (cells_of authors text tree.now.items) s) (span_stamps span.now) }
+{
+    let mut done = 0;
+    while done < span.len {
+        let Some(spot) = find_block(tree, index, span.first.plus(done)) else {
+            return false;
+        };
+        done += tree.get(spot.rank).len - spot.offset;
+    }
+    true
+}
+
+/// Whether each character of some spans is there.
+pub fn has_spans(tree: &WeightTree<Block>, index: &IdentIndex, spans: &[Span]) -> bool
+    requires kept { IsKept index.now tree.now.items }
+    requires checked { IsTrue (list_all is_span spans.now) }
+    ensures { (authors : List AuthorValue) (text : List ℕ) → AllByRecursion (IsWithin (length authors) (length text)) tree.now.items → result ≡ holds_spans character_of (cells_of authors text tree.now.items) spans.now }
+{
+    for span in spans {
+        if !has_span(tree, index, span) {
+            return false;
+        }
+    }
+    true
+}
+
+/// Cuts before a span and behind it.
+fn cut_span(
+    alloc: Global,
+    tree: &mut WeightTree<Block>,
+    index: &mut IdentIndex,
+    span: &Span,
+) -> Result<(), Refusal>
+    requires kept { IsKept index.old tree.old.items }
+    requires checked { IsTrue (is_span span.now) }
+    ensures kept { IsKept index.new tree.new.items }
+    ensures cells { SameCells tree.old.items tree.new.items }
+    ensures edges { KeepsEdges index.old index.new }
+    ensures cut { OnOk result (IsCutOut index.new span.now) }
+    ensures memory { IfErr result (λ e. e ≡ Refusal.Memory) }
+    ensures more { length tree.new.items ≤ length tree.old.items + 2 }
+{
+    cut_at(alloc, tree, index, span.first)?;
+    match Stamp::new(span.first.counter() + span.len, span.first.replica()) {
+        Ok(end) => cut_at(alloc, tree, index, end),
+        Err(_) => Ok(()),
+    }
+}
+
+/// Cuts before each span and behind it.
+pub fn cut_spans(
+    alloc: Global,
+    tree: &mut WeightTree<Block>,
+    index: &mut IdentIndex,
+    spans: &[Span],
+) -> Result<(), Refusal>
+    requires kept { IsKept index.old tree.old.items }
+    requires checked { IsTrue (list_all is_span spans.now) }
+    ensures kept { IsKept index.new tree.new.items }
+    ensures cells { SameCells tree.old.items tree.new.items }
+    ensures cut { OnOk result (AllByRecursion (IsCutOut index.new) spans.now) }
+    ensures memory { IfErr result (λ e. e ≡ Refusal.Memory) }
+    ensures more { length tree.new.items ≤ length tree.old.items + 2 * length spans.now }
+{
+    for span in spans {
+        cut_span(alloc, tree, index, span)?;
+    }
+    Ok(())
+}
+
+/// Whether a deletion hides a block anew, by its first stamp.
+fn is_doomed(block: &Block, spans: &[Span]) -> bool
+    ensures { result ≡ is_killed spans.now block.now }
+{
+    is_named(spans, block.first) && block.died.is_none()
+}
+
+/// Marks the death of the block at a rank, if the spans name it, and answers how many characters die.
+fn kill_at(
+    tree: &mut WeightTree<Block>,
+    index: &IdentIndex,
+    spans: &[Span],
+    rank: usize,
+    rev: u64,
+) -> u64
+    requires kept { IsKept index.now tree.old.items }
+    requires within { rank < length tree.old.items }
+    ensures kept { IsKept index.now tree.new.items }
+    ensures items { (b : BlockValue) → slice_get tree.old.items rank ≡ Some b → tree.new.items ≡ slice_set tree.old.items rank (killed rev spans.now b) }
+    ensures hidden { (b : BlockValue) → slice_get tree.old.items rank ≡ Some b → result ≡ hidden_len spans.now b }
+{
+    let block = tree.get(rank);
+    let len = block.len;
+    if !is_doomed(block, spans) {
+        return 0;
+    }
+    kill(tree, index, rank, rev);
+    len
+}
+
+/// Marks the death of each block that begins with a stamp of the spans, and answers how many characters die.
+pub fn kill_named(tree: &mut WeightTree<Block>, index: &IdentIndex, spans: &[Span], rev: u64) -> u64
+    requires { IsKept index.now tree.old.items }
+    ensures kept { IsKept index.now tree.new.items }
+    ensures items { tree.new.items ≡ map (killed rev spans.now) tree.old.items }
+    ensures hidden { result ≡ sum_by (hidden_len spans.now) tree.old.items }
+{
+    let mut hidden = 0;
+    for rank in 0..tree.len() {
+        hidden += kill_at(tree, index, spans, rank, rev);
+    }
+    hidden
+}

@@ -1,0 +1,198 @@
+//! The sequence of blocks: a balanced tree of them, an index of their stamps, and one text that they only add to.
+ghost use Rattle.std.specs.Prelude.{◌≡◌, ◌+◌, ◌≤◌, ◌++◌, [], IsTrue, MatchResult, length, vec_len, vec_capacity};
+ghost use Rattle.std.specs.List.{AllByRecursion, list_all};
+ghost use Rattle.pad_model.specs.Answers.{Answers};
+ghost use Rattle.pad_model.specs.Cell.{IsBy, before_at, through_at, clock_of, IsInOrder, cells_at, cell_stamp_at, text_at as cells_text, character_of, delete_spans as delete_cells, insert_run as insert_cells, last_of as greatest_of};
+ghost use Rattle.pad_model.specs.Legal.{has_stamp};
+ghost use Rattle.pad_model.specs.Parts.{part_fits};
+ghost use Rattle.pad_model.specs.Checked.{are_parts, is_run, is_span};
+
+use crate::authors::place_author;
+use crate::row_erase::{cut_spans, has_spans, kill_named};
+use crate::row_parts::parts_fit;
+use crate::row_readers::{count_before, count_visible, find_visible, greatest_counter, read_text};
+use crate::run_place::{has_character, place_run, run_fits};
+use blocks::{Block, find_block, put_block};
+use ident_index::IdentIndex;
+use pad_model::{Author, MAX_CHARACTERS, Part, Refusal, Run, Span, Stamp, Text};
+use std::alloc::Global;
+use std::marker::Model;
+use weight_tree::WeightTree;
+
+/// A text in blocks.
+#[derive(Drop)]
+pub struct BlockSeq {
+    tree: WeightTree<Block>,
+    index: IdentIndex,
+    text: Vec<char>,
+    authors: Vec<Author>,
+}
+
+impl Model for BlockSeq {
+    ghost use Rattle.std.specs.Prelude.{List};
+    ghost use Rattle.pad_model.specs.Cell.{Cell};
+
+    ghost Value = { List Cell };
+
+    ghost use Rattle.blocks.specs.Cells.{cells_of};
+    ghost use Rattle.block_seq.specs.Rows.{IsBlockSeq};
+
+    ghost view = { λ s. cells_of s.authors.items s.text.items s.tree.items };
+
+    ghost invariant = { λ s. IsBlockSeq s.authors.items s.text.items s.index s.tree.items };
+}
+
+/// Adds characters in room that was made before.
+fn push_text(text: &mut Vec<char>, more: &[char])
+    requires { vec_len text.old + length more.now ≤ vec_capacity text.old }
+    ensures { text.new.items ≡ text.old.items ++ more.now }
+{
+    for character in more {
+        text.push_reserved(*character);
+    }
+}
+
+impl BlockSeq {
+    /// The sequence without characters.
+    pub fn empty(alloc: Global) -> Result<BlockSeq, Refusal>
+        ensures { MatchResult result (λ s. s ≡ []) (λ e. e ≡ Refusal.Memory) }
+    {
+        Ok(BlockSeq {
+            tree: WeightTree::new(),
+            index: IdentIndex::new(alloc),
+            text: Vec::new(alloc),
+            authors: Vec::new(alloc),
+        })
+    }
+
+    /// Puts a run at its place in the preorder.
+    pub fn insert_run(
+        &mut self,
+        alloc: Global,
+        run: &Run,
+        author: &Author,
+        rev: u64,
+    ) -> Result<(), Refusal>
+        requires checked { IsTrue (is_run author.now.origin run.now) }
+        requires latest { AllByRecursion (IsBy rev) self.old }
+        ensures { Answers self.old (insert_cells rev run.now author.now self.old) result self.new }
+    {
+        if !run_fits(&self.tree, &self.index, run.first, run.after) {
+            return Err(Refusal::PeerFault);
+        }
+        if MAX_CHARACTERS < self.text.len() as u64 + run.text.len() as u64 {
+            return Err(Refusal::PadFull);
+        }
+        let author = place_author(&mut self.authors, author)?;
+        self.text.reserve(run.text.len())?;
+        let rank = place_run(alloc, &mut self.tree, &mut self.index, run.first, run.after)?;
+        let block = Block {
+            first: run.first,
+            parent: run.after,
+            author,
+            born: rev,
+            died: None,
+            label: 0,
+            start: self.text.len(),
+            len: run.text.len() as u64,
+        };
+        put_block(alloc, &mut self.tree, &mut self.index, rank, block)?;
+        push_text(&mut self.text, run.text.as_slice());
+        Ok(())
+    }
+
+    /// Erases the characters of the spans that are not erased yet, and answers their number.
+    pub fn delete_spans(&mut self, spans: &[Span], rev: u64) -> Result<u64, Refusal>
+        requires checked { IsTrue (list_all is_span spans.now) }
+        requires latest { AllByRecursion (IsBy rev) self.old }
+        ensures { Answers self.old (delete_cells rev spans.now self.old) result self.new }
+    {
+        if !has_spans(&self.tree, &self.index, spans) {
+            return Err(Refusal::PeerFault);
+        }
+        let alloc = *self.text.allocator();
+        cut_spans(alloc, &mut self.tree, &mut self.index, spans)?;
+        Ok(kill_named(&mut self.tree, &self.index, spans, rev))
+    }
+
+    /// Whether a character is there, erased or not.
+    pub fn has(&self, stamp: Stamp) -> bool
+        ensures { result ≡ has_stamp character_of self.now stamp }
+    {
+        has_character(&self.tree, &self.index, stamp)
+    }
+
+    /// The greatest counter of a replica's characters, or 0.
+    pub fn last_of(&self, replica: u16) -> u64
+        ensures { result ≡ greatest_of replica self.now }
+    {
+        let _kept = &self.tree;
+        self.index.last_of(replica)
+    }
+
+    /// How many characters there are, those that are erased included.
+    pub fn cell_count(&self) -> u64
+        ensures value { result ≡ length self.now }
+        ensures order { IsInOrder self.now }
+    {
+        let _kept = &self.tree;
+        self.text.len() as u64
+    }
+
+    /// How many characters are visible.
+    pub fn len_at(&self, rev: u64) -> u64
+        ensures { result ≡ length (cells_at rev self.now) }
+    {
+        let _text = &self.text;
+        count_visible(&self.tree, rev)
+    }
+
+    /// The stamp of the visible character at a place, from 0.
+    pub fn stamp_at(&self, rev: u64, place: u64) -> Option<Stamp>
+        ensures { result ≡ cell_stamp_at rev self.now place }
+    {
+        let _text = &self.text;
+        find_visible(&self.tree, rev, place)
+    }
+
+    /// The text that is visible.
+    pub fn text_at(&self, alloc: Global, rev: u64) -> Result<Text, Refusal>
+        ensures { MatchResult result (λ text. text ≡ cells_text rev self.now) (λ e. e ≡ Refusal.Memory) }
+    {
+        let text = self.text.as_slice();
+        Ok(Text::from_vec(read_text(alloc, &self.tree, text, self.authors.len(), rev)?))
+    }
+
+    /// The greatest counter of any character, or 0.
+    pub fn clock(&self) -> u64
+        ensures { result ≡ clock_of self.now }
+    {
+        let _text = &self.text;
+        greatest_counter(&self.tree)
+    }
+
+    /// Whether each part of one operation of an origin fits what stands there, as `apply` wants it.
+    pub fn fits(&self, parts: &[Part], _origin: u16) -> bool
+        requires checked { IsTrue (are_parts _origin parts.now) }
+        ensures { result ≡ list_all (part_fits character_of self.now) parts.now }
+    {
+        let _text = &self.text;
+        parts_fit(&self.tree, &self.index, parts)
+    }
+
+    /// How many visible characters stand before a character; None where it is missing.
+    pub fn before(&self, stamp: Stamp, rev: u64) -> Option<u64>
+        ensures { result ≡ before_at rev self.now stamp }
+    {
+        let spot = find_block(&self.tree, &self.index, stamp)?;
+        Some(count_before(&self.tree, spot.rank, spot.offset, rev))
+    }
+
+    /// How many visible characters stand up to and including a character; None where it is missing.
+    pub fn through(&self, stamp: Stamp, rev: u64) -> Option<u64>
+        ensures { result ≡ through_at rev self.now stamp }
+    {
+        let spot = find_block(&self.tree, &self.index, stamp)?;
+        Some(count_before(&self.tree, spot.rank, spot.offset + 1, rev))
+    }
+}

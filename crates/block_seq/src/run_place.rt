@@ -1,0 +1,146 @@
+//! Where a run goes among blocks: RGA's scan, one step a block.
+ghost use Rattle.std.specs.Prelude.{◌≡◌, ℕ, ◌+◌, ◌≤◌, ◌<◌, List, Option, Some, true, not, nat_lt, ◌==◌, ◌&&◌, ◌||◌, length, drop, IfOk, IfErr, MatchOption};
+ghost use Rattle.std.specs.List.{AllByRecursion, list_all};
+ghost use Rattle.pad_model.specs.Cell.{character_of};
+ghost use Rattle.pad_model.specs.Legal.{has_stamp, has_parent, counter_of};
+ghost use Rattle.pad_model.specs.Log.{run_may_join};
+ghost use Rattle.pad_model.specs.declared.limits.TheConstants.{MAX_COUNTER};
+ghost use Rattle.pad_model.specs.declared.who.Author.{Author as AuthorValue};
+ghost use Rattle.blocks.specs.Blocks.{IsKept};
+ghost use Rattle.blocks.specs.Cells.{cells_of, IsWithin, SameCells};
+ghost use Rattle.block_seq.specs.Rows.{IsBehind, StartsAt, IsPlaceFor, passes};
+
+use blocks::{Block, cut_at, find_block};
+use ident_index::IdentIndex;
+use pad_model::{Refusal, Stamp};
+use std::alloc::Global;
+use weight_tree::WeightTree;
+
+/// Whether a character is there.
+pub fn has_character(tree: &WeightTree<Block>, index: &IdentIndex, stamp: Stamp) -> bool
+    requires { IsKept index.now tree.now.items }
+    ensures { (authors : List AuthorValue) (text : List ℕ) → AllByRecursion (IsWithin (length authors) (length text)) tree.now.items → result ≡ has_stamp character_of (cells_of authors text tree.now.items) stamp }
+{
+    find_block(tree, index, stamp).is_some()
+}
+
+/// Whether a parent is there, or the root, and has a smaller counter.
+fn hangs_below(
+    tree: &WeightTree<Block>,
+    index: &IdentIndex,
+    parent: Option<Stamp>,
+    counter: u64,
+) -> bool
+    requires { IsKept index.now tree.now.items }
+    ensures { (authors : List AuthorValue) (text : List ℕ) → AllByRecursion (IsWithin (length authors) (length text)) tree.now.items → result ≡ (has_parent character_of (cells_of authors text tree.now.items) parent && nat_lt (counter_of parent) counter) }
+{
+    match parent {
+        None => counter > 0,
+        Some(stamp) => has_character(tree, index, stamp) && stamp.counter() < counter,
+    }
+}
+
+/// Whether all characters of a stamp's replica have smaller counters.
+fn is_above(tree: &WeightTree<Block>, index: &IdentIndex, first: Stamp) -> bool
+    requires { IsKept index.now tree.now.items }
+    ensures { (authors : List AuthorValue) (text : List ℕ) → AllByRecursion (IsWithin (length authors) (length text)) tree.now.items → result ≡ list_all (λ c. not (c.stamp.replica == first.replica) || nat_lt c.stamp.counter first.counter) (cells_of authors text tree.now.items) }
+{
+    let _kept = tree.len();
+    let counter = first.counter();
+    index.last_of(first.replica()) < counter
+}
+
+/// Whether a run's first character fits: its parent is there, and it is newer than its parent and its replica's others.
+pub fn run_fits(
+    tree: &WeightTree<Block>,
+    index: &IdentIndex,
+    first: Stamp,
+    parent: Option<Stamp>,
+) -> bool
+    requires { IsKept index.now tree.now.items }
+    ensures { (authors : List AuthorValue) (text : List ℕ) → AllByRecursion (IsWithin (length authors) (length text)) tree.now.items → result ≡ run_may_join character_of (cells_of authors text tree.now.items) first parent }
+{
+    hangs_below(tree, index, parent, first.counter()) && is_above(tree, index, first)
+}
+
+/// The rank of the first block from a rank on that begins with an older stamp.
+fn scan_blocks(tree: &WeightTree<Block>, start: usize, first: Stamp) -> usize
+    requires { start ≤ length tree.now.items }
+    ensures value { result ≡ start + passes first (drop start tree.now.items) }
+    ensures within { result ≤ length tree.now.items }
+{
+    for rank in start..tree.len() {
+        if !tree.get(rank).first.is_newer(first) {
+            return rank;
+        }
+    }
+    tree.len()
+}
+
+/// Cuts behind a character, and answers the rank of what follows it.
+fn cut_behind(
+    alloc: Global,
+    tree: &mut WeightTree<Block>,
+    index: &mut IdentIndex,
+    stamp: Stamp,
+) -> Result<usize, Refusal>
+    requires kept { IsKept index.old tree.old.items }
+    requires limit { stamp.counter < MAX_COUNTER }
+    ensures kept { IsKept index.new tree.new.items }
+    ensures cells { SameCells tree.old.items tree.new.items }
+    ensures behind { (authors : List AuthorValue) (text : List ℕ) → AllByRecursion (IsWithin (length authors) (length text)) tree.old.items → has_stamp character_of (cells_of authors text tree.old.items) stamp ≡ true → IfOk result (λ rank. IsBehind tree.new.items stamp rank) }
+    ensures within { IfOk result (λ rank. rank ≤ length tree.new.items) }
+    ensures memory { IfErr result (λ e. e ≡ Refusal.Memory) }
+    ensures more { length tree.new.items ≤ length tree.old.items + 1 }
+{
+    cut_at(alloc, tree, index, stamp.plus(1))?;
+    match find_block(tree, index, stamp) {
+        None => Ok(tree.len()),
+        Some(spot) => Ok(spot.rank + 1),
+    }
+}
+
+/// The rank from which a run's place is searched, once what stands there is cut.
+fn start_run(
+    alloc: Global,
+    tree: &mut WeightTree<Block>,
+    index: &mut IdentIndex,
+    first: Stamp,
+    parent: Option<Stamp>,
+) -> Result<usize, Refusal>
+    requires kept { IsKept index.old tree.old.items }
+    requires later { counter_of parent < first.counter }
+    ensures kept { IsKept index.new tree.new.items }
+    ensures cells { SameCells tree.old.items tree.new.items }
+    ensures start { (authors : List AuthorValue) (text : List ℕ) → AllByRecursion (IsWithin (length authors) (length text)) tree.old.items → has_parent character_of (cells_of authors text tree.old.items) parent ≡ true → IfOk result (λ rank. StartsAt parent tree.new.items rank) }
+    ensures within { IfOk result (λ rank. rank ≤ length tree.new.items) }
+    ensures memory { IfErr result (λ e. e ≡ Refusal.Memory) }
+    ensures more { length tree.new.items ≤ length tree.old.items + 1 }
+{
+    let _limit = first.counter();
+    match parent {
+        None => Ok(0),
+        Some(stamp) => cut_behind(alloc, tree, index, stamp),
+    }
+}
+
+/// Where a run goes, once what stands there is cut.
+pub fn place_run(
+    alloc: Global,
+    tree: &mut WeightTree<Block>,
+    index: &mut IdentIndex,
+    first: Stamp,
+    parent: Option<Stamp>,
+) -> Result<usize, Refusal>
+    requires kept { IsKept index.old tree.old.items }
+    requires later { counter_of parent < first.counter }
+    ensures kept { IsKept index.new tree.new.items }
+    ensures cells { SameCells tree.old.items tree.new.items }
+    ensures place { (authors : List AuthorValue) (text : List ℕ) → AllByRecursion (IsWithin (length authors) (length text)) tree.old.items → has_parent character_of (cells_of authors text tree.old.items) parent ≡ true → IfOk result (λ rank. IsPlaceFor parent first tree.new.items rank) }
+    ensures within { IfOk result (λ rank. rank ≤ length tree.new.items) }
+    ensures memory { IfErr result (λ e. e ≡ Refusal.Memory) }
+    ensures more { length tree.new.items ≤ length tree.old.items + 1 }
+{
+    let start = start_run(alloc, tree, index, first, parent)?;
+    Ok(scan_blocks(tree, start, first))
+}

@@ -1,6 +1,7 @@
 pub mod Acted
 pub mod Admitted
 pub mod Allowed
+pub mod Audited
 pub mod Booked
 pub mod ByName
 pub mod Commented

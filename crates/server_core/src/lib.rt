@@ -15,6 +15,7 @@ mod server;
 mod step;
 mod task;
 
+pub use at_cell::request_at;
 pub use limits::{MAX_ACTORS, MAX_CELLS};
 pub use server::Server;
 pub use step::{Moved, Step};

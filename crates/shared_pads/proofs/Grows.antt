@@ -251,7 +251,7 @@ session_grows owned (who.Author name) visit act m = at (author_refusal owned.rig
 abbrev machine : Option Owned → ℕ → List Op → List Op → Presence → Machine
 machine o replica log held p = record { owned = o; replica = replica; log = log; held = held; presence = p }
 
-step_grows : (name : List ℕ) (who : Who) (visit : Option ℕ) (act : Act) (o : Option Owned) (replica : ℕ) (log held : List Op) (p : Presence) →
+pub step_grows : (name : List ℕ) (who : Who) (visit : Option ℕ) (act : Act) (o : Option Owned) (replica : ℕ) (log held : List Op) (p : Presence) →
     GrownBy (effect_of act) (passed_on (step name who visit act (machine o replica log held p)).0) log (step name who visit act (machine o replica log held p)).1.log
 step_grows name who visit act None replica log held p = refused (effect_of act) NoPad log
 step_grows name who visit act (Some owned) replica log held p =

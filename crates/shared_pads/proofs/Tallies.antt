@@ -1,7 +1,7 @@
 -- One more call is counted under a lock.
 use Rattle.std.proofs.Common.{◌≡◌, ℕ, zero, suc, ◌+◌, ◌^◌, ◌<◌, ◌≤◌, true, false, List, [], ◌∷◌, ◌++◌, length, sum_by, slice_get, slice_set, get_or, Option, Some, None, refl, sym, ap, ◌∙◌, subst, arith}
 use Rattle.std.proofs.lemmas.List.{length-append}
-use Rattle.std.proofs.lemmas.List.Sums.{sum_by-set}
+use Rattle.std.proofs.lemmas.List.Sums.{sum_by-append, sum_by-set}
 use Rattle.std.proofs.lemmas.Option.{get_or_from_slice_get, slice_get_within}
 use Rattle.std.specs.List.{AllByRecursion}
 use Rattle.std.specs.Option.{option_map_or}
@@ -74,7 +74,7 @@ sum_after f ts i t new n e grown =
     let is : f (get_or ts i t) ≡ f t = ap f (get_or_from_slice_get ts i t t e) in
     omega arith
 
-stands_after : (log : List Op) (edit before : Option LastEdit) → Stands log edit → Stands log before → Stands log (last_after edit before)
+pub stands_after : (log : List Op) (edit before : Option LastEdit) → Stands log edit → Stands log before → Stands log (last_after edit before)
 stands_after log None before h b = b
 stands_after log (Some edit) before h b = h
 
@@ -89,3 +89,15 @@ kept_on old new more base calls i ts t edit kept e grown stands = record {
         (stands_after (old ++ more) edit t.last (subst (λ log. Stands log edit) grown stands) (stands_on old more t.last (one_of (λ t. Stands old t.last) ts i t kept.standing e))));
     called = (let sum = sum_after (λ t. t.calls) ts i t (counted (length more) edit t) 1 e refl in let was = kept.called in omega arith)
   }
+
+-- one more seat, which has made no call
+pub one_more : (log : List Op) (base calls : ℕ) (ts : List Tally) → IsKept log base ts calls → IsKept log base (ts ++ uncounted ∷ []) calls
+one_more log base calls ts kept = record {
+    revision = (let sum = sum_by-append (λ t. t.operations) ts (uncounted ∷ []) in let was = kept.revision in omega arith);
+    standing = all_more ts kept.standing;
+    called = (let sum = sum_by-append (λ t. t.calls) ts (uncounted ∷ []) in let was = kept.called in omega arith)
+  }
+  where
+    all_more : (ts : List Tally) → AllByRecursion (λ t. Stands log t.last) ts → AllByRecursion (λ t. Stands log t.last) (ts ++ uncounted ∷ [])
+    all_more [] h = (tt, tt)
+    all_more (t ∷ ts) h = (h.0, all_more ts h.1)

@@ -1,13 +1,14 @@
 //! What lies under the lock of a shared pad.
-ghost use Rattle.std.specs.Prelude.{◌≡◌, ◌↔◌, IsTrue};
+ghost use Rattle.std.specs.Prelude.{◌≡◌, ◌⊎◌, ◌↔◌, IsTrue, IfOk, IfErr, None};
 ghost use Rattle.server_core.specs.Rooms.{IsAsked};
-ghost use Rattle.shared_pads.specs.Kept.{Counts, IsKnown};
+ghost use Rattle.shared_pads.specs.Kept.{Called, Counts, IsKnown, seat_after};
+ghost use Rattle.shared_pads.specs.Seats.{uncounted};
 
-use crate::seat::{Seat, Tally, edit_of};
+use crate::seat::{MAX_SEATS, Seat, Tally, edit_of};
 use pad_core::{Pad, Reply, Request};
-use pad_model::{Refusal, Sequence};
+use pad_model::{Name, Refusal, Sequence, Who};
 use server_core::request_at;
-use sessions::Session;
+use sessions::{Room, Session};
 use std::alloc::Global;
 use std::marker::Model;
 
@@ -42,6 +43,48 @@ impl<S: Sequence> Kept<S> {
         }
     }
 
+    /// A seat with a number of its own, at this cell.
+    pub fn seat(&mut self, cell: u32) -> Result<Seat, Refusal>
+        ensures seat { IfOk result (λ seat. (seat.cell ≡ cell) × (seat.tally ≡ uncounted)) }
+        ensures refusal { IfErr result (λ e. (e ≡ Refusal.SeatsGone) ⊎ (e ≡ Refusal.Memory)) }
+    {
+        let number = self.tallies.len();
+        if number >= MAX_SEATS as usize {
+            return Err(Refusal::SeatsGone);
+        }
+        self.tallies.push(Tally::new())?;
+        Ok(Seat {
+            cell,
+            number: number as u32,
+            base: self.base,
+            tally: Tally::new(),
+        })
+    }
+
+    /// The leave of a session that ends: it ends a visit where it is present and the session's. It takes no memory.
+    pub fn depart(&mut self, seat: &mut Seat, who: &Who, room: &Room)
+        ensures { (seat.new ≡ seat.old) ⊎ (seat.new ≡ seat_after 0 None seat.old) }
+    {
+        if !self.knows(seat) {
+            return;
+        }
+        self.pad.depart(room.pad.as_str(), who, room.visit);
+        let tally = seat.tally.with_departure();
+        self.tallies[seat.number as usize] = tally;
+        self.calls += 1;
+        seat.tally = tally;
+    }
+
+    /// The name of the pad, if it has one.
+    pub fn name(&self, alloc: Global) -> Result<Option<Name>, Refusal>
+        ensures { IfErr result (λ e. e ≡ Refusal.Memory) }
+    {
+        match self.pad.name() {
+            None => Ok(None),
+            Some(name) => Ok(Some(Name::from_str(alloc, name)?)),
+        }
+    }
+
     /// Whether a seat is the one that is known here, and one more call can be counted.
     fn knows(&self, seat: &Seat) -> bool
         ensures { IsTrue result ↔ IsKnown self.now seat.now }
@@ -53,6 +96,24 @@ impl<S: Sequence> Kept<S> {
             Some(tally) => tally.is_same(seat.tally),
             None => false,
         }
+    }
+
+    /// A call of a seat: what a step of the server machine does at this cell, in a state that fits the seat.
+    pub fn call(
+        &mut self,
+        alloc: Global,
+        seat: &mut Seat,
+        session: &mut Session,
+        request: &Request,
+    ) -> Result<Option<Reply>, Refusal>
+        requires { IsAsked request.now }
+        ensures who { session.new.who ≡ session.old.who }
+        ensures called { Called seat.old session.old.who request.now session.old.rooms result seat.new session.new.rooms }
+    {
+        if !self.knows(seat) {
+            return Err(Refusal::SeatsOut);
+        }
+        self.visit(alloc, seat, session, request)
     }
 
     /// A call of a seat that is known here.
@@ -67,6 +128,7 @@ impl<S: Sequence> Kept<S> {
         requires known { IsKnown self.old seat.old }
         ensures who { session.new.who ≡ session.old.who }
         ensures counts { Counts self.old seat.old session.old.who request.now session.old.rooms result seat.new session.new.rooms self.new }
+        ensures called { Called seat.old session.old.who request.now session.old.rooms result seat.new session.new.rooms }
     {
         let before = self.pad.revision();
         let answer = request_at(alloc, &mut self.pad, seat.cell, session, request);

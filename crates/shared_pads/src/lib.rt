@@ -3,5 +3,11 @@
 //! It stands on the server machine: a call does under the lock what a step of the machine does at one cell.
 #![tactic(auto)]
 
+mod gate;
 mod kept;
 mod seat;
+mod shared_pad;
+
+pub use gate::{Gate, Open};
+pub use seat::{LastEdit, MAX_SEATS, Seat, Tally};
+pub use shared_pad::SharedPad;

@@ -1,9 +1,12 @@
 //! A seat at a shared pad, and what was counted of its calls.
-ghost use Rattle.std.specs.Prelude.{◌≡◌, ◌↔◌, ◌+◌, ◌≤◌, ◌<◌, IsTrue};
+ghost use Rattle.std.specs.Prelude.{◌≡◌, ◌↔◌, ◌+◌, ◌≤◌, ◌<◌, IsTrue, None};
 ghost use Rattle.shared_pads.specs.Seats.{counted, uncounted, edit_of as edit_told_of, edit_told as edit_answered, effect_of as effect_is, last_after as last_then};
 
 use pad_core::{Act, PadReply, Reply, Request};
 use pad_model::{OpName, Refusal};
+
+/// Seats that a pad makes while it is shared.
+pub const MAX_SEATS: u32 = 64;
 
 /// An edit that was answered: its operation has this name, and made this revision.
 #[derive(Clone, Copy, Debug, PartialEq, Eq)]
@@ -52,6 +55,17 @@ impl Tally {
             calls: self.calls + 1,
             operations: self.operations + operations,
             last: last_after(edit, self.last),
+        }
+    }
+
+    /// With one more call, by which a session left.
+    pub fn with_departure(self) -> Tally
+        requires { self.calls < u64.MAX }
+        ensures { result ≡ counted 0 None self }
+    {
+        Tally {
+            calls: self.calls + 1,
+            ..self
         }
     }
 }

@@ -6,11 +6,10 @@
 mod alone;
 mod connection;
 mod delivered;
-mod gate;
 mod pads;
 mod settle;
 
 pub use alone::Alone;
 pub use connection::{Served, serve_connection};
-pub use gate::{Gate, Open};
 pub use pads::Pads;
+pub use shared_pads::{Gate, Open};

@@ -1,5 +1,5 @@
 use Rattle.std.proofs.Common.{◌≡◌, ℕ, arith}
-use Rattle.shared_pads.proofs.Calls.{Visit, no_fewer, room_for_call, room_for_operations, here, counts, stays_kept}
+use Rattle.shared_pads.proofs.Calls.{Visit, no_fewer, room_for_call, room_for_operations, here, called, counts, stays_kept}
 use Rattle.shared_pads.proofs.kept.Kept.visit.Goals as goal
 
 pub overflow_sub-more : goal.overflow_sub-more
@@ -32,3 +32,8 @@ pub returns-clause-counts : goal.returns-clause-counts
 returns-clause-counts g c = counts _ _ _ _ _ c.args.seat.now _ _ _ _ _ _ _ _
     (record { view = c.self.view_is; known = c.requires.known; kept = c.self.invariant; visited = c.request_at-answer.ensures.visited; was = c.revision-before.ensures.value; is = c.revision.ensures.value })
     c.edit_of.result c.with_call-tally.result c.edit_of.ensures c.with_call-tally.ensures
+
+pub returns-clause-called : goal.returns-clause-called
+returns-clause-called g c = called _ _ _ _ _ c.args.seat.now _ _ _ _ _ _ _ _
+    (record { view = c.self.view_is; known = c.requires.known; kept = c.self.invariant; visited = c.request_at-answer.ensures.visited; was = c.revision-before.ensures.value; is = c.revision.ensures.value })
+    c.edit_of.result c.with_call-tally.result c.edit_of.ensures c.with_call-tally.ensures c.revision-before.ensures.delivered c.revision.ensures.delivered

@@ -7,9 +7,12 @@ mod alone;
 mod connection;
 mod delivered;
 mod pads;
+mod row;
 mod settle;
+mod shared;
 
 pub use alone::Alone;
 pub use connection::{Served, serve_connection};
 pub use pads::Pads;
+pub use shared::Shared;
 pub use shared_pads::{Gate, Open};

@@ -24,7 +24,7 @@ passes_on cell place who now then request old mid new told low (same, passed) st
     (mid, passed, subst (λ n. VisitsAt who request n mid (Ok None) new) at (subst (λ t. VisitsAt who request place mid t new) is (subst (λ w. VisitsAt w request place mid told new) same visits))))
 
 -- a search where nothing speaks against the request
-pub searched : (none : Option Refusal) (row cell first : ℕ) (who then : Who) (request : Request) (old new : Seated) (answer : Result Reply Refusal) → none ≡ None → first ≡ cell → then ≡ who →
-    Scans row first who request old answer new → Searches none row cell who request old answer new × (then ≡ who)
-searched none row cell first who then request old new answer is at same scans =
+pub searched : (r : Option Refusal) (row cell first : ℕ) (who then : Who) (request : Request) (old new : Seated) (answer : Result Reply Refusal) → r ≡ None → first ≡ cell → then ≡ who →
+    Scans row first who request old answer new → Searches r row cell who request old answer new × (then ≡ who)
+searched r row cell first who then request old new answer is at same scans =
     (subst (λ r. Searches r row cell who request old answer new) (sym is) (subst (λ n. Scans row n who request old answer new) at scans), same)

@@ -1,17 +1,18 @@
 //! A row of shared pads, as a session asks it.
-ghost use Rattle.std.specs.Prelude.{◌≡◌, length};
+ghost use Rattle.std.specs.Prelude.{◌≡◌, [], length, IfErr};
 ghost use Rattle.server_core.specs.Rooms.{IsAsked};
 ghost use Rattle.workers.specs.Row.{RowAsked, Scans, VisitsAt};
 
 use pad_core::{Reply, Request};
-use pad_model::{Refusal, Sequence};
+use pad_model::{Name, Refusal, Sequence};
 use server_core::{act_refusal, create_refusal, first_cell, hello, past_row, peer};
-use sessions::{Accounts, Session};
+use sessions::{Accounts, Room, Session};
 use shared_pads::{Gate, Seat, SharedPad};
 use std::alloc::Global;
 use std::sync::Wait;
 
 /// A row of shared pads, and what a thread waits and is held up by there.
+#[derive(Drop)]
 pub struct Row<'a, S: Sequence, R: Wait, G: Gate> {
     pub rt: &'a R,
     pub cells: &'a [SharedPad<S>],
@@ -98,5 +99,38 @@ impl<'a, S: Sequence, R: Wait, G: Gate> Row<'a, S, R, G> {
             return Err(Refusal::SeatsOut);
         }
         cell.call(self.rt, alloc, &mut seats[place], session, request, self.gate)
+    }
+
+    /// A session leaves its pads, in order of joining.
+    pub fn leave_all(&self, seats: &mut Vec<Seat>, session: &mut Session)
+        ensures who { session.new.who ≡ session.old.who }
+        ensures rooms { session.new.rooms ≡ [] }
+    {
+        while let Some(room) = session.take_first() {
+            self.leave(seats, session, &room);
+        }
+    }
+
+    /// A session leaves one pad.
+    fn leave(&self, seats: &mut Vec<Seat>, session: &Session, room: &Room) {
+        let place = room.cell as usize;
+        if place >= self.cells.len() || place >= seats.len() {
+            return;
+        }
+        let cell = &self.cells[place];
+        if cell.owns(&seats[place]) {
+            cell.depart(self.rt, &mut seats[place], session.who(), room, self.gate);
+        }
+    }
+
+    /// The name of a cell, if it has one.
+    pub fn name_of(&self, alloc: Global, cell: u32) -> Result<Option<Name>, Refusal>
+        ensures { IfErr result (λ e. e ≡ Refusal.Memory) }
+    {
+        let place = cell as usize;
+        if place >= self.cells.len() {
+            return Ok(None);
+        }
+        self.cells[place].name(self.rt, alloc)
     }
 }

@@ -9,10 +9,13 @@ use Rattle.pad_model.specs.Log.{same_name}
 use Rattle.pad_model.specs.declared.op.Op.{Op}
 use Rattle.pad_model.specs.declared.op.OpName.{OpName}
 use Rattle.pad_core.specs.Audit.{stands_at}
-use Rattle.shared_pads.specs.Kept.{IsKept}
+use Rattle.pad_core.specs.Machine.{Machine}
+use Rattle.shared_pads.specs.Kept.{HasClosed, IsClosed, IsKept, IsOf, Kept}
 use Rattle.shared_pads.specs.Seats.{Stands, counted, last_after, uncounted}
 use Rattle.shared_pads.specs.declared.seat.LastEdit.{LastEdit}
+use Rattle.shared_pads.specs.declared.seat.Seat.{Seat}
 use Rattle.shared_pads.specs.declared.seat.Tally.{Tally}
+use Rattle.shared_pads.specs.declared.sums.Sums.{Sums}
 
 -- what stands in a list stands there after more was put behind
 there : (log more : List Op) (i : ℕ) (op : Op) → slice_get log i ≡ Some op → slice_get (log ++ more) i ≡ Some op
@@ -101,3 +104,14 @@ one_more log base calls ts kept = record {
     all_more : (ts : List Tally) → AllByRecursion (λ t. Stands log t.last) ts → AllByRecursion (λ t. Stands log t.last) (ts ++ uncounted ∷ [])
     all_more [] h = (tt, tt)
     all_more (t ∷ ts) h = (h.0, all_more ts h.1)
+
+-- the seats that a lock knows have its base
+one_base : (k : Kept) (seats : List Seat) → AllByRecursion (IsOf k) seats → AllByRecursion (λ seat. seat.base ≡ k.base) seats
+one_base k [] h = tt
+one_base k (seat ∷ seats) h = (h.0.0, one_base k seats h.1)
+
+-- what the lock was asked, of the pad that it gives up
+pub closed : (k : Kept) (pad : Machine) (seats asked : List Seat) (sums : Sums) → IsClosed k asked sums → asked ≡ seats → pad ≡ k.pad → HasClosed pad seats sums.operations sums.calls
+closed k pad seats asked sums all same is =
+    subst (λ s. HasClosed pad s sums.operations sums.calls) same
+    (k.base, all.0, one_base k asked all.1, ap (λ (m : Machine). length m.log) is ∙ all.4, all.2, all.3)

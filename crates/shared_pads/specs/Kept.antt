@@ -1,5 +1,5 @@
 -- What lies under the lock of a shared pad, and what a call of a seat is.
-use Rattle.std.specs.Prelude.{◌≡◌, ◌⊎◌, ℕ, ◌+◌, ◌≤◌, ◌<◌, ◌^◌, ◌-◌, List, length, sum_by, slice_get, slice_set, Option, Some, Result, Err}
+use Rattle.std.specs.Prelude.{◌≡◌, ◌⊎◌, ℕ, ◌+◌, ◌≤◌, ◌<◌, ◌^◌, ◌-◌, List, length, sum_by, slice_get, slice_set, true, Option, Some, Result, Err}
 use Rattle.std.specs.List.{AllByRecursion}
 use Rattle.pad_model.specs.declared.op.Op.{Op}
 use Rattle.pad_model.specs.declared.refusal.Refusal.TheVariants.{SeatsOut}
@@ -10,10 +10,11 @@ use Rattle.pad_core.specs.Machine.{Machine}
 use Rattle.pad_core.specs.declared.request.Request.{Request}
 use Rattle.server_core.specs.AtCell.{request_at}
 use Rattle.server_core.specs.Served.{Visited}
-use Rattle.shared_pads.specs.Seats.{Answer, Stands, Tells, counted, edit_of}
+use Rattle.shared_pads.specs.Seats.{Answer, Stands, Tells, are_apart, counted, edit_of}
 use Rattle.shared_pads.specs.declared.seat.LastEdit.{LastEdit}
 use Rattle.shared_pads.specs.declared.seat.Seat.{Seat}
 use Rattle.shared_pads.specs.declared.seat.Tally.{Tally}
+use Rattle.shared_pads.specs.declared.sums.Sums.{Sums}
 
 -- a pad, the revision that it had when it came under its lock, the tally of each seat by its number, and how many calls all have made
 pub record Kept : Type 0 where
@@ -58,3 +59,20 @@ Called seat who request rooms answer after new =
     ⊎ ((old : Machine) × (next : Machine) × (more : ℕ) × Fits seat old × (length next.log ≡ length old.log + more) × Tells request answer more
     × Visited who request rooms old (request_at who request seat.cell rooms old) answer new next
     × (after ≡ seat_after more (edit_of request answer) seat) × Fits after next)
+
+-- a seat is just as the lock knows it
+abbrev pub IsOf : Kept → Seat → Type 0
+IsOf k seat = (seat.base ≡ k.base) × (slice_get k.tallies seat.number ≡ Some seat.tally)
+
+-- what all seats together have done: they have numbers of their own, each is as the lock knows it, and the revision of the pad is the base and their operations
+abbrev pub IsClosed : Kept → List Seat → Sums → Type 0
+IsClosed k seats sums =
+    (are_apart seats ≡ true) × AllByRecursion (IsOf k) seats
+    × (sums.operations ≡ sum_by (λ seat. seat.tally.operations) seats) × (sums.calls ≡ sum_by (λ seat. seat.tally.calls) seats)
+    × (length k.pad.log ≡ k.base + sums.operations) × (k.calls ≡ sums.calls)
+
+-- a pad is not shared any more: its seats have numbers of their own and one base, and its revision is that base and their operations
+abbrev pub HasClosed : Machine → List Seat → ℕ → ℕ → Type 0
+HasClosed m seats operations calls =
+    (base : ℕ) × (are_apart seats ≡ true) × AllByRecursion (λ seat. seat.base ≡ base) seats × (length m.log ≡ base + operations)
+    × (operations ≡ sum_by (λ seat. seat.tally.operations) seats) × (calls ≡ sum_by (λ seat. seat.tally.calls) seats)

@@ -1,5 +1,6 @@
 -- What is counted of the calls of a seat, and what their answers tell of the log.
-use Rattle.std.specs.Prelude.{◌≡◌, ℕ, ◌+◌, true, List, [], ◌++◌, length, Option, None, Some, Result, Ok, Err}
+use Rattle.std.specs.Prelude.{◌≡◌, ℕ, ◌+◌, ◌==◌, ◌&&◌, not, Bool, true, List, [], ◌∷◌, Option, None, Some, Result, Ok, Err}
+use Rattle.std.specs.List.{list_any}
 use Rattle.pad_model.specs.declared.op.Op.{Op}
 use Rattle.pad_model.specs.declared.refusal.Refusal.{Refusal}
 use Rattle.pad_model.specs.declared.refusal.Refusal.TheVariants.{Memory}
@@ -16,6 +17,7 @@ use Rattle.pad_core.specs.declared.request.Request.TheVariants as request
 use Rattle.shared_pads.specs.declared.seat.Effect.{Effect}
 use Rattle.shared_pads.specs.declared.seat.Effect.TheVariants.{Makes, Takes, Keeps}
 use Rattle.shared_pads.specs.declared.seat.LastEdit.{LastEdit}
+use Rattle.shared_pads.specs.declared.seat.Seat.{Seat}
 use Rattle.shared_pads.specs.declared.seat.Tally.{Tally}
 
 -- what a cell answers, or nothing where its pad has another name
@@ -90,3 +92,8 @@ TellsOf Keeps answer more = more ≡ 0
 abbrev pub Tells : Request → Answer → ℕ → Type 0
 Tells (request.On name act) answer more = TellsOf (effect_of act) answer more
 Tells other answer more = more ≡ 0
+
+-- whether no two seats have one number
+abbrev pub are_apart : List Seat → Bool
+are_apart [] = true
+are_apart (first ∷ rest) = not (list_any (λ seat. seat.number == first.number) rest) && are_apart rest

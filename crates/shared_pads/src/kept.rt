@@ -1,10 +1,12 @@
 //! What lies under the lock of a shared pad.
-ghost use Rattle.std.specs.Prelude.{◌≡◌, ◌⊎◌, ◌↔◌, IsTrue, IfOk, IfErr, None};
+ghost use Rattle.std.specs.Prelude.{◌≡◌, ◌⊎◌, ◌↔◌, IsTrue, IfOk, IfErr, IfSome, None};
+ghost use Rattle.std.specs.List.{AllByRecursion};
 ghost use Rattle.server_core.specs.Rooms.{IsAsked};
-ghost use Rattle.shared_pads.specs.Kept.{Called, Counts, IsKnown, seat_after};
+ghost use Rattle.shared_pads.specs.Kept.{Called, Counts, IsClosed, IsKnown, IsOf, seat_after};
 ghost use Rattle.shared_pads.specs.Seats.{uncounted};
 
 use crate::seat::{MAX_SEATS, Seat, Tally, edit_of};
+use crate::sums::{Sums, are_apart, sums_of};
 use pad_core::{Pad, Reply, Request};
 use pad_model::{Name, Refusal, Sequence, Who};
 use server_core::request_at;
@@ -83,6 +85,51 @@ impl<S: Sequence> Kept<S> {
             None => Ok(None),
             Some(name) => Ok(Some(Name::from_str(alloc, name)?)),
         }
+    }
+
+    /// What all seats have done, where these are the seats that were made.
+    pub fn sum(&self, seats: &[Seat]) -> Option<Sums>
+        ensures { IfSome result (λ sums. IsClosed self.now seats.now sums) }
+    {
+        let sums = sums_of(seats)?;
+        let revision = self.base.checked_add(sums.operations)?;
+        if self.pad.revision() != revision || self.calls != sums.calls {
+            return None;
+        }
+        if seats.len() != self.tallies.len() || !are_apart(seats) || !self.has_all(seats) {
+            return None;
+        }
+        Some(sums)
+    }
+
+    /// Whether each seat is just as it is known here.
+    fn has_all(&self, seats: &[Seat]) -> bool
+        ensures { IsTrue result → AllByRecursion (IsOf self.now) seats.now }
+    {
+        match seats.split_first() {
+            None => true,
+            Some((first, rest)) => self.has(first) && self.has_all(rest),
+        }
+    }
+
+    fn has(&self, seat: &Seat) -> bool
+        ensures { IsTrue result → IsOf self.now seat.now }
+    {
+        if seat.base != self.base {
+            return false;
+        }
+        match self.tallies.get(seat.number as usize) {
+            Some(tally) => tally.is_same(seat.tally),
+            None => false,
+        }
+    }
+
+    /// The pad.
+    pub fn into_pad(self) -> Pad<S>
+        ensures { result ≡ self.pad }
+    {
+        let Kept { pad, .. } = self;
+        pad
     }
 
     /// Whether a seat is the one that is known here, and one more call can be counted.

@@ -7,7 +7,8 @@ mod gate;
 mod kept;
 mod seat;
 mod shared_pad;
+mod sums;
 
 pub use gate::{Gate, Open};
 pub use seat::{LastEdit, MAX_SEATS, Seat, Tally};
-pub use shared_pad::SharedPad;
+pub use shared_pad::{Closed, SharedPad};

@@ -1,7 +1,7 @@
 //! A pad that many threads share, behind its lock.
 ghost use Rattle.std.specs.Prelude.{◌≡◌, ◌⊎◌, ◌↔◌, IsTrue, IfOk, IfErr, None};
 ghost use Rattle.server_core.specs.Rooms.{IsAsked};
-ghost use Rattle.shared_pads.specs.Kept.{Called, seat_after};
+ghost use Rattle.shared_pads.specs.Kept.{Called, HasClosed, seat_after};
 ghost use Rattle.shared_pads.specs.Seats.{uncounted};
 
 use crate::gate::Gate;
@@ -93,4 +93,35 @@ impl<S: Sequence> SharedPad<S> {
     {
         self.kept.lock(rt).name(alloc)
     }
+
+    /// Ends the sharing, where these are the seats that were made, each once, with their tallies; else all is handed back
+    /// (318).
+    pub fn close(self, seats: Vec<Seat>) -> Result<Closed<S>, (SharedPad<S>, Vec<Seat>)>
+        ensures { IfOk result (λ closed. HasClosed closed.pad seats.items closed.operations closed.calls) }
+    {
+        let SharedPad { kept, cell } = self;
+        let kept = kept.into_inner();
+        match kept.sum(seats.as_slice()) {
+            Some(sums) => Ok(Closed {
+                pad: kept.into_pad(),
+                operations: sums.operations,
+                calls: sums.calls,
+            }),
+            None => Err((
+                SharedPad {
+                    kept: Mutex::new(kept),
+                    cell,
+                },
+                seats,
+            )),
+        }
+    }
+}
+
+/// A pad that is not shared any more, and what all its seats have done.
+#[derive(Drop)]
+pub struct Closed<S: Sequence> {
+    pub pad: Pad<S>,
+    pub operations: u64,
+    pub calls: u64,
 }

@@ -5,6 +5,7 @@
 
 mod alone;
 mod connection;
+mod crew;
 mod delivered;
 mod pads;
 mod row;
@@ -13,6 +14,7 @@ mod shared;
 
 pub use alone::Alone;
 pub use connection::{Served, serve_connection};
+pub use crew::{Connection, serve_all, take_seats};
 pub use pads::Pads;
 pub use shared::Shared;
 pub use shared_pads::{Gate, Open};

@@ -97,16 +97,19 @@ module _ (pad : Machine) (base : ℕ) (ts : List Tally) (calls : ℕ) (k : Kept)
       (kept_on pad.log after.log grown.0 base calls seat.number ts seat.tally (edit_of asked answer) v.kept known_here.1 grown.1 grown.3)
 
   fits_before : IsDelivered pad.log → Fits seat pad
-  fits_before delivered =
-      (delivered, one_of (λ t. Stands pad.log t.last) ts seat.number seat.tally v.kept.standing known_here.1,
-      (let few = one_within (λ t. t.operations) ts seat.number seat.tally refl known_here.1 in let all = v.kept.revision in let base_is = known_here.0 in omega arith))
+  fits_before delivered = (
+    delivered,
+    one_of (λ t. Stands pad.log t.last) ts seat.number seat.tally v.kept.standing known_here.1,
+    (let few = one_within (λ t. t.operations) ts seat.number seat.tally refl known_here.1 in let all = v.kept.revision in let base_is = known_here.0 in omega arith),
+  )
 
   fits_after : IsDelivered pad.log → IsDelivered after.log → Fits (seat_after (length grown.0) (edit_of asked answer) seat) after
   fits_after delivered now_delivered =
-      let fits = fits_before delivered in
-      (now_delivered,
-      stands_after after.log (edit_of asked answer) seat.tally.last grown.3 (subst (λ log. Stands log seat.tally.last) (sym grown.1) (stands_on pad.log grown.0 seat.tally.last fits.1)),
-      (let least = fits.2 in let l = longer in omega arith))
+      let fits = fits_before delivered in (
+        now_delivered,
+        stands_after after.log (edit_of asked answer) seat.tally.last grown.3 (subst (λ log. Stands log seat.tally.last) (sym grown.1) (stands_on pad.log grown.0 seat.tally.last fits.1)),
+        (let least = fits.2 in let l = longer in omega arith),
+      )
 
   -- it is a step of the machine from a state that fits the seat
   pub called : (edit : Option LastEdit) (t : Tally) → edit ≡ edit_of asked answer → t ≡ counted (now - before) edit seat.tally → IsDelivered pad.log → IsDelivered after.log →

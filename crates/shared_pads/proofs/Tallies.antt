@@ -85,21 +85,21 @@ stands_after log (Some edit) before h b = h
 pub kept_on : (old new more : List Op) (base calls i : ℕ) (ts : List Tally) (t : Tally) (edit : Option LastEdit) → IsKept old base ts calls → slice_get ts i ≡ Some t → new ≡ old ++ more → Stands new edit →
     IsKept new base (slice_set ts i (counted (length more) edit t)) (calls + 1)
 kept_on old new more base calls i ts t edit kept e grown stands = record {
-    revision = (let both = ap length grown ∙ length-append old more in let sum = sum_after (λ t. t.operations) ts i t (counted (length more) edit t) (length more) e refl in let was = kept.revision in omega arith);
-    standing =
-        subst (λ log. AllByRecursion (λ t. Stands log t.last) (slice_set ts i (counted (length more) edit t))) (sym grown)
-        (all_set (λ t. Stands (old ++ more) t.last) ts i (counted (length more) edit t) (all_stand old more ts kept.standing)
-        (stands_after (old ++ more) edit t.last (subst (λ log. Stands log edit) grown stands) (stands_on old more t.last (one_of (λ t. Stands old t.last) ts i t kept.standing e))));
-    called = (let sum = sum_after (λ t. t.calls) ts i t (counted (length more) edit t) 1 e refl in let was = kept.called in omega arith)
-  }
+  revision = (let both = ap length grown ∙ length-append old more in let sum = sum_after (λ t. t.operations) ts i t (counted (length more) edit t) (length more) e refl in let was = kept.revision in omega arith);
+  standing =
+      subst (λ log. AllByRecursion (λ t. Stands log t.last) (slice_set ts i (counted (length more) edit t))) (sym grown)
+      (all_set (λ t. Stands (old ++ more) t.last) ts i (counted (length more) edit t) (all_stand old more ts kept.standing)
+      (stands_after (old ++ more) edit t.last (subst (λ log. Stands log edit) grown stands) (stands_on old more t.last (one_of (λ t. Stands old t.last) ts i t kept.standing e))));
+  called = (let sum = sum_after (λ t. t.calls) ts i t (counted (length more) edit t) 1 e refl in let was = kept.called in omega arith);
+}
 
 -- one more seat, which has made no call
 pub one_more : (log : List Op) (base calls : ℕ) (ts : List Tally) → IsKept log base ts calls → IsKept log base (ts ++ uncounted ∷ []) calls
 one_more log base calls ts kept = record {
-    revision = (let sum = sum_by-append (λ t. t.operations) ts (uncounted ∷ []) in let was = kept.revision in omega arith);
-    standing = all_more ts kept.standing;
-    called = (let sum = sum_by-append (λ t. t.calls) ts (uncounted ∷ []) in let was = kept.called in omega arith)
-  }
+  revision = (let sum = sum_by-append (λ t. t.operations) ts (uncounted ∷ []) in let was = kept.revision in omega arith);
+  standing = all_more ts kept.standing;
+  called = (let sum = sum_by-append (λ t. t.calls) ts (uncounted ∷ []) in let was = kept.called in omega arith);
+}
   where
     all_more : (ts : List Tally) → AllByRecursion (λ t. Stands log t.last) ts → AllByRecursion (λ t. Stands log t.last) (ts ++ uncounted ∷ [])
     all_more [] h = (tt, tt)

@@ -130,10 +130,7 @@ fn effect_of(act: &Act) -> Effect
 }
 
 /// The edit that the answer to a request tells of, if it does.
-pub fn edit_of(
-    request: &Request,
-    answer: &Result<Option<Reply>, Refusal>,
-) -> Option<LastEdit>
+pub fn edit_of(request: &Request, answer: &Result<Option<Reply>, Refusal>) -> Option<LastEdit>
     ensures { result ≡ edit_told_of request.now answer.now }
 {
     let Request::On { act, .. } = request else {
@@ -149,14 +146,11 @@ fn edit_told(answer: &Result<Option<Reply>, Refusal>) -> Option<LastEdit>
     ensures { result ≡ edit_answered answer.now }
 {
     match answer {
-        Ok(
-            Some(
-                Reply::Pad(PadReply::Made { now, name } | PadReply::Changed { now, name, .. }),
-            ),
-        ) => Some(LastEdit {
-            name: *name,
-            rev: *now,
-        }),
+        Ok(Some(Reply::Pad(PadReply::Made { now, name } | PadReply::Changed { now, name, .. }))) =>
+            Some(LastEdit {
+                name: *name,
+                rev: *now,
+            }),
         _ => None,
     }
 }

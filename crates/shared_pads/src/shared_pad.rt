@@ -78,7 +78,14 @@ impl<S: Sequence> SharedPad<S> {
     }
 
     /// Ends a visit where it is present and the session's; else it does nothing. It takes no memory.
-    pub fn depart<R: Wait, G: Gate>(&self, rt: &R, seat: &mut Seat, who: &Who, room: &Room, gate: &G)
+    pub fn depart<R: Wait, G: Gate>(
+        &self,
+        rt: &R,
+        seat: &mut Seat,
+        who: &Who,
+        room: &Room,
+        gate: &G,
+    )
         requires { seat.old.cell ≡ self.now.cell }
         ensures { (seat.new ≡ seat.old) ⊎ (seat.new ≡ seat_after 0 None seat.old) }
     {

@@ -98,7 +98,14 @@ impl<'a, S: Sequence, R: Wait, G: Gate> Row<'a, S, R, G> {
         if !cell.owns(&seats[place]) {
             return Err(Refusal::SeatsOut);
         }
-        cell.call(self.rt, alloc, &mut seats[place], session, request, self.gate)
+        cell.call(
+            self.rt,
+            alloc,
+            &mut seats[place],
+            session,
+            request,
+            self.gate,
+        )
     }
 
     /// A session leaves its pads, in order of joining.

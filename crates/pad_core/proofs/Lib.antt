@@ -2,6 +2,7 @@ pub mod Acted
 pub mod Admitted
 pub mod Alike
 pub mod Allowed
+pub mod Audited
 pub mod Booked
 pub mod ByName
 pub mod Commented

@@ -169,6 +169,13 @@ impl<S: Sequence> Ledger<S> {
         self.log.entries(from, count)
     }
 
+    /// The operation at a place, from 0.
+    pub fn operation(&self, place: u64) -> Option<&Op>
+        ensures { option_copied result ≡ slice_get self.now place }
+    {
+        self.log.get(place)
+    }
+
     /// The first operation that `seen` does not cover.
     pub fn first_missing(&self, seen: &Seen) -> Option<&Op>
         ensures { option_copied result ≡ slice_get (filter (is_missing seen.now) self.now) 0 }

@@ -17,6 +17,7 @@ mod pad;
 mod presence;
 mod push;
 mod reads;
+mod recorded;
 mod reply;
 mod request;
 
@@ -27,5 +28,6 @@ pub use exchange::MAX_PULL;
 pub use owned::Owned;
 pub use pad::Pad;
 pub use reads::MAX_ENTRIES;
+pub use recorded::{AuditError, Recorded, audit};
 pub use reply::{Entry, Kind, PadReply, Present, Pushed, Reply};
 pub use request::Request;

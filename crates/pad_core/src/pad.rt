@@ -85,6 +85,13 @@ impl<S: Sequence> Pad<S> {
         self.ledger.len()
     }
 
+    /// The operations that were delivered.
+    pub(crate) fn ledger(&self) -> &Ledger<S>
+        ensures { result.now ≡ self.now.log }
+    {
+        &self.ledger
+    }
+
     /// Gives a pad without a name this name and owner, who is then present. Both are well formed.
     pub fn claim(&mut self, alloc: Global, name: &str, owner: &str) -> Result<Claim, Refusal>
         requires name { IsTrue (is_name name.now) }

@@ -65,7 +65,7 @@ fn begin(session: &Session, task: &mut Task, pad: &Name, request: &Request) -> M
 }
 
 /// Where the scan for a pad begins: at its cell where the session has joined it.
-fn first_cell(session: &Session, pad: &Name) -> u32
+pub fn first_cell(session: &Session, pad: &Name) -> u32
     ensures { result ≡ first_cell_of pad.now session.now.rooms }
 {
     match session.room(pad.as_str()) {

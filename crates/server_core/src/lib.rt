@@ -15,6 +15,10 @@ mod server;
 mod step;
 mod task;
 
+pub use ask::first_cell;
+pub use at_cell::request_at;
 pub use limits::{MAX_ACTORS, MAX_CELLS};
+pub use opening::{act_refusal, create_refusal, hello, peer, relay};
+pub use scan::past_row;
 pub use server::Server;
 pub use step::{Moved, Step};

@@ -88,7 +88,7 @@ fn conclude(answer: Result<Option<Reply>, Refusal>, request: &Request) -> Moved
 }
 
 /// How a request ends that finds no cell.
-fn past_row(request: &Request) -> Refusal
+pub fn past_row(request: &Request) -> Refusal
     ensures { result ≡ row_passed request.now }
 {
     match request {

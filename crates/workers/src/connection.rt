@@ -9,10 +9,10 @@ ghost use Rattle.workers.specs.Delivered.{delivered_of};
 ghost use Rattle.workers.specs.Connection.{ServesAll, ServesOne, BreaksOff, ServesRead, HasFaultCause, HasWriteCause, ThenEnds};
 
 use crate::delivered::delivered_by;
-use crate::gate::Gate;
 use crate::pads::Pads;
 use pad_core::Reply;
 use pad_model::Refusal;
+use shared_pads::Gate;
 use std::alloc::Global;
 use wire_json::{read_request, reply_line};
 use wire_lines::{Fault, Found, LineBuffer, Sink, Source, write_all};

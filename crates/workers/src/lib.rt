@@ -5,12 +5,16 @@
 
 mod alone;
 mod connection;
+mod crew;
 mod delivered;
-mod gate;
 mod pads;
+mod row;
 mod settle;
+mod shared;
 
 pub use alone::Alone;
 pub use connection::{Served, serve_connection};
-pub use gate::{Gate, Open};
+pub use crew::{Connection, serve_all, take_seats};
 pub use pads::Pads;
+pub use shared::Shared;
+pub use shared_pads::{Gate, Open};

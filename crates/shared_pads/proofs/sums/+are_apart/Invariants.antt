@@ -1,0 +1,6 @@
+use Rattle.std.proofs.Common.{length}
+use Rattle.shared_pads.proofs.sums.+are_apart.Given as goal
+
+-- the seats that are left
+abbrev pub decreases-are_apart : goal.decreases-are_apart
+decreases-are_apart l = length l.seats.now

@@ -1,0 +1,189 @@
+//! What lies under the lock of a shared pad.
+ghost use Rattle.std.specs.Prelude.{◌≡◌, ◌⊎◌, ◌↔◌, IsTrue, IfOk, IfErr, IfSome, None};
+ghost use Rattle.std.specs.List.{AllByRecursion};
+ghost use Rattle.server_core.specs.Rooms.{IsAsked};
+ghost use Rattle.shared_pads.specs.Kept.{Called, Counts, IsClosed, IsKnown, IsOf, seat_after};
+ghost use Rattle.shared_pads.specs.Seats.{uncounted};
+
+use crate::seat::{MAX_SEATS, Seat, Tally, edit_of};
+use crate::sums::{Sums, are_apart, sums_of};
+use pad_core::{Pad, Reply, Request};
+use pad_model::{Name, Refusal, Sequence, Who};
+use server_core::request_at;
+use sessions::{Room, Session};
+use std::alloc::Global;
+use std::marker::Model;
+
+/// A pad, the revision that it had when it came under its lock, and what was counted of each seat.
+#[derive(Drop)]
+pub struct Kept<S: Sequence> {
+    pad: Pad<S>,
+    base: u64,
+    tallies: Vec<Tally>,
+    calls: u64,
+}
+
+impl<S: Sequence> Model for Kept<S> {
+    ghost use Rattle.shared_pads.specs.Kept.{Kept, IsKept};
+
+    ghost Value = { Kept };
+
+    ghost view = { λ k. record { pad = k.pad; base = k.base; tallies = k.tallies.items; calls = k.calls } };
+
+    ghost invariant = { λ k. IsKept k.pad.log k.base k.tallies.items k.calls };
+}
+
+impl<S: Sequence> Kept<S> {
+    /// A pad that no seat was made for.
+    pub fn new(alloc: Global, pad: Pad<S>) -> Kept<S> {
+        let base = pad.revision();
+        Kept {
+            pad,
+            base,
+            tallies: Vec::new(alloc),
+            calls: 0,
+        }
+    }
+
+    /// A seat with a number of its own, at this cell.
+    pub fn seat(&mut self, cell: u32) -> Result<Seat, Refusal>
+        ensures seat { IfOk result (λ seat. (seat.cell ≡ cell) × (seat.tally ≡ uncounted)) }
+        ensures refusal { IfErr result (λ e. (e ≡ Refusal.SeatsGone) ⊎ (e ≡ Refusal.Memory)) }
+    {
+        let number = self.tallies.len();
+        if number >= MAX_SEATS as usize {
+            return Err(Refusal::SeatsGone);
+        }
+        self.tallies.push(Tally::new())?;
+        Ok(Seat {
+            cell,
+            number: number as u32,
+            base: self.base,
+            tally: Tally::new(),
+        })
+    }
+
+    /// The leave of a session that ends: it ends a visit where it is present and the session's. It takes no memory.
+    pub fn depart(&mut self, seat: &mut Seat, who: &Who, room: &Room)
+        ensures { (seat.new ≡ seat.old) ⊎ (seat.new ≡ seat_after 0 None seat.old) }
+    {
+        if !self.knows(seat) {
+            return;
+        }
+        self.pad.depart(room.pad.as_str(), who, room.visit);
+        let tally = seat.tally.with_departure();
+        self.tallies[seat.number as usize] = tally;
+        self.calls += 1;
+        seat.tally = tally;
+    }
+
+    /// The name of the pad, if it has one.
+    pub fn name(&self, alloc: Global) -> Result<Option<Name>, Refusal>
+        ensures { IfErr result (λ e. e ≡ Refusal.Memory) }
+    {
+        match self.pad.name() {
+            None => Ok(None),
+            Some(name) => Ok(Some(Name::from_str(alloc, name)?)),
+        }
+    }
+
+    /// What all seats have done, where these are the seats that were made.
+    pub fn sum(&self, seats: &[Seat]) -> Option<Sums>
+        ensures { IfSome result (λ sums. IsClosed self.now seats.now sums) }
+    {
+        let sums = sums_of(seats)?;
+        let revision = self.base.checked_add(sums.operations)?;
+        if self.pad.revision() != revision || self.calls != sums.calls {
+            return None;
+        }
+        if seats.len() != self.tallies.len() || !are_apart(seats) || !self.has_all(seats) {
+            return None;
+        }
+        Some(sums)
+    }
+
+    /// Whether each seat is just as it is known here.
+    fn has_all(&self, seats: &[Seat]) -> bool
+        ensures { IsTrue result → AllByRecursion (IsOf self.now) seats.now }
+    {
+        match seats.split_first() {
+            None => true,
+            Some((first, rest)) => self.has(first) && self.has_all(rest),
+        }
+    }
+
+    fn has(&self, seat: &Seat) -> bool
+        ensures { IsTrue result → IsOf self.now seat.now }
+    {
+        if seat.base != self.base {
+            return false;
+        }
+        match self.tallies.get(seat.number as usize) {
+            Some(tally) => tally.is_same(seat.tally),
+            None => false,
+        }
+    }
+
+    /// The pad.
+    pub fn into_pad(self) -> Pad<S>
+        ensures { result ≡ self.pad }
+    {
+        let Kept { pad, .. } = self;
+        pad
+    }
+
+    /// Whether a seat is the one that is known here, and one more call can be counted.
+    fn knows(&self, seat: &Seat) -> bool
+        ensures { IsTrue result ↔ IsKnown self.now seat.now }
+    {
+        if self.calls == u64::MAX || seat.base != self.base {
+            return false;
+        }
+        match self.tallies.get(seat.number as usize) {
+            Some(tally) => tally.is_same(seat.tally),
+            None => false,
+        }
+    }
+
+    /// A call of a seat: what a step of the server machine does at this cell, in a state that fits the seat.
+    pub fn call(
+        &mut self,
+        alloc: Global,
+        seat: &mut Seat,
+        session: &mut Session,
+        request: &Request,
+    ) -> Result<Option<Reply>, Refusal>
+        requires { IsAsked request.now }
+        ensures who { session.new.who ≡ session.old.who }
+        ensures called { Called seat.old session.old.who request.now session.old.rooms result seat.new session.new.rooms }
+    {
+        if !self.knows(seat) {
+            return Err(Refusal::SeatsOut);
+        }
+        self.visit(alloc, seat, session, request)
+    }
+
+    /// A call of a seat that is known here.
+    fn visit(
+        &mut self,
+        alloc: Global,
+        seat: &mut Seat,
+        session: &mut Session,
+        request: &Request,
+    ) -> Result<Option<Reply>, Refusal>
+        requires asked { IsAsked request.now }
+        requires known { IsKnown self.old seat.old }
+        ensures who { session.new.who ≡ session.old.who }
+        ensures counts { Counts self.old seat.old session.old.who request.now session.old.rooms result seat.new session.new.rooms self.new }
+        ensures called { Called seat.old session.old.who request.now session.old.rooms result seat.new session.new.rooms }
+    {
+        let before = self.pad.revision();
+        let answer = request_at(alloc, &mut self.pad, seat.cell, session, request);
+        let more = self.pad.revision() - before;
+        let tally = seat.tally.with_call(more, edit_of(request, &answer));
+        self.tallies[seat.number as usize] = tally;
+        self.calls += 1;
+        seat.tally = tally;
+        answer
+    }
+}

@@ -1,0 +1,14 @@
+//! Pads that many threads share: each behind a lock of its own, with what was counted of each seat at it.
+//!
+//! It stands on the server machine: a call does under the lock what a step of the machine does at one cell.
+#![tactic(auto)]
+
+mod gate;
+mod kept;
+mod seat;
+mod shared_pad;
+mod sums;
+
+pub use gate::{Gate, Open};
+pub use seat::{LastEdit, MAX_SEATS, Seat, Tally};
+pub use shared_pad::{Closed, SharedPad};

@@ -1,0 +1,156 @@
+//! A seat at a shared pad, and what was counted of its calls.
+ghost use Rattle.std.specs.Prelude.{◌≡◌, ◌↔◌, ◌+◌, ◌≤◌, ◌<◌, IsTrue, None};
+ghost use Rattle.shared_pads.specs.Seats.{counted, uncounted, edit_of as edit_told_of, edit_told as edit_answered, effect_of as effect_is, last_after as last_then};
+
+use pad_core::{Act, PadReply, Reply, Request};
+use pad_model::{OpName, Refusal};
+
+/// Seats that a pad makes while it is shared.
+pub const MAX_SEATS: u32 = 64;
+
+/// An edit that was answered: its operation has this name, and made this revision.
+#[derive(Clone, Copy, Debug, PartialEq, Eq)]
+pub struct LastEdit {
+    pub name: OpName,
+    pub rev: u64,
+}
+
+/// What was counted of the calls of one seat.
+#[derive(Clone, Copy, Debug, PartialEq, Eq)]
+pub struct Tally {
+    /// The calls that were made.
+    pub calls: u64,
+    /// The operations that they delivered.
+    pub operations: u64,
+    /// The last edit of its own that was answered.
+    pub last: Option<LastEdit>,
+}
+
+impl Tally {
+    /// No call was made yet.
+    pub fn new() -> Tally
+        ensures { result ≡ uncounted }
+    {
+        Tally {
+            calls: 0,
+            operations: 0,
+            last: None,
+        }
+    }
+
+    /// Whether it is just the other.
+    pub fn is_same(self, other: Tally) -> bool
+        ensures { IsTrue result ↔ (self ≡ other) }
+    {
+        self == other
+    }
+
+    /// With one more call, which delivered so many operations and may have been an edit.
+    pub fn with_call(self, operations: u64, edit: Option<LastEdit>) -> Tally
+        requires calls { self.calls < u64.MAX }
+        requires operations { self.operations + operations ≤ u64.MAX }
+        ensures { result ≡ counted operations edit self }
+    {
+        Tally {
+            calls: self.calls + 1,
+            operations: self.operations + operations,
+            last: last_after(edit, self.last),
+        }
+    }
+
+    /// With one more call, by which a session left.
+    pub fn with_departure(self) -> Tally
+        requires { self.calls < u64.MAX }
+        ensures { result ≡ counted 0 None self }
+    {
+        Tally {
+            calls: self.calls + 1,
+            ..self
+        }
+    }
+}
+
+/// A seat at a shared pad, which can't be copied. The pad keeps the same tally of it.
+#[derive(Debug, Drop)]
+pub struct Seat {
+    pub(crate) cell: u32,
+    pub(crate) number: u32,
+    pub(crate) base: u64,
+    pub(crate) tally: Tally,
+}
+
+impl Seat {
+    /// The cell of its pad.
+    pub fn cell(&self) -> u32
+        ensures { result ≡ self.now.cell }
+    {
+        self.cell
+    }
+
+    /// What was counted of its calls.
+    pub fn tally(&self) -> Tally
+        ensures { result ≡ self.now.tally }
+    {
+        self.tally
+    }
+}
+
+fn last_after(edit: Option<LastEdit>, before: Option<LastEdit>) -> Option<LastEdit>
+    ensures { result ≡ last_then edit before }
+{
+    match edit {
+        Some(_) => edit,
+        None => before,
+    }
+}
+
+/// What an act does to the operations of a pad.
+#[derive(Clone, Copy, Debug, PartialEq, Eq)]
+pub enum Effect {
+    /// It makes one.
+    Makes,
+    /// It takes one of another server.
+    Takes,
+    /// It leaves them as they are.
+    Keeps,
+}
+
+fn effect_of(act: &Act) -> Effect
+    ensures { result ≡ effect_is act.now }
+{
+    match act {
+        Act::Insert { .. }
+        | Act::Delete { .. }
+        | Act::Edit { .. }
+        | Act::Comment { .. }
+        | Act::Resolve { .. } => Effect::Makes,
+        Act::Push { .. } => Effect::Takes,
+        _ => Effect::Keeps,
+    }
+}
+
+/// The edit that the answer to a request tells of, if it does.
+pub fn edit_of(request: &Request, answer: &Result<Option<Reply>, Refusal>) -> Option<LastEdit>
+    ensures { result ≡ edit_told_of request.now answer.now }
+{
+    let Request::On { act, .. } = request else {
+        return None;
+    };
+    match effect_of(act) {
+        Effect::Makes => edit_told(answer),
+        Effect::Takes | Effect::Keeps => None,
+    }
+}
+
+fn edit_told(answer: &Result<Option<Reply>, Refusal>) -> Option<LastEdit>
+    ensures { result ≡ edit_answered answer.now }
+{
+    match answer {
+        Ok(Some(Reply::Pad(PadReply::Made { now, name } | PadReply::Changed { now, name, .. }))) =>
+            Some(LastEdit {
+                name: *name,
+                rev: *now,
+            }),
+        _ => None,
+    }
+}

@@ -1,0 +1,134 @@
+//! A pad that many threads share, behind its lock.
+ghost use Rattle.std.specs.Prelude.{◌≡◌, ◌⊎◌, ◌↔◌, IsTrue, IfOk, IfErr, None};
+ghost use Rattle.server_core.specs.Rooms.{IsAsked};
+ghost use Rattle.shared_pads.specs.Kept.{Called, HasClosed, seat_after};
+ghost use Rattle.shared_pads.specs.Seats.{uncounted};
+
+use crate::gate::Gate;
+use crate::kept::Kept;
+use crate::seat::Seat;
+use pad_core::{Pad, Reply, Request};
+use pad_model::{Name, Refusal, Sequence, Who};
+use sessions::{Room, Session};
+use std::alloc::Global;
+use std::sync::{Mutex, Wait};
+
+/// A pad behind its lock, which stands in a cell of a row.
+///
+/// Whenever the lock is free the pad is in a state of the machine after its own log, and its revision is that of `new`
+/// with the operations of all seats.
+#[derive(Drop)]
+pub struct SharedPad<S: Sequence> {
+    kept: Mutex<Kept<S>>,
+    cell: u32,
+}
+
+impl<S: Sequence> SharedPad<S> {
+    /// Puts a pad behind a lock. It takes no memory.
+    pub fn new(alloc: Global, pad: Pad<S>, cell: u32) -> SharedPad<S>
+        ensures { result.cell ≡ cell }
+    {
+        SharedPad {
+            kept: Mutex::new(Kept::new(alloc, pad)),
+            cell,
+        }
+    }
+
+    /// The place in the row.
+    pub fn cell(&self) -> u32
+        ensures { result ≡ self.now.cell }
+    {
+        self.cell
+    }
+
+    /// Whether a seat is for this cell.
+    pub fn owns(&self, seat: &Seat) -> bool
+        ensures { IsTrue result ↔ (seat.now.cell ≡ self.now.cell) }
+    {
+        seat.cell() == self.cell
+    }
+
+    /// One more seat. 317 where 64 were made, and out of memory.
+    pub fn seat<R: Wait>(&self, rt: &R) -> Result<Seat, Refusal>
+        ensures seat { IfOk result (λ seat. (seat.cell ≡ self.now.cell) × (seat.tally ≡ uncounted)) }
+        ensures refusal { IfErr result (λ e. (e ≡ Refusal.SeatsGone) ⊎ (e ≡ Refusal.Memory)) }
+    {
+        self.kept.lock(rt).seat(self.cell)
+    }
+
+    /// A request at this cell. None: the pad there has another name. 318: the seat is not the one that the pad knows.
+    pub fn call<R: Wait, G: Gate>(
+        &self,
+        rt: &R,
+        alloc: Global,
+        seat: &mut Seat,
+        session: &mut Session,
+        request: &Request,
+        gate: &G,
+    ) -> Result<Option<Reply>, Refusal>
+        requires owned { seat.old.cell ≡ self.now.cell }
+        requires asked { IsAsked request.now }
+        ensures who { session.new.who ≡ session.old.who }
+        ensures called { Called seat.old session.old.who request.now session.old.rooms result seat.new session.new.rooms }
+    {
+        let mut kept = self.kept.lock(rt);
+        let answer = kept.call(alloc, seat, session, request);
+        gate.inside(self.cell);
+        answer
+    }
+
+    /// Ends a visit where it is present and the session's; else it does nothing. It takes no memory.
+    pub fn depart<R: Wait, G: Gate>(
+        &self,
+        rt: &R,
+        seat: &mut Seat,
+        who: &Who,
+        room: &Room,
+        gate: &G,
+    )
+        requires { seat.old.cell ≡ self.now.cell }
+        ensures { (seat.new ≡ seat.old) ⊎ (seat.new ≡ seat_after 0 None seat.old) }
+    {
+        let mut kept = self.kept.lock(rt);
+        kept.depart(seat, who, room);
+        gate.inside(self.cell);
+    }
+
+    /// The name of the pad, if it has one.
+    pub fn name<R: Wait>(&self, rt: &R, alloc: Global) -> Result<Option<Name>, Refusal>
+        ensures { IfErr result (λ e. e ≡ Refusal.Memory) }
+    {
+        self.kept.lock(rt).name(alloc)
+    }
+
+    /// Ends the sharing, where these are the seats that were made, each once, with their tallies; else all is handed back
+    /// (318).
+    pub fn close(self, seats: Vec<Seat>) -> Result<Closed<S>, (SharedPad<S>, Vec<Seat>)>
+        ensures { IfOk result (λ closed. HasClosed closed.pad seats.items closed.operations closed.calls) }
+    {
+        let SharedPad { kept, cell } = self;
+        let kept = kept.into_inner();
+        match kept.sum(seats.as_slice()) {
+            Some(sums) => Ok(Closed {
+                pad: kept.into_pad(),
+                operations: sums.operations,
+                calls: sums.calls,
+            }),
+            None => Err((
+                SharedPad {
+                    kept: Mutex::new(kept),
+                    cell,
+                },
+                seats,
+            )),
+        }
+    }
+}
+
+/// A pad that is not shared any more, and what all its seats have done.
+#[derive(Drop)]
+pub struct Closed<S: Sequence> {
+    pub pad: Pad<S>,
+    pub operations: u64,
+    pub calls: u64,
+}

@@ -1,0 +1,9 @@
+use Rattle.std.proofs.Common.{◌≡◌, ◌-◌}
+use Rattle.workers.specs.Row.{Passes}
+use Rattle.workers.proofs.row.Row.scan.Given as goal
+
+-- the cells so far have other names
+abbrev pub invariant-loop-place : goal.invariant-loop-place
+invariant-loop-place g l =
+    (l.session.who ≡ l.fn.session.who)
+    × Passes l.fn.session.who l.fn.request l.fn.start (l.place - l.fn.start) (record { rooms = l.fn.session.rooms; seats = l.fn.seats.items }) (record { rooms = l.session.rooms; seats = l.seats.items })

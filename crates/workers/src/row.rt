@@ -1,0 +1,143 @@
+//! A row of shared pads, as a session asks it.
+ghost use Rattle.std.specs.Prelude.{◌≡◌, [], length, IfErr};
+ghost use Rattle.server_core.specs.Rooms.{IsAsked};
+ghost use Rattle.workers.specs.Row.{RowAsked, Scans, VisitsAt};
+
+use pad_core::{Reply, Request};
+use pad_model::{Name, Refusal, Sequence};
+use server_core::{act_refusal, create_refusal, first_cell, hello, past_row, peer};
+use sessions::{Accounts, Room, Session};
+use shared_pads::{Gate, Seat, SharedPad};
+use std::alloc::Global;
+use std::sync::Wait;
+
+/// A row of shared pads, and what a thread waits and is held up by there.
+#[derive(Drop)]
+pub struct Row<'a, S: Sequence, R: Wait, G: Gate> {
+    pub rt: &'a R,
+    pub cells: &'a [SharedPad<S>],
+    pub gate: &'a G,
+}
+
+impl<'a, S: Sequence, R: Wait, G: Gate> Row<'a, S, R, G> {
+    /// Asks a request of a session, by the seats of its thread.
+    pub fn ask(
+        &self,
+        alloc: Global,
+        replica: u16,
+        accounts: &Accounts,
+        seats: &mut Vec<Seat>,
+        session: &mut Session,
+        request: &Request,
+    ) -> Result<Reply, Refusal>
+        ensures { RowAsked replica accounts.now (length self.now.cells.now) session.old.who (record { rooms = session.old.rooms; seats = seats.old.items }) request.now result session.new.who (record { rooms = session.new.rooms; seats = seats.new.items }) }
+    {
+        match request {
+            Request::Hello { name, token } => {
+                hello(alloc, replica, accounts, name, token, session)
+            }
+            Request::Peer {
+                number,
+                token,
+                version,
+            } => peer(replica, accounts, *number, token, *version, session),
+            Request::Create { pad } => match create_refusal(session.who(), pad) {
+                Some(refusal) => Err(refusal),
+                None => self.scan(alloc, seats, session, first_cell(session, pad), request),
+            },
+            Request::On { pad, act } => match act_refusal(session.who(), pad, act) {
+                Some(refusal) => Err(refusal),
+                None => self.scan(alloc, seats, session, first_cell(session, pad), request),
+            },
+        }
+    }
+
+    /// A request goes from cell to cell, from this one on, until one answers it.
+    fn scan(
+        &self,
+        alloc: Global,
+        seats: &mut Vec<Seat>,
+        session: &mut Session,
+        start: u32,
+        request: &Request,
+    ) -> Result<Reply, Refusal>
+        requires { IsAsked request.now }
+        ensures who { session.new.who ≡ session.old.who }
+        ensures scans { Scans (length self.now.cells.now) start session.old.who request.now (record { rooms = session.old.rooms; seats = seats.old.items }) result (record { rooms = session.new.rooms; seats = seats.new.items }) }
+    {
+        for place in 0..self.cells.len() {
+            if place < start as usize {
+                continue;
+            }
+            match self.visit(alloc, seats, session, place, request) {
+                Ok(None) => {}
+                Ok(Some(reply)) => return Ok(reply),
+                Err(refusal) => return Err(refusal),
+            }
+        }
+        Err(past_row(request))
+    }
+
+    /// One call of the seat at a cell.
+    fn visit(
+        &self,
+        alloc: Global,
+        seats: &mut Vec<Seat>,
+        session: &mut Session,
+        place: usize,
+        request: &Request,
+    ) -> Result<Option<Reply>, Refusal>
+        requires { IsAsked request.now }
+        ensures who { session.new.who ≡ session.old.who }
+        ensures visits { VisitsAt session.old.who request.now place (record { rooms = session.old.rooms; seats = seats.old.items }) result (record { rooms = session.new.rooms; seats = seats.new.items }) }
+    {
+        if place >= self.cells.len() || place >= seats.len() {
+            return Err(Refusal::SeatsOut);
+        }
+        let cell = &self.cells[place];
+        if !cell.owns(&seats[place]) {
+            return Err(Refusal::SeatsOut);
+        }
+        cell.call(
+            self.rt,
+            alloc,
+            &mut seats[place],
+            session,
+            request,
+            self.gate,
+        )
+    }
+
+    /// A session leaves its pads, in order of joining.
+    pub fn leave_all(&self, seats: &mut Vec<Seat>, session: &mut Session)
+        ensures who { session.new.who ≡ session.old.who }
+        ensures rooms { session.new.rooms ≡ [] }
+    {
+        while let Some(room) = session.take_first() {
+            self.leave(seats, session, &room);
+        }
+    }
+
+    /// A session leaves one pad.
+    fn leave(&self, seats: &mut Vec<Seat>, session: &Session, room: &Room) {
+        let place = room.cell as usize;
+        if place >= self.cells.len() || place >= seats.len() {
+            return;
+        }
+        let cell = &self.cells[place];
+        if cell.owns(&seats[place]) {
+            cell.depart(self.rt, &mut seats[place], session.who(), room, self.gate);
+        }
+    }
+
+    /// The name of a cell, if it has one.
+    pub fn name_of(&self, alloc: Global, cell: u32) -> Result<Option<Name>, Refusal>
+        ensures { IfErr result (λ e. e ≡ Refusal.Memory) }
+    {
+        let place = cell as usize;
+        if place >= self.cells.len() {
+            return Ok(None);
+        }
+        self.cells[place].name(self.rt, alloc)
+    }
+}

@@ -12,6 +12,8 @@ mod limits;
 #[cfg(test)]
 mod page;
 #[cfg(test)]
+mod records;
+#[cfg(test)]
 mod replies;
 #[cfg(test)]
 mod rig;
@@ -19,6 +21,8 @@ mod rig;
 mod runs;
 #[cfg(test)]
 mod scan;
+#[cfg(test)]
+mod seats;
 #[cfg(test)]
 mod seeded;
 #[cfg(test)]

@@ -37,7 +37,7 @@ length-cells authors text (b ∷ bs) w =
     ∙ sym (sum_by-cons (λ (x : Block). x.len) b bs)
 
 -- which stamps a run has
-has-run : (author : Author) (born : ℕ) (died : Option ℕ) (first : Stamp) (p : Option Stamp) (text : List ℕ) (s : Stamp) → has_stamp character_of (run_cells author born died first p text) s ≡ is_erased (stamps_from first (length text)) s
+pub has-run : (author : Author) (born : ℕ) (died : Option ℕ) (first : Stamp) (p : Option Stamp) (text : List ℕ) (s : Stamp) → has_stamp character_of (run_cells author born died first p text) s ≡ is_erased (stamps_from first (length text)) s
 has-run author born died first p [] s = refl
 has-run author born died first p (c ∷ text) s = ap (λ b. same_stamp first s || b) (has-run author born died (next first) (Some first) text s)
 
@@ -59,7 +59,7 @@ in_span-covers first n s h =
     let rest = and_parts _ _ both.1 in
     (eqb-true first.replica s.replica both.0, leb-true first.counter s.counter rest.0, ltb-true s.counter (first.counter + n) rest.1)
 
-any_at : {A : Type 0} (t : A → Bool) (xs : List A) → list_any t xs ≡ true → (i : ℕ) × (x : A) × (slice_get xs i ≡ Some x) × (t x ≡ true)
+pub any_at : {A : Type 0} (t : A → Bool) (xs : List A) → list_any t xs ≡ true → (i : ℕ) × (x : A) × (slice_get xs i ≡ Some x) × (t x ≡ true)
 any_at t [] h = absurd (cc)
 any_at t (x ∷ xs) h =
     split (t x) (λ e. (0, x, refl, e))
@@ -67,7 +67,7 @@ any_at t (x ∷ xs) h =
     let rest = any_at t xs h' in
     (suc rest.0, rest.1, rest.2, rest.3))
 
-any_from : {A : Type 0} (t : A → Bool) (xs : List A) (i : ℕ) (x : A) → slice_get xs i ≡ Some x → t x ≡ true → list_any t xs ≡ true
+pub any_from : {A : Type 0} (t : A → Bool) (xs : List A) (i : ℕ) (x : A) → slice_get xs i ≡ Some x → t x ≡ true → list_any t xs ≡ true
 any_from t [] i x e h = absurd (cc)
 any_from t (y ∷ xs) zero x e h = let same : y ≡ x = cc in rw (ap t same ∙ h) refl
 any_from t (y ∷ xs) (suc i) x e h = split (t y) (λ f. rw f refl) (λ f. rw f (any_from t xs i x e h))

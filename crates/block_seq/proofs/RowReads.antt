@@ -157,7 +157,7 @@ front_small rev (b ∷ bs) (suc i) =
     rw (sum_by-cons (shown_len rev) b (take i bs), sum_by-cons (λ (x : Block). x.len) b bs) (omega (arith, rest, here))
 
 module _ (rev : ℕ) (author : Author) (born : ℕ) (died : Option ℕ) (a : Stamp) (rest : List Cell) where
-  apart_from : (s : Stamp) (n : ℕ) → (Covers s (suc n) a → ⊥) → same_stamp s a ≡ false
+  pub apart_from : (s : Stamp) (n : ℕ) → (Covers s (suc n) a → ⊥) → same_stamp s a ≡ false
   apart_from s n none = split (same_stamp s a)
       (λ e. let same = same_stamp-true s a e in
       let counter = ap (λ (k : Stamp). k.counter) same in

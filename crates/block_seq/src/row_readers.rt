@@ -1,5 +1,5 @@
 //! What the blocks show at a revision, by one walk along the tree.
-ghost use Rattle.std.specs.Prelude.{◌≡◌, ◌+◌, ◌≤◌, ◌++◌, [], ◌-◌, length, sum_by, flat_map, fold, max, IfOk, ◌<◌, Some, take, slice_get, if◌then◌else◌};
+ghost use Rattle.std.specs.Prelude.{◌≡◌, ◌+◌, ◌≤◌, ◌++◌, [], ◌-◌, length, sum_by, flat_map, fold, max, IfOk, ◌<◌, Some, take, slice_get, if◌then◌else◌, nat_lt, nat_le, ◌==◌, ◌&&◌, ◌||◌};
 ghost use Rattle.blocks.specs.declared.block.Block.{Block as BlockValue};
 ghost use Rattle.std.specs.List.{AllByRecursion};
 ghost use Rattle.blocks.specs.Cells.{IsWithin};
@@ -7,7 +7,7 @@ ghost use Rattle.block_seq.specs.Rows.{shows, shown_len, shown_stretch, stamp_in
 ghost use Rattle.blocks.specs.Blocks.{IsSized};
 ghost use Rattle.pad_model.specs.declared.limits.TheConstants.{MAX_CHARACTERS};
 
-use blocks::Block;
+use blocks::{Block, Spot};
 use pad_model::Stamp;
 use std::alloc::{AllocError, Global};
 use weight_tree::WeightTree;
@@ -127,4 +127,11 @@ pub fn count_before(tree: &WeightTree<Block>, rank: usize, offset: u64, rev: u64
     } else {
         front
     }
+}
+
+/// Whether one spot is another or stands before it.
+pub fn is_at_most(first: Spot, last: Spot) -> bool
+    ensures { result ≡ (nat_lt first.rank last.rank || (first.rank == last.rank && nat_le first.offset last.offset)) }
+{
+    first.rank < last.rank || (first.rank == last.rank && first.offset <= last.offset)
 }

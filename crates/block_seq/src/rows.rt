@@ -2,7 +2,7 @@
 ghost use Rattle.std.specs.Prelude.{◌≡◌, ◌+◌, ◌≤◌, ◌++◌, [], IsTrue, MatchResult, length, vec_len, vec_capacity};
 ghost use Rattle.std.specs.List.{AllByRecursion, list_all};
 ghost use Rattle.pad_model.specs.Answers.{Answers};
-ghost use Rattle.pad_model.specs.Cell.{IsBy, before_at, through_at, clock_of, IsInOrder, cells_at, cell_stamp_at, text_at as cells_text, character_of, delete_spans as delete_cells, insert_run as insert_cells, last_of as greatest_of};
+ghost use Rattle.pad_model.specs.Cell.{IsBy, before_at, is_before, through_at, clock_of, IsInOrder, cells_at, cell_stamp_at, text_at as cells_text, character_of, delete_spans as delete_cells, insert_run as insert_cells, last_of as greatest_of};
 ghost use Rattle.pad_model.specs.Legal.{has_stamp};
 ghost use Rattle.pad_model.specs.Parts.{part_fits};
 ghost use Rattle.pad_model.specs.Checked.{are_parts, is_run, is_span};
@@ -10,7 +10,9 @@ ghost use Rattle.pad_model.specs.Checked.{are_parts, is_run, is_span};
 use crate::authors::place_author;
 use crate::row_erase::{cut_spans, has_spans, kill_named};
 use crate::row_parts::parts_fit;
-use crate::row_readers::{count_before, count_visible, find_visible, greatest_counter, read_text};
+use crate::row_readers::{
+    count_before, count_visible, find_visible, greatest_counter, is_at_most, read_text,
+};
 use crate::run_place::{has_character, place_run, run_fits};
 use blocks::{Block, find_block, put_block};
 use ident_index::IdentIndex;
@@ -194,5 +196,15 @@ impl BlockSeq {
     {
         let spot = find_block(&self.tree, &self.index, stamp)?;
         Some(count_before(&self.tree, spot.rank, spot.offset + 1, rev))
+    }
+
+    /// Whether `a` is `b` or stands before it, erased or not; None where one is missing.
+    pub fn stands_before(&self, a: Stamp, b: Stamp) -> Option<bool>
+        ensures { result ≡ is_before self.now a b }
+    {
+        let first = find_block(&self.tree, &self.index, a)?;
+        let last = find_block(&self.tree, &self.index, b)?;
+        let _text = &self.text;
+        Some(is_at_most(first, last))
     }
 }

@@ -5,9 +5,9 @@ use Rattle.std.specs.List.{AllByRecursion}
 use Rattle.pad_model.specs.Answers.{Answers}
 use Rattle.pad_model.specs.Stamp.{Stamp}
 use Rattle.pad_model.specs.Character.{next, run_characters}
-use Rattle.pad_model.specs.Cell.{Cell, IsBy, IsInOrder, born_at, character_of, new_cells, with_run, is_hidden_by, without_spans}
+use Rattle.pad_model.specs.Cell.{Cell, IsBy, IsInOrder, born_at, character_of, new_cells, with_run, is_hidden_by, without_spans, insert_run, delete_spans}
 use Rattle.pad_model.specs.Checked.{are_parts}
-use Rattle.pad_model.specs.Log.{run_may_join}
+use Rattle.pad_model.specs.Log.{run_may_join, has_spans}
 use Rattle.pad_model.specs.Parts.{spans_in, inserts_in, parts_fit, with_parts, apply}
 use Rattle.pad_model.specs.declared.limits.TheConstants.{MAX_CHARACTERS}
 use Rattle.pad_model.specs.declared.op.Run.{Run}
@@ -80,3 +80,37 @@ refused_by rev parts author cells new refusal h (inr answer) =
     (λ other e. subst (AllByRecursion (IsBy rev)) (ap (λ p. p.1) e) h)
     (λ hidden fit e. (let apart : Ok hidden ≡ Err refusal = ap (λ p. p.0) e in absurd (cc)))
     answer
+
+-- what an insertion answers, case by case
+insert_answered : (P : Result (Unit {0}) Refusal × List Cell → Type 0) (rev : ℕ) (run : Run) (author : Author) (cells : List Cell) → ((refusal : Refusal) → P (Err refusal, cells)) →
+    (run_may_join character_of cells run.first run.after ≡ true → P (Ok tt, with_run rev run author cells)) → P (insert_run rev run author cells)
+insert_answered P rev run author cells no_change change =
+    split (run_may_join character_of cells run.first run.after)
+    (λ joins. split (ltb MAX_CHARACTERS (length cells + length run.text))
+    (λ full. rw (joins, full) (no_change _))
+    (λ room. rw (joins, room) (change joins)))
+    (λ fault. rw fault (no_change _))
+
+-- after an insertion, whatever it answered, no cell is later than its revision
+pub inserted_by : (rev : ℕ) (run : Run) (author : Author) (cells new : List Cell) (result : Result (Unit {0}) Refusal) → IsInOrder cells → AllByRecursion (IsBy rev) cells →
+    Answers cells (insert_run (rev + 1) run author cells) result new → AllByRecursion (IsBy (rev + 1)) new
+inserted_by rev run author cells new result o h (inl none) = subst (AllByRecursion (IsBy (rev + 1))) (sym none.1) (later_by rev cells h)
+inserted_by rev run author cells new result o h (inr answer) =
+    subst (AllByRecursion (IsBy (rev + 1))) (ap (λ p. p.1) answer)
+    (insert_answered (λ p. AllByRecursion (IsBy (rev + 1)) p.1) (rev + 1) run author cells (λ refusal. later_by rev cells h)
+    (λ joins. run_by (rev + 1) run author cells o (later_by rev cells h) joins))
+
+-- what a deletion answers, case by case
+delete_answered : (P : Result ℕ Refusal × List Cell → Type 0) (rev : ℕ) (spans : List Span) (cells : List Cell) → ((refusal : Refusal) → P (Err refusal, cells)) →
+    ((hidden : ℕ) → P (Ok hidden, without_spans rev spans cells)) → P (delete_spans rev spans cells)
+delete_answered P rev spans cells no_change change =
+    split (has_spans character_of cells spans) (λ there. rw there (change _)) (λ fault. rw fault (no_change _))
+
+-- after a deletion, whatever it answered, no cell is later than its revision
+pub deleted_by : (rev : ℕ) (spans : List Span) (cells new : List Cell) (result : Result ℕ Refusal) → AllByRecursion (IsBy rev) cells →
+    Answers cells (delete_spans (rev + 1) spans cells) result new → AllByRecursion (IsBy (rev + 1)) new
+deleted_by rev spans cells new result h (inl none) = subst (AllByRecursion (IsBy (rev + 1))) (sym none.1) (later_by rev cells h)
+deleted_by rev spans cells new result h (inr answer) =
+    subst (AllByRecursion (IsBy (rev + 1))) (ap (λ p. p.1) answer)
+    (delete_answered (λ p. AllByRecursion (IsBy (rev + 1)) p.1) (rev + 1) spans cells (λ refusal. later_by rev cells h)
+    (λ hidden. erased_by (rev + 1) spans cells (later_by rev cells h)))

@@ -7,5 +7,6 @@ mod operations;
 mod readers;
 mod rows;
 mod sequences;
+mod side_by_side;
 mod site;
 mod stamps;

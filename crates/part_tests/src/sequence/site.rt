@@ -89,7 +89,7 @@ impl Site {
     }
 }
 
-fn is_text(alloc: Global, text: &Text, want: &str) -> Result<bool, Refusal> {
+pub fn is_text(alloc: Global, text: &Text, want: &str) -> Result<bool, Refusal> {
     let text = text.to_string(alloc)?;
     Ok(text.as_str() == want)
 }
@@ -119,7 +119,7 @@ pub fn stamp_of(named: Named) -> Result<Stamp, Refusal> {
     Stamp::new(named.0, named.1)
 }
 
-fn part_of(alloc: Global, sketch: &Sketch) -> Result<Part, Refusal> {
+pub fn part_of(alloc: Global, sketch: &Sketch) -> Result<Part, Refusal> {
     match sketch {
         Sketch::Typed(first, after, text) => {
             let after = match after {

@@ -12,11 +12,17 @@ mod limits;
 #[cfg(test)]
 mod page;
 #[cfg(test)]
+mod records;
+#[cfg(test)]
 mod replies;
 #[cfg(test)]
 mod rig;
 #[cfg(test)]
+mod runs;
+#[cfg(test)]
 mod scan;
+#[cfg(test)]
+mod seats;
 #[cfg(test)]
 mod seeded;
 #[cfg(test)]

@@ -7,4 +7,4 @@ pub mod Again
 pub mod OpAgain
 pub mod OneLine
 pub mod Shallow
-pub mod Told
+pub mod Spelled

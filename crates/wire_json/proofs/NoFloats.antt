@@ -1,5 +1,5 @@
 -- What is written holds no float, so its text is known.
-use Rattle.std.proofs.Common.{◌≡◌, List, [], ◌∷◌, map, false, Option, Some, None, Result, Ok, Err, refl}
+use Rattle.std.proofs.Common.{◌≡◌, ℕ, List, [], ◌∷◌, map, false, Option, Some, None, Result, Ok, Err, refl}
 use Rattle.serde_json.specs.Data.{Data}
 use Rattle.serde_json.specs.View.{items_of}
 use Rattle.serde_json.specs.Written.{has_float, items_have_float}
@@ -17,6 +17,7 @@ use Rattle.pad_core.specs.declared.reply.Reply.{Reply}
 use Rattle.pad_core.specs.declared.reply.Reply.TheVariants as reply
 use Rattle.wire_json.specs.Forms.{parent_data, span_data, counted_data}
 use Rattle.wire_json.specs.Operations.{part_data, op_data}
+use Rattle.wire_json.specs.Peers.{peer_request, pull_request, vector_request, push_request}
 use Rattle.wire_json.specs.Replies.{run_data, shown_data, entry_data, present_data, grant_data, pad_data, reply_data, outcome_data}
 
 -- a list of what has no float has none
@@ -79,3 +80,16 @@ reply_of reply.Ended = refl
 pub outcome_has_no_float : (outcome : Result Reply Refusal) → has_float (outcome_data outcome) ≡ false
 outcome_has_no_float (Ok said) = reply_of said
 outcome_has_no_float (Err refusal) = refl
+
+-- no request to a peer holds a float
+pub peer_has_no_float : (own : ℕ) (token : List ℕ) → has_float (peer_request own token) ≡ false
+peer_has_no_float own token = refl
+
+pub pull_has_no_float : (pad : List ℕ) (seen : List Counted) (most : ℕ) → has_float (pull_request pad seen most) ≡ false
+pull_has_no_float pad seen most = rw (seen_of seen) refl
+
+pub vector_has_no_float : (pad : List ℕ) → has_float (vector_request pad) ≡ false
+vector_has_no_float pad = refl
+
+pub push_has_no_float : (pad : List ℕ) (op : Op) → has_float (push_request pad op) ≡ false
+push_has_no_float pad op = rw (op_of op) refl

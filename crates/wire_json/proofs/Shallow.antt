@@ -17,6 +17,7 @@ use Rattle.pad_core.specs.declared.reply.Reply.{Reply}
 use Rattle.pad_core.specs.declared.reply.Reply.TheVariants as reply
 use Rattle.wire_json.specs.Forms.{parent_data, span_data, counted_data}
 use Rattle.wire_json.specs.Operations.{part_data, op_data}
+use Rattle.wire_json.specs.Peers.{peer_request, pull_request, vector_request, push_request}
 use Rattle.wire_json.specs.Requests.{op_of}
 use Rattle.wire_json.specs.Replies.{run_data, shown_data, entry_data, present_data, grant_data, pad_data, reply_data, outcome_data}
 
@@ -80,3 +81,16 @@ reply_of reply.Ended = lit≤ tt
 pub outcome_is_shallow : (outcome : Result Reply Refusal) → depth (outcome_data outcome) ≤ 7
 outcome_is_shallow (Ok said) = reply_of said
 outcome_is_shallow (Err refusal) = lit≤ tt
+
+-- nor does a request to a peer
+pub peer_is_shallow : (own : ℕ) (token : List ℕ) → depth (peer_request own token) ≤ 7
+peer_is_shallow own token = lit≤ tt
+
+pub pull_is_shallow : (pad : List ℕ) (seen : List Counted) (most : ℕ) → depth (pull_request pad seen most) ≤ 7
+pull_is_shallow pad seen most = omega (arith, seen_of seen)
+
+pub vector_is_shallow : (pad : List ℕ) → depth (vector_request pad) ≤ 7
+vector_is_shallow pad = lit≤ tt
+
+pub push_is_shallow : (pad : List ℕ) (op : Op) → depth (push_request pad op) ≤ 7
+push_is_shallow pad op = omega (arith, op_of_any op)

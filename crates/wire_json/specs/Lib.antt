@@ -5,4 +5,5 @@ pub mod Replies
 pub mod Reading
 pub mod Requests
 pub mod Lines
+pub mod Peers
 pub mod Laws

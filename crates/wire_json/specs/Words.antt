@@ -30,6 +30,14 @@ state_word state.Repeat = codes "repeat"
 state_word state.Held = codes "held"
 state_word state.Delivered = codes "delivered"
 
+-- what became of a pushed operation, by its word
+abbrev pub state_of_word : List ℕ → Option Pushed
+state_of_word word =
+    if bytes_eq word (codes "repeat") then Some state.Repeat
+    else if bytes_eq word (codes "held") then Some state.Held
+    else if bytes_eq word (codes "delivered") then Some state.Delivered
+    else None
+
 -- the right that a word gives: `none` takes it away
 abbrev pub granted_by : List ℕ → Option (Option Right)
 granted_by word =

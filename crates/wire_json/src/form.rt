@@ -12,7 +12,7 @@ use serde_json::Value;
 use std::alloc::Global;
 
 /// The number of a replica or an origin.
-fn replica(value: &Value) -> Result<u16, Refusal>
+pub fn replica(value: &Value) -> Result<u16, Refusal>
     ensures { IsForm (within_in MAX_REPLICA (view value.now)) result }
 {
     match u16::try_from(number(value)?) {

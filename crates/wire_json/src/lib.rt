@@ -15,6 +15,8 @@ mod line;
 mod list;
 mod op_read;
 mod op_write;
+mod peer_answer;
+mod peer_request;
 mod reply;
 mod request;
 mod short;
@@ -23,5 +25,7 @@ mod word;
 
 pub use op_read::read_op;
 pub use op_write::op_value;
+pub use peer_answer::{Told, read_peer_answer, read_pull_answer, read_push_answer, read_vector_answer};
+pub use peer_request::{peer_line, pull_line, push_line, vector_line};
 pub use reply::reply_line;
 pub use request::read_request;

@@ -31,6 +31,14 @@ pub fn read_op(alloc: Global, value: &Value) -> Result<Op, Refusal>
     })
 }
 
+impl FromJson for Op {
+    ghost form = { op_in };
+
+    fn from_json(alloc: Global, value: &Value) -> Result<Op, Refusal> {
+        read_op(alloc, value)
+    }
+}
+
 fn kind_field(value: &Value) -> Result<Kind, Refusal>
     ensures { IsForm (kind_in (view value.now)) result }
 {

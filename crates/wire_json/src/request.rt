@@ -24,7 +24,7 @@ pub fn read_request(alloc: Global, line: &[u8]) -> Result<Request, Refusal>
     request_of(alloc, &value)
 }
 
-fn read_value(alloc: Global, line: &[u8]) -> Result<Value, Refusal>
+pub fn read_value(alloc: Global, line: &[u8]) -> Result<Value, Refusal>
     ensures { MatchResult result (λ v. value_of line.now ≡ Some (view v)) (λ e. (e ≡ Refusal.Memory) ⊎ ((e ≡ Refusal.NotJson) × (value_of line.now ≡ None))) }
 {
     match Value::from_slice(alloc, line) {

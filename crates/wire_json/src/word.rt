@@ -1,6 +1,6 @@
 //! The words that stand for rights, kinds and states on the wire.
 ghost use Rattle.std.specs.Prelude.{◌≡◌};
-ghost use Rattle.wire_json.specs.Words.{right_word, kind_word, state_word, granted_by, kind_of_word};
+ghost use Rattle.wire_json.specs.Words.{right_word, kind_word, state_word, state_of_word, granted_by, kind_of_word};
 
 use pad_core::{Kind, Pushed};
 use rights::Right;
@@ -62,5 +62,17 @@ pub fn state_word(state: Pushed) -> &'static str
         Pushed::Repeat => "repeat",
         Pushed::Held => "held",
         Pushed::Delivered => "delivered",
+    }
+}
+
+/// What became of a pushed operation, as a peer tells it.
+pub fn state_of_word(word: &str) -> Option<Pushed>
+    ensures { result ≡ state_of_word word.now }
+{
+    match word {
+        "repeat" => Some(Pushed::Repeat),
+        "held" => Some(Pushed::Held),
+        "delivered" => Some(Pushed::Delivered),
+        _ => None,
     }
 }

@@ -15,6 +15,7 @@ mod shared;
 pub use alone::Alone;
 pub use connection::{Served, serve_connection};
 pub use crew::{Connection, serve_all, take_seats};
+pub use delivered::delivered_by;
 pub use pads::Pads;
 pub use shared::Shared;
 pub use shared_pads::{Gate, Open};

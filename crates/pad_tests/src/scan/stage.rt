@@ -45,6 +45,26 @@ pub fn count_told(
     Ok(count)
 }
 
+/// Whether a run of the steps tells just this.
+pub fn runs_so(
+    alloc: Global,
+    server: &mut Server<PlainSeq>,
+    turns: &[Turn<'_>],
+) -> Result<bool, Fail> {
+    let mut steps = Vec::new(alloc);
+    for turn in turns {
+        steps.push((turn.0, step_of(alloc, turn.1)?))?;
+    }
+    let answers = server.run(alloc, steps.as_slice())?;
+    let mut count = 0usize;
+    for (answer, turn) in answers.into_iter().zip(turns) {
+        if show(alloc, answer)?.as_str() == turn.2 {
+            count = count.saturating_add(1);
+        }
+    }
+    Ok(count == turns.len())
+}
+
 fn is_told(alloc: Global, server: &mut Server<PlainSeq>, turn: Turn<'_>) -> Result<bool, Fail> {
     let (actor, words, want) = turn;
     let told = answer(alloc, server, actor, words)?;

@@ -1,5 +1,5 @@
 //! Actors in turn.
-use crate::scan::stage::{Turn, count_told, open, open_more};
+use crate::scan::stage::{Turn, count_told, open, open_more, runs_so};
 use pad_model::Refusal;
 use std::alloc::Global;
 use std::test::Fail;
@@ -205,5 +205,12 @@ fn limit_actors(rt: HostRuntime) -> Result<(), Fail> {
     let mut server = open(alloc, 1)?;
     open_more(alloc, &mut server, 1_021)?;
     assert!(rt; server.open(alloc) == Err(Refusal::ActorsFull));
+    Ok(())
+}
+
+#[test]
+fn a_run_tells_what_its_steps_do(rt: HostRuntime) -> Result<(), Fail> {
+    let mut server = open(rt.alloc(), 1)?;
+    assert!(rt; runs_so(rt.alloc(), &mut server, RACE)?);
     Ok(())
 }

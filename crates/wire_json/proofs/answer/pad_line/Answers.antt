@@ -1,7 +1,7 @@
 -- The line of a value is the reply's: its value has no float, and nests a few levels deep.
 use Rattle.std.proofs.Common.{Ok, string_bytes, rules}
 use Rattle.pad_core.specs.declared.reply.Reply.TheVariants.{Pad}
-use Rattle.wire_json.proofs.Told.{outcome_said}
+use Rattle.wire_json.proofs.Spelled.{outcome_said}
 use Rattle.wire_json.proofs.answer.pad_line.Goals as goal
 
 pub returns-in-Runs : goal.returns-in-Runs

@@ -1,5 +1,5 @@
 -- The line is the reply's.
-use Rattle.wire_json.proofs.Told as told
+use Rattle.wire_json.proofs.Spelled as told
 use Rattle.wire_json.proofs.short.done_line.Goals as goal
 
 pub returns : goal.returns

@@ -1,6 +1,6 @@
 -- The line is the reply's.
 use Rattle.std.proofs.Common.{string_bytes}
-use Rattle.wire_json.proofs.Told as told
+use Rattle.wire_json.proofs.Spelled as told
 use Rattle.wire_json.proofs.short.ended_line.Goals as goal
 
 pub returns : goal.returns

@@ -161,14 +161,22 @@ pub if_ended : {A E : Type 0} (bytes_of : A → List ℕ) (r : Result A E) → I
 if_ended bytes_of (Ok line) is = subst (λ bytes. IsWritten (answer []) bytes) (sym is) ended
 if_ended bytes_of (Err e) is = is
 
+-- the line of a value that says this, which holds no float and nests a few levels deep
+pub said : {A E : Type 0} (bytes_of : A → List ℕ) (d : Data) (value : Result Value E) (r : Result A E)
+    → has_float d ≡ false → depth d ≤ 7 → IfOk value (λ v. view v ≡ d)
+    → IfOk r (λ line. (v : Value) × (value ≡ Ok v) × (has_float (view v) ≡ false → depth (view v) ≤ max_depth → IsWritten (view v) (bytes_of line)))
+    → IfOk r (λ line. IsWritten d (bytes_of line))
+said bytes_of d value (Err e) floatless low is_said says = tt
+said bytes_of d value (Ok line) floatless low is_said says =
+    let v = says.0 in
+    let same : view v ≡ d = subst (λ r. IfOk r (λ v. view v ≡ d)) says.1 is_said in
+    let shallow : depth d ≤ max_depth = omega (arith, low) in
+    subst (λ d. IsWritten d (bytes_of line)) same (says.2 (rw same floatless) (rw same shallow))
+
 -- the line of a value that is a reply's
 pub outcome_said : {A E : Type 0} (bytes_of : A → List ℕ) (outcome : Result Reply Refusal) (value : Result Value E) (r : Result A E)
     → IfOk value (λ v. view v ≡ outcome_data outcome)
     → IfOk r (λ line. (v : Value) × (value ≡ Ok v) × (has_float (view v) ≡ false → depth (view v) ≤ max_depth → IsWritten (view v) (bytes_of line)))
     → IfOk r (λ line. IsWritten (outcome_data outcome) (bytes_of line))
-outcome_said bytes_of outcome value (Err e) is_said says = tt
-outcome_said bytes_of outcome value (Ok line) is_said says =
-    let v = says.0 in
-    let same : view v ≡ outcome_data outcome = subst (λ r. IfOk r (λ v. view v ≡ outcome_data outcome)) says.1 is_said in
-    let shallow : depth (outcome_data outcome) ≤ max_depth = omega (arith, outcome_is_shallow outcome) in
-    subst (λ d. IsWritten d (bytes_of line)) same (says.2 (rw same (outcome_has_no_float outcome)) (rw same shallow))
+outcome_said bytes_of outcome value r is_said says =
+    said bytes_of (outcome_data outcome) value r (outcome_has_no_float outcome) (outcome_is_shallow outcome) is_said says

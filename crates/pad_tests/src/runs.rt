@@ -1,0 +1,89 @@
+//! A list of events on one pad, made as one run.
+use block_seq::PlainSeq;
+use pad_core::{Act, Claim, Pad, PadEvent, PadReply};
+use pad_model::{Name, Refusal, Text, Who};
+use std::alloc::Global;
+use std::test::Fail;
+
+// The pad `p` of ann, on the server with number 1.
+fn claimed(alloc: Global) -> Result<Pad<PlainSeq>, Refusal> {
+    let mut pad = Pad::new(alloc, 1)?;
+    match pad.claim(alloc, "p", "ann")? {
+        Claim::Created { .. } => Ok(pad),
+        Claim::Exists | Claim::Other => Err(Refusal::PadExists),
+    }
+}
+
+fn hello(alloc: Global) -> Result<Act, Refusal> {
+    Ok(Act::Insert {
+        rev: 0,
+        at: 0,
+        text: Text::from_str(alloc, "hello")?,
+    })
+}
+
+/// The same, after ann has inserted `hello`.
+pub fn typed(alloc: Global) -> Result<Pad<PlainSeq>, Refusal> {
+    let mut pad = claimed(alloc)?;
+    let who = Who::Author(Name::from_str(alloc, "ann")?);
+    let act = hello(alloc)?;
+    let event = PadEvent {
+        pad: "p",
+        who: &who,
+        visit: Some(1),
+        act: &act,
+    };
+    match pad.step(alloc, &event) {
+        Ok(_) => Ok(pad),
+        Err(refusal) => Err(refusal),
+    }
+}
+
+fn is_made(reply: &Result<PadReply, Refusal>) -> bool {
+    match reply {
+        Ok(PadReply::Made { now, name }) => *now == 1 && name.origin == 1 && name.number == 1,
+        _ => false,
+    }
+}
+
+fn has_length(reply: &Result<PadReply, Refusal>, want: usize) -> bool {
+    match reply {
+        Ok(PadReply::Text { now, rev, text }) => *now == 1 && *rev == 1 && text.len() == want,
+        _ => false,
+    }
+}
+
+fn is_elsewhere(reply: &Result<PadReply, Refusal>) -> bool {
+    matches!(reply, Ok(PadReply::Elsewhere))
+}
+
+fn is_denied(reply: &Result<PadReply, Refusal>) -> bool {
+    matches!(reply, Err(Refusal::NotJoined))
+}
+
+#[test]
+fn a_run_answers_each_event(rt: HostRuntime) -> Result<(), Fail> {
+    let alloc = rt.alloc();
+    let mut pad = claimed(alloc)?;
+    let who = Who::Author(Name::from_str(alloc, "ann")?);
+    let (typed, read) = (hello(alloc)?, Act::Text { rev: None });
+    let event = |pad, visit, act| PadEvent {
+        pad,
+        who: &who,
+        visit,
+        act,
+    };
+    let events = [
+        event("p", Some(1), &typed),
+        event("p", Some(1), &read),
+        event("q", Some(1), &read),
+        event("p", None, &read),
+    ];
+    let replies = pad.run(alloc, &events)?;
+    assert!(rt; replies.len() == 4);
+    assert!(rt; is_made(&replies[0]));
+    assert!(rt; has_length(&replies[1], 5));
+    assert!(rt; is_elsewhere(&replies[2]));
+    assert!(rt; is_denied(&replies[3]));
+    Ok(())
+}

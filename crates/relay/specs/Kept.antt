@@ -1,0 +1,67 @@
+-- The world of a round, as the code keeps it, and what its parts leave.
+use Rattle.std.specs.Prelude.{◌≡◌, ◌⊎◌, ℕ, ◌+◌, Bool, true, false, List, Option, Some, Result, Err}
+use Rattle.pad_model.specs.OldWire.{seen_in_v1}
+use Rattle.pad_model.specs.declared.refusal.Refusal.{Refusal}
+use Rattle.pad_model.specs.declared.seen.Counted.{Counted}
+use Rattle.pad_model.specs.declared.who.Version.TheVariants.{One}
+use Rattle.pad_core.specs.declared.act.Act.{Act}
+use Rattle.pad_core.specs.declared.request.Request.{Request}
+use Rattle.pad_core.specs.declared.request.Request.TheVariants.{On}
+use Rattle.wire_json.specs.Peers.{pull_request}
+use Rattle.wire_lines.specs.declared.fault.Fault.{Fault}
+use Rattle.wire_lines.specs.declared.fault.Fault.TheVariants.{WriteFault, Memory}
+use Rattle.workers.specs.Session.{Answer}
+use Rattle.relay.specs.Counts.{none_yet, with_unsaid}
+use Rattle.relay.specs.Round.{Stage, World, Reaches, is_readable, line_of}
+use Rattle.relay.specs.Round.Stage.{Greeting, Pulling, Pushing, Over, Ended}
+use Rattle.relay.specs.Wire.{Wire, Writes, WritesPart}
+use Rattle.relay.specs.declared.limits.TheConstants.{MAX_OPS}
+use Rattle.relay.specs.declared.pull.Turn.{Turn}
+use Rattle.relay.specs.declared.pull.Turn.TheVariants as turn_of
+use Rattle.relay.specs.declared.relayed.Relayed.{Relayed}
+use Rattle.relay.specs.declared.talk.Talk.{Talk}
+
+-- the world of a talk, the pads and a wire
+abbrev pub world : {P : Type 0} → Talk → P → Wire → World P
+world talk pads wire = record { cells = talk.cells; cell = talk.cell; version = talk.version; relayed = talk.relayed; pads = pads; wire = wire }
+
+-- the world before a round
+abbrev pub begun : {P : Type 0} → ℕ → P → Wire → World P
+begun cells pads wire = record { cells = cells; cell = 0; version = One; relayed = none_yet; pads = pads; wire = wire }
+
+-- what follows a turn of pulling
+abbrev pub after_turn : List ℕ → ℕ → Turn → Stage
+after_turn name turn turn_of.Gained = Pulling name (turn + 1)
+after_turn name turn turn_of.Spent = Pushing name 0
+after_turn name turn turn_of.Over = Over
+
+-- a line was written in part, or not at all
+abbrev pub IsUnsent : Fault → List ℕ → Wire → Wire → Type 0
+IsUnsent fault line old new = ((fault ≡ WriteFault) × WritesPart line old new) ⊎ ((fault ≡ Memory) × (new ≡ old))
+
+-- a talk that counts more
+abbrev pub counts : (Relayed → Relayed) → Talk → Talk
+counts more talk = record { cells = talk.cells; cell = talk.cell; version = talk.version; relayed = more talk.relayed }
+
+-- this server's vector was sent to the peer, or the peer can't read it
+abbrev pub SendsPull : List ℕ → List Counted → Bool → Talk → Wire → Talk → Wire → Type 0
+SendsPull name seen true talk old then new =
+    (is_readable talk.version (seen_in_v1 seen) ≡ true) × Writes (line_of (pull_request name seen MAX_OPS)) old new × (then ≡ talk)
+SendsPull name seen false talk old then new =
+    (is_readable talk.version (seen_in_v1 seen) ≡ false) × (new ≡ old) × (then ≡ counts with_unsaid talk)
+
+-- a pad of this server was asked, and this is what a round makes of its answer; or there was no memory to ask
+abbrev pub AsksFor : {P A : Type 0} → (P → Request → Answer → P → Type 0) → List ℕ → Act → (Answer → Result A Fault) → Result A Fault → P → P → Type 0
+AsksFor calls name act own result old new =
+    ((said : Answer) × calls old (On name act) said new × (result ≡ own said)) ⊎ ((result ≡ Err Memory) × (new ≡ old))
+
+-- some steps without the peer lead to these pads, and then it was out of memory
+abbrev pub Lacks : {P : Type 0} → (P → Request → Answer → P → Type 0) → (P → ℕ → Result (Option (List ℕ)) Refusal → P → Type 0) → Fault → Stage → World P → P → Type 0
+Lacks {P} calls names fault first old pads =
+    (fault ≡ Memory) × (stage : Stage) × (w : World P) × Reaches calls names first old stage w × (pads ≡ w.pads) × (w.wire ≡ old.wire)
+
+-- a round was made, and counted this
+abbrev pub Made : {P : Type 0} → (P → Request → Answer → P → Type 0) → (P → ℕ → Result (Option (List ℕ)) Refusal → P → Type 0) → ℕ → List ℕ
+    → World P → Relayed → Wire → P → Type 0
+Made {P} calls names own token old relayed wire pads =
+    (w : World P) × Reaches calls names (Greeting own token) old Ended w × (w.relayed ≡ relayed) × (w.wire ≡ wire) × (w.pads ≡ pads)

@@ -1,0 +1,5 @@
+pub mod Wire
+pub mod Counts
+pub mod Round
+pub mod Breaks
+pub mod Kept

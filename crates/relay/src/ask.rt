@@ -1,0 +1,119 @@
+//! What a round asks the pads of its own server.
+ghost use Rattle.std.specs.Prelude.{◌≡◌, IfOk, IfErr};
+ghost use Rattle.pad_core.specs.declared.act.Act.TheVariants as act;
+ghost use Rattle.pad_core.specs.declared.request.Request.TheVariants as request;
+ghost use Rattle.relay.specs.Kept.{AsksFor};
+ghost use Rattle.relay.specs.Round.{own_name as name_told, own_vector as vector_told, own_ops as ops_told, own_count as count_told};
+ghost use Rattle.relay.specs.declared.limits.TheConstants.{MAX_OPS};
+ghost use Rattle.wire_lines.specs.declared.fault.Fault.TheVariants.{Memory};
+
+use crate::limits::MAX_OPS;
+use pad_core::{Act, PadReply, Reply, Request};
+use pad_model::{Name, Op, Refusal, Row, Seen};
+use std::alloc::Global;
+use wire_lines::Fault;
+use workers::{Pads, delivered_by};
+
+/// This server's vector of a pad. None: it refuses.
+pub fn own_vector<P: Pads>(alloc: Global, pads: &mut P, pad: &Name) -> Result<Option<Seen>, Fault>
+    ensures { AsksFor P.calls pad.now act.Vector vector_told result pads.old pads.new }
+{
+    match ask(alloc, pads, pad, Act::Vector) {
+        Ok(answer) => vector_in(answer),
+        Err(fault) => Err(fault),
+    }
+}
+
+/// The first operations of a pad that a vector lacks. None: this server refuses.
+pub fn own_ops<P: Pads>(
+    alloc: Global,
+    pads: &mut P,
+    pad: &Name,
+    seen: Seen,
+) -> Result<Option<Row<Op>>, Fault>
+    ensures { AsksFor P.calls pad.now (act.Pull seen MAX_OPS) ops_told result pads.old pads.new }
+{
+    let act = Act::Pull {
+        seen,
+        max: MAX_OPS,
+    };
+    match ask(alloc, pads, pad, act) {
+        Ok(answer) => ops_in(answer),
+        Err(fault) => Err(fault),
+    }
+}
+
+/// How many operations this server delivers when it is given one. None: it refuses.
+pub fn deliver<P: Pads>(
+    alloc: Global,
+    pads: &mut P,
+    pad: &Name,
+    op: Op,
+) -> Result<Option<u64>, Fault>
+    ensures { AsksFor P.calls pad.now (act.Push op) count_told result pads.old pads.new }
+{
+    match ask(alloc, pads, pad, Act::Push { op }) {
+        Ok(answer) => count_in(&answer),
+        Err(fault) => Err(fault),
+    }
+}
+
+/// The name of a cell, if it has one and this server tells it.
+pub fn name_in(answer: Result<Option<Name>, Refusal>) -> Result<Option<Name>, Fault>
+    ensures { result ≡ name_told answer }
+{
+    match answer {
+        Ok(name) => Ok(name),
+        Err(Refusal::Memory) => Err(Fault::Memory),
+        Err(_) => Ok(None),
+    }
+}
+
+// Asks a pad, by name. Where there is no memory for the request nothing is asked.
+fn ask<P: Pads>(
+    alloc: Global,
+    pads: &mut P,
+    pad: &Name,
+    act: Act,
+) -> Result<Result<Reply, Refusal>, Fault>
+    ensures asked { IfOk result (λ answer. P.calls pads.old (request.On pad.now act) answer pads.new) }
+    ensures memory { IfErr result (λ fault. (fault ≡ Memory) × (pads.new ≡ pads.old)) }
+{
+    let pad = match pad.clone() {
+        Ok(pad) => pad,
+        Err(_) => return Err(Fault::Memory),
+    };
+    Ok(pads.call(alloc, &Request::On { pad, act }))
+}
+
+fn vector_in(answer: Result<Reply, Refusal>) -> Result<Option<Seen>, Fault>
+    ensures { result ≡ vector_told answer }
+{
+    match answer {
+        Ok(Reply::Pad(PadReply::Vector { seen, .. })) => Ok(Some(seen)),
+        Ok(_) => Ok(None),
+        Err(Refusal::Memory) => Err(Fault::Memory),
+        Err(_) => Ok(None),
+    }
+}
+
+fn ops_in(answer: Result<Reply, Refusal>) -> Result<Option<Row<Op>>, Fault>
+    ensures { result ≡ ops_told answer }
+{
+    match answer {
+        Ok(Reply::Pad(PadReply::Pulled { ops, .. })) => Ok(Some(ops)),
+        Ok(_) => Ok(None),
+        Err(Refusal::Memory) => Err(Fault::Memory),
+        Err(_) => Ok(None),
+    }
+}
+
+fn count_in(answer: &Result<Reply, Refusal>) -> Result<Option<u64>, Fault>
+    ensures { result ≡ count_told answer.now }
+{
+    match answer {
+        Ok(_) => Ok(Some(delivered_by(answer))),
+        Err(Refusal::Memory) => Err(Fault::Memory),
+        Err(_) => Ok(None),
+    }
+}

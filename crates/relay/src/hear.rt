@@ -1,0 +1,71 @@
+//! The answers of a peer, as they are heard.
+ghost use Rattle.std.specs.Prelude.{◌≡◌, IfOk, IfErr};
+ghost use Rattle.wire_json.specs.Peers.{peer_answer, vector_answer, pull_answer, push_answer};
+ghost use Rattle.relay.specs.Wire.{HearsAs, MissesAnswer};
+
+use crate::link::Exchange;
+use pad_core::Pushed;
+use pad_model::{Op, Refusal, Row, Seen, Version};
+use std::alloc::Global;
+use wire_json::{Told, read_peer_answer, read_pull_answer, read_push_answer, read_vector_answer};
+use wire_lines::Fault;
+
+/// The answer to `peer`; None where there is none of its form.
+pub fn hear_version<L: Exchange>(alloc: Global, link: &mut L) -> Result<Option<Told<Version>>, Fault>
+    ensures heard { IfOk result (λ said. HearsAs peer_answer said (L.wire link.old) (L.wire link.new)) }
+    ensures fault { IfErr result (λ fault. MissesAnswer fault (L.wire link.old) (L.wire link.new)) }
+{
+    if !link.hear()? {
+        return Ok(None);
+    }
+    match read_peer_answer(alloc, link.line()) {
+        Ok(told) => Ok(Some(told)),
+        Err(Refusal::Memory) => Err(Fault::Memory),
+        Err(_) => Ok(None),
+    }
+}
+
+/// The answer to `vector`.
+pub fn hear_vector<L: Exchange>(alloc: Global, link: &mut L) -> Result<Option<Told<Seen>>, Fault>
+    ensures heard { IfOk result (λ said. HearsAs vector_answer said (L.wire link.old) (L.wire link.new)) }
+    ensures fault { IfErr result (λ fault. MissesAnswer fault (L.wire link.old) (L.wire link.new)) }
+{
+    if !link.hear()? {
+        return Ok(None);
+    }
+    match read_vector_answer(alloc, link.line()) {
+        Ok(told) => Ok(Some(told)),
+        Err(Refusal::Memory) => Err(Fault::Memory),
+        Err(_) => Ok(None),
+    }
+}
+
+/// The answer to `pull`.
+pub fn hear_ops<L: Exchange>(alloc: Global, link: &mut L) -> Result<Option<Told<Row<Op>>>, Fault>
+    ensures heard { IfOk result (λ said. HearsAs pull_answer said (L.wire link.old) (L.wire link.new)) }
+    ensures fault { IfErr result (λ fault. MissesAnswer fault (L.wire link.old) (L.wire link.new)) }
+{
+    if !link.hear()? {
+        return Ok(None);
+    }
+    match read_pull_answer(alloc, link.line()) {
+        Ok(told) => Ok(Some(told)),
+        Err(Refusal::Memory) => Err(Fault::Memory),
+        Err(_) => Ok(None),
+    }
+}
+
+/// The answer to `push`.
+pub fn hear_push<L: Exchange>(alloc: Global, link: &mut L) -> Result<Option<Told<Pushed>>, Fault>
+    ensures heard { IfOk result (λ said. HearsAs push_answer said (L.wire link.old) (L.wire link.new)) }
+    ensures fault { IfErr result (λ fault. MissesAnswer fault (L.wire link.old) (L.wire link.new)) }
+{
+    if !link.hear()? {
+        return Ok(None);
+    }
+    match read_push_answer(alloc, link.line()) {
+        Ok(told) => Ok(Some(told)),
+        Err(Refusal::Memory) => Err(Fault::Memory),
+        Err(_) => Ok(None),
+    }
+}

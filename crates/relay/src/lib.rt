@@ -1,0 +1,20 @@
+//! Relay rounds: a server exchanges the operations of its pads with a peer, over one connection.
+//!
+//! It stands on the pads as a session asks them (`workers`), on the lines of bytes, and on the JSON of what peers ask and
+//! answer. It knows neither sockets nor when a round is made.
+#![tactic(auto)]
+
+mod ask;
+mod hear;
+mod limits;
+mod link;
+mod pull;
+mod push;
+mod relayed;
+mod round;
+mod talk;
+
+pub use limits::{MAX_OPS, MAX_TURNS};
+pub use link::{Exchange, Link};
+pub use relayed::Relayed;
+pub use round::relay_round;

@@ -1,0 +1,88 @@
+//! A connection to a peer, line by line.
+ghost use Rattle.std.specs.Prelude.{◌≡◌, if◌then◌else◌, List, None, Some, ℕ, OnOk, IfOk, IfErr, [], false};
+ghost use Rattle.wire_lines.specs.Buffer.{ahead};
+ghost use Rattle.wire_lines.specs.declared.fault.Fault.TheVariants.{Memory, WriteFault};
+ghost use Rattle.relay.specs.Wire.{Wire, Hears, Misses, Writes, WritesPart};
+
+use std::alloc::Global;
+use wire_lines::{Fault, Found, LineBuffer, Sink, Source, write_all};
+
+/// Lines that go to a peer, and lines that come from it.
+pub trait Exchange {
+    /// What goes over the connection, and how it has failed.
+    ghost wire: { Self → Wire };
+
+    /// The line that was heard last.
+    ghost heard: { Self → List ℕ };
+
+    /// Writes a line, its line feed included, and sends it on.
+    fn send(&mut self, line: &str) -> Result<(), Fault>
+        ensures sent { OnOk result (Writes line.now (wire self.old) (wire self.new)) }
+        ensures fault { IfErr result (λ fault. (fault ≡ WriteFault) × WritesPart line.now (wire self.old) (wire self.new)) };
+
+    /// Waits for the next line, and whether there is one: there is none at the end, or where it is too long.
+    fn hear(&mut self) -> Result<bool, Fault>
+        ensures heard { IfOk result (λ is_line. Hears (if is_line then Some (heard self.new) else None) (wire self.old) (wire self.new)) }
+        ensures fault { IfErr result (λ fault. Misses fault (wire self.old) (wire self.new)) };
+
+    /// The line that was heard last, without its end.
+    fn line(&self) -> &[u8]
+        ensures { result.now ≡ heard self.now };
+}
+
+/// A connection to a peer by a reader and a writer.
+#[derive(Drop)]
+pub struct Link<R, W> {
+    reader: R,
+    writer: W,
+    buffer: LineBuffer,
+}
+
+impl<R: Source, W: Sink> Link<R, W> {
+    /// Nothing is read or written yet. Where there is no memory both are dropped.
+    pub fn new(alloc: Global, reader: R, writer: W) -> Result<Link<R, W>, Fault>
+    where
+        R: Drop,
+        W: Drop,
+        ensures ok { IfOk result (λ link. (link.reader ≡ reader) × (link.writer ≡ writer)
+            × (link.buffer ≡ record { waiting = []; line = []; reads = 0; ended = false; fault = None })) }
+        ensures err { IfErr result (λ fault. fault ≡ Memory) }
+    {
+        let buffer = LineBuffer::new(alloc)?;
+        Ok(Link {
+            reader,
+            writer,
+            buffer,
+        })
+    }
+}
+
+impl<R: Source, W: Sink> Exchange for Link<R, W> {
+    ghost wire = { λ l. record {
+      unread = ahead l.buffer (R.remaining l.reader);
+      written = W.contents l.writer;
+      stopped = l.buffer.fault;
+      read_failures = R.failures l.reader;
+      write_failures = W.failures l.writer;
+      reads = R.reads l.reader;
+      spent = l.buffer.reads;
+    } };
+
+    ghost heard = { λ l. l.buffer.line };
+
+    fn send(&mut self, line: &str) -> Result<(), Fault> {
+        write_all(&mut self.writer, line.as_bytes())
+    }
+
+    fn hear(&mut self) -> Result<bool, Fault> {
+        match self.buffer.find_line(&mut self.reader) {
+            Ok(Found::Text) => Ok(true),
+            Ok(Found::TooLong | Found::End) => Ok(false),
+            Err(fault) => Err(fault),
+        }
+    }
+
+    fn line(&self) -> &[u8] {
+        self.buffer.line()
+    }
+}

@@ -1,0 +1,185 @@
+//! The first half of a pad's exchange: what the peer has and this server lacks is delivered here.
+ghost use Rattle.std.specs.Prelude.{◌≡◌, ◌<◌, ℕ, [], false, true, if◌then◌else◌, IfOk, IfErr};
+ghost use Rattle.pad_model.specs.OldWire.{seen_in_v1};
+ghost use Rattle.wire_json.specs.Peers.{pull_request};
+ghost use Rattle.relay.specs.Breaks.{Breaks};
+ghost use Rattle.relay.specs.Kept.{after_turn, Lacks, SendsPull, IsUnsent, world};
+ghost use Rattle.relay.specs.Round.{Reaches, is_readable, line_of};
+ghost use Rattle.relay.specs.Round.Stage.{Over, Pulled, Pulling, Pushing, Taking};
+ghost use Rattle.relay.specs.Wire.{Wire};
+
+use crate::ask::{deliver, own_vector};
+use crate::hear::hear_ops;
+use crate::limits::{MAX_OPS, MAX_TURNS};
+use crate::link::Exchange;
+use crate::talk::Talk;
+use pad_model::{Name, Op, Row, Seen, seen_in_v1};
+use std::alloc::Global;
+use wire_json::{Told, pull_line};
+use wire_lines::Fault;
+use workers::Pads;
+
+/// What a turn came to.
+#[derive(Clone, Copy, Debug, PartialEq, Eq)]
+pub enum Turn {
+    /// An operation was delivered here, so that another turn may follow.
+    Gained,
+    /// None was.
+    Spent,
+    /// The peer or this server refused, or one can't say what the other can read: the pad's part is over.
+    Over,
+}
+
+/// Pulls a pad's operations, turn by turn, until one delivers none. Says whether the pad's part goes on.
+pub fn pull_pad<P: Pads, L: Exchange>(
+    alloc: Global,
+    pads: &mut P,
+    link: &mut L,
+    talk: &mut Talk,
+    pad: &Name,
+) -> Result<bool, Fault>
+    ensures goes { IfOk result (λ on. Reaches P.calls P.names (Pulling pad.now 0) (world talk.old pads.old (L.wire link.old))
+        (if on then Pushing pad.now 0 else Over) (world talk.new pads.new (L.wire link.new))) }
+    ensures breaks { IfErr result (λ fault. Breaks P.calls P.names fault (Pulling pad.now 0)
+        (world talk.old pads.old (L.wire link.old)) pads.new (L.wire link.new)) }
+    ensures cell { (talk.new.cell ≡ talk.old.cell) × (talk.new.cells ≡ talk.old.cells) }
+{
+    for turn in 0..MAX_TURNS {
+        match pull_turn(alloc, pads, link, talk, pad, turn) {
+            Ok(Turn::Gained) => {}
+            Ok(Turn::Spent) => return Ok(true),
+            Ok(Turn::Over) => return Ok(false),
+            Err(fault) => return Err(fault),
+        }
+    }
+    Ok(true)
+}
+
+/// One turn: this server's vector goes to the peer, and the operations that come are delivered here.
+fn pull_turn<P: Pads, L: Exchange>(
+    alloc: Global,
+    pads: &mut P,
+    link: &mut L,
+    talk: &mut Talk,
+    pad: &Name,
+    turn: u64,
+) -> Result<Turn, Fault>
+    requires { turn < MAX_TURNS }
+    ensures goes { IfOk result (λ came. Reaches P.calls P.names (Pulling pad.now turn) (world talk.old pads.old (L.wire link.old))
+        (after_turn pad.now turn came) (world talk.new pads.new (L.wire link.new))) }
+    ensures breaks { IfErr result (λ fault. Breaks P.calls P.names fault (Pulling pad.now turn)
+        (world talk.old pads.old (L.wire link.old)) pads.new (L.wire link.new)) }
+    ensures cell { (talk.new.cell ≡ talk.old.cell) × (talk.new.cells ≡ talk.old.cells) }
+{
+    match ask_peer(alloc, pads, link, talk, pad) {
+        Ok(true) => take_answer(alloc, pads, link, talk, pad, turn),
+        Ok(false) => Ok(Turn::Over),
+        Err(fault) => Err(fault),
+    }
+}
+
+/// Sends this server's vector of a pad to the peer. False where the pad's part is over.
+fn ask_peer<P: Pads, L: Exchange>(
+    alloc: Global,
+    pads: &mut P,
+    link: &mut L,
+    talk: &mut Talk,
+    pad: &Name,
+) -> Result<bool, Fault>
+    ensures goes { IfOk result (λ asked. (turn : ℕ) → turn < MAX_TURNS → Reaches P.calls P.names (Pulling pad.now turn)
+        (world talk.old pads.old (L.wire link.old)) (if asked then Pulled pad.now turn else Over) (world talk.new pads.new (L.wire link.new))) }
+    ensures breaks { IfErr result (λ fault. (turn : ℕ) → turn < MAX_TURNS → Breaks P.calls P.names fault (Pulling pad.now turn)
+        (world talk.old pads.old (L.wire link.old)) pads.new (L.wire link.new)) }
+    ensures cell { (talk.new.cell ≡ talk.old.cell) × (talk.new.cells ≡ talk.old.cells) }
+{
+    match own_vector(alloc, pads, pad) {
+        Ok(Some(seen)) => send_pull(alloc, link, talk, pad, &seen),
+        Ok(None) => Ok(false),
+        Err(fault) => Err(fault),
+    }
+}
+
+/// Asks the peer for what a vector lacks, where it can read the vector.
+fn send_pull<L: Exchange>(
+    alloc: Global,
+    link: &mut L,
+    talk: &mut Talk,
+    pad: &Name,
+    seen: &Seen,
+) -> Result<bool, Fault>
+    ensures sent { IfOk result (λ sent. SendsPull pad.now seen.now sent talk.old (L.wire link.old) talk.new (L.wire link.new)) }
+    ensures unsent { IfErr result (λ fault. (is_readable talk.old.version (seen_in_v1 seen.now) ≡ true) × (talk.new ≡ talk.old)
+        × IsUnsent fault (line_of (pull_request pad.now seen.now MAX_OPS)) (L.wire link.old) (L.wire link.new)) }
+{
+    if !talk.is_readable(seen_in_v1(seen)) {
+        talk.relayed = talk.relayed.with_unsaid();
+        return Ok(false);
+    }
+    let line = match pull_line(alloc, pad, seen, MAX_OPS) {
+        Ok(line) => line,
+        Err(_) => return Err(Fault::Memory),
+    };
+    match link.send(line.as_str()) {
+        Ok(()) => Ok(true),
+        Err(fault) => Err(fault),
+    }
+}
+
+/// Hears what the peer gives, and delivers it here.
+fn take_answer<P: Pads, L: Exchange>(
+    alloc: Global,
+    pads: &mut P,
+    link: &mut L,
+    talk: &mut Talk,
+    pad: &Name,
+    turn: u64,
+) -> Result<Turn, Fault>
+    ensures goes { IfOk result (λ came. Reaches P.calls P.names (Pulled pad.now turn) (world talk.old pads.old (L.wire link.old))
+        (after_turn pad.now turn came) (world talk.new pads.new (L.wire link.new))) }
+    ensures breaks { IfErr result (λ fault. Breaks P.calls P.names fault (Pulled pad.now turn)
+        (world talk.old pads.old (L.wire link.old)) pads.new (L.wire link.new)) }
+    ensures cell { (talk.new.cell ≡ talk.old.cell) × (talk.new.cells ≡ talk.old.cells) }
+{
+    let ops = match hear_ops(alloc, link) {
+        Ok(Some(Told::Said(ops))) => ops,
+        Ok(Some(Told::Refused)) => return Ok(Turn::Over),
+        Ok(None) => return Err(Fault::PeerReply),
+        Err(fault) => return Err(fault),
+    };
+    if turn == 0 {
+        talk.relayed = talk.relayed.with_pad();
+    }
+    match take_ops(alloc, pads, talk, pad, ops) {
+        Ok(true) => Ok(Turn::Gained),
+        Ok(false) => Ok(Turn::Spent),
+        Err(fault) => Err(fault),
+    }
+}
+
+/// Delivers operations here, one after the other. Says whether one was delivered.
+fn take_ops<P: Pads>(
+    alloc: Global,
+    pads: &mut P,
+    talk: &mut Talk,
+    pad: &Name,
+    ops: Row<Op>,
+) -> Result<bool, Fault>
+    ensures goes { IfOk result (λ gained. (turn : ℕ) (wire : Wire) → Reaches P.calls P.names (Taking pad.now turn false ops)
+        (world talk.old pads.old wire) (Taking pad.now turn gained []) (world talk.new pads.new wire)) }
+    ensures lacks { IfErr result (λ fault. (turn : ℕ) (wire : Wire) → Lacks P.calls P.names fault (Taking pad.now turn false ops)
+        (world talk.old pads.old wire) pads.new) }
+    ensures cell { (talk.new.cell ≡ talk.old.cell) × (talk.new.cells ≡ talk.old.cells) }
+{
+    let mut gained = false;
+    for op in ops {
+        match deliver(alloc, pads, pad, op) {
+            Ok(Some(count)) => {
+                talk.relayed = talk.relayed.with_pulled(count);
+                gained = gained || count > 0;
+            }
+            Ok(None) => talk.relayed = talk.relayed.with_refused(),
+            Err(fault) => return Err(fault),
+        }
+    }
+    Ok(gained)
+}

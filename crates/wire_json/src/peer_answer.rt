@@ -1,0 +1,156 @@
+//! What a peer answers, from its lines.
+//!
+//! An answer has the form that a server of this project writes; fields beside those of the form are passed over. Whatever
+//! is no answer to what was asked is `NotRequest`, as a line that is no JSON.
+ghost use Rattle.std.specs.Prelude.{◌≡◌, ◌⊎◌, Some, None, MatchResult, option_and_then, codes};
+ghost use Rattle.serde_json.specs.Find.{get, as_bool};
+ghost use Rattle.serde_json.specs.View.{view};
+ghost use Rattle.pad_model.specs.declared.limits.TheConstants.{MAX_REPLICA};
+ghost use Rattle.wire_json.specs.Lines.{value_of};
+ghost use Rattle.wire_json.specs.Peers.{told, granted_in, refused_in, answered_version, peer_answer, vector_answer, pull_answer, push_answer};
+ghost use Rattle.wire_json.specs.Reading.{IsForm, IsRead, field as field_in, name_in};
+ghost use Rattle.wire_json.specs.Words.{state_of_word};
+
+use crate::field::{field, number, number_field, str_field};
+use crate::form::{replica, seen_field};
+use crate::list::list_field;
+use crate::request::read_value;
+use crate::word::state_of_word;
+use pad_core::Pushed;
+use pad_model::{Op, Refusal, Row, Seen, Version};
+use serde_json::Value;
+use std::alloc::Global;
+
+/// What a peer answers: what was asked for, or that it refuses.
+#[derive(Debug, PartialEq, Drop)]
+pub enum Told<T> {
+    Said(T),
+    Refused,
+}
+
+/// The answer to `peer`: the version of the peer.
+pub fn read_peer_answer(alloc: Global, line: &[u8]) -> Result<Told<Version>, Refusal>
+    ensures { IsRead (told peer_answer line.now) result }
+{
+    let value = answer_value(alloc, line)?;
+    if is_granted(&value)? {
+        Ok(Told::Said(peer_version(&value)?))
+    } else {
+        Ok(Told::Refused)
+    }
+}
+
+/// The answer to `vector`: how many operations of each origin the peer's pad has.
+pub fn read_vector_answer(alloc: Global, line: &[u8]) -> Result<Told<Seen>, Refusal>
+    ensures { IsRead (told vector_answer line.now) result }
+{
+    let value = answer_value(alloc, line)?;
+    if is_granted(&value)? {
+        Ok(Told::Said(peer_vector(alloc, &value)?))
+    } else {
+        Ok(Told::Refused)
+    }
+}
+
+/// The answer to `pull`: operations. Whether each is in its limits, `Op::check` tells.
+pub fn read_pull_answer(alloc: Global, line: &[u8]) -> Result<Told<Row<Op>>, Refusal>
+    ensures { IsRead (told pull_answer line.now) result }
+{
+    let value = answer_value(alloc, line)?;
+    if is_granted(&value)? {
+        Ok(Told::Said(peer_ops(alloc, &value)?))
+    } else {
+        Ok(Told::Refused)
+    }
+}
+
+/// The answer to `push`: what became of the operation.
+pub fn read_push_answer(alloc: Global, line: &[u8]) -> Result<Told<Pushed>, Refusal>
+    ensures { IsRead (told push_answer line.now) result }
+{
+    let value = answer_value(alloc, line)?;
+    if is_granted(&value)? {
+        Ok(Told::Said(peer_state(&value)?))
+    } else {
+        Ok(Told::Refused)
+    }
+}
+
+fn answer_value(alloc: Global, line: &[u8]) -> Result<Value, Refusal>
+    ensures { MatchResult result (λ v. value_of line.now ≡ Some (view v)) (λ e. (e ≡ Refusal.Memory) ⊎ ((e ≡ Refusal.NotRequest) × (value_of line.now ≡ None))) }
+{
+    match read_value(alloc, line) {
+        Ok(value) => Ok(value),
+        Err(Refusal::Memory) => Err(Refusal::Memory),
+        Err(_) => Err(Refusal::NotRequest),
+    }
+}
+
+/// Whether an answer grants what was asked.
+fn is_granted(value: &Value) -> Result<bool, Refusal>
+    ensures { IsForm (granted_in (view value.now)) result }
+{
+    match field(value, "ok")?.as_bool() {
+        Some(true) => Ok(true),
+        Some(false) => refused(value),
+        None => Err(Refusal::NotRequest),
+    }
+}
+
+/// That an answer is a refusal, which has a number and a name.
+fn refused(value: &Value) -> Result<bool, Refusal>
+    ensures { IsForm (refused_in (view value.now)) result }
+{
+    let _code = number_field(value, "code")?;
+    let _name = str_field(value, "error")?;
+    Ok(false)
+}
+
+fn peer_version(value: &Value) -> Result<Version, Refusal>
+    ensures { IsForm (peer_answer (view value.now)) result }
+{
+    let _replica = replica(field(value, "replica")?)?;
+    answered_version(value)
+}
+
+fn answered_version(value: &Value) -> Result<Version, Refusal>
+    ensures { IsForm (answered_version (get (codes "version") (view value.now))) result }
+{
+    match value.get("version") {
+        None => Ok(Version::One),
+        Some(version) if number(version)? == 2 => Ok(Version::Two),
+        Some(_) => Err(Refusal::NotRequest),
+    }
+}
+
+fn peer_vector(alloc: Global, value: &Value) -> Result<Seen, Refusal>
+    ensures { IsRead (vector_answer (view value.now)) result }
+{
+    let _now = number_field(value, "now")?;
+    seen_field(alloc, value, "seen")
+}
+
+fn peer_ops(alloc: Global, value: &Value) -> Result<Row<Op>, Refusal>
+    ensures { IsRead (pull_answer (view value.now)) result }
+{
+    let _now = number_field(value, "now")?;
+    list_field(alloc, value, "ops")
+}
+
+fn peer_state(value: &Value) -> Result<Pushed, Refusal>
+    ensures { IsForm (push_answer (view value.now)) result }
+{
+    let _now = number_field(value, "now")?;
+    let _dropped = number_field(value, "dropped")?;
+    let _released = number_field(value, "released")?;
+    state_field(value)
+}
+
+fn state_field(value: &Value) -> Result<Pushed, Refusal>
+    ensures { IsForm (option_and_then state_of_word (field_in name_in (codes "state") (view value.now))) result }
+{
+    match state_of_word(str_field(value, "state")?) {
+        Some(state) => Ok(state),
+        None => Err(Refusal::NotRequest),
+    }
+}

@@ -19,11 +19,6 @@ fn ann(alloc: Global) -> Result<Session, Refusal> {
     Ok(session)
 }
 
-fn on_p(alloc: Global, act: Act) -> Result<Request, Refusal> {
-    let pad = Name::from_str(alloc, "p")?;
-    Ok(Request::On { pad, act })
-}
-
 // The visit that a join is answered with; 0 where it is not.
 fn join<R: Wait>(
     rt: &R,
@@ -32,7 +27,11 @@ fn join<R: Wait>(
     seat: &mut Seat,
     session: &mut Session,
 ) -> Result<u64, Refusal> {
-    let request = on_p(alloc, Act::Join)?;
+    let pad = Name::from_str(alloc, "p")?;
+    let request = Request::On {
+        pad,
+        act: Act::Join,
+    };
     if !shared.owns(seat) {
         return Err(Refusal::SeatsOut);
     }

@@ -13,12 +13,23 @@ use Rattle.pad_core.specs.declared.request.Request.{Request}
 use Rattle.wire_json.specs.declared.peer_answer.Told.{Told}
 use Rattle.wire_json.specs.declared.peer_answer.Told.TheVariants.{Said, Refused}
 use Rattle.wire_lines.specs.declared.fault.Fault.{Fault}
+use Rattle.pad_core.specs.declared.act.Act.TheVariants as act
+use Rattle.wire_json.specs.Peers.{vector_request, push_request}
 use Rattle.workers.specs.Session.{Answer}
-use Rattle.workers.proofs.Causes.{with_more-add}
-use Rattle.relay.specs.Round.{Stage, World, Goes, Reaches, Sends, SendsIf, Heard, Asks, is_readable, greeted, named, asked, pulled, taken, told_vector, lacked, told_push, own_name, own_vector, own_ops, own_count}
-use Rattle.relay.specs.Round.Stage as stage
+use Rattle.relay.specs.Counts.{with_unsaid}
+use Rattle.wire_lines.specs.Causes.{with_more}
+use Rattle.wire_lines.specs.Device.{one_more}
+use Rattle.relay.specs.Round.{Stage, World, Goes, Reaches, Sends, SendsIf, Heard, Asks, Choice, with_pads, counted, is_readable, greeted, named, asked, pulled, taken, told_vector, lacked, told_push, own_name, own_vector, own_ops, own_count}
+use Rattle.relay.specs.Round.{Stage as stage}
 use Rattle.relay.specs.Round.Reaches.{here, on}
 use Rattle.relay.specs.Wire.{Wire, AreMade, HearsAs, Writes}
+
+-- reads in two parts
+with_more-add : (made counted count : ℕ) → with_more (with_more made counted) count ≡ with_more made (counted + count)
+with_more-add made counted zero = let none : counted + 0 ≡ counted = omega arith in ap (with_more made) (sym none)
+with_more-add made counted (suc count) =
+    let one : counted + suc count ≡ suc (counted + count) = omega arith in
+    ap one_more (with_more-add made counted count) ∙ ap (with_more made) (sym one)
 
 -- a wire that grew
 pub record Grows (old new : Wire) : Type 0 where
@@ -45,10 +56,10 @@ grows_then a b c p q = record {
   text = p.text ++ q.text;
   appends = Appends-trans a.written b.written c.written p.text q.text p.appends q.appends;
   writes = q.writes ∙ p.writes;
-  reads = λ none. let first = p.reads none in let then = q.reads first.0 in (then.0, then.1 ∙ first.1, made_then a b c first.2 then.2);
+  reads = λ none. let first = p.reads none in let more = q.reads first.0 in (more.0, more.1 ∙ first.1, made_then a b c first.2 more.2);
 }
 
-either : {A B : Type 0} (b : Bool) → (if b then A else B) → A ⊎ B
+either : {A B : Type 0} (b : Bool) → Choice b A B → A ⊎ B
 either true x = inl x
 either false x = inr x
 
@@ -64,7 +75,7 @@ wrote_grows text a b (wrote, is) = record {
   );
 }
 
-heard_grows : {A : Type 0} (form : Data → Option A) (said : Option (Told A)) (a b : Wire) → HearsAs form said a b → Grows a b
+pub heard_grows : {A : Type 0} (form : Data → Option A) (said : Option (Told A)) (a b : Wire) → HearsAs form said a b → Grows a b
 heard_grows form said a b (heard, (next, kept, is), told) = record {
   text = [];
   appends = subst (λ w. Appends a.written w []) (sym (ap (λ w. w.written) is)) (Appends-nil a.written);
@@ -102,8 +113,7 @@ module _ {P : Type 0} where
   pulled_wire : (name : List ℕ) (turn : ℕ) (said : Option (Told (List Op))) (w : World P) → (pulled name turn said w).1.wire ≡ w.wire
   pulled_wire name turn None w = refl
   pulled_wire name turn (Some Refused) w = refl
-  pulled_wire name zero (Some (Said ops)) w = refl
-  pulled_wire name (suc turn) (Some (Said ops)) w = refl
+  pulled_wire name turn (Some (Said ops)) w = refl
 
   taken_wire : (name : List ℕ) (turn : ℕ) (gained : Bool) (ops : List Op) (said : Result (Option ℕ) Fault) (w : World P) → (taken name turn gained ops said w).1.wire ≡ w.wire
   taken_wire name turn gained ops (Ok None) w = refl

@@ -1,2 +1,5 @@
 pub mod Grown
 pub mod Steps
+pub mod Pulls
+pub mod Pushes
+pub mod Rounds

@@ -1,5 +1,5 @@
 -- What a round counts.
-use Rattle.std.specs.Prelude.{ℕ, ◌+◌}
+use Rattle.std.specs.Prelude.{ℕ, zero, suc, ◌+◌}
 use Rattle.workers.specs.Delivered.{up_to}
 use Rattle.relay.specs.declared.relayed.Relayed.{Relayed}
 
@@ -10,6 +10,11 @@ none_yet = record { pads = 0; pulled = 0; pushed = 0; refused = 0; unsaid = 0 }
 -- one more pad whose operations the peer gives
 abbrev pub with_pad : Relayed → Relayed
 with_pad r = record { pads = up_to (r.pads + 1); pulled = r.pulled; pushed = r.pushed; refused = r.refused; unsaid = r.unsaid }
+
+-- a pad counts from its first pull on
+abbrev pub with_pull : ℕ → Relayed → Relayed
+with_pull zero r = with_pad r
+with_pull (suc turn) r = r
 
 -- more operations were delivered here
 abbrev pub with_pulled : ℕ → Relayed → Relayed

@@ -24,7 +24,7 @@ use Rattle.wire_lines.specs.declared.fault.Fault.{Fault}
 use Rattle.wire_lines.specs.declared.fault.Fault.TheVariants.{PeerReply, Memory}
 use Rattle.workers.specs.Delivered.{delivered_of}
 use Rattle.workers.specs.Session.{Answer}
-use Rattle.relay.specs.Counts.{with_pad, with_pulled, with_pushed, with_refused, with_unsaid}
+use Rattle.relay.specs.Counts.{with_pull, with_pulled, with_pushed, with_refused, with_unsaid}
 use Rattle.relay.specs.Wire.{Wire, Writes, HearsAs}
 use Rattle.relay.specs.declared.limits.TheConstants.{MAX_OPS, MAX_TURNS}
 use Rattle.relay.specs.declared.relayed.Relayed.{Relayed}
@@ -72,6 +72,11 @@ pub record World (P : Type 0) : Type 0 where
 -- the line of a request
 abbrev pub line_of : Data → List ℕ
 line_of d = compact_text d ++ 10 ∷ []
+
+-- one of two, by a test
+abbrev pub Choice : Bool → Type 0 → Type 0 → Type 0
+Choice true A B = A
+Choice false A B = B
 
 -- what this server tells of a cell; a refusal passes the cell, and running out of memory ends the round
 abbrev pub own_name : Result (Option (List ℕ)) Refusal → Result (Option (List ℕ)) Fault
@@ -168,7 +173,7 @@ module _ {P : Type 0} where
   abbrev pub pulled : List ℕ → ℕ → Option (Told (List Op)) → World P → Stage × World P
   pulled name turn None w = (Failed PeerReply, w)
   pulled name turn (Some Refused) w = (Over, w)
-  pulled name turn (Some (Said ops)) w = (Taking name turn false ops, if nat_lt 0 turn then w else counted with_pad w)
+  pulled name turn (Some (Said ops)) w = (Taking name turn false ops, counted (with_pull turn) w)
 
   -- after the delivery of an operation here
   abbrev pub taken : List ℕ → ℕ → Bool → List Op → Result (Option ℕ) Fault → World P → Stage × World P
@@ -204,27 +209,28 @@ module _ {P : Type 0} (calls : P → Request → Answer → P → Type 0) (names
   Goes (Greeting own token) old stage new = Sends (peer_request own token) old new × (stage ≡ Greeted)
   Goes Greeted old stage new = (said : Option (Told Version)) × (mid : World P) × Heard peer_answer said old mid × ((stage, new) ≡ greeted said mid)
   Goes Next old stage new =
-      if nat_le old.cells old.cell then (stage ≡ Ended) × (new ≡ old)
-      else (name : Result (Option (List ℕ)) Refusal) × (mid : World P) × names old.pads old.cell name mid.pads × (mid ≡ with_pads mid.pads old) × ((stage, new) ≡ named (own_name name) mid)
+      Choice (nat_le old.cells old.cell) ((stage ≡ Ended) × (new ≡ old))
+      ((name : Result (Option (List ℕ)) Refusal) × (mid : World P) × names old.pads old.cell name mid.pads × (mid ≡ with_pads mid.pads old)
+      × ((stage, new) ≡ named (own_name name) mid))
   Goes (Pulling name turn) old stage new =
-      if nat_le MAX_TURNS turn then (stage ≡ Pushing name 0) × (new ≡ old)
-      else (said : Answer) × (mid : World P) × Asks name act.Vector said old mid
-          × (stage ≡ (asked name turn (own_vector said) mid).0) × SendsIf (asked name turn (own_vector said) mid).2 (asked name turn (own_vector said) mid).1 new
+      Choice (nat_le MAX_TURNS turn) ((stage ≡ Pushing name 0) × (new ≡ old))
+      ((said : Answer) × (mid : World P) × Asks name act.Vector said old mid × (stage ≡ (asked name turn (own_vector said) mid).0)
+      × SendsIf (asked name turn (own_vector said) mid).2 (asked name turn (own_vector said) mid).1 new)
   Goes (Pulled name turn) old stage new =
       (said : Option (Told (List Op))) × (mid : World P) × Heard pull_answer said old mid × ((stage, new) ≡ pulled name turn said mid)
   Goes (Taking name turn gained []) old stage new = (stage ≡ (if gained then Pulling name (turn + 1) else Pushing name 0)) × (new ≡ old)
   Goes (Taking name turn gained (op ∷ ops)) old stage new =
       (said : Answer) × (mid : World P) × Asks name (act.Push op) said old mid × ((stage, new) ≡ taken name turn gained ops (own_count said) mid)
   Goes (Pushing name turn) old stage new =
-      if nat_le MAX_TURNS turn then (stage ≡ Over) × (new ≡ old) else Sends (vector_request name) old new × (stage ≡ Counting name turn)
+      Choice (nat_le MAX_TURNS turn) ((stage ≡ Over) × (new ≡ old)) (Sends (vector_request name) old new × (stage ≡ Counting name turn))
   Goes (Counting name turn) old stage new =
       (said : Option (Told (List Counted))) × (mid : World P) × Heard vector_answer said old mid × ((stage, new) ≡ told_vector name turn said mid)
   Goes (Lacking name turn seen) old stage new =
       (said : Answer) × (mid : World P) × Asks name (act.Pull seen MAX_OPS) said old mid × ((stage, new) ≡ lacked name turn (own_ops said) mid)
   Goes (Giving name turn due []) old stage new = (stage ≡ Hearing name turn due false true) × (new ≡ old)
   Goes (Giving name turn due (op ∷ ops)) old stage new =
-      if is_readable old.version (op_in_v1 op) then Sends (push_request name op) old new × (stage ≡ Giving name turn (due + 1) ops)
-      else (stage ≡ Hearing name turn due false false) × (new ≡ counted with_unsaid old)
+      Choice (is_readable old.version (op_in_v1 op)) (Sends (push_request name op) old new × (stage ≡ Giving name turn (due + 1) ops))
+      ((stage ≡ Hearing name turn due false false) × (new ≡ counted with_unsaid old))
   Goes (Hearing name turn zero gained whole) old stage new = (stage ≡ (if gained && whole then Pushing name (turn + 1) else Over)) × (new ≡ old)
   Goes (Hearing name turn (suc due) gained whole) old stage new =
       (said : Option (Told Pushed)) × (mid : World P) × Heard push_answer said old mid × ((stage, new) ≡ told_push name turn due gained whole said mid)

@@ -25,13 +25,25 @@ pub record Wire : Type 0 where
 -- a wire to which more was written
 abbrev pub wrote : Option (List ℕ) → ℕ → Wire → Wire
 wrote written failures w = record {
-  unread = w.unread; written = written; stopped = w.stopped; read_failures = w.read_failures; write_failures = failures; reads = w.reads; spent = w.spent;
+  unread = w.unread;
+  written = written;
+  stopped = w.stopped;
+  read_failures = w.read_failures;
+  write_failures = failures;
+  reads = w.reads;
+  spent = w.spent;
 }
 
 -- a wire from which more was read
 abbrev pub read : Option (List ℕ) → Option Fault → ℕ → ℕ → ℕ → Wire → Wire
 read unread stopped failures reads spent w = record {
-  unread = unread; written = w.written; stopped = stopped; read_failures = failures; write_failures = w.write_failures; reads = reads; spent = spent;
+  unread = unread;
+  written = w.written;
+  stopped = stopped;
+  read_failures = failures;
+  write_failures = w.write_failures;
+  reads = reads;
+  spent = spent;
 }
 
 -- a text was written

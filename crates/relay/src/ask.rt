@@ -16,7 +16,8 @@ use workers::{Pads, delivered_by};
 
 /// This server's vector of a pad. None: it refuses.
 pub fn own_vector<P: Pads>(alloc: Global, pads: &mut P, pad: &Name) -> Result<Option<Seen>, Fault>
-    ensures { AsksFor P.calls pad.now act.Vector vector_told result pads.old pads.new }
+    ensures asks { AsksFor P.calls pad.now act.Vector vector_told result pads.old pads.new }
+    ensures memory { IfErr result (λ fault. fault ≡ Memory) }
 {
     match ask(alloc, pads, pad, Act::Vector) {
         Ok(answer) => vector_in(answer),
@@ -31,12 +32,10 @@ pub fn own_ops<P: Pads>(
     pad: &Name,
     seen: Seen,
 ) -> Result<Option<Row<Op>>, Fault>
-    ensures { AsksFor P.calls pad.now (act.Pull seen MAX_OPS) ops_told result pads.old pads.new }
+    ensures asks { AsksFor P.calls pad.now (act.Pull seen MAX_OPS) ops_told result pads.old pads.new }
+    ensures memory { IfErr result (λ fault. fault ≡ Memory) }
 {
-    let act = Act::Pull {
-        seen,
-        max: MAX_OPS,
-    };
+    let act = Act::Pull { seen, max: MAX_OPS };
     match ask(alloc, pads, pad, act) {
         Ok(answer) => ops_in(answer),
         Err(fault) => Err(fault),
@@ -50,7 +49,8 @@ pub fn deliver<P: Pads>(
     pad: &Name,
     op: Op,
 ) -> Result<Option<u64>, Fault>
-    ensures { AsksFor P.calls pad.now (act.Push op) count_told result pads.old pads.new }
+    ensures asks { AsksFor P.calls pad.now (act.Push op) count_told result pads.old pads.new }
+    ensures memory { IfErr result (λ fault. fault ≡ Memory) }
 {
     match ask(alloc, pads, pad, Act::Push { op }) {
         Ok(answer) => count_in(&answer),
@@ -60,7 +60,8 @@ pub fn deliver<P: Pads>(
 
 /// The name of a cell, if it has one and this server tells it.
 pub fn name_in(answer: Result<Option<Name>, Refusal>) -> Result<Option<Name>, Fault>
-    ensures { result ≡ name_told answer }
+    ensures name { result ≡ name_told answer }
+    ensures memory { IfErr result (λ fault. fault ≡ Memory) }
 {
     match answer {
         Ok(name) => Ok(name),
@@ -87,7 +88,8 @@ fn ask<P: Pads>(
 }
 
 fn vector_in(answer: Result<Reply, Refusal>) -> Result<Option<Seen>, Fault>
-    ensures { result ≡ vector_told answer }
+    ensures told { result ≡ vector_told answer }
+    ensures memory { IfErr result (λ fault. fault ≡ Memory) }
 {
     match answer {
         Ok(Reply::Pad(PadReply::Vector { seen, .. })) => Ok(Some(seen)),
@@ -98,7 +100,8 @@ fn vector_in(answer: Result<Reply, Refusal>) -> Result<Option<Seen>, Fault>
 }
 
 fn ops_in(answer: Result<Reply, Refusal>) -> Result<Option<Row<Op>>, Fault>
-    ensures { result ≡ ops_told answer }
+    ensures told { result ≡ ops_told answer }
+    ensures memory { IfErr result (λ fault. fault ≡ Memory) }
 {
     match answer {
         Ok(Reply::Pad(PadReply::Pulled { ops, .. })) => Ok(Some(ops)),
@@ -109,7 +112,8 @@ fn ops_in(answer: Result<Reply, Refusal>) -> Result<Option<Row<Op>>, Fault>
 }
 
 fn count_in(answer: &Result<Reply, Refusal>) -> Result<Option<u64>, Fault>
-    ensures { result ≡ count_told answer.now }
+    ensures told { result ≡ count_told answer.now }
+    ensures memory { IfErr result (λ fault. fault ≡ Memory) }
 {
     match answer {
         Ok(_) => Ok(Some(delivered_by(answer))),

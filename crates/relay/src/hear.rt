@@ -11,7 +11,10 @@ use wire_json::{Told, read_peer_answer, read_pull_answer, read_push_answer, read
 use wire_lines::Fault;
 
 /// The answer to `peer`; None where there is none of its form.
-pub fn hear_version<L: Exchange>(alloc: Global, link: &mut L) -> Result<Option<Told<Version>>, Fault>
+pub fn hear_version<L: Exchange>(
+    alloc: Global,
+    link: &mut L,
+) -> Result<Option<Told<Version>>, Fault>
     ensures heard { IfOk result (λ said. HearsAs peer_answer said (L.wire link.old) (L.wire link.new)) }
     ensures fault { IfErr result (λ fault. MissesAnswer fault (L.wire link.old) (L.wire link.new)) }
 {

@@ -146,9 +146,7 @@ fn take_answer<P: Pads, L: Exchange>(
         Ok(None) => return Err(Fault::PeerReply),
         Err(fault) => return Err(fault),
     };
-    if turn == 0 {
-        talk.relayed = talk.relayed.with_pad();
-    }
+    talk.relayed = talk.relayed.with_pull(turn);
     match take_ops(alloc, pads, talk, pad, ops) {
         Ok(true) => Ok(Turn::Gained),
         Ok(false) => Ok(Turn::Spent),
@@ -171,7 +169,7 @@ fn take_ops<P: Pads>(
     ensures cell { (talk.new.cell ≡ talk.old.cell) × (talk.new.cells ≡ talk.old.cells) }
 {
     let mut gained = false;
-    for op in ops {
+    for op in ops.into_vec() {
         match deliver(alloc, pads, pad, op) {
             Ok(Some(count)) => {
                 talk.relayed = talk.relayed.with_pulled(count);

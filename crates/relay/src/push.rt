@@ -108,7 +108,7 @@ fn push_lacking<P: Pads, L: Exchange>(
         Ok(None) => return Ok(false),
         Err(fault) => return Err(fault),
     };
-    let mut due = 0;
+    let mut due = 0usize;
     let mut whole = true;
     for op in ops.as_slice() {
         if !talk.is_readable(op_in_v1(op)) {
@@ -149,6 +149,7 @@ fn hear_delivered<L: Exchange>(alloc: Global, link: &mut L, talk: &mut Talk) -> 
         × (delivered ≡ is_delivered said) × (talk.new ≡ counts (after_push said) talk.old)) }
     ensures fault { IfErr result (λ fault. MissesAnswer fault (L.wire link.old) (L.wire link.new)
         ⊎ ((fault ≡ PeerReply) × HearsAs push_answer None (L.wire link.old) (L.wire link.new))) }
+    ensures cell { (talk.new.cell ≡ talk.old.cell) × (talk.new.cells ≡ talk.old.cells) }
 {
     match hear_push(alloc, link) {
         Ok(Some(Told::Said(Pushed::Delivered))) => {

@@ -1,6 +1,6 @@
 //! What a relay round has come to.
 ghost use Rattle.std.specs.Prelude.{◌≡◌};
-ghost use Rattle.relay.specs.Counts.{none_yet, with_pad as one_pad, with_pulled as more_pulled, with_pushed as one_pushed, with_refused as one_refused, with_unsaid as one_unsaid};
+ghost use Rattle.relay.specs.Counts.{none_yet, with_pull as one_pull, with_pulled as more_pulled, with_pushed as one_pushed, with_refused as one_refused, with_unsaid as one_unsaid};
 
 /// What a relay round has come to. Each number is counted as far as a `u64` goes.
 #[derive(Clone, Copy, Debug, PartialEq, Eq)]
@@ -31,12 +31,16 @@ impl Relayed {
         }
     }
 
-    pub(crate) fn with_pad(self) -> Relayed
-        ensures { result ≡ one_pad self }
+    /// With a pull of a pad after so many turns, of which the first one counts.
+    pub(crate) fn with_pull(self, turn: u64) -> Relayed
+        ensures { result ≡ one_pull turn self }
     {
-        Relayed {
-            pads: self.pads.saturating_add(1),
-            ..self
+        match turn {
+            0 => Relayed {
+                pads: self.pads.saturating_add(1),
+                ..self
+            },
+            _ => self,
         }
     }
 

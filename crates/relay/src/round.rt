@@ -35,11 +35,11 @@ pub fn relay_round<P: Pads, L: Exchange>(
 ) -> Result<Relayed, Fault>
     // At the end all stages of the round were gone through, and what was written and heard are theirs.
     ensures all { IfOk result (λ relayed. ThenEnds (Made P.calls P.names own token.now
-        (begun (P.row pads.old) pads.old (L.wire link.old)) relayed (L.wire link.new)) P.ends pads.new) }
+        (begun (P.width pads.old) pads.old (L.wire link.old)) relayed (L.wire link.new)) P.ends pads.new) }
 
     // After a fault some of them, and a front of what they write is written.
     ensures fault { IfErr result (λ fault. ThenEnds (λ last. Breaks P.calls P.names fault (Greeting own token.now)
-        (begun (P.row pads.old) pads.old (L.wire link.old)) last (L.wire link.new)) P.ends pads.new) }
+        (begun (P.width pads.old) pads.old (L.wire link.old)) last (L.wire link.new)) P.ends pads.new) }
 {
     let relayed = make_round(alloc, pads, link, own, token);
     pads.end(alloc);
@@ -54,9 +54,9 @@ fn make_round<P: Pads, L: Exchange>(
     token: &str,
 ) -> Result<Relayed, Fault>
     ensures all { IfOk result (λ relayed. Made P.calls P.names own token.now
-        (begun (P.row pads.old) pads.old (L.wire link.old)) relayed (L.wire link.new) pads.new) }
+        (begun (P.width pads.old) pads.old (L.wire link.old)) relayed (L.wire link.new) pads.new) }
     ensures fault { IfErr result (λ fault. Breaks P.calls P.names fault (Greeting own token.now)
-        (begun (P.row pads.old) pads.old (L.wire link.old)) pads.new (L.wire link.new)) }
+        (begun (P.width pads.old) pads.old (L.wire link.old)) pads.new (L.wire link.new)) }
 {
     match send_greeting(alloc, link, own, token) {
         Ok(()) => {}
@@ -84,7 +84,12 @@ fn make_round<P: Pads, L: Exchange>(
 }
 
 /// Begins the session at the peer.
-fn send_greeting<L: Exchange>(alloc: Global, link: &mut L, own: u16, token: &str) -> Result<(), Fault>
+fn send_greeting<L: Exchange>(
+    alloc: Global,
+    link: &mut L,
+    own: u16,
+    token: &str,
+) -> Result<(), Fault>
     ensures sent { OnOk result (Writes (line_of (peer_request own token.now)) (L.wire link.old) (L.wire link.new)) }
     ensures unsent { IfErr result (λ fault. IsUnsent fault (line_of (peer_request own token.now)) (L.wire link.old) (L.wire link.new)) }
 {

@@ -25,7 +25,9 @@ mod word;
 
 pub use op_read::read_op;
 pub use op_write::op_value;
-pub use peer_answer::{Told, read_peer_answer, read_pull_answer, read_push_answer, read_vector_answer};
+pub use peer_answer::{
+    Told, read_peer_answer, read_pull_answer, read_push_answer, read_vector_answer,
+};
 pub use peer_request::{peer_line, pull_line, push_line, vector_line};
 pub use reply::reply_line;
 pub use request::read_request;

@@ -71,7 +71,7 @@ impl<S: Sequence> Pads for Alone<S> {
 
     ghost names = { λ old cell answer new. Looks old cell answer new };
 
-    ghost row = { λ a. length a.server.cells };
+    ghost width = { λ a. length a.server.cells };
 
     fn call(&mut self, alloc: Global, request: &Request) -> Result<Reply, Refusal> {
         answer_of(ask(alloc, &mut self.server, self.actor, request))

@@ -23,7 +23,7 @@ pub trait Pads {
     ghost names: { Self → ℕ → Result (Option (List ℕ)) Refusal → Self → Type 0 };
 
     /// How many cells there are.
-    ghost row: { Self → ℕ };
+    ghost width: { Self → ℕ };
 
     /// Asks a request, and waits for its answer.
     fn call(&mut self, alloc: Global, request: &Request) -> Result<Reply, Refusal>
@@ -43,5 +43,5 @@ pub trait Pads {
 
     /// How many cells there are.
     fn cells(&self) -> u32
-        ensures { result ≡ row self.now };
+        ensures { result ≡ width self.now };
 }

@@ -75,7 +75,7 @@ impl<'a, S: Sequence, R: Wait, G: Gate> Pads for Shared<'a, S, R, G> {
 
     ghost names = { λ old cell answer new. IfErr answer (λ e. e ≡ refusal.Memory) };
 
-    ghost row = { λ s. s.count };
+    ghost width = { λ s. s.count };
 
     fn call(&mut self, alloc: Global, request: &Request) -> Result<Reply, Refusal> {
         self.row.ask(

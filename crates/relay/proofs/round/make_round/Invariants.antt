@@ -1,0 +1,17 @@
+-- the cells so far lead to the next one
+use Rattle.std.proofs.Common.{◌-◌, ◌<◌}
+use Rattle.relay.specs.Kept.{begun, world}
+use Rattle.relay.specs.Round.{Reaches}
+use Rattle.relay.specs.Round.Stage.{Greeting, Next}
+use Rattle.relay.proofs.round.make_round.Given as goal
+
+abbrev pub invariant-loop-talk : goal.invariant-loop-talk
+invariant-loop-talk g l = record {
+  goes : Reaches g.P.Pads.calls g.P.Pads.names (Greeting l.fn.own l.fn.token) (begun (g.P.Pads.width l.fn.pads) l.fn.pads (g.L.Exchange.wire l.fn.link))
+      Next (world l.talk l.pads (g.L.Exchange.wire l.link));
+  fits : l.talk.cells < 4294967296;
+}
+
+-- the cells that are left
+abbrev pub decreases-loop-talk : goal.decreases-loop-talk
+decreases-loop-talk g l = l.talk.cells - l.talk.cell

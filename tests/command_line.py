@@ -38,7 +38,7 @@ CASES = [
     Case("help", "--help", stdout=OPTIONS),
     Case("help by its short name", "-h", stdout=OPTIONS),
     Case("help that cannot be printed", "--help", status=1, to=FULL),
-    refused("no words", "", "--stdin", "--replica"),
+    refused("no words", "", "--replica"),
     refused("no --replica", "--stdin", "--replica"),
     refused("no --stdin", "--replica 1", "--stdin"),
     refused("an unknown option", "--stdin --replica 1 --colour", "--colour"),

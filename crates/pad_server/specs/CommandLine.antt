@@ -1,21 +1,48 @@
--- The command line of the program, and what it asks for.
-use Rattle.std.specs.Prelude.{◌≡◌, List, ℕ, Some, codes, option_map, true}
-use Rattle.clap.specs.Words.{App, Rule, new_app, new_rule, with_rule}
+-- The command line of the program, and what it gives.
+use Rattle.std.specs.Prelude.{◌≡◌, List, ℕ, Bool, true, false, Option, Some, None, codes, option_map, unwrap_or}
+use Rattle.clap.specs.Words.{App, Rule, matches_of, new_app, new_rule, one_of, with_rule}
 use Rattle.clap.specs.declared.builder.action.ArgAction.TheVariants.{SetTrue}
-use Rattle.command_line.specs.Options.{Gives, accounts_rule, cells_rule, replica_rule, text_given}
+use Rattle.command_line.specs.Options.{Gives, accounts_rule, cells_rule, number_rule, option_rule, replica_rule, text_given}
 use Rattle.server_core.specs.declared.limits.TheConstants.{MAX_CELLS}
 use Rattle.pad_server.specs.declared.args.Asked.{Asked}
+use Rattle.pad_server.specs.declared.options.TheConstants.{MAX_WORKERS, DEFAULT_WORKERS}
 
--- `--stdin`, which has to be there and takes no value
+-- `--stdin`, which takes no value
 abbrev pub stdin_rule : Rule
-stdin_rule = record (new_rule (codes "stdin")) { long = Some (codes "stdin"); action = Some SetTrue; required = true }
+stdin_rule = record (new_rule (codes "stdin")) { long = Some (codes "stdin"); action = Some SetTrue }
+
+-- `--listen ADDR`
+abbrev pub listen_rule : Rule
+listen_rule = option_rule (codes "listen")
+
+-- `--workers N`
+abbrev pub workers_rule : Rule
+workers_rule = number_rule (codes "workers") 1 MAX_WORKERS
+
+-- `--connections N`, a number that a u32 holds
+abbrev pub connections_rule : Rule
+connections_rule = number_rule (codes "connections") 1 4294967295
+
+-- the options that say what is served, by which server, and for whom
+abbrev pub first_line : App
+first_line = with_rule (with_rule (with_rule (with_rule (new_app (codes "pad_server")) stdin_rule) listen_rule) replica_rule) accounts_rule
 
 -- the command line: clap's words say which words it takes, and what they give under a name
 abbrev pub line : App
-line = with_rule (with_rule (with_rule (with_rule (new_app (codes "pad_server")) stdin_rule) replica_rule) accounts_rule) cells_rule
+line = with_rule (with_rule (with_rule first_line cells_rule) workers_rule) connections_rule
 
--- the words ask for this: the numbers that they give under `--replica` and `--cells`, and the path under `--accounts`
+-- a flag by the text that stands under its name
+pub record IsFlag (held : Option (List ℕ)) (flag : Bool) : Type 0 where
+  pub absent : held ≡ None → flag ≡ false
+  pub set : held ≡ Some (codes "true") → flag ≡ true
+  pub unset : held ≡ Some (codes "false") → flag ≡ false
+
+-- the words give this: the numbers, the flag and the texts under the names of the options
 pub record AsksFor (words : List (List ℕ)) (asked : Asked) : Type 0 where
   pub replica : Gives line words (codes "replica") 1 65535 1 asked.replica
   pub cells : Gives line words (codes "cells") 0 MAX_CELLS MAX_CELLS asked.cells
   pub accounts : option_map (λ path. path.now) asked.accounts ≡ text_given line words (codes "accounts")
+  pub stdin : IsFlag (one_of (codes "stdin") (matches_of line words)) asked.stdin
+  pub listen : option_map (λ address. address.now) asked.listen ≡ text_given line words (codes "listen")
+  pub workers : Gives line words (codes "workers") 0 MAX_WORKERS DEFAULT_WORKERS asked.workers
+  pub connections : (other : ℕ) → Gives line words (codes "connections") 0 4294967295 other (unwrap_or asked.connections other)

@@ -1,61 +1,80 @@
 //! The command line.
 ghost use Rattle.std.specs.Prelude.{◌≡◌, ◌≤◌, IfOk, map, string_bytes, false};
 ghost use Rattle.clap.specs.Faults.{fault_of};
-ghost use Rattle.clap.specs.Words.{FailsBy, app_of, rule_of};
+ghost use Rattle.clap.specs.Words.{FailsBy, app_of};
 ghost use Rattle.server_core.specs.declared.limits.TheConstants.{MAX_CELLS};
-ghost use Rattle.pad_server.specs.CommandLine.{AsksFor, line, stdin_rule};
+ghost use Rattle.pad_server.specs.CommandLine.{AsksFor, first_line, line};
+ghost use Rattle.pad_server.specs.declared.options.TheConstants.{MAX_WORKERS};
 
-use clap::{Arg, ArgAction, Command, Error};
+use crate::options::{
+    connections_of, connections_option, listen_option, stdin_flag, workers_of, workers_option,
+};
+use clap::{Command, Error};
 use command_line::{accounts_option, cells_of, cells_option, replica_of, replica_option};
 use std::alloc::{AllocError, Global};
 
-/// What the command line asks for.
+/// What the words of the command line give.
 #[derive(Clone, Copy)]
 pub struct Asked<'a> {
     /// The replica number of this server, at least 1.
     pub replica: u16,
     /// How many pads there is room for, 1 to 64.
     pub cells: u32,
-    /// The path of the accounts file. None: the session is the author `solo`.
+    /// The path of the accounts file.
     pub accounts: Option<&'a str>,
+    /// Whether standard input and output are served.
+    pub stdin: bool,
+    /// The address where connections are served.
+    pub listen: Option<&'a str>,
+    /// How many connections are served at once, 1 to 63.
+    pub workers: u32,
+    /// After how many connections the server ends. None: it does not.
+    pub connections: Option<u32>,
 }
 
 const ACCOUNTS_HELP: &str =
     "The file of authors and peers that may log in [without it the session is the author solo]";
 
-fn stdin_flag<'a>(alloc: Global) -> Arg<'a>
-    ensures { (rule_of result ≡ stdin_rule) × (result.global ≡ false) }
+// What is served, by which server, and for whom.
+fn first_options<'a>(alloc: Global) -> Result<Command<'a>, AllocError>
+    ensures { IfOk result (λ command. app_of command ≡ first_line) }
 {
-    Arg::new(alloc, "stdin")
-        .long("stdin")
-        .action(ArgAction::SetTrue)
-        .required(true)
-        .help("Serves standard input and output")
+    let replica_help = "The replica number of this server, 1 to 65535";
+    Command::new(alloc, "pad_server")
+        .about("Serves shared pads")
+        .arg(stdin_flag(alloc))?
+        .arg(listen_option(alloc))?
+        .arg(replica_option(alloc, replica_help))?
+        .arg(accounts_option(alloc, ACCOUNTS_HELP))
 }
 
 fn command<'a>(alloc: Global) -> Result<Command<'a>, AllocError>
     ensures { IfOk result (λ command. app_of command ≡ line) }
 {
-    let replica_help = "The replica number of this server, 1 to 65535";
     let cells_help = "How many pads there is room for, 1 to 64 [default: 64]";
-    Command::new(alloc, "pad_server")
-        .about("Serves shared pads")
-        .arg(stdin_flag(alloc))?
-        .arg(replica_option(alloc, replica_help))?
-        .arg(accounts_option(alloc, ACCOUNTS_HELP))?
-        .arg(cells_option(alloc, cells_help))
+    first_options(alloc)?
+        .arg(cells_option(alloc, cells_help))?
+        .arg(workers_option(alloc))?
+        .arg(connections_option(alloc))
 }
 
-/// What the words of the command line ask for, or what is wrong with them.
+/// What the words of the command line give, or what is wrong with them.
 pub fn parse<'a>(alloc: Global, words: &'a [String]) -> Result<Asked<'a>, Error>
     ensures asked { IfOk result (AsksFor (map string_bytes words.now)) }
     ensures refused { FailsBy (fault_of line (map string_bytes words.now)) result }
-    ensures limits { IfOk result (λ asked. (1 ≤ asked.replica) × (asked.cells ≤ MAX_CELLS)) }
+    ensures limits { IfOk result (λ asked. (1 ≤ asked.replica) × (asked.cells ≤ MAX_CELLS) × (asked.workers ≤ MAX_WORKERS)) }
 {
-    let matches = command(alloc)?.try_get_matches_from(words)?;
+    let matches = match command(alloc)?.try_get_matches_from(words) {
+        Ok(matches) => matches,
+        Err(error) => return Err(error),
+    };
     Ok(Asked {
         replica: replica_of(&matches),
         cells: cells_of(&matches),
         accounts: matches.get_str("accounts"),
+        stdin: matches.get_flag("stdin"),
+        listen: matches.get_str("listen"),
+        workers: workers_of(&matches),
+        connections: connections_of(&matches),
     })
 }

@@ -5,6 +5,7 @@ ghost use Rattle.pad_server.specs.Status.{status};
 
 use pad_model::Refusal;
 use sessions::AccountsError;
+use std::alloc::AllocError;
 use std::io;
 use std::process::ExitCode;
 use thiserror::Error;
@@ -17,6 +18,12 @@ pub enum Failure<'a> {
     Unread { path: &'a str, cause: io::Error },
     #[error("500 BadAccounts line {line}")]
     BadAccounts { line: u64 },
+    #[error("cannot listen at {address}: {cause}")]
+    Deaf { address: &'a str, cause: io::Error },
+    #[error("the system makes no thread")]
+    Alone,
+    #[error("standard output: {0}")]
+    Untold(io::Error),
     #[error("{code} {name}")]
     Refused { code: u16, name: &'static str },
     #[error("{0}")]
@@ -26,8 +33,17 @@ pub enum Failure<'a> {
 }
 
 impl Failure<'_> {
-    /// A connection's fault, with what its device said of it, where it said something.
-    pub fn of(fault: Fault, cause: Option<io::Error>) -> Failure<'static> {
+    /// A connection's fault, with what its devices said of it, where they said something.
+    pub fn of(
+        fault: Fault,
+        unread: Option<io::Error>,
+        unwritten: Option<io::Error>,
+    ) -> Failure<'static> {
+        let cause = match fault {
+            Fault::ReadFault => unread,
+            Fault::WriteFault => unwritten,
+            _ => None,
+        };
         match cause {
             Some(cause) => Failure::Broken { fault, cause },
             None => Failure::Fault(fault),
@@ -60,6 +76,12 @@ impl From<Refusal> for Failure<'_> {
             code: refusal.code(),
             name: refusal.name(),
         }
+    }
+}
+
+impl From<AllocError> for Failure<'_> {
+    fn from(_refused: AllocError) -> Self {
+        Failure::Fault(Fault::Memory)
     }
 }
 

@@ -1,7 +1,8 @@
-//! The server that the command line asks for, with its session.
+//! The server of one session, with its session.
 ghost use Rattle.std.specs.Prelude.{◌≤◌};
 ghost use Rattle.server_core.specs.declared.limits.TheConstants.{MAX_CELLS};
 
+use crate::accounts::read_accounts;
 use crate::args::Asked;
 use crate::failure::Failure;
 use block_seq::PlainSeq;
@@ -10,32 +11,23 @@ use pad_model::{Name, Refusal};
 use server_core::Server;
 use sessions::{Accounts, Word};
 use std::alloc::Global;
-use std::fs;
 use workers::{Alone, Pads};
 
 /// The author of a server without accounts, and its token.
 const SOLO: &str = "solo";
 
-/// The accounts of a file, or of the author `solo` alone.
-fn read_accounts<'a>(rt: &HostRuntime, path: Option<&'a str>) -> Result<Accounts, Failure<'a>> {
-    let alloc = rt.alloc();
-    let Some(path) = path else {
-        return Ok(Accounts::read(alloc, b"author solo solo\n")?);
-    };
-    match fs::read(rt, path) {
-        Ok(bytes) => Ok(Accounts::read(alloc, bytes.as_slice())?),
-        Err(cause) => Err(Failure::Unread { path, cause }),
-    }
-}
-
 /// The server that is asked for, whose actor is the author `solo` where there is no accounts file, else nobody.
 pub fn open<'a>(rt: &HostRuntime, asked: Asked<'a>) -> Result<Alone<PlainSeq>, Failure<'a>>
     requires { (1 ≤ asked.replica) × (asked.cells ≤ MAX_CELLS) }
 {
-    let accounts = read_accounts(rt, asked.accounts)?;
-    let mut pads = open_server(rt.alloc(), asked.replica, asked.cells, accounts)?;
+    let alloc = rt.alloc();
+    let accounts = match asked.accounts {
+        Some(path) => read_accounts(rt, path)?,
+        None => Accounts::read(alloc, b"author solo solo\n")?,
+    };
+    let mut pads = open_server(alloc, asked.replica, asked.cells, accounts)?;
     if asked.accounts.is_none() {
-        greet(rt.alloc(), &mut pads)?;
+        greet(alloc, &mut pads)?;
     }
     Ok(pads)
 }

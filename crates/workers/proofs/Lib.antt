@@ -1,7 +1,9 @@
 pub mod CallerLemmas
 pub mod Causes
+pub mod Crews
 pub mod Ends
 pub mod Rests
 pub mod RowScans
+pub mod Seatings
 pub mod Serving
 pub mod Turns

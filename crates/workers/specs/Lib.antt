@@ -1,6 +1,8 @@
 pub mod Calls
 pub mod Connection
+pub mod Crew
 pub mod Delivered
 pub mod Fuel
 pub mod Row
+pub mod Seating
 pub mod Session

@@ -1,50 +1,81 @@
 //! The threads that serve connections: each has seats of its own at the pads, and serves one connection at a time.
-ghost use Rattle.std.specs.Prelude.{◌≤◌, length};
-ghost use Rattle.server_core.specs.declared.limits.TheConstants.{MAX_CELLS};
+ghost use Rattle.std.specs.Prelude.{ℕ, ◌<◌, length, slice_index_or};
+ghost use Rattle.workers.specs.Crew.{ServesConnection, ServesInTurn, Works};
 
-use crate::connection::Served;
+use crate::connection::{Served, serve_connection};
 use crate::pads::Pads;
+use crate::row::Row;
 use crate::shared::Shared;
 use crossbeam_channel::Receiver;
-use pad_model::{Refusal, Sequence};
-use server_core::MAX_CELLS;
-use sessions::Accounts;
-use shared_pads::{Gate, SharedPad};
+use pad_model::Sequence;
+use sessions::Session;
+use shared_pads::{Gate, Seat};
 use std::alloc::Global;
 use std::sync::Wait;
-use wire_lines::Fault;
+use std::thread::Threads;
+use std::{mem, thread};
+use wire_lines::{Fault, Sink, Source};
 
 /// Where requests come from and replies go to. A fault ends it alone.
 pub trait Connection {
-    /// Answers its lines until they end, as `serve_connection` does over its reader and writer, and ends the session.
+    /// Answers its lines until they end, and ends the session, as `serve_client` does over its reader and writer.
     fn serve<P: Pads, G: Gate>(
         self,
         alloc: Global,
         pads: &mut P,
         number: u64,
         gate: &G,
-    ) -> Result<Served, Fault>;
+    ) -> Result<Served, Fault>
+        ensures { ServesConnection P.calls P.ends pads.old pads.new };
 }
 
-/// Seats for so many workers at each pad of a row, before any connection is served.
-///
-/// 317 where a pad has made all its seats, and out of memory.
-pub fn take_seats<'a, S: Sequence, R: Wait, G: Gate>(
-    rt: &'a R,
+/// Answers the lines of a reader as `serve_connection` does, where nothing is known of the bytes: it says what becomes of
+/// the pads.
+pub fn serve_client<P: Pads, R: Source, W: Sink, G: Gate>(
     alloc: Global,
-    cells: &'a [SharedPad<S>],
-    replica: u16,
-    accounts: &'a Accounts,
-    workers: u32,
-    gate: &'a G,
-) -> Result<Vec<Shared<'a, S, R, G>>, Refusal>
-    requires { length cells.now ≤ MAX_CELLS }
+    pads: &mut P,
+    reader: &mut R,
+    writer: &mut W,
+    number: u64,
+    gate: &G,
+) -> Result<Served, Fault>
+    ensures { ServesConnection P.calls P.ends pads.old pads.new }
 {
-    let mut shares = Vec::new(alloc);
-    for _ in 0..workers {
-        shares.push(Shared::new(rt, alloc, cells, replica, accounts, gate)?)?;
-    }
-    Ok(shares)
+    serve_connection(alloc, pads, reader, writer, number, gate)
+}
+
+/// Serves the connections of a channel, in as many threads as there are seats for. Each thread serves one connection
+/// after the other, each whole, until the channel is closed and empty. The seats are there again at the end.
+///
+/// Where the system makes no thread, fewer serve.
+pub fn pool<
+    S: Sequence + Send,
+    R: Threads + Wait + Sync,
+    G: Gate + Sync,
+    C: Connection + Send + Drop,
+>(alloc: Global, row: &Row<'_, S, R, G>, connections: &Receiver<(u64, C)>, crew: &mut [Vec<Seat>]) {
+    let threads = crew.len().max(1);
+    thread::for_each_mut(
+        row.rt,
+        crew,
+        threads,
+        &|_, seats: &mut Vec<Seat>| work(alloc, row, connections, seats),
+    );
+}
+
+/// One thread's part of it.
+fn work<S: Sequence, R: Wait, G: Gate, C: Connection + Drop>(
+    alloc: Global,
+    row: &Row<'_, S, R, G>,
+    connections: &Receiver<(u64, C)>,
+    seats: &mut Vec<Seat>,
+)
+    ensures { Works row.now seats.old.items seats.new.items }
+{
+    let own = mem::replace(seats, Vec::new(alloc));
+    let mut shared = Shared::new(row, own, Session::new(alloc));
+    serve_all(row.rt, alloc, &mut shared, connections, row.gate);
+    *seats = shared.seats();
 }
 
 /// Serves the connections of a channel by one thread, each whole, until the channel is closed and empty. What became of
@@ -55,7 +86,9 @@ pub fn serve_all<P: Pads, R: Wait, G: Gate, C: Connection + Drop>(
     pads: &mut P,
     connections: &Receiver<(u64, C)>,
     gate: &G,
-) {
+)
+    ensures { ServesInTurn P.calls P.ends pads.old pads.new }
+{
     for _ in rt.forever() {
         let Ok((number, connection)) = connections.recv(rt) else {
             break;

@@ -9,13 +9,16 @@ mod crew;
 mod delivered;
 mod pads;
 mod row;
+mod seating;
 mod settle;
 mod shared;
 
 pub use alone::Alone;
 pub use connection::{Served, serve_connection};
-pub use crew::{Connection, serve_all, take_seats};
+pub use crew::{Connection, pool, serve_all, serve_client};
 pub use delivered::delivered_by;
 pub use pads::Pads;
+pub use row::{Row, open_row};
+pub use seating::{take_all_seats, take_seats};
 pub use shared::Shared;
 pub use shared_pads::{Gate, Open};

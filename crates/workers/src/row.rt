@@ -1,9 +1,10 @@
 //! A row of shared pads, as a session asks it.
-ghost use Rattle.std.specs.Prelude.{◌≡◌, [], length, IfErr};
+ghost use Rattle.std.specs.Prelude.{◌≡◌, ◌≤◌, [], length, vec_len, IfOk, IfErr};
 ghost use Rattle.server_core.specs.Rooms.{IsAsked};
+ghost use Rattle.workers.specs.Crew.{LeavesRoom, LeavesRooms};
 ghost use Rattle.workers.specs.Row.{RowAsked, Scans, VisitsAt};
 
-use pad_core::{Reply, Request};
+use pad_core::{Pad, Reply, Request};
 use pad_model::{Name, Refusal, Sequence};
 use server_core::{act_refusal, create_refusal, first_cell, hello, past_row, peer};
 use sessions::{Accounts, Room, Session};
@@ -11,11 +12,34 @@ use shared_pads::{Gate, Seat, SharedPad};
 use std::alloc::Global;
 use std::sync::Wait;
 
-/// A row of shared pads, and what a thread waits and is held up by there.
+/// Pads without names, as many as a server is to have room for: 1 to 64, each in the cell of its place.
+pub fn open_row<S: Sequence>(
+    alloc: Global,
+    replica: u16,
+    cells: u32,
+) -> Result<Vec<SharedPad<S>>, Refusal>
+    requires replica { 1 ≤ replica }
+    ensures count { IfOk result (λ row. vec_len row ≡ cells) }
+    ensures memory { IfErr result (λ e. e ≡ Refusal.Memory) }
+{
+    let mut row = Vec::new(alloc);
+    for cell in 0..cells {
+        row.push(SharedPad::new(alloc, Pad::new(alloc, replica)?, cell))?;
+    }
+    Ok(row)
+}
+
+/// The pads that the threads of a server share, and its accounts.
 #[derive(Drop)]
 pub struct Row<'a, S: Sequence, R: Wait, G: Gate> {
+    /// What threads wait by.
     pub rt: &'a R,
+    /// At most 64, each in the cell of its place.
     pub cells: &'a [SharedPad<S>],
+    /// The server's own number.
+    pub replica: u16,
+    pub accounts: &'a Accounts,
+    /// What is told of the course of connections.
     pub gate: &'a G,
 }
 
@@ -24,23 +48,28 @@ impl<'a, S: Sequence, R: Wait, G: Gate> Row<'a, S, R, G> {
     pub fn ask(
         &self,
         alloc: Global,
-        replica: u16,
-        accounts: &Accounts,
         seats: &mut Vec<Seat>,
         session: &mut Session,
         request: &Request,
     ) -> Result<Reply, Refusal>
-        ensures { RowAsked replica accounts.now (length self.now.cells.now) session.old.who (record { rooms = session.old.rooms; seats = seats.old.items }) request.now result session.new.who (record { rooms = session.new.rooms; seats = seats.new.items }) }
+        ensures { RowAsked self.now.replica self.now.accounts.now (length self.now.cells.now) session.old.who (record { rooms = session.old.rooms; seats = seats.old.items }) request.now result session.new.who (record { rooms = session.new.rooms; seats = seats.new.items }) }
     {
         match request {
             Request::Hello { name, token } => {
-                hello(alloc, replica, accounts, name, token, session)
+                hello(alloc, self.replica, self.accounts, name, token, session)
             }
             Request::Peer {
                 number,
                 token,
                 version,
-            } => peer(replica, accounts, *number, token, *version, session),
+            } => peer(
+                self.replica,
+                self.accounts,
+                *number,
+                token,
+                *version,
+                session,
+            ),
             Request::Create { pad } => match create_refusal(session.who(), pad) {
                 Some(refusal) => Err(refusal),
                 None => self.scan(alloc, seats, session, first_cell(session, pad), request),
@@ -112,6 +141,7 @@ impl<'a, S: Sequence, R: Wait, G: Gate> Row<'a, S, R, G> {
     pub fn leave_all(&self, seats: &mut Vec<Seat>, session: &mut Session)
         ensures who { session.new.who ≡ session.old.who }
         ensures rooms { session.new.rooms ≡ [] }
+        ensures left { LeavesRooms session.old.rooms seats.old.items seats.new.items }
     {
         while let Some(room) = session.take_first() {
             self.leave(seats, session, &room);
@@ -119,7 +149,9 @@ impl<'a, S: Sequence, R: Wait, G: Gate> Row<'a, S, R, G> {
     }
 
     /// A session leaves one pad.
-    fn leave(&self, seats: &mut Vec<Seat>, session: &Session, room: &Room) {
+    fn leave(&self, seats: &mut Vec<Seat>, session: &Session, room: &Room)
+        ensures { LeavesRoom room.now seats.old.items seats.new.items }
+    {
         let place = room.cell as usize;
         if place >= self.cells.len() || place >= seats.len() {
             return;

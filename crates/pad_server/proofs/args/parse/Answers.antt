@@ -1,8 +1,10 @@
 use Rattle.std.proofs.Common.{◌≡◌, ◌∙◌, map, string_bytes, codes, refl, ap, subst, true, []}
 use Rattle.clap.specs.Faults.{fault_of, is_simple_and_free}
-use Rattle.clap.specs.Words.{App, is_simple}
+use Rattle.clap.specs.Words.{App, HasKind, found_of, is_simple, one_of, one_text}
+use Rattle.clap.proofs.WalkLemmas.{one_text-rows}
 use Rattle.command_line.proofs.CallerLemmas.{gives_number, gives_text, rows_found}
 use Rattle.server_core.specs.declared.limits.TheConstants.{MAX_CELLS}
+use Rattle.pad_server.specs.declared.options.TheConstants.{MAX_WORKERS, DEFAULT_WORKERS}
 use Rattle.pad_server.specs.CommandLine.{line}
 use Rattle.pad_server.proofs.args.parse.Goals as goal
 
@@ -15,16 +17,31 @@ is_free_line = refl
 pub returns-clause-asked : goal.returns-clause-asked
 returns-clause-asked c =
     let words = map string_bytes c.args.words.now in
-    let m = c.in_ok-matches.matches in
-    let rows = rows_found c.in_ok-command.field-0 line words m c.in_ok-command.ensures is_simple_line c.in_ok-matches.ensures.matches in
+    let m = c.in-Ok.matches in
+    let rows = rows_found c.in_ok-command.field-0 line words m c.in_ok-command.ensures is_simple_line c.in-Ok.ensures.matches in
+    let flag = one_text-rows (found_of m) (codes "stdin") ∙ ap (one_of (codes "stdin")) rows in
     record {
       replica = gives_number line words m (codes "replica") 1 65535 1 c.replica_of.result rows c.replica_of.ensures.value;
       cells = gives_number line words m (codes "cells") 0 MAX_CELLS MAX_CELLS c.cells_of.result rows c.cells_of.ensures.value;
       accounts = c.get_str.ensures ∙ gives_text line words m (codes "accounts") rows;
+      stdin = record {
+        absent = λ e. c.get_flag.ensures.none (flag ∙ e);
+        set = λ e. c.get_flag.ensures.value (flag ∙ e);
+        unset = λ e. c.get_flag.ensures.other (flag ∙ e);
+      };
+      listen = c.get_str-2.ensures ∙ gives_text line words m (codes "listen") rows;
+      workers = gives_number line words m (codes "workers") 0 MAX_WORKERS DEFAULT_WORKERS c.workers_of.result rows c.workers_of.ensures.value;
+      connections = λ other. gives_number line words m (codes "connections") 0 4294967295 other _ rows (c.connections_of.ensures other);
     }
 
 pub returns-clause-refused : goal.returns-clause-refused
 returns-clause-refused c =
     let words = map string_bytes c.args.words.now in
     subst (λ (a : App). fault_of a words ≡ []) c.in_ok-command.ensures
-    (c.in_ok-matches.ensures.kinds (ap is_simple_and_free c.in_ok-command.ensures ∙ is_free_line))
+    (c.in-Ok.ensures.kinds (ap is_simple_and_free c.in_ok-command.ensures ∙ is_free_line))
+
+pub returns-in-Err-clause-refused : goal.returns-in-Err-clause-refused
+returns-in-Err-clause-refused c =
+    let words = map string_bytes c.args.words.now in
+    subst (λ (a : App). HasKind (fault_of a words) c.in-Err.error) c.in_ok-command.ensures
+    (c.in-Err.ensures.kinds (ap is_simple_and_free c.in_ok-command.ensures ∙ is_free_line))

@@ -1,0 +1,24 @@
+-- What the server serves, by what the command line gives.
+use Rattle.std.specs.Prelude.{List, ℕ, Bool, true, false, Option, Some, None, Result, Ok, Err}
+use Rattle.std.specs.Borrow.{Bor}
+use Rattle.pad_server.specs.declared.args.Asked.{Asked}
+use Rattle.pad_server.specs.declared.mode.Misuse.{Misuse}
+use Rattle.pad_server.specs.declared.mode.Misuse.TheVariants.{NotOne, NoAccounts}
+use Rattle.pad_server.specs.declared.mode.Mode.{Mode}
+use Rattle.pad_server.specs.declared.mode.Mode.TheVariants.{Stdin, Listen}
+
+-- connections over TCP, which need accounts
+abbrev pub listening : Bor (List ℕ) → Option (Bor (List ℕ)) → Result Mode Misuse
+listening address None = Err NoAccounts
+listening address (Some accounts) = Ok (Listen address accounts)
+
+-- just one of standard input and connections over TCP
+abbrev pub served : Bool → Option (Bor (List ℕ)) → Option (Bor (List ℕ)) → Result Mode Misuse
+served true None accounts = Ok Stdin
+served true (Some address) accounts = Err NotOne
+served false None accounts = Err NotOne
+served false (Some address) accounts = listening address accounts
+
+-- what is asked for is served so
+abbrev pub mode_of : Asked → Result Mode Misuse
+mode_of asked = served asked.stdin asked.listen asked.accounts

@@ -1,0 +1,43 @@
+//! A connection over TCP.
+use crate::failure::Failure;
+use crate::watched::Watched;
+use log::{Log, warn};
+use std::alloc::Global;
+use std::net::TcpStream;
+use wire_lines::{Fault, Std};
+use workers::{Connection, Gate, Pads, Served, serve_client};
+
+/// A client that is connected over TCP. Where its connection breaks, a line of the log says why.
+#[derive(Drop)]
+pub struct Client<'a, R: Log> {
+    rt: &'a R,
+    stream: TcpStream,
+}
+
+impl<'a, R: Log> Client<'a, R> {
+    /// A client whose stream was accepted.
+    pub fn new(rt: &'a R, stream: TcpStream) -> Client<'a, R> {
+        Client { rt, stream }
+    }
+}
+
+impl<R: Log> Connection for Client<'_, R> {
+    fn serve<P: Pads, G: Gate>(
+        self,
+        alloc: Global,
+        pads: &mut P,
+        number: u64,
+        gate: &G,
+    ) -> Result<Served, Fault> {
+        let mut input = Watched::new(&self.stream);
+        let mut output = Watched::new(&self.stream);
+        let mut reader = Std::new(&mut input);
+        let mut writer = Std::new(&mut output);
+        let served = serve_client(alloc, pads, &mut reader, &mut writer, number, gate);
+        if let Err(fault) = served {
+            let failure = Failure::of(fault, input.cause(), output.cause());
+            warn!(self.rt; "connection {number} ended: {failure}");
+        }
+        served
+    }
+}

@@ -1,0 +1,45 @@
+//! What the server serves.
+ghost use Rattle.std.specs.Prelude.{◌≡◌};
+ghost use Rattle.pad_server.specs.Modes.{mode_of};
+
+use crate::args::Asked;
+use thiserror::Error;
+
+/// Where the requests come from.
+#[derive(Clone, Copy, Debug, PartialEq, Eq)]
+pub enum Mode<'a> {
+    /// Standard input.
+    Stdin,
+    /// Connections over TCP.
+    Listen {
+        /// The address, as `127.0.0.1:7878`.
+        address: &'a str,
+        /// The path of the accounts file.
+        accounts: &'a str,
+    },
+}
+
+/// What is wrong with words that clap takes.
+#[derive(Clone, Copy, Debug, PartialEq, Eq, Error)]
+pub enum Misuse {
+    #[error("either --stdin or --listen <ADDR> has to be given, and not both")]
+    NotOne,
+    #[error("--listen <ADDR> needs --accounts <PATH>")]
+    NoAccounts,
+}
+
+impl<'a> Asked<'a> {
+    /// What is served. Just one of `--stdin` and `--listen` has to be given, and the second only with `--accounts`.
+    pub fn mode(self) -> Result<Mode<'a>, Misuse>
+        ensures { result ≡ mode_of self.entry }
+    {
+        match (self.stdin, self.listen) {
+            (true, None) => Ok(Mode::Stdin),
+            (true, Some(_)) | (false, None) => Err(Misuse::NotOne),
+            (false, Some(address)) => match self.accounts {
+                Some(accounts) => Ok(Mode::Listen { address, accounts }),
+                None => Err(Misuse::NoAccounts),
+            },
+        }
+    }
+}

@@ -1,0 +1,76 @@
+//! The options that no other program has.
+ghost use Rattle.std.specs.Prelude.{◌≡◌, ◌≤◌, ℕ, codes, false, unwrap_or};
+ghost use Rattle.clap.specs.Words.{rule_of};
+ghost use Rattle.command_line.specs.Options.{Holds};
+ghost use Rattle.pad_server.specs.CommandLine.{connections_rule, listen_rule, stdin_rule, workers_rule};
+
+use clap::{Arg, ArgAction, ArgMatches, value_parser};
+use std::alloc::Global;
+
+/// Workers at most. Each has a seat at each pad, which makes 64 of them, and one is kept for exchange with other servers.
+pub const MAX_WORKERS: u32 = 63;
+
+/// Workers where the command line names no number.
+pub const DEFAULT_WORKERS: u32 = 16;
+
+/// `--stdin`.
+pub fn stdin_flag<'a>(alloc: Global) -> Arg<'a>
+    ensures { (rule_of result ≡ stdin_rule) × (result.global ≡ false) }
+{
+    Arg::new(alloc, "stdin")
+        .long("stdin")
+        .action(ArgAction::SetTrue)
+        .help("Serves standard input and output")
+}
+
+/// `--listen ADDR`.
+pub fn listen_option<'a>(alloc: Global) -> Arg<'a>
+    ensures { (rule_of result ≡ listen_rule) × (result.global ≡ false) }
+{
+    Arg::new(alloc, "listen")
+        .long("listen")
+        .value_name("ADDR")
+        .help(
+            "Serves connections over TCP at this address, as 127.0.0.1:7878; port 0 is any free one",
+        )
+}
+
+/// `--workers N`.
+pub fn workers_option<'a>(alloc: Global) -> Arg<'a>
+    ensures { (rule_of result ≡ workers_rule) × (result.global ≡ false) }
+{
+    Arg::new(alloc, "workers")
+        .long("workers")
+        .value_name("N")
+        .value_parser(value_parser!(u32).range(1..=i64::from(MAX_WORKERS)))
+        .help("How many connections are served at once, 1 to 63 [default: 16]")
+}
+
+/// `--connections N`.
+pub fn connections_option<'a>(alloc: Global) -> Arg<'a>
+    ensures { (rule_of result ≡ connections_rule) × (result.global ≡ false) }
+{
+    Arg::new(alloc, "connections")
+        .long("connections")
+        .value_name("N")
+        .value_parser(value_parser!(u32).range(1..))
+        .help("Ends after so many connections [without it the server does not end]")
+}
+
+/// What `--workers` holds; 16 where it holds no such number.
+pub fn workers_of(matches: &ArgMatches<'_>) -> u32
+    ensures value { Holds (codes "workers") 0 MAX_WORKERS DEFAULT_WORKERS matches.now result }
+    ensures most { result ≤ MAX_WORKERS }
+{
+    match matches.get_one::<u32>("workers") {
+        Some(workers) if workers <= MAX_WORKERS => workers,
+        _ => DEFAULT_WORKERS,
+    }
+}
+
+/// What `--connections` holds, if it holds a number.
+pub fn connections_of(matches: &ArgMatches<'_>) -> Option<u32>
+    ensures { (other : ℕ) → Holds (codes "connections") 0 4294967295 other matches.now (unwrap_or result other) }
+{
+    matches.get_one::<u32>("connections")
+}

@@ -1,0 +1,49 @@
+//! Seats for the threads of a server, made before any of them starts.
+ghost use Rattle.std.specs.Prelude.{◌≡◌, ◌⊎◌, ◌+◌, vec_len, OnOk, IfErr};
+ghost use Rattle.workers.specs.Seating.{TakesSeats};
+
+use pad_model::{Refusal, Sequence};
+use shared_pads::{Seat, SharedPad};
+use std::alloc::Global;
+use std::sync::Wait;
+
+/// A seat at each cell of a row, in order, behind the seats that are there.
+///
+/// 317 where a pad has made all its seats, and out of memory. The seats that were made before that are there then.
+pub fn take_seats<S: Sequence, R: Wait>(
+    rt: &R,
+    cells: &[SharedPad<S>],
+    seats: &mut Vec<Seat>,
+) -> Result<(), Refusal>
+    ensures seats { TakesSeats cells.now seats.old.items result seats.new.items }
+    ensures refusal { IfErr result (λ e. (e ≡ Refusal.SeatsGone) ⊎ (e ≡ Refusal.Memory)) }
+{
+    for cell in cells {
+        seats.reserve(1)?;
+        seats.push_reserved(cell.seat(rt)?);
+    }
+    Ok(())
+}
+
+/// Such seats for each of so many threads, behind those that are there.
+///
+/// 317 where a pad has made all its seats, and out of memory. The seats that were made before that are there then.
+pub fn take_all_seats<S: Sequence, R: Wait>(
+    rt: &R,
+    alloc: Global,
+    cells: &[SharedPad<S>],
+    threads: u32,
+    crew: &mut Vec<Vec<Seat>>,
+) -> Result<(), Refusal>
+    ensures crew { OnOk result (vec_len crew.new ≡ vec_len crew.old + threads) }
+    ensures refusal { IfErr result (λ e. (e ≡ Refusal.SeatsGone) ⊎ (e ≡ Refusal.Memory)) }
+{
+    for _thread in 0..threads {
+        crew.reserve(1)?;
+        let mut seats = Vec::new(alloc);
+        let taken = take_seats(rt, cells, &mut seats);
+        crew.push_reserved(seats);
+        taken?;
+    }
+    Ok(())
+}

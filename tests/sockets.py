@@ -1,0 +1,287 @@
+"""Connections over TCP: many authors at once, silent and broken connections, and how the server starts and ends."""
+import json
+import random
+import resource
+import socket
+import struct
+import subprocess
+import threading
+
+from harness import Case, Failed, Has, Test, put_files, start, want
+
+LISTEN = "--listen 127.0.0.1:0 --replica 1 --accounts accounts"
+NAMES = ["ann", "bob", "cid", "dan", "eve", "fay", "gus", "hal"]
+ACCOUNTS = (("accounts", "".join(f"author {name} t{name}\n" for name in NAMES)),)
+TOO_LONG = '{"code":100,"error":"TooLong","ok":false}\n'
+WAIT = 15  # seconds, for an answer
+
+
+class Server:
+    """A server that listens at a free port of this machine. It is killed with the test, if it has not ended."""
+
+    def __init__(self, more="", **streams):
+        put_files(ACCOUNTS)
+        self.process = start("pad_server", f"{LISTEN} {more}", stdin=subprocess.DEVNULL, stdout=subprocess.PIPE, **streams)
+        line = self.process.stdout.readline().decode()
+        if not line.startswith("listening on 127.0.0.1:"):
+            raise Failed(f"the server's first line: {line!r}")
+        self.port = int(line.rsplit(":", 1)[1])
+
+    def connect(self):
+        return Client(self.port)
+
+    def author(self, name, pad=None):
+        """A connection of this author, who has joined a pad."""
+        client = self.connect()
+        client.wants({"do": "hello", "name": name, "token": f"t{name}"}, {"author": f"{name}@1", "ok": True})
+        if pad is not None:
+            client.join(pad)
+        return client
+
+    def ends(self):
+        """The server ends by itself, with status 0, and has written no more."""
+        want(self.process.stdout.read(), b"", "standard output after the first line")
+        want(self.process.wait(), 0, "the status")
+
+
+class Client:
+    """One connection: a request is written, and its answer read."""
+
+    def __init__(self, port):
+        self.socket = socket.create_connection(("127.0.0.1", port), timeout=WAIT)
+        self.socket.setsockopt(socket.IPPROTO_TCP, socket.TCP_NODELAY, 1)
+        self.replies = self.socket.makefile("rb")
+
+    def send(self, text):
+        self.socket.sendall(text.encode())
+
+    def ask(self, **request):
+        self.send(json.dumps(request) + "\n")
+        return json.loads(self.replies.readline())
+
+    def wants(self, request, answer):
+        want(self.ask(**request), answer, f"the answer to {request}")
+
+    def does(self, **request):
+        """Asks what is not to be refused."""
+        answer = self.ask(**request)
+        if not answer["ok"]:
+            raise Failed(f"{request} is answered {answer}")
+        return answer
+
+    def join(self, pad):
+        return self.does(do="join", pad=pad)["visit"]
+
+    def finish(self):
+        """Ends the input, and reads what is left."""
+        self.socket.shutdown(socket.SHUT_WR)
+        return self.replies.read().decode()
+
+    def close(self):
+        self.replies.close()
+        self.socket.close()
+
+    def reset(self):
+        """Breaks the connection off, so that the server's next read fails."""
+        self.socket.setsockopt(socket.SOL_SOCKET, socket.SO_LINGER, struct.pack("ii", 1, 0))
+        self.close()
+
+
+FIRST_STEPS = [
+    ('{"do":"hello","name":"ann","token":"tann"}', '{"author":"ann@1","ok":true}'),
+    ('{"do":"create","pad":"p"}', '{"now":0,"ok":true,"visit":1}'),
+    ('{"do":"text","pad":"p"}', '{"now":0,"ok":true,"rev":0,"text":""}'),
+    ('{"do":"insert","pad":"p","rev":0,"at":0,"text":"hello"}', '{"name":[1,1],"now":1,"ok":true}'),
+    ('{"do":"insert","pad":"p","rev":1,"at":2,"text":"XY"}', '{"name":[1,2],"now":2,"ok":true}'),
+    ('{"do":"insert","pad":"p","rev":1,"at":2,"text":"Z"}', '{"name":[1,3],"now":3,"ok":true}'),
+    ('{"do":"text","pad":"p"}', '{"now":3,"ok":true,"rev":3,"text":"heZXYllo"}'),
+    ('{"do":"text","pad":"p","rev":1}', '{"now":3,"ok":true,"rev":1,"text":"hello"}'),
+    ('{"do":"insert","pad":"p","rev":1,"at":6,"text":"x"}', '{"code":321,"error":"OutOfRange","ok":false}'),
+    ('{"do":"text","pad":"q"}', '{"code":300,"error":"NoPad","ok":false}'),
+    ("[]", '{"code":102,"error":"NotRequest","ok":false}'),
+]
+ASKED = "".join(asked + "\n" for asked, _ in FIRST_STEPS)
+TOLD = "".join(told + "\n" for _, told in FIRST_STEPS)
+
+
+def a_session_is_answered_as_on_standard_input():
+    server = Server("--connections 2")
+    whole = server.connect()
+    whole.send(ASKED)
+    want(whole.finish(), TOLD, "the answers to lines that come at once")
+    line_by_line = server.author("bob")
+    want(line_by_line.ask(do="join", pad="p")["code"], 312, "the answer to bob, who has no right")
+    want(line_by_line.finish(), "", "what is written at the end")
+    server.ends()
+
+
+SAME_ON_STANDARD_INPUT = Case(
+    "the same session on standard input", "--stdin --replica 1 --accounts accounts", ASKED, TOLD, files=ACCOUNTS
+)
+
+
+class Typist:
+    """An author who types and deletes one letter that is its own, and reads the text before each edit."""
+
+    def __init__(self, client, letter, seed):
+        self.client, self.letter, self.dice = client, letter, random.Random(seed)
+        self.typed = self.deleted = 0
+        self.problem = None
+
+    def run(self, edits):
+        try:
+            for number in range(edits):
+                self.edit(number)
+        except BaseException as problem:
+            self.problem = repr(problem)
+
+    def edit(self, number):
+        read = self.client.does(do="text", pad="p")
+        want(read["text"].count(self.letter), self.typed - self.deleted, f"letters {self.letter} that their author reads")
+        places = [place for place, letter in enumerate(read["text"]) if letter == self.letter]
+        if number % 5 == 4:
+            place = self.dice.choice(places)
+            want(self.client.does(do="delete", pad="p", rev=read["rev"], at=place, len=1)["hidden"], 1, "hidden letters")
+            self.deleted += 1
+        else:
+            place = self.dice.randint(0, len(read["text"]))
+            self.client.does(do="insert", pad="p", rev=read["rev"], at=place, text=self.letter)
+            self.typed += 1
+
+
+def eight_authors_at_once():
+    server = Server()
+    owner = server.author("ann")
+    owner.does(do="create", pad="p")
+    for name in NAMES[1:]:
+        owner.does(do="grant", pad="p", author=name, right="write")
+    clients = [owner] + [server.author(name, "p") for name in NAMES[1:]]
+    typists = [Typist(client, name[0], seed) for seed, (name, client) in enumerate(zip(NAMES, clients))]
+    threads = [threading.Thread(target=typist.run, args=(50,)) for typist in typists]
+    for thread in threads:
+        thread.start()
+    for thread in threads:
+        thread.join()
+    want([typist.problem for typist in typists], [None] * 8, "what went wrong")
+    text = owner.does(do="text", pad="p")["text"]
+    for typist in typists:
+        want((typist.typed, typist.deleted), (40, 10), f"edits of {typist.letter}")
+        want(text.count(typist.letter), 30, f"letters {typist.letter} at the end")
+    want(len(text), 240, "letters at the end")
+    revs = owner.does(do="revs", pad="p")
+    want((revs["now"], revs["length"], revs["cells"]), (400, 240, 320), "revision, letters and letters ever typed")
+    place = 0
+    for author, length in owner.does(do="runs", pad="p")["runs"]:
+        want(text[place : place + length], author[0] * length, f"what {author} has at {place}")
+        place += length
+    want(place, 240, "letters with an author")
+
+
+def silent_clients_do_not_stop_others():
+    server = Server("--workers 16")
+    silent = [server.connect() for _ in range(10)]
+    eleventh = server.author("ann")
+    eleventh.does(do="create", pad="p")
+    for client in silent:
+        client.close()
+    want(eleventh.does(do="text", pad="p")["text"], "", "the text")
+
+
+def more_clients_than_workers_are_served_in_the_end():
+    server = Server("--workers 2 --connections 9")
+    clients = [server.connect() for _ in range(9)]
+    for client in clients:
+        client.send('{"do":"hello","name":"ann","token":"tann"}\n')
+        client.socket.shutdown(socket.SHUT_WR)
+    for client in clients:
+        want(client.replies.read(), b'{"author":"ann@1","ok":true}\n', "the answer")
+    server.ends()
+
+
+def a_broken_connection_ends_alone():
+    server = Server(stderr=subprocess.PIPE)
+    keeps = server.author("ann")
+    keeps.does(do="create", pad="p")
+    broken = server.author("ann", "p")
+    broken.send('{"do":"ins')
+    broken.reset()
+    said = server.process.stderr.readline().decode()
+    want([part for part in ["connection 2", "510 ReadFault"] if part not in said], [], f"what {said!r} lacks")
+    want([entry["visit"] for entry in keeps.does(do="who", pad="p")["who"]], [1], "who is there")
+    want(server.author("ann").join("p"), 3, "the next visit")
+
+
+def a_session_is_left_before_its_connection_ends():
+    server = Server()
+    keeps = server.author("ann")
+    keeps.does(do="create", pad="p")
+    for visit in range(2, 12):
+        leaves = server.author("ann")
+        want(leaves.join("p"), visit, "the visit")
+        want(leaves.finish(), "", "what is written at the end")
+        want([entry["visit"] for entry in keeps.does(do="who", pad="p")["who"]], [1], "who is there")
+
+
+def a_line_that_is_too_long_ends_its_connection():
+    server = Server("--connections 2")
+    client = server.author("ann")
+    client.send(" " * (8 * 1024 * 1024 + 1) + "\n")
+    want(client.replies.read().decode(), TOO_LONG, "the answer")
+    want(server.author("ann").finish(), "", "what is written at the end")
+    server.ends()
+
+
+def too_many_files():
+    """The system lets the server open so few files that it can't accept each connection."""
+    limit = lambda: resource.setrlimit(resource.RLIMIT_NOFILE, (10, 10))
+    server = Server(stderr=subprocess.PIPE, preexec_fn=limit)
+    clients = [server.connect() for _ in range(12)]
+    said = server.process.stderr.readline().decode()
+    want("no connection is accepted" in said, True, f"what {said!r} says")
+    for client in clients:
+        client.close()
+    server.process.stderr.close()
+    want(server.author("ann").does(do="create", pad="p")["visit"], 1, "the visit")
+
+
+def an_address_in_use():
+    server = Server()
+    other = start(
+        "pad_server", f"--listen 127.0.0.1:{server.port} --replica 1 --accounts accounts", stdout=subprocess.PIPE, stderr=subprocess.PIPE
+    )
+    wrote, said = other.communicate()
+    want((other.returncode, wrote), (1, b""), "the status and standard output")
+    want("pad_server: cannot listen at" in said.decode(), True, f"what {said!r} says")
+
+
+def refused(name, args, *parts, status=2):
+    return Case(f"listen: {name}", args, status=status, stderr=Has(*parts), files=ACCOUNTS)
+
+
+CASES = [
+    SAME_ON_STANDARD_INPUT,
+    refused("--stdin too", f"--stdin {LISTEN}", "--stdin", "--listen"),
+    refused("no accounts", "--listen 127.0.0.1:0 --replica 1", "--accounts"),
+    refused("--listen twice", f"{LISTEN} --listen 127.0.0.1:0", "--listen"),
+    refused("--listen without an address", "--replica 1 --accounts accounts --listen", "--listen"),
+    *[refused(f"workers {text}", f"{LISTEN} --workers={text}", "--workers") for text in ["0", "64", "-1", "x"]],
+    *[refused(f"connections {text}", f"{LISTEN} --connections={text}", "--connections") for text in ["0", "-1", "x"]],
+    refused("an address without a port", "--listen 127.0.0.1 --replica 1 --accounts accounts", "pad_server: cannot listen at 127.0.0.1", status=1),
+    refused("no accounts file", "--listen 127.0.0.1:0 --replica 1 --accounts none", "pad_server: the accounts file none", status=1),
+    Case("workers and connections change nothing on standard input", "--stdin --replica 1 --workers 1 --connections 1"),
+]
+
+FUNCTIONS = [
+    a_session_is_answered_as_on_standard_input,
+    eight_authors_at_once,
+    silent_clients_do_not_stop_others,
+    more_clients_than_workers_are_served_in_the_end,
+    a_broken_connection_ends_alone,
+    a_session_is_left_before_its_connection_ends,
+    a_line_that_is_too_long_ends_its_connection,
+    too_many_files,
+    an_address_in_use,
+]
+
+TESTS = [case.test() for case in CASES]
+TESTS += [Test(f"pad_server: listen: {function.__name__.replace('_', ' ')}", function) for function in FUNCTIONS]

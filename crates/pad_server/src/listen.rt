@@ -6,7 +6,10 @@ use crate::accept::accept_all;
 use crate::accounts::read_accounts;
 use crate::args::Asked;
 use crate::client::Client;
+use crate::contact::Contact;
+use crate::exchange::{contacts, exchange_all};
 use crate::failure::Failure;
+use crate::wake::{Wake, Waker};
 use block_seq::PlainSeq;
 use crossbeam_channel::{Receiver, Sender};
 use log::Log;
@@ -19,7 +22,7 @@ use std::sync::Wait;
 use std::thread::Threads;
 use std::time::Clock;
 use std::{io, thread};
-use workers::{Open, Row, open_row, pool, take_all_seats};
+use workers::{Row, open_row, pool, take_all_seats, take_seats};
 
 /// Serves connections at an address, until as many as the command line names have ended.
 pub fn listen<'a, R>(
@@ -42,15 +45,26 @@ where
     let cells: Vec<SharedPad<PlainSeq>> = open_row(alloc, asked.replica, asked.cells)?;
     let mut crew = Vec::new(alloc);
     take_all_seats(rt, alloc, cells.as_slice(), asked.workers, &mut crew)?;
+    let mut seats = Vec::new(alloc);
+    take_seats(rt, cells.as_slice(), &mut seats)?;
+    let contacts = contacts(alloc, accounts.peers(), asked.replica)?;
+    let (to, wakes) = crossbeam_channel::bounded(alloc, 1)?;
+    let gate = Waker::new(rt, if contacts.is_empty() { None } else { Some(to.clone()?) });
     let row = Row {
         rt,
         cells: cells.as_slice(),
         replica: asked.replica,
         accounts: &accounts,
-        gate: &Open,
+        gate: &gate,
     };
     let listener = bind(rt, address)?;
-    serve(&row, listener, asked.connections, crew.as_mut_slice())
+    let relaying = Relaying {
+        contacts,
+        seats,
+        to,
+        wakes,
+    };
+    serve(&row, listener, asked.connections, crew.as_mut_slice(), relaying)
 }
 
 /// A listener at an address. The one that the system chose is printed, where the port is 0.
@@ -74,24 +88,53 @@ fn announce<R: Print>(rt: &R, listener: &TcpListener) -> io::Result<()> {
     output.flush()
 }
 
-/// Accepts connections in a thread of its own, and serves them in as many as there are seats for.
+/// What the thread that exchanges with peers has, and how it is told that the last connection has ended.
+#[derive(Drop)]
+struct Relaying<'a> {
+    contacts: Vec<Contact<'a>>,
+    seats: Vec<Seat>,
+    to: Sender<Wake>,
+    wakes: Receiver<Wake>,
+}
+
+/// Accepts connections in a thread of its own, and serves them in as many as there are seats for. One more exchanges with
+/// the peers, and once more after the last connection.
 fn serve<R>(
-    row: &Row<'_, PlainSeq, R, Open>,
+    row: &Row<'_, PlainSeq, R, Waker<'_, R>>,
     listener: TcpListener,
     connections: Option<u32>,
     crew: &mut [Vec<Seat>],
+    relaying: Relaying<'_>,
 ) -> Result<(), Failure<'static>>
 where
-    R: AllocGlobal + Clock + Threads + Wait + Sync + Log,
+    R: AllocGlobal
+        + Net<Listener = TcpListener, Stream = TcpStream>
+        + Clock
+        + Threads
+        + Wait
+        + Sync
+        + Log,
 {
     let (rt, alloc) = (row.rt, row.rt.alloc());
     let (to, from) = crossbeam_channel::bounded(alloc, crew.len())?;
+    let Relaying {
+        contacts,
+        seats,
+        to: last,
+        wakes,
+    } = relaying;
     thread::scope(thread::scope_env(), rt, |scope| {
+        let relay = scope.spawn(move || exchange_all(row, contacts, &wakes, seats));
+        if relay.is_err() {
+            return Err(Failure::Alone);
+        }
         let acceptor = scope.spawn(move || accept_all(rt, &listener, connections, &to));
         if acceptor.is_err() {
+            let _ended = last.send(rt, Wake::Last);
             return Err(Failure::Alone);
         }
         pool(alloc, row, &from, crew);
+        let _ended = last.send(rt, Wake::Last);
         Ok(())
     })
 }

@@ -55,6 +55,14 @@ impl<R: Source, W: Sink> Link<R, W> {
             buffer,
         })
     }
+
+    /// The reader and the writer, when it is not used any more. Bytes that were read and not heard are lost.
+    pub fn into_parts(self) -> (R, W)
+        ensures { result ≡ (self.entry.reader, self.entry.writer) }
+    {
+        let Link { reader, writer, .. } = self;
+        (reader, writer)
+    }
 }
 
 impl<R: Source, W: Sink> Exchange for Link<R, W> {

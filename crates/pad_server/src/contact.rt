@@ -1,0 +1,155 @@
+//! A peer that this server exchanges with, and how its rounds went.
+use crate::failure::Failure;
+use crate::watched::Watched;
+use log::{Log, warn};
+use relay::{Link, Relayed, relay_round};
+use sessions::Peer;
+use std::alloc::Global;
+use std::io::ErrorKind;
+use std::net::{Net, TcpListener, TcpStream, ToSocketAddrs};
+use std::time::{Clock, Duration, Instant};
+use std::io;
+use wire_lines::{Fault, Std};
+use workers::Pads;
+
+/// For how many seconds a peer may keep this server waiting: to connect, for each reply, and for each line to be taken.
+const PATIENCE: u64 = 30;
+
+/// The first and the longest pause after a failed round, in seconds. Each is twice the one before.
+const FIRST_PAUSE: u64 = 1;
+const LONGEST_PAUSE: u64 = 60;
+
+/// Why a round failed, as far as two causes are told apart.
+#[derive(Clone, Copy, Debug, PartialEq, Eq)]
+struct Cause {
+    fault: Fault,
+    kind: Option<ErrorKind>,
+}
+
+/// A peer, and how its last round went.
+#[derive(Drop)]
+pub struct Contact<'a> {
+    peer: &'a Peer,
+    /// How many seconds the next round is put off after a failure; 0 where the last one succeeded.
+    pause: u64,
+    failed_at: Option<Instant>,
+    told: Option<Cause>,
+}
+
+impl<'a> Contact<'a> {
+    /// A peer without a round yet.
+    pub fn new(peer: &'a Peer) -> Contact<'a> {
+        Contact {
+            peer,
+            pause: 0,
+            failed_at: None,
+            told: None,
+        }
+    }
+
+    /// Whether its last round failed.
+    pub fn has_failed(&self) -> bool {
+        self.pause > 0
+    }
+
+    /// Whether it is time for a round: always, but during the pause after a failed one.
+    pub fn is_due<C: Clock>(&self, clock: &C) -> bool {
+        match self.failed_at {
+            Some(at) => match at.elapsed(clock) {
+                Ok(passed) => passed.as_secs() >= self.pause,
+                Err(_) => true,
+            },
+            None => true,
+        }
+    }
+
+    /// Makes a round, and says whether operations came that other peers may lack. A failure is logged with its cause, once
+    /// until that changes or a round succeeds.
+    pub fn exchange<P: Pads, R>(&mut self, rt: &R, alloc: Global, pads: &mut P, own: u16) -> bool
+    where
+        R: Net<Listener = TcpListener, Stream = TcpStream> + Clock + Log,
+    {
+        match make_round(rt, alloc, pads, own, self.peer) {
+            Ok(relayed) => {
+                self.pause = 0;
+                self.failed_at = None;
+                self.told = None;
+                relayed.pulled > 0
+            }
+            Err((fault, cause)) => {
+                self.note(rt, fault, cause);
+                false
+            }
+        }
+    }
+
+    // Puts the next round off, and logs what is new.
+    fn note<R: Clock + Log>(&mut self, rt: &R, fault: Fault, error: Option<io::Error>) {
+        self.pause = match self.pause {
+            0 => FIRST_PAUSE,
+            pause => pause.saturating_mul(2).min(LONGEST_PAUSE),
+        };
+        self.failed_at = Instant::now(rt).ok();
+        let cause = Cause {
+            fault,
+            kind: error.map(|error| error.kind()),
+        };
+        if self.told != Some(cause) {
+            let failure = Failure::of(fault, error, error);
+            warn!(rt; "peer {}: {failure}", self.peer.number);
+            self.told = Some(cause);
+        }
+    }
+}
+
+// Connects, and makes a round.
+fn make_round<P: Pads, R>(
+    rt: &R,
+    alloc: Global,
+    pads: &mut P,
+    own: u16,
+    peer: &Peer,
+) -> Result<Relayed, (Fault, Option<io::Error>)>
+where
+    R: Net<Listener = TcpListener, Stream = TcpStream>,
+{
+    let stream = match connect(rt, peer.address.as_str()) {
+        Ok(stream) => stream,
+        Err(error) => return Err((Fault::ReadFault, Some(error))),
+    };
+    let mut input = Watched::new(&stream);
+    let mut output = Watched::new(&stream);
+    let relayed = match Link::new(alloc, Std::new(&mut input), Std::new(&mut output)) {
+        Ok(mut link) => {
+            let _session = pads.relay(alloc, peer.number);
+            relay_round(alloc, pads, &mut link, own, peer.token.as_str())
+        }
+        Err(fault) => Err(fault),
+    };
+    match relayed {
+        Ok(relayed) => Ok(relayed),
+        Err(Fault::WriteFault) => Err((Fault::WriteFault, output.cause())),
+        Err(fault) => Err((fault, input.cause())),
+    }
+}
+
+// A connection to the first address that answers, with time limits for reading and writing.
+fn connect<R>(rt: &R, address: &str) -> io::Result<TcpStream>
+where
+    R: Net<Listener = TcpListener, Stream = TcpStream>,
+{
+    let patience = Duration::from_secs(PATIENCE);
+    let mut last = io::Error::from(ErrorKind::NotFound);
+    for address in address.to_socket_addrs(rt)? {
+        match TcpStream::connect_timeout(rt, &address, patience) {
+            Ok(stream) => {
+                stream.set_nodelay(true)?;
+                stream.set_read_timeout(Some(patience))?;
+                stream.set_write_timeout(Some(patience))?;
+                return Ok(stream);
+            }
+            Err(error) => last = error,
+        }
+    }
+    Err(last)
+}

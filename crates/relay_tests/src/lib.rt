@@ -1,0 +1,9 @@
+//! Tests of relay rounds with a peer whose lines are given.
+#![tactic(auto)]
+
+#[cfg(test)]
+mod answers;
+#[cfg(test)]
+mod rounds;
+#[cfg(test)]
+mod stage;

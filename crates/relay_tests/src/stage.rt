@@ -1,0 +1,57 @@
+//! A server with the pad `p`, on which ann has typed, and its side of a round.
+use block_seq::PlainSeq;
+use pad_core::Request;
+use pad_model::Refusal;
+use relay::{Link, Relayed, relay_round};
+use server_core::Server;
+use sessions::Accounts;
+use std::alloc::Global;
+use std::test::Fail;
+use wire_json::read_request;
+use wire_lines::{Fault, Input, Output};
+use workers::{Alone, Pads};
+
+const HELLO: &str = r#"{"do":"hello","name":"ann","token":"t"}"#;
+const CREATE: &str = r#"{"do":"create","pad":"p"}"#;
+/// What ann types.
+pub const TYPES: &str = r#"{"at":0,"do":"insert","pad":"p","rev":0,"text":"one"}"#;
+/// What she does then, in two parts.
+pub const EDITS: &str =
+    r#"{"do":"edit","pad":"p","parts":[{"at":0,"len":1},{"at":3,"text":"ly"}],"rev":1}"#;
+
+/// What a round wrote, and how it ended.
+#[derive(Drop)]
+pub struct Talked {
+    pub output: Output,
+    pub ended: Result<Relayed, Fault>,
+}
+
+fn request(alloc: Global, line: &str) -> Result<Request, Refusal> {
+    read_request(alloc, line.as_bytes())
+}
+
+// Server 1 with the pad `p`, after ann has asked these lines.
+fn typed(alloc: Global, lines: &[&str]) -> Result<Alone<PlainSeq>, Fail> {
+    let accounts = Accounts::read(alloc, b"author ann t\npeer 2 p2 host:1\n")?;
+    let mut server: Server<PlainSeq> = Server::new(alloc, 1, 1, accounts)?;
+    let actor = server.open(alloc)?;
+    let mut pads = Alone::new(server, actor);
+    for line in [HELLO, CREATE] {
+        let _reply = pads.call(alloc, &request(alloc, line)?)?;
+    }
+    for line in lines {
+        let _reply = pads.call(alloc, &request(alloc, line)?)?;
+    }
+    pads.end(alloc);
+    Ok(pads)
+}
+
+/// A round of such a server with a peer that writes these bytes.
+pub fn talk(alloc: Global, lines: &[&str], peer: &[u8]) -> Result<Talked, Fail> {
+    let mut pads = typed(alloc, lines)?;
+    let _session = pads.relay(alloc, 2)?;
+    let mut link = Link::new(alloc, Input::new(peer), Output::new(alloc))?;
+    let ended = relay_round(alloc, &mut pads, &mut link, 1, "p2");
+    let (_input, output) = link.into_parts();
+    Ok(Talked { output, ended })
+}

@@ -1,10 +1,10 @@
 -- A wire only grows: no step of a round takes back what was written, and none fails.
-use Rattle.std.proofs.Common.{◌≡◌, ◌⊎◌, inl, inr, ℕ, zero, suc, ◌+◌, Bool, true, false, if◌then◌else◌, List, [], ◌∷◌, ◌++◌, Option, None, Some, Result, Ok, Err, refl, sym, ap, ◌∙◌, subst, arith}
+use Rattle.std.proofs.Common.{◌≡◌, ◌⊎◌, inl, inr, ℕ, zero, suc, ◌+◌, Bool, true, false, List, [], ◌∷◌, ◌++◌, Option, None, Some, Result, Ok, Err, refl, sym, ap, ◌∙◌, subst, arith}
 use Rattle.std.specs.Io.KnownBytes.{Appends}
 use Rattle.std.proofs.KnownBytes.{Appends-nil, Appends-trans}
 use Rattle.serde_json.specs.Data.{Data}
 use Rattle.pad_model.specs.declared.op.Op.{Op}
-use Rattle.pad_model.specs.OldWire.{seen_in_v1, op_in_v1}
+use Rattle.pad_model.specs.OldWire.{seen_in_v1}
 use Rattle.pad_model.specs.declared.refusal.Refusal.{Refusal}
 use Rattle.pad_model.specs.declared.seen.Counted.{Counted}
 use Rattle.pad_model.specs.declared.who.Version.{Version}
@@ -19,7 +19,7 @@ use Rattle.workers.specs.Session.{Answer}
 use Rattle.relay.specs.Counts.{with_unsaid}
 use Rattle.wire_lines.specs.Causes.{with_more}
 use Rattle.wire_lines.specs.Device.{one_more}
-use Rattle.relay.specs.Round.{Stage, World, Goes, Reaches, Sends, SendsIf, Heard, Asks, Choice, with_pads, counted, is_readable, greeted, named, asked, pulled, taken, told_vector, lacked, told_push, own_name, own_vector, own_ops, own_count}
+use Rattle.relay.specs.Round.{Stage, World, Goes, Reaches, Sends, SendsIf, Asks, Choice, with_pads, counted, is_readable, greeted, named, asked, pulled, taken, told_vector, lacked, told_push, own_name, own_vector, own_ops, own_count}
 use Rattle.relay.specs.Round.{Stage as stage}
 use Rattle.relay.specs.Round.Reaches.{here, on}
 use Rattle.relay.specs.Wire.{Wire, AreMade, HearsAs, Writes}

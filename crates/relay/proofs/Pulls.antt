@@ -1,5 +1,5 @@
 -- The steps of a pull.
-use Rattle.std.proofs.Common.{◌≡◌, ◌⊎◌, inl, inr, ℕ, zero, suc, ◌+◌, ◌<◌, ◌≤◌, Bool, true, false, if◌then◌else◌, ◌||◌, nat_lt, List, [], ◌∷◌, drop, length, Option, None, Some, Result, Ok, Err, IfOk, IfErr, refl, sym, ap, ◌∙◌, subst, arith}
+use Rattle.std.proofs.Common.{◌≡◌, inl, inr, ℕ, ◌+◌, ◌<◌, ◌≤◌, Bool, true, false, if◌then◌else◌, ◌||◌, nat_lt, List, [], ◌∷◌, length, Option, None, Some, Result, Ok, Err, IfOk, IfErr, refl, sym, ap, ◌∙◌, subst}
 use Rattle.std.proofs.lemmas.Bool.{le-leb, lt-leb}
 use Rattle.pad_model.specs.OldWire.{seen_in_v1}
 use Rattle.pad_model.specs.declared.op.Op.{Op}
@@ -16,18 +16,17 @@ use Rattle.wire_json.specs.declared.peer_answer.Told.TheVariants.{Said, Refused}
 use Rattle.wire_lines.specs.declared.fault.Fault.{Fault}
 use Rattle.wire_lines.specs.declared.fault.Fault.TheVariants.{PeerReply, Memory}
 use Rattle.workers.specs.Session.{Answer}
-use Rattle.relay.specs.Breaks.{Breaks, IsCause}
+use Rattle.relay.specs.Breaks.{Breaks}
 use Rattle.relay.specs.Counts.{with_unsaid, with_pull, with_pulled, with_refused}
 use Rattle.relay.specs.Kept.{AsksFor, IsUnsent, Lacks, SendsPull, after_turn, counts, world}
-use Rattle.relay.specs.Round.{Stage, World, Choice, Goes, Reaches, Sends, SendsIf, asked, pulled, taken, is_readable, line_of, own_vector, own_count, counted, with_pads, with_wire}
+use Rattle.relay.specs.Round.{Stage, World, Choice, Goes, Reaches, SendsIf, asked, pulled, taken, is_readable, line_of, own_vector, own_count, counted}
 use Rattle.relay.specs.Round.Stage.{Failed, Over, Pulled, Pulling, Pushing, Taking}
-use Rattle.relay.specs.Round.Reaches.{here, on}
-use Rattle.relay.specs.Wire.{Wire, HearsAs, MissesAnswer}
+use Rattle.relay.specs.Round.Reaches.{here}
+use Rattle.relay.specs.Wire.{Wire, HearsAs}
 use Rattle.relay.specs.declared.limits.TheConstants.{MAX_OPS, MAX_TURNS}
 use Rattle.relay.specs.declared.pull.Turn.{Turn}
-use Rattle.relay.specs.declared.pull.Turn.TheVariants as turn_of
 use Rattle.relay.specs.declared.talk.Talk.{Talk}
-use Rattle.relay.proofs.Steps.{at_ok, join, one, later, unsent, unheard, wrong, lacks}
+use Rattle.relay.proofs.Steps.{at_ok, join, one, later, unsent, wrong, lacks}
 
 pub chosen_false : (A B : Type 0) (b : Bool) → b ≡ false → B → Choice b A B
 chosen_false A B true is x = absurd (cc)

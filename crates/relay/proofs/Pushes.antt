@@ -1,5 +1,5 @@
 -- The steps of a push.
-use Rattle.std.proofs.Common.{◌≡◌, ◌⊎◌, inl, inr, ℕ, zero, suc, ◌+◌, ◌-◌, ◌<◌, ◌≤◌, Bool, true, false, if◌then◌else◌, ◌||◌, ◌&&◌, List, [], ◌∷◌, drop, length, get_or, Option, None, Some, Result, Ok, Err, IfOk, IfErr, refl, sym, ap, ◌∙◌, subst, arith, add-one, drop-cons}
+use Rattle.std.proofs.Common.{◌≡◌, ◌⊎◌, inl, inr, ℕ, suc, ◌+◌, ◌-◌, ◌<◌, ◌≤◌, Bool, true, false, if◌then◌else◌, ◌||◌, ◌&&◌, List, [], ◌∷◌, drop, length, get_or, Option, None, Some, Result, Ok, Err, IfOk, IfErr, refl, sym, ap, ◌∙◌, subst, add-one, drop-cons}
 use Rattle.std.proofs.lemmas.Bool.{le-leb, lt-leb}
 use Rattle.pad_model.specs.OldWire.{op_in_v1}
 use Rattle.pad_model.specs.declared.op.Op.{Op}
@@ -17,8 +17,8 @@ use Rattle.workers.specs.Session.{Answer}
 use Rattle.relay.specs.Breaks.{Breaks}
 use Rattle.relay.specs.Counts.{with_unsaid}
 use Rattle.relay.specs.Kept.{AsksFor, IsUnsent, counts, world}
-use Rattle.relay.specs.Round.{Stage, World, Goes, Reaches, Sends, after_push, is_delivered, is_readable, lacked, line_of, own_ops, told_push, told_vector}
-use Rattle.relay.specs.Round.Stage.{Counting, Failed, Giving, Hearing, Lacking, Over, Pushing}
+use Rattle.relay.specs.Round.{Stage, World, Reaches, after_push, is_delivered, is_readable, lacked, line_of, own_ops, told_vector}
+use Rattle.relay.specs.Round.Stage.{Counting, Giving, Hearing, Lacking, Over, Pushing}
 use Rattle.relay.specs.Wire.{Wire, HearsAs, MissesAnswer, Writes}
 use Rattle.relay.specs.declared.limits.TheConstants.{MAX_OPS, MAX_TURNS}
 use Rattle.relay.specs.declared.talk.Talk.{Talk}

@@ -1,5 +1,5 @@
 -- The steps from pad to pad.
-use Rattle.std.proofs.Common.{◌≡◌, ◌⊎◌, inl, inr, ℕ, ◌+◌, ◌<◌, ◌≤◌, Bool, true, false, List, [], Option, None, Some, Result, Ok, Err, IfOk, IfErr, refl, sym, ap, ◌∙◌, subst, arith}
+use Rattle.std.proofs.Common.{◌≡◌, ◌⊎◌, inl, inr, ℕ, ◌+◌, ◌<◌, ◌≤◌, List, Option, None, Some, Result, Ok, Err, refl, sym, ap, ◌∙◌, subst}
 use Rattle.std.proofs.lemmas.Bool.{le-leb, lt-leb}
 use Rattle.pad_model.specs.declared.refusal.Refusal.{Refusal}
 use Rattle.pad_model.specs.declared.who.Version.{Version}
@@ -11,14 +11,13 @@ use Rattle.wire_lines.specs.declared.fault.Fault.{Fault}
 use Rattle.wire_lines.specs.declared.fault.Fault.TheVariants.{PeerReply, Memory}
 use Rattle.workers.specs.Session.{Answer}
 use Rattle.relay.specs.Breaks.{Breaks}
-use Rattle.relay.specs.Kept.{IsUnsent, Lacks, begun, world}
-use Rattle.relay.specs.Round.{Stage, World, Goes, Reaches, Sends, greeted, line_of, named, own_name, past, with_version}
+use Rattle.relay.specs.Kept.{IsUnsent, begun, world}
+use Rattle.relay.specs.Round.{Stage, World, Goes, Reaches, greeted, line_of, named, own_name, with_version}
 use Rattle.relay.specs.Round.Stage.{Ended, Failed, Greeted, Greeting, Next, Over, Pulling}
-use Rattle.relay.specs.Round.Reaches.{here}
-use Rattle.relay.specs.Wire.{Wire, HearsAs, MissesAnswer, Writes}
+use Rattle.relay.specs.Wire.{Wire, HearsAs, Writes}
 use Rattle.relay.specs.declared.talk.Talk.{Talk}
 use Rattle.relay.proofs.Pulls.{chosen_false, chosen_true}
-use Rattle.relay.proofs.Steps.{join, lacks, later, one, unheard, unsent, wrong}
+use Rattle.relay.proofs.Steps.{join, lacks, one, unsent, wrong}
 
 module _ {P : Type 0} (calls : P → Request → Answer → P → Type 0) (names : P → ℕ → Result (Option (List ℕ)) Refusal → P → Type 0) where
   -- the peer is greeted

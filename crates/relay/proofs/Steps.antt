@@ -1,5 +1,5 @@
 -- Steps of a round, one after the other, and how they break off.
-use Rattle.std.proofs.Common.{◌≡◌, ◌⊎◌, inl, inr, ℕ, List, [], ◌++◌, length, take, drop, Option, None, Some, Result, Ok, Err, IfOk, IfErr, refl, sym, ap, ◌∙◌, subst, append-nil, append_assoc, take-append-drop}
+use Rattle.std.proofs.Common.{◌≡◌, ◌⊎◌, inl, inr, ℕ, List, [], ◌++◌, take, drop, Option, None, Some, Result, Ok, Err, IfOk, IfErr, refl, sym, ap, ◌∙◌, subst, append_assoc, take-append-drop}
 use Rattle.std.specs.Io.KnownBytes.{Appends}
 use Rattle.std.proofs.KnownBytes.{Appends-nil, Appends-trans}
 use Rattle.serde_json.specs.Data.{Data}
@@ -16,7 +16,7 @@ use Rattle.relay.specs.Kept.{IsUnsent, Lacks}
 use Rattle.relay.specs.Round.{Stage, World, Goes, Reaches, Sends, with_wire, line_of}
 use Rattle.relay.specs.Round.Stage.{Failed}
 use Rattle.relay.specs.Round.Reaches.{here, on}
-use Rattle.relay.specs.Wire.{Wire, Writes, Hears, HearsAs, IsUnheard, Misses, MissesAnswer, wrote}
+use Rattle.relay.specs.Wire.{Wire, Writes, HearsAs, IsUnheard, Misses, MissesAnswer, wrote}
 use Rattle.relay.proofs.Grown.{Grows, made_then, reaches_grows, heard_grows}
 
 -- what is left of a text when a front of it was written

@@ -58,7 +58,7 @@ impl<R: Source, W: Sink> Link<R, W> {
 
     /// The reader and the writer, when it is not used any more. Bytes that were read and not heard are lost.
     pub fn into_parts(self) -> (R, W)
-        ensures { result ≡ (self.entry.reader, self.entry.writer) }
+        ensures { result ≡ (self.reader, self.writer) }
     {
         let Link { reader, writer, .. } = self;
         (reader, writer)

@@ -1,4 +1,4 @@
-use Rattle.std.proofs.Common.{rules, refl, Ok, Some, true, false, nat_lt, ◌≡◌, ◌||◌, sym, subst, ap, ◌∙◌}
+use Rattle.std.proofs.Common.{refl, Ok, false, sym, subst, ap, ◌∙◌}
 use Rattle.relay.specs.Kept.{world}
 use Rattle.relay.specs.Round.{Reaches}
 use Rattle.relay.specs.Round.Stage.{Taking}

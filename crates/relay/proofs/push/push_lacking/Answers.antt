@@ -1,4 +1,4 @@
-use Rattle.std.proofs.Common.{◌+◌, ◌-◌, Ok, Some, ap, refl, rules, arith, sym, subst, ◌∙◌, drop_of_length-le}
+use Rattle.std.proofs.Common.{◌+◌, ◌-◌, Ok, ap, refl, arith, sym, subst, ◌∙◌, drop_of_length-le}
 use Rattle.relay.specs.Kept.{world}
 use Rattle.relay.specs.Round.{Reaches, is_readable}
 use Rattle.relay.specs.Round.Stage.{Giving, Lacking}

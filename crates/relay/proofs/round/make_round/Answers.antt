@@ -1,4 +1,4 @@
-use Rattle.std.proofs.Common.{Ok, Some, ap, arith, inl, inr, refl, rules, subst, sym, ◌+◌, ◌∙◌}
+use Rattle.std.proofs.Common.{Some, ap, arith, inl, inr, refl, subst, sym, ◌∙◌}
 use Rattle.wire_lines.specs.declared.fault.Fault.TheVariants.{PeerReply}
 use Rattle.relay.specs.Counts.{none_yet}
 use Rattle.relay.specs.Kept.{begun, world}

@@ -1,0 +1,252 @@
+//! Gates that hold a thread until another one has got on: a pad's lock and a connection hold up no others.
+use crate::stage::{accounts, ask_all};
+use block_seq::PlainSeq;
+use pad_model::Refusal;
+use sessions::Session;
+use shared_pads::{Gate, Seat, SharedPad};
+use std::alloc::Global;
+use std::sync::Wait;
+use std::sync::atomic::{AtomicBool, Ordering};
+use std::test::Fail;
+use std::thread;
+use std::time::{Clock, Duration};
+use wire_lines::{Fault, Input, Output};
+use workers::{
+    Connection, Pads, Row, Served, Shared, open_row, pool, serve_client, take_all_seats,
+};
+
+// Turns after which a thread that waits gives up: each is a look and a sleep of a millisecond.
+const TURNS: u32 = 30_000;
+
+// What one thread waits for, and another brings about.
+#[derive(Drop)]
+struct Event {
+    has_come: AtomicBool,
+    was_missed: AtomicBool,
+}
+
+impl Event {
+    fn new() -> Event {
+        Event {
+            has_come: AtomicBool::new(false),
+            was_missed: AtomicBool::new(false),
+        }
+    }
+
+    fn come(&self) {
+        self.has_come.store(true, Ordering::SeqCst);
+    }
+
+    fn has_come(&self) -> bool {
+        self.has_come.load(Ordering::SeqCst)
+    }
+
+    // Waits until it comes, or gives up.
+    fn wait<R: Clock>(&self, rt: &R) {
+        for _ in 0..TURNS {
+            if self.has_come() {
+                return;
+            }
+            thread::sleep(rt, Duration::from_millis(1));
+        }
+        self.was_missed.store(true, Ordering::SeqCst);
+    }
+
+    // Whether it came, and nobody gave up.
+    fn was_met(&self) -> bool {
+        self.has_come() && !self.was_missed.load(Ordering::SeqCst)
+    }
+}
+
+// Holds a call at the first cell, under its lock, until one at the second cell was answered.
+#[derive(Drop)]
+struct FirstCellHeld<'a, R: Clock> {
+    rt: &'a R,
+    first_made: Event,
+    both_made: Event,
+    entered: Event,
+    answered: Event,
+}
+
+impl<R: Clock> Gate for FirstCellHeld<'_, R> {
+    fn inside(&self, cell: u32) {
+        if cell == 0 && self.both_made.has_come() {
+            self.entered.come();
+            self.answered.wait(self.rt);
+        }
+    }
+
+    fn before_reply(&self, _connection: u64, _delivered: bool) {}
+
+    fn done(&self, _connection: u64) {}
+}
+
+const FIRST: [&str; 2] = [
+    r#"{"do":"hello","name":"a1","token":"t"}"#,
+    r#"{"do":"create","pad":"one"}"#,
+];
+
+const SECOND: [&str; 2] = [
+    r#"{"do":"hello","name":"a2","token":"t"}"#,
+    r#"{"do":"create","pad":"two"}"#,
+];
+
+type HeldRow<'a, R> = Row<'a, PlainSeq, R, FirstCellHeld<'a, R>>;
+
+// Makes the first pad, and reads it once the second one is made.
+fn read_first<R: Wait + Clock>(
+    alloc: Global,
+    row: &HeldRow<'_, R>,
+    seats: Vec<Seat>,
+) -> Result<(), Refusal> {
+    let mut pads = Shared::new(row, seats, Session::new(alloc));
+    ask_all(alloc, &mut pads, &FIRST)?;
+    row.gate.first_made.come();
+    row.gate.both_made.wait(row.rt);
+    ask_all(alloc, &mut pads, &[r#"{"do":"text","pad":"one"}"#])
+}
+
+// Makes the second pad, and reads it while the other thread has the first one's lock.
+fn read_second<R: Wait + Clock>(
+    alloc: Global,
+    row: &HeldRow<'_, R>,
+    seats: Vec<Seat>,
+) -> Result<(), Refusal> {
+    let mut pads = Shared::new(row, seats, Session::new(alloc));
+    row.gate.first_made.wait(row.rt);
+    ask_all(alloc, &mut pads, &SECOND)?;
+    row.gate.both_made.come();
+    row.gate.entered.wait(row.rt);
+    ask_all(alloc, &mut pads, &[r#"{"do":"text","pad":"two"}"#])?;
+    row.gate.answered.come();
+    Ok(())
+}
+
+#[test]
+fn cells_do_not_block_each_other(rt: HostRuntime) -> Result<(), Fail> {
+    let alloc = rt.alloc();
+    let accounts = accounts(alloc)?;
+    let cells: Vec<SharedPad<PlainSeq>> = open_row(alloc, 1, 2)?;
+    let gate = FirstCellHeld {
+        rt: &rt,
+        first_made: Event::new(),
+        both_made: Event::new(),
+        entered: Event::new(),
+        answered: Event::new(),
+    };
+    let row = Row {
+        rt: &rt,
+        cells: cells.as_slice(),
+        replica: 1,
+        accounts: &accounts,
+        gate: &gate,
+    };
+    let mut crew = Vec::new(alloc);
+    take_all_seats(&rt, alloc, cells.as_slice(), 2, &mut crew)?;
+    let (Some(theirs), Some(ours)) = (crew.pop(), crew.pop()) else {
+        panic!(rt; "seats for two threads are not there");
+    };
+    let (first, second) = thread::join(
+        &rt,
+        || read_first(alloc, &row, theirs),
+        || read_second(alloc, &row, ours),
+    );
+    first?;
+    second?;
+    assert!(rt; gate.first_made.was_met() && gate.both_made.was_met());
+    assert!(rt; gate.entered.was_met() && gate.answered.was_met());
+    Ok(())
+}
+
+// Holds the first connection before its reply until the second one is done.
+#[derive(Drop)]
+struct FirstConnectionHeld<'a, R: Clock> {
+    rt: &'a R,
+    second_done: Event,
+    first_done: Event,
+}
+
+impl<R: Clock> Gate for FirstConnectionHeld<'_, R> {
+    fn inside(&self, _cell: u32) {}
+
+    fn before_reply(&self, connection: u64, _delivered: bool) {
+        if connection == 1 {
+            self.second_done.wait(self.rt);
+        }
+    }
+
+    fn done(&self, connection: u64) {
+        match connection {
+            1 => self.first_done.come(),
+            2 => self.second_done.come(),
+            _ => {}
+        }
+    }
+}
+
+// A connection that says hello.
+#[derive(Drop)]
+struct Greeter;
+
+impl Connection for Greeter {
+    fn serve<P: Pads, G: Gate>(
+        self,
+        alloc: Global,
+        pads: &mut P,
+        number: u64,
+        gate: &G,
+    ) -> Result<Served, Fault> {
+        let line = "{\"do\":\"hello\",\"name\":\"a1\",\"token\":\"t\"}\n";
+        let mut reader = Input::new(line.as_bytes());
+        let mut writer = Output::new(alloc);
+        serve_client(alloc, pads, &mut reader, &mut writer, number, gate)
+    }
+}
+
+// Whether two threads' seats close their pad.
+fn is_closed(
+    alloc: Global,
+    cells: Vec<SharedPad<PlainSeq>>,
+    crew: Vec<Vec<Seat>>,
+) -> Result<bool, Refusal> {
+    let mut cells = cells;
+    let mut seats = Vec::new(alloc);
+    for own in crew {
+        for seat in own {
+            seats.push(seat)?;
+        }
+    }
+    let all = seats.len() == 2;
+    match cells.pop() {
+        Some(pad) => Ok(all && pad.close(seats).is_ok()),
+        None => Ok(false),
+    }
+}
+
+#[test]
+fn connections_do_not_block_each_other(rt: HostRuntime) -> Result<(), Fail> {
+    let alloc = rt.alloc();
+    let accounts = accounts(alloc)?;
+    let cells: Vec<SharedPad<PlainSeq>> = open_row(alloc, 1, 1)?;
+    let gate = FirstConnectionHeld {
+        rt: &rt,
+        second_done: Event::new(),
+        first_done: Event::new(),
+    };
+    let row = Row {
+        rt: &rt,
+        cells: cells.as_slice(),
+        replica: 1,
+        accounts: &accounts,
+        gate: &gate,
+    };
+    let mut crew = Vec::new(alloc);
+    take_all_seats(&rt, alloc, cells.as_slice(), 2, &mut crew)?;
+    let (to, from) = crossbeam_channel::bounded(alloc, 2)?;
+    assert!(rt; to.send(&rt, (1, Greeter)).is_ok() && to.send(&rt, (2, Greeter)).is_ok());
+    drop(to);
+    pool(alloc, &row, &from, crew.as_mut_slice());
+    assert!(rt; gate.second_done.was_met() && gate.first_done.has_come());
+    assert!(rt; is_closed(alloc, cells, crew)?);
+    Ok(())
+}

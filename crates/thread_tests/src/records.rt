@@ -1,0 +1,66 @@
+//! Records of reads and edits, compared with the log of a pad.
+use crate::stage::typed;
+use block_seq::PlainSeq;
+use pad_core::{AuditError, Pad, Recorded, audit};
+use pad_model::{OpName, Refusal, Text};
+use std::alloc::Global;
+use std::test::Fail;
+
+// Stands for an audit without a fault.
+const NONE: usize = usize::MAX;
+
+// Stands for one that was out of memory.
+const NO_MEMORY: usize = usize::MAX - 1;
+
+fn read(alloc: Global, rev: u64, text: &str) -> Result<Recorded, Refusal> {
+    Ok(Recorded::Read {
+        rev,
+        text: Text::from_str(alloc, text)?,
+    })
+}
+
+fn edit(rev: u64) -> Recorded {
+    Recorded::Edit {
+        name: OpName {
+            origin: 1,
+            number: 1,
+        },
+        rev,
+    }
+}
+
+fn fault_of(alloc: Global, pad: &Pad<PlainSeq>, records: &[Recorded]) -> usize {
+    match audit(alloc, pad, records) {
+        Ok(()) => NONE,
+        Err(AuditError::Mismatch { index }) => index,
+        Err(AuditError::Memory) => NO_MEMORY,
+    }
+}
+
+// The empty text of revision 0, a text of revision 1, and the first edit at these revisions.
+fn records(alloc: Global, text: &str, revs: &[u64]) -> Result<Vec<Recorded>, Refusal> {
+    let mut records = Vec::new(alloc);
+    records.push(read(alloc, 0, "")?)?;
+    records.push(read(alloc, 1, text)?)?;
+    for rev in revs {
+        records.push(edit(*rev))?;
+    }
+    Ok(records)
+}
+
+// The place of the first record that does not agree with the log, where ann has inserted `hello`.
+fn first_fault(alloc: Global, text: &str, revs: &[u64]) -> Result<usize, Refusal> {
+    let pad = typed(alloc)?;
+    let records = records(alloc, text, revs)?;
+    Ok(fault_of(alloc, &pad, records.as_slice()))
+}
+
+#[test]
+fn audit_of_records(rt: HostRuntime) -> Result<(), Fail> {
+    let alloc = rt.alloc();
+    assert!(rt; first_fault(alloc, "hello", &[1])? == NONE);
+    assert!(rt; first_fault(alloc, "hellO", &[1])? == 1);
+    assert!(rt; first_fault(alloc, "hello", &[1, 1])? == 3);
+    assert!(rt; first_fault(alloc, "hello", &[2])? == 2);
+    Ok(())
+}

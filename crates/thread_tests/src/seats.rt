@@ -1,0 +1,164 @@
+//! A pad behind its lock, and its seats.
+use crate::stage::typed;
+use block_seq::PlainSeq;
+use pad_core::{Act, PadReply, Present, Reply, Request};
+use pad_model::{Name, Refusal, Row, Who};
+use sessions::Session;
+use shared_pads::{Open, Seat, SharedPad};
+use std::alloc::Global;
+use std::sync::Wait;
+use std::test::Fail;
+
+fn ann(alloc: Global) -> Result<Session, Refusal> {
+    let mut session = Session::new(alloc);
+    let name = Name::from_str(alloc, "ann")?;
+    if !name.is_well_formed() {
+        return Err(Refusal::BadName);
+    }
+    session.set(Who::Author(name));
+    Ok(session)
+}
+
+fn ask<R: Wait>(
+    rt: &R,
+    alloc: Global,
+    shared: &SharedPad<PlainSeq>,
+    seat: &mut Seat,
+    session: &mut Session,
+    act: Act,
+) -> Result<Option<Reply>, Refusal> {
+    if !shared.owns(seat) {
+        return Err(Refusal::SeatsOut);
+    }
+    let pad = Name::from_str(alloc, "p")?;
+    let request = Request::On { pad, act };
+    shared.call(rt, alloc, seat, session, &request, &Open)
+}
+
+// The visit that a join is answered with; 0 where it is not.
+fn join<R: Wait>(
+    rt: &R,
+    alloc: Global,
+    shared: &SharedPad<PlainSeq>,
+    seat: &mut Seat,
+    session: &mut Session,
+) -> Result<u64, Refusal> {
+    match ask(rt, alloc, shared, seat, session, Act::Join)? {
+        Some(Reply::Pad(PadReply::Joined { visit, .. })) => Ok(visit),
+        _ => Ok(0),
+    }
+}
+
+fn are_visits(who: &Row<Present>, visits: [u64; 2]) -> bool {
+    match who.as_slice() {
+        [first, second] => first.visit == visits[0] && second.visit == visits[1],
+        _ => false,
+    }
+}
+
+// Whether these visits are present, and no others.
+fn has_visits<R: Wait>(
+    rt: &R,
+    alloc: Global,
+    shared: &SharedPad<PlainSeq>,
+    seat: &mut Seat,
+    session: &mut Session,
+    visits: [u64; 2],
+) -> Result<bool, Refusal> {
+    match ask(rt, alloc, shared, seat, session, Act::Who)? {
+        Some(Reply::Pad(PadReply::Who { who, .. })) => Ok(are_visits(&who, visits)),
+        _ => Ok(false),
+    }
+}
+
+// Leaves the pad that was joined first, as the end of a session does.
+fn leave<R: Wait>(
+    rt: &R,
+    shared: &SharedPad<PlainSeq>,
+    seat: &mut Seat,
+    session: &mut Session,
+) -> bool {
+    match session.take_first() {
+        Some(room) if shared.owns(seat) => {
+            shared.depart(rt, seat, session.who(), &room, &Open);
+            true
+        }
+        _ => false,
+    }
+}
+
+// Whether the pad has this name.
+fn is_named<R: Wait>(rt: &R, alloc: Global, shared: &SharedPad<PlainSeq>, name: &str) -> bool {
+    match shared.name(rt, alloc) {
+        Ok(Some(found)) => found.is(name),
+        _ => false,
+    }
+}
+
+// The calls that a pad is closed with by one seat. None: it is not.
+fn closed_calls(
+    alloc: Global,
+    shared: SharedPad<PlainSeq>,
+    seat: Seat,
+) -> Result<Option<u64>, Refusal> {
+    let mut seats = Vec::new(alloc);
+    seats.push(seat)?;
+    Ok(shared.close(seats).ok().map(|closed| closed.calls))
+}
+
+// The pad again, which is not closed without its seat. None: it is.
+fn without_seat(alloc: Global, shared: SharedPad<PlainSeq>) -> Option<SharedPad<PlainSeq>> {
+    match shared.close(Vec::new(alloc)) {
+        Ok(_) => None,
+        Err((shared, _)) => Some(shared),
+    }
+}
+
+// Joins as the second visit, departs, and joins as the third.
+fn comes_again<R: Wait>(
+    rt: &R,
+    alloc: Global,
+    shared: &SharedPad<PlainSeq>,
+    seat: &mut Seat,
+) -> Result<bool, Refusal> {
+    let mut session = ann(alloc)?;
+    let second = join(rt, alloc, shared, seat, &mut session)?;
+    let left = leave(rt, shared, seat, &mut session);
+    let third = join(rt, alloc, shared, seat, &mut session)?;
+    let present = has_visits(rt, alloc, shared, seat, &mut session, [1, 3])?;
+    Ok(second == 2 && left && third == 3 && present)
+}
+
+#[test]
+fn one_seat(rt: HostRuntime) -> Result<(), Fail> {
+    let alloc = rt.alloc();
+    let shared = SharedPad::new(alloc, typed(alloc)?, 0);
+    let mut seat = shared.seat(&rt)?;
+    assert!(rt; is_named(&rt, alloc, &shared, "p"));
+    assert!(rt; comes_again(&rt, alloc, &shared, &mut seat)?);
+    let Some(shared) = without_seat(alloc, shared) else {
+        panic!(rt; "it is closed without its seat");
+    };
+    assert!(rt; closed_calls(alloc, shared, seat)? == Some(4));
+    Ok(())
+}
+
+// How many seats a pad makes, before one is refused as 317.
+fn count_seats<R: Wait>(rt: &R, shared: &SharedPad<PlainSeq>) -> u64 {
+    for count in 0..100 {
+        match shared.seat(rt) {
+            Ok(_) => {}
+            Err(Refusal::SeatsGone) => return count,
+            Err(_) => return 0,
+        }
+    }
+    100
+}
+
+#[test]
+fn limit_seats(rt: HostRuntime) -> Result<(), Fail> {
+    let alloc = rt.alloc();
+    let shared = SharedPad::new(alloc, typed(alloc)?, 0);
+    assert!(rt; count_seats(&rt, &shared) == 64);
+    Ok(())
+}

@@ -1,0 +1,67 @@
+//! Accounts, pads and requests that the tests share.
+use block_seq::PlainSeq;
+use pad_core::{Act, Claim, Pad, PadEvent, Reply};
+use pad_model::{Name, Refusal, Text, Who};
+use sessions::Accounts;
+use std::alloc::Global;
+use wire_json::read_request;
+use workers::Pads;
+
+/// The authors a1 to a5.
+pub fn accounts(alloc: Global) -> Result<Accounts, Refusal> {
+    let lines = b"author a1 t\nauthor a2 t\nauthor a3 t\nauthor a4 t\nauthor a5 t\n";
+    match Accounts::read(alloc, lines) {
+        Ok(accounts) => Ok(accounts),
+        Err(_) => Err(Refusal::Memory),
+    }
+}
+
+/// What a line is answered.
+pub fn ask<P: Pads>(alloc: Global, pads: &mut P, line: &str) -> Result<Reply, Refusal> {
+    match read_request(alloc, line.as_bytes()) {
+        Ok(request) => pads.call(alloc, &request),
+        Err(refusal) => Err(refusal),
+    }
+}
+
+/// Asks lines of which none is to be refused.
+pub fn ask_all<P: Pads>(alloc: Global, pads: &mut P, lines: &[&str]) -> Result<(), Refusal> {
+    for line in lines {
+        let _answered = ask(alloc, pads, line)?;
+    }
+    Ok(())
+}
+
+// The pad `p` of ann, on the server with number 1.
+fn claimed(alloc: Global) -> Result<Pad<PlainSeq>, Refusal> {
+    let mut pad = Pad::new(alloc, 1)?;
+    match pad.claim(alloc, "p", "ann")? {
+        Claim::Created { .. } => Ok(pad),
+        Claim::Exists | Claim::Other => Err(Refusal::PadExists),
+    }
+}
+
+fn hello(alloc: Global) -> Result<Act, Refusal> {
+    Ok(Act::Insert {
+        rev: 0,
+        at: 0,
+        text: Text::from_str(alloc, "hello")?,
+    })
+}
+
+/// The pad `p` of ann, after she has inserted `hello`.
+pub fn typed(alloc: Global) -> Result<Pad<PlainSeq>, Refusal> {
+    let mut pad = claimed(alloc)?;
+    let who = Who::Author(Name::from_str(alloc, "ann")?);
+    let act = hello(alloc)?;
+    let event = PadEvent {
+        pad: "p",
+        who: &who,
+        visit: Some(1),
+        act: &act,
+    };
+    match pad.step(alloc, &event) {
+        Ok(_) => Ok(pad),
+        Err(refusal) => Err(refusal),
+    }
+}

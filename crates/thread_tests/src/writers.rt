@@ -1,0 +1,296 @@
+//! Four threads that write into one pad and read it, each with a session and a seat of its own.
+use crate::stage::{accounts, ask, ask_all};
+use block_seq::PlainSeq;
+use pad_core::{PadReply, Recorded, Reply, audit};
+use pad_model::{AuthorRun, Refusal, Text};
+use sessions::Session;
+use shared_pads::{Open, Seat, SharedPad};
+use std::alloc::Global;
+use std::sync::Wait;
+use std::test::Fail;
+use std::thread;
+use std::thread::Threads;
+use workers::{Pads, Row, Shared, open_row, take_seats};
+
+// How often each author writes its letter.
+const ROUNDS: u64 = 250;
+
+const JOIN: &str = r#"{"do":"join","pad":"p"}"#;
+
+const TEXT: &str = r#"{"do":"text","pad":"p"}"#;
+
+const RUNS: &str = r#"{"do":"runs","pad":"p"}"#;
+
+// What the owner asks before the others come.
+const BEGINNING: [&str; 6] = [
+    r#"{"do":"hello","name":"a5","token":"t"}"#,
+    r#"{"do":"create","pad":"p"}"#,
+    r#"{"do":"grant","pad":"p","author":"a1","right":"write"}"#,
+    r#"{"do":"grant","pad":"p","author":"a2","right":"write"}"#,
+    r#"{"do":"grant","pad":"p","author":"a3","right":"write"}"#,
+    r#"{"do":"grant","pad":"p","author":"a4","right":"write"}"#,
+];
+
+// Each author's greeting, its edit, and its letter.
+const AUTHORS: [(&str, &str, char); 4] = [
+    (
+        r#"{"do":"hello","name":"a1","token":"t"}"#,
+        r#"{"do":"insert","pad":"p","rev":0,"at":0,"text":"a"}"#,
+        'a',
+    ),
+    (
+        r#"{"do":"hello","name":"a2","token":"t"}"#,
+        r#"{"do":"insert","pad":"p","rev":0,"at":0,"text":"b"}"#,
+        'b',
+    ),
+    (
+        r#"{"do":"hello","name":"a3","token":"t"}"#,
+        r#"{"do":"insert","pad":"p","rev":0,"at":0,"text":"c"}"#,
+        'c',
+    ),
+    (
+        r#"{"do":"hello","name":"a4","token":"t"}"#,
+        r#"{"do":"insert","pad":"p","rev":0,"at":0,"text":"d"}"#,
+        'd',
+    ),
+];
+
+// Stands for an answer of another kind than was asked for. No pad refuses with it.
+const NO_ANSWER: Refusal = Refusal::Busy;
+
+// What a thread is to do, and its seats.
+#[derive(Drop)]
+struct Job {
+    hello: &'static str,
+    insert: &'static str,
+    letter: char,
+    seats: Vec<Seat>,
+}
+
+// What it was answered, if nothing was refused, and its seats.
+#[derive(Drop)]
+struct Written {
+    records: Result<Vec<Recorded>, Refusal>,
+    seats: Vec<Seat>,
+}
+
+fn count_of(text: &Text, letter: char) -> u64 {
+    let mut count = 0u64;
+    for character in text.as_slice() {
+        if *character == letter {
+            count = count.saturating_add(1);
+        }
+    }
+    count
+}
+
+fn edit<P: Pads>(alloc: Global, pads: &mut P, insert: &str) -> Result<Recorded, Refusal> {
+    match ask(alloc, pads, insert)? {
+        Reply::Pad(PadReply::Made { now, name }) => Ok(Recorded::Edit { name, rev: now }),
+        _ => Err(NO_ANSWER),
+    }
+}
+
+// The text, in which an author's letter stands so often at least.
+fn read<P: Pads>(
+    alloc: Global,
+    pads: &mut P,
+    letter: char,
+    least: u64,
+) -> Result<Recorded, Refusal> {
+    let Reply::Pad(PadReply::Text { rev, text, .. }) = ask(alloc, pads, TEXT)? else {
+        return Err(NO_ANSWER);
+    };
+    if count_of(&text, letter) < least {
+        return Err(NO_ANSWER);
+    }
+    Ok(Recorded::Read { rev, text })
+}
+
+fn write<P: Pads>(alloc: Global, pads: &mut P, job: &Job) -> Result<Vec<Recorded>, Refusal> {
+    ask_all(alloc, pads, &[job.hello, JOIN])?;
+    let mut records = Vec::new(alloc);
+    for count in 1..=ROUNDS {
+        records.push(edit(alloc, pads, job.insert)?)?;
+        records.push(read(alloc, pads, job.letter, count)?)?;
+    }
+    Ok(records)
+}
+
+fn work<R: Wait>(alloc: Global, row: &Row<'_, PlainSeq, R, Open>, mut job: Job) -> Written {
+    let seats = std::mem::replace(&mut job.seats, Vec::new(alloc));
+    let mut shared = Shared::new(row, seats, Session::new(alloc));
+    let records = write(alloc, &mut shared, &job);
+    shared.end(alloc);
+    Written {
+        records,
+        seats: shared.seats(),
+    }
+}
+
+// The four jobs, with seats for each.
+fn jobs<R: Wait>(
+    rt: &R,
+    alloc: Global,
+    cells: &[SharedPad<PlainSeq>],
+) -> Result<Vec<Job>, Refusal> {
+    let mut jobs = Vec::new(alloc);
+    for (hello, insert, letter) in AUTHORS {
+        let mut seats = Vec::new(alloc);
+        take_seats(rt, cells, &mut seats)?;
+        jobs.push(Job {
+            hello,
+            insert,
+            letter,
+            seats,
+        })?;
+    }
+    Ok(jobs)
+}
+
+fn letter_of(run: &AuthorRun) -> Option<char> {
+    match run.author.name.as_str() {
+        "a1" => Some('a'),
+        "a2" => Some('b'),
+        "a3" => Some('c'),
+        "a4" => Some('d'),
+        _ => None,
+    }
+}
+
+// Whether each run's characters are its author's letter, and there are no others.
+fn are_own(text: &Text, runs: &[AuthorRun]) -> bool {
+    let mut characters = text.as_slice().iter();
+    for run in runs {
+        for _ in 0..run.len {
+            if characters.next().copied() != letter_of(run) {
+                return false;
+            }
+        }
+    }
+    characters.next().is_none()
+}
+
+fn text_of<P: Pads>(alloc: Global, pads: &mut P) -> Result<Text, Refusal> {
+    match ask(alloc, pads, TEXT)? {
+        Reply::Pad(PadReply::Text { text, .. }) => Ok(text),
+        _ => Err(NO_ANSWER),
+    }
+}
+
+fn runs_of<P: Pads>(alloc: Global, pads: &mut P) -> Result<pad_model::Row<AuthorRun>, Refusal> {
+    match ask(alloc, pads, RUNS)? {
+        Reply::Pad(PadReply::Runs { runs, .. }) => Ok(runs),
+        _ => Err(NO_ANSWER),
+    }
+}
+
+// Whether the text has each author's letter as often as it was written, and is told as each author's own.
+fn is_whole<P: Pads>(alloc: Global, pads: &mut P) -> Result<bool, Refusal> {
+    let text = text_of(alloc, pads)?;
+    let runs = runs_of(alloc, pads)?;
+    let mut whole = are_own(&text, runs.as_slice());
+    for letter in ['a', 'b', 'c', 'd'] {
+        whole = whole && count_of(&text, letter) == ROUNDS;
+    }
+    Ok(whole)
+}
+
+// All records and all seats, one after the other.
+fn gather(
+    all: Vec<Written>,
+    records: &mut Vec<Recorded>,
+    seats: &mut Vec<Seat>,
+) -> Result<(), Refusal> {
+    for written in all {
+        let Written {
+            records: more,
+            seats: own,
+        } = written;
+        for record in more? {
+            records.push(record)?;
+        }
+        for seat in own {
+            seats.push(seat)?;
+        }
+    }
+    Ok(())
+}
+
+fn calls_of(seats: &[Seat]) -> u64 {
+    let mut calls = 0u64;
+    for seat in seats {
+        calls = calls.saturating_add(seat.tally().calls);
+    }
+    calls
+}
+
+// Whether the seats close their pad with what was answered, which an audit finds in its log.
+fn is_closed(
+    alloc: Global,
+    cells: Vec<SharedPad<PlainSeq>>,
+    seats: Vec<Seat>,
+    records: &[Recorded],
+) -> bool {
+    let mut cells = cells;
+    let calls = calls_of(seats.as_slice());
+    let Some(pad) = cells.pop() else {
+        return false;
+    };
+    match pad.close(seats) {
+        Ok(closed) => closed.operations == 4 * ROUNDS
+            && closed.pad.revision() == 4 * ROUNDS
+            && closed.calls == calls
+            && audit(alloc, &closed.pad, records).is_ok(),
+        Err(_) => false,
+    }
+}
+
+// The owner, who makes the pad.
+fn begin<'a, R: Wait>(
+    alloc: Global,
+    row: &'a Row<'a, PlainSeq, R, Open>,
+) -> Result<Shared<'a, PlainSeq, R, Open>, Refusal> {
+    let mut seats = Vec::new(alloc);
+    take_seats(row.rt, row.cells, &mut seats)?;
+    let mut owner = Shared::new(row, seats, Session::new(alloc));
+    ask_all(alloc, &mut owner, &BEGINNING)?;
+    Ok(owner)
+}
+
+// All that was answered to the four authors, and the seats of all; an error where the text is not whole.
+fn write_all<R: Threads + Wait + Sync>(
+    alloc: Global,
+    row: &Row<'_, PlainSeq, R, Open>,
+    seats: &mut Vec<Seat>,
+) -> Result<Vec<Recorded>, Refusal> {
+    let mut owner = begin(alloc, row)?;
+    let jobs = jobs(row.rt, alloc, row.cells)?;
+    let written = thread::map_vec(row.rt, jobs, &|job: Job| work(alloc, row, job))?;
+    if !is_whole(alloc, &mut owner)? {
+        return Err(NO_ANSWER);
+    }
+    let mut records = Vec::new(alloc);
+    *seats = owner.seats();
+    gather(written, &mut records, seats)?;
+    Ok(records)
+}
+
+#[test]
+fn four_writers(rt: HostRuntime) -> Result<(), Fail> {
+    let alloc = rt.alloc();
+    let accounts = accounts(alloc)?;
+    let cells: Vec<SharedPad<PlainSeq>> = open_row(alloc, 1, 1)?;
+    let row = Row {
+        rt: &rt,
+        cells: cells.as_slice(),
+        replica: 1,
+        accounts: &accounts,
+        gate: &Open,
+    };
+    let mut seats = Vec::new(alloc);
+    let records = write_all(alloc, &row, &mut seats)?;
+    assert!(rt; records.len() == 2000);
+    assert!(rt; is_closed(alloc, cells, seats, records.as_slice()));
+    Ok(())
+}

@@ -2,6 +2,7 @@ pub mod Applied
 pub mod BlockCells
 pub mod BlockScan
 pub mod RowErase
+pub mod RowLists
 pub mod RowOrder
 pub mod RowReads
 pub mod RowSteps

@@ -10,6 +10,7 @@ mod plain;
 mod put;
 mod readers;
 mod row_erase;
+mod row_lists;
 mod row_parts;
 mod row_readers;
 mod rows;

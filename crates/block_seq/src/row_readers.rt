@@ -13,7 +13,7 @@ use std::alloc::{AllocError, Global};
 use weight_tree::WeightTree;
 
 /// Whether a block is visible: it is born, and did not die yet.
-fn is_visible(block: &Block, rev: u64) -> bool
+pub fn is_visible(block: &Block, rev: u64) -> bool
     ensures { result ≡ shows rev block.now }
 {
     let dead = match block.died {
@@ -24,7 +24,7 @@ fn is_visible(block: &Block, rev: u64) -> bool
 }
 
 /// How many characters of a block are visible.
-fn visible_len(block: &Block, rev: u64) -> u64
+pub fn visible_len(block: &Block, rev: u64) -> u64
     ensures { result ≡ shown_len rev block.now }
 {
     if is_visible(block, rev) { block.len } else { 0 }

@@ -1,14 +1,16 @@
 //! The sequence of blocks: a balanced tree of them, an index of their stamps, and one text that they only add to.
-ghost use Rattle.std.specs.Prelude.{◌≡◌, ◌+◌, ◌≤◌, ◌++◌, [], IsTrue, MatchResult, length, vec_len, vec_capacity};
+ghost use Rattle.std.specs.Prelude.{◌≡◌, ◌+◌, ◌≤◌, ◌++◌, [], IsTrue, MatchResult, length, vec_len, vec_capacity, slice_get};
 ghost use Rattle.std.specs.List.{AllByRecursion, list_all};
 ghost use Rattle.pad_model.specs.Answers.{Answers};
-ghost use Rattle.pad_model.specs.Cell.{IsBy, before_at, is_before, through_at, clock_of, IsInOrder, cells_at, cell_stamp_at, text_at as cells_text, character_of, delete_spans as delete_cells, insert_run as insert_cells, last_of as greatest_of};
+ghost use Rattle.pad_model.specs.Cell.{IsBy, before_at, is_before, through_at, clock_of, IsInOrder, cells_at, cell_stamp_at, runs_at, spans_at as cells_spans, text_at as cells_text, character_of, delete_spans as delete_cells, insert_run as insert_cells, last_of as greatest_of};
 ghost use Rattle.pad_model.specs.Legal.{has_stamp};
 ghost use Rattle.pad_model.specs.Parts.{part_fits};
 ghost use Rattle.pad_model.specs.Checked.{are_parts, is_run, is_span};
+ghost use Rattle.pad_model.specs.Views.{IsViewOf};
 
 use crate::authors::place_author;
 use crate::row_erase::{cut_spans, has_spans, kill_named};
+use crate::row_lists::{find_cell, read_authors, read_spans};
 use crate::row_parts::parts_fit;
 use crate::row_readers::{
     count_before, count_visible, find_visible, greatest_counter, is_at_most, read_text,
@@ -16,7 +18,9 @@ use crate::row_readers::{
 use crate::run_place::{has_character, place_run, run_fits};
 use blocks::{Block, find_block, put_block};
 use ident_index::IdentIndex;
-use pad_model::{Author, MAX_CHARACTERS, Part, Refusal, Run, Span, Stamp, Text};
+use pad_model::{
+    Author, AuthorRun, CellView, MAX_CHARACTERS, Part, Refusal, Row, Run, Span, Stamp, Text,
+};
 use std::alloc::Global;
 use std::marker::Model;
 use weight_tree::WeightTree;
@@ -163,6 +167,35 @@ impl BlockSeq {
     {
         let text = self.text.as_slice();
         Ok(Text::from_vec(read_text(alloc, &self.tree, text, self.authors.len(), rev)?))
+    }
+
+    /// The authors of the visible characters, in the longest runs.
+    pub fn authors_at(&self, alloc: Global, rev: u64) -> Result<Row<AuthorRun>, Refusal>
+        ensures { MatchResult result (λ runs. runs ≡ runs_at rev self.now) (λ e. e ≡ Refusal.Memory) }
+    {
+        let authors = self.authors.as_slice();
+        Ok(Row::from_vec(read_authors(alloc, &self.tree, authors, self.text.len(), rev)?))
+    }
+
+    /// The stamps of `len` visible characters from a place on, in the longest spans.
+    pub fn spans_at(&self, alloc: Global, rev: u64, at: u64, len: u64) -> Result<Row<Span>, Refusal>
+        requires { at + len ≤ length (cells_at rev self.now) }
+        ensures { MatchResult result (λ spans. spans ≡ cells_spans rev self.now at len) (λ e. e ≡ Refusal.Memory) }
+    {
+        let _text = &self.text;
+        Ok(Row::from_vec(read_spans(alloc, &self.tree, rev, at, len)?))
+    }
+
+    /// The cell at a place of the preorder, from 0.
+    pub fn cell_at(&self, place: u64) -> Option<CellView<'_>>
+        ensures { IsViewOf result (slice_get self.now place) }
+    {
+        find_cell(
+            &self.tree,
+            self.text.as_slice(),
+            self.authors.as_slice(),
+            place,
+        )
     }
 
     /// The greatest counter of any character, or 0.

@@ -9,6 +9,7 @@ mod place;
 mod plain;
 mod put;
 mod readers;
+mod row_copy;
 mod row_erase;
 mod row_lists;
 mod row_parts;

@@ -1,17 +1,22 @@
 //! The sequence of blocks: a balanced tree of them, an index of their stamps, and one text that they only add to.
-ghost use Rattle.std.specs.Prelude.{◌≡◌, ◌+◌, ◌≤◌, ◌++◌, [], IsTrue, MatchResult, length, vec_len, vec_capacity, slice_get};
+ghost use Rattle.std.specs.Prelude.{◌≡◌, ◌+◌, ◌≤◌, ◌++◌, [], IsTrue, IfErr, MatchResult, Ok, OnOk, count_by, length, map, sum_by, vec_len, vec_capacity, slice_get};
 ghost use Rattle.std.specs.List.{AllByRecursion, list_all};
 ghost use Rattle.pad_model.specs.Answers.{Answers};
-ghost use Rattle.pad_model.specs.Cell.{IsBy, before_at, is_before, through_at, clock_of, IsInOrder, cells_at, cell_stamp_at, runs_at, spans_at as cells_spans, text_at as cells_text, character_of, delete_spans as delete_cells, insert_run as insert_cells, last_of as greatest_of};
+ghost use Rattle.pad_model.specs.Cell.{IsBy, before_at, is_before, through_at, clock_of, IsInOrder, cells_at, cell_stamp_at, runs_at, spans_at as cells_spans, text_at as cells_text, character_of, delete_spans as delete_cells, insert_run as insert_cells, is_hidden_by, last_of as greatest_of, with_run, without_spans};
 ghost use Rattle.pad_model.specs.Legal.{has_stamp};
-ghost use Rattle.pad_model.specs.Parts.{part_fits};
-ghost use Rattle.pad_model.specs.Checked.{are_parts, is_run, is_span};
+ghost use Rattle.pad_model.specs.Log.{has_spans as holds_spans, run_may_join};
+ghost use Rattle.pad_model.specs.Parts.{apply as apply_parts, part_fits};
+ghost use Rattle.block_seq.specs.RowParts.{AllJoin, with_all};
+ghost use Rattle.pad_model.specs.declared.limits.TheConstants.{MAX_CHARACTERS};
+ghost use Rattle.pad_model.specs.Checked.{are_parts, is_edit, is_run, is_span};
 ghost use Rattle.pad_model.specs.Views.{IsViewOf};
 
 use crate::authors::place_author;
+use crate::parts::count_inserted;
+use crate::row_copy::copy_blocks;
 use crate::row_erase::{cut_spans, has_spans, kill_named};
 use crate::row_lists::{find_cell, read_authors, read_spans};
-use crate::row_parts::parts_fit;
+use crate::row_parts::{list_runs, list_spans, parts_fit};
 use crate::row_readers::{
     count_before, count_visible, find_visible, greatest_counter, is_at_most, read_text,
 };
@@ -59,6 +64,136 @@ fn push_text(text: &mut Vec<char>, more: &[char])
 }
 
 impl BlockSeq {
+    /// Erases the characters of the spans and puts a run at its place, or changes nothing.
+    fn change(
+        &mut self,
+        alloc: Global,
+        spans: &[Span],
+        run: &Run,
+        author: &Author,
+        rev: u64,
+    ) -> Result<u64, Refusal>
+        requires spans { IsTrue (list_all is_span spans.now) }
+        requires there { IsTrue (holds_spans character_of self.old spans.now) }
+        requires run { IsTrue (is_run author.now.origin run.now) }
+        requires fits { IsTrue (run_may_join character_of self.old run.now.first run.now.after) }
+        requires room { length self.old + length run.now.text ≤ MAX_CHARACTERS }
+        ensures { Answers self.old (Ok (count_by (is_hidden_by spans.now) self.old), with_run rev run.now author.now (without_spans rev spans.now self.old)) result self.new }
+    {
+        cut_spans(alloc, &mut self.tree, &mut self.index, spans)?;
+        let author = place_author(&mut self.authors, author)?;
+        self.text.reserve(run.text.len())?;
+        let rank = place_run(alloc, &mut self.tree, &mut self.index, run.first, run.after)?;
+        let block = Block {
+            first: run.first,
+            parent: run.after,
+            author,
+            born: rev,
+            died: None,
+            label: 0,
+            start: self.text.len(),
+            len: run.text.len() as u64,
+        };
+        put_block(alloc, &mut self.tree, &mut self.index, rank, block)?;
+        push_text(&mut self.text, run.text.as_slice());
+        Ok(kill_named(&mut self.tree, &self.index, spans, rev))
+    }
+
+    /// Puts a run at its place in the preorder, or changes nothing.
+    fn put(&mut self, alloc: Global, run: &Run, author: &Author, rev: u64) -> Result<(), Refusal>
+        requires run { IsTrue (is_run author.now.origin run.now) }
+        requires fits { IsTrue (run_may_join character_of self.old run.now.first run.now.after) }
+        requires room { length self.old + length run.now.text ≤ MAX_CHARACTERS }
+        ensures { Answers self.old (Ok tt, with_run rev run.now author.now self.old) result self.new }
+    {
+        match self.change(alloc, &[], run, author, rev) {
+            Ok(_) => Ok(()),
+            Err(error) => Err(error),
+        }
+    }
+
+    /// Puts runs at their places, one after the other. Where memory is refused, some of them are put.
+    fn put_all(
+        &mut self,
+        alloc: Global,
+        runs: &[&Run],
+        author: &Author,
+        rev: u64,
+    ) -> Result<(), Refusal>
+        requires runs { IsTrue (list_all (λ run. is_run author.now.origin run.now) runs.now) }
+        requires join { AllJoin rev author.now self.old (map (λ run. run.now) runs.now) }
+        requires room { length self.old + sum_by (λ run. length run.now.text) runs.now ≤ MAX_CHARACTERS }
+        ensures ok { OnOk result (self.new ≡ with_all rev author.now self.old (map (λ run. run.now) runs.now)) }
+        ensures memory { IfErr result (λ e. e ≡ Refusal.Memory) }
+    {
+        let _text = &self.text;
+        for run in runs {
+            match self.put(alloc, run, author, rev) {
+                Ok(()) => {}
+                Err(error) => return Err(error),
+            }
+        }
+        Ok(())
+    }
+
+    /// Erases the characters of the spans and puts several runs at their places, on a copy that then takes the place of
+    /// this sequence: so it changes nothing where memory is refused.
+    fn change_aside(
+        &mut self,
+        alloc: Global,
+        spans: &[Span],
+        runs: &[&Run],
+        author: &Author,
+        rev: u64,
+    ) -> Result<u64, Refusal>
+        requires spans { IsTrue (list_all is_span spans.now) }
+        requires there { IsTrue (holds_spans character_of self.old spans.now) }
+        requires runs { IsTrue (list_all (λ run. is_run author.now.origin run.now) runs.now) }
+        requires join { AllJoin rev author.now (without_spans rev spans.now self.old) (map (λ run. run.now) runs.now) }
+        requires room { length self.old + sum_by (λ run. length run.now.text) runs.now ≤ MAX_CHARACTERS }
+        ensures { Answers self.old (Ok (count_by (is_hidden_by spans.now) self.old), with_all rev author.now (without_spans rev spans.now self.old) (map (λ run. run.now) runs.now)) result self.new }
+    {
+        let mut copy = match self.copy(alloc) {
+            Ok(copy) => copy,
+            Err(error) => return Err(error),
+        };
+        let hidden = match copy.erase(alloc, spans, rev) {
+            Ok(hidden) => hidden,
+            Err(error) => return Err(error),
+        };
+        match copy.put_all(alloc, runs, author, rev) {
+            Ok(()) => {}
+            Err(error) => return Err(error),
+        }
+        *self = copy;
+        Ok(hidden)
+    }
+
+    /// The same characters in memory of their own.
+    fn copy(&self, alloc: Global) -> Result<BlockSeq, Refusal>
+        ensures { MatchResult result (λ s. s ≡ self.now) (λ e. e ≡ Refusal.Memory) }
+    {
+        let text = self.text.clone()?;
+        let authors = self.authors.clone()?;
+        let (tree, index) = copy_blocks(alloc, &self.tree, &self.index)?;
+        Ok(BlockSeq {
+            tree,
+            index,
+            text,
+            authors,
+        })
+    }
+
+    /// Erases the characters of the spans.
+    fn erase(&mut self, alloc: Global, spans: &[Span], rev: u64) -> Result<u64, Refusal>
+        requires checked { IsTrue (list_all is_span spans.now) }
+        requires there { IsTrue (holds_spans character_of self.old spans.now) }
+        ensures { Answers self.old (Ok (count_by (is_hidden_by spans.now) self.old), without_spans rev spans.now self.old) result self.new }
+    {
+        cut_spans(alloc, &mut self.tree, &mut self.index, spans)?;
+        Ok(kill_named(&mut self.tree, &self.index, spans, rev))
+    }
+
     /// The sequence without characters.
     pub fn empty(alloc: Global) -> Result<BlockSeq, Refusal>
         ensures { MatchResult result (λ s. s ≡ []) (λ e. e ≡ Refusal.Memory) }
@@ -89,22 +224,7 @@ impl BlockSeq {
         if MAX_CHARACTERS < self.text.len() as u64 + run.text.len() as u64 {
             return Err(Refusal::PadFull);
         }
-        let author = place_author(&mut self.authors, author)?;
-        self.text.reserve(run.text.len())?;
-        let rank = place_run(alloc, &mut self.tree, &mut self.index, run.first, run.after)?;
-        let block = Block {
-            first: run.first,
-            parent: run.after,
-            author,
-            born: rev,
-            died: None,
-            label: 0,
-            start: self.text.len(),
-            len: run.text.len() as u64,
-        };
-        put_block(alloc, &mut self.tree, &mut self.index, rank, block)?;
-        push_text(&mut self.text, run.text.as_slice());
-        Ok(())
+        self.put(alloc, run, author, rev)
     }
 
     /// Erases the characters of the spans that are not erased yet, and answers their number.
@@ -117,8 +237,38 @@ impl BlockSeq {
             return Err(Refusal::PeerFault);
         }
         let alloc = *self.text.allocator();
-        cut_spans(alloc, &mut self.tree, &mut self.index, spans)?;
-        Ok(kill_named(&mut self.tree, &self.index, spans, rev))
+        self.erase(alloc, spans, rev)
+    }
+
+    /// Makes the insertions and deletions of one operation, and answers how many characters they hide anew.
+    pub fn apply(
+        &mut self,
+        alloc: Global,
+        parts: &[Part],
+        author: &Author,
+        rev: u64,
+    ) -> Result<u64, Refusal>
+        requires checked { IsTrue (are_parts author.now.origin parts.now) }
+        requires edits { IsTrue (list_all is_edit parts.now) }
+        requires latest { AllByRecursion (IsBy rev) self.old }
+        ensures { Answers self.old (apply_parts rev parts.now author.now self.old) result self.new }
+    {
+        if !parts_fit(&self.tree, &self.index, parts) {
+            return Err(Refusal::PeerFault);
+        }
+        let more = count_inserted(parts);
+        if MAX_CHARACTERS < self.text.len() as u64 + more as u64 {
+            return Err(Refusal::PadFull);
+        }
+        let spans = list_spans(alloc, parts)?;
+        let runs = list_runs(alloc, parts)?;
+        if runs.is_empty() {
+            return self.erase(alloc, spans.as_slice(), rev);
+        }
+        if runs.len() == 1 {
+            return self.change(alloc, spans.as_slice(), runs[0], author, rev);
+        }
+        self.change_aside(alloc, spans.as_slice(), runs.as_slice(), author, rev)
     }
 
     /// Whether a character is there, erased or not.

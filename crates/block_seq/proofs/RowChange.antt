@@ -64,14 +64,13 @@ cut_out_put m n (span ∷ spans) first len edges below checked cut =
     let named : (s : Stamp) → Covers span.first span.len s → is_erased (flat_map span_stamps (span ∷ spans)) s ≡ true =
     λ s c. list_any-append (λ e. same_stamp e s) (span_stamps span) (flat_map span_stamps spans) ∙ or_left _ _ (is_erased-stamps_from span.first span.len s ∙ covers-in_span span.first span.len s c)
     in
-    let last = stamp_behind span.first (span.len - 1) in
-    (
+    let last = stamp_behind span.first (span.len - 1) in (
       (
         edges span.first cut.0.0 (λ c. (let inside = c.1 in let less = below span.first (named span.first (refl, omega arith, omega arith)) (sym c.0) in absurd (omega arith))),
         edges (stamp_behind span.first span.len) cut.0.1 (λ c.
-        (let inside = c.1 in
-        let less = below last (named last (refl, omega arith, omega arith)) (sym c.0) in
-        Rattle.ident_index.proofs.Order.same_stamps first (stamp_behind span.first span.len) (omega arith) c.0)),
+            (let inside = c.1 in
+            let less = below last (named last (refl, omega arith, omega arith)) (sym c.0) in
+            Rattle.ident_index.proofs.Order.same_stamps first (stamp_behind span.first span.len) (omega arith) c.0)),
       ),
       cut_out_put m n spans first len edges (λ s e. below s (list_any-append (λ e. same_stamp e s) (span_stamps span) (flat_map span_stamps spans) ∙ or_right _ _ e)) both.1 cut.1,
     )

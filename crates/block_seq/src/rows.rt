@@ -24,7 +24,8 @@ use crate::run_place::{has_character, place_run, run_fits};
 use blocks::{Block, find_block, put_block};
 use ident_index::IdentIndex;
 use pad_model::{
-    Author, AuthorRun, CellView, MAX_CHARACTERS, Part, Refusal, Row, Run, Span, Stamp, Text,
+    Author, AuthorRun, CellView, MAX_CHARACTERS, Part, Refusal, Row, Run, Sequence, Span, Stamp,
+    Text,
 };
 use std::alloc::Global;
 use std::marker::Model;
@@ -193,11 +194,12 @@ impl BlockSeq {
         cut_spans(alloc, &mut self.tree, &mut self.index, spans)?;
         Ok(kill_named(&mut self.tree, &self.index, spans, rev))
     }
+}
 
-    /// The sequence without characters.
-    pub fn empty(alloc: Global) -> Result<BlockSeq, Refusal>
-        ensures { MatchResult result (λ s. s ≡ []) (λ e. e ≡ Refusal.Memory) }
-    {
+impl Sequence for BlockSeq {
+    ghost cells = { λ s. s };
+
+    fn empty(alloc: Global) -> Result<BlockSeq, Refusal> {
         Ok(BlockSeq {
             tree: WeightTree::new(),
             index: IdentIndex::new(alloc),
@@ -206,18 +208,13 @@ impl BlockSeq {
         })
     }
 
-    /// Puts a run at its place in the preorder.
-    pub fn insert_run(
+    fn insert_run(
         &mut self,
         alloc: Global,
         run: &Run,
         author: &Author,
         rev: u64,
-    ) -> Result<(), Refusal>
-        requires checked { IsTrue (is_run author.now.origin run.now) }
-        requires latest { AllByRecursion (IsBy rev) self.old }
-        ensures { Answers self.old (insert_cells rev run.now author.now self.old) result self.new }
-    {
+    ) -> Result<(), Refusal> {
         if !run_fits(&self.tree, &self.index, run.first, run.after) {
             return Err(Refusal::PeerFault);
         }
@@ -227,12 +224,7 @@ impl BlockSeq {
         self.put(alloc, run, author, rev)
     }
 
-    /// Erases the characters of the spans that are not erased yet, and answers their number.
-    pub fn delete_spans(&mut self, spans: &[Span], rev: u64) -> Result<u64, Refusal>
-        requires checked { IsTrue (list_all is_span spans.now) }
-        requires latest { AllByRecursion (IsBy rev) self.old }
-        ensures { Answers self.old (delete_cells rev spans.now self.old) result self.new }
-    {
+    fn delete_spans(&mut self, spans: &[Span], rev: u64) -> Result<u64, Refusal> {
         if !has_spans(&self.tree, &self.index, spans) {
             return Err(Refusal::PeerFault);
         }
@@ -240,19 +232,13 @@ impl BlockSeq {
         self.erase(alloc, spans, rev)
     }
 
-    /// Makes the insertions and deletions of one operation, and answers how many characters they hide anew.
-    pub fn apply(
+    fn apply(
         &mut self,
         alloc: Global,
         parts: &[Part],
         author: &Author,
         rev: u64,
-    ) -> Result<u64, Refusal>
-        requires checked { IsTrue (are_parts author.now.origin parts.now) }
-        requires edits { IsTrue (list_all is_edit parts.now) }
-        requires latest { AllByRecursion (IsBy rev) self.old }
-        ensures { Answers self.old (apply_parts rev parts.now author.now self.old) result self.new }
-    {
+    ) -> Result<u64, Refusal> {
         if !parts_fit(&self.tree, &self.index, parts) {
             return Err(Refusal::PeerFault);
         }
@@ -271,123 +257,78 @@ impl BlockSeq {
         self.change_aside(alloc, spans.as_slice(), runs.as_slice(), author, rev)
     }
 
-    /// Whether a character is there, erased or not.
-    pub fn has(&self, stamp: Stamp) -> bool
-        ensures { result ≡ has_stamp character_of self.now stamp }
-    {
-        has_character(&self.tree, &self.index, stamp)
+    fn fits(&self, parts: &[Part], _origin: u16) -> bool {
+        let _text = &self.text;
+        parts_fit(&self.tree, &self.index, parts)
     }
 
-    /// The greatest counter of a replica's characters, or 0.
-    pub fn last_of(&self, replica: u16) -> u64
-        ensures { result ≡ greatest_of replica self.now }
-    {
-        let _kept = &self.tree;
-        self.index.last_of(replica)
-    }
-
-    /// How many characters there are, those that are erased included.
-    pub fn cell_count(&self) -> u64
-        ensures value { result ≡ length self.now }
-        ensures order { IsInOrder self.now }
-    {
-        let _kept = &self.tree;
-        self.text.len() as u64
-    }
-
-    /// How many characters are visible.
-    pub fn len_at(&self, rev: u64) -> u64
-        ensures { result ≡ length (cells_at rev self.now) }
-    {
+    fn len_at(&self, rev: u64) -> u64 {
         let _text = &self.text;
         count_visible(&self.tree, rev)
     }
 
-    /// The stamp of the visible character at a place, from 0.
-    pub fn stamp_at(&self, rev: u64, place: u64) -> Option<Stamp>
-        ensures { result ≡ cell_stamp_at rev self.now place }
-    {
+    fn stamp_at(&self, rev: u64, place: u64) -> Option<Stamp> {
         let _text = &self.text;
         find_visible(&self.tree, rev, place)
     }
 
-    /// The text that is visible.
-    pub fn text_at(&self, alloc: Global, rev: u64) -> Result<Text, Refusal>
-        ensures { MatchResult result (λ text. text ≡ cells_text rev self.now) (λ e. e ≡ Refusal.Memory) }
-    {
+    fn text_at(&self, alloc: Global, rev: u64) -> Result<Text, Refusal> {
         let text = self.text.as_slice();
         Ok(Text::from_vec(read_text(alloc, &self.tree, text, self.authors.len(), rev)?))
     }
 
-    /// The authors of the visible characters, in the longest runs.
-    pub fn authors_at(&self, alloc: Global, rev: u64) -> Result<Row<AuthorRun>, Refusal>
-        ensures { MatchResult result (λ runs. runs ≡ runs_at rev self.now) (λ e. e ≡ Refusal.Memory) }
-    {
+    fn authors_at(&self, alloc: Global, rev: u64) -> Result<Row<AuthorRun>, Refusal> {
         let authors = self.authors.as_slice();
         Ok(Row::from_vec(read_authors(alloc, &self.tree, authors, self.text.len(), rev)?))
     }
 
-    /// The stamps of `len` visible characters from a place on, in the longest spans.
-    pub fn spans_at(&self, alloc: Global, rev: u64, at: u64, len: u64) -> Result<Row<Span>, Refusal>
-        requires { at + len ≤ length (cells_at rev self.now) }
-        ensures { MatchResult result (λ spans. spans ≡ cells_spans rev self.now at len) (λ e. e ≡ Refusal.Memory) }
-    {
+    fn spans_at(&self, alloc: Global, rev: u64, at: u64, len: u64) -> Result<Row<Span>, Refusal> {
         let _text = &self.text;
         Ok(Row::from_vec(read_spans(alloc, &self.tree, rev, at, len)?))
     }
 
-    /// The cell at a place of the preorder, from 0.
-    pub fn cell_at(&self, place: u64) -> Option<CellView<'_>>
-        ensures { IsViewOf result (slice_get self.now place) }
-    {
+    fn before(&self, stamp: Stamp, rev: u64) -> Option<u64> {
+        let spot = find_block(&self.tree, &self.index, stamp)?;
+        Some(count_before(&self.tree, spot.rank, spot.offset, rev))
+    }
+
+    fn through(&self, stamp: Stamp, rev: u64) -> Option<u64> {
+        let spot = find_block(&self.tree, &self.index, stamp)?;
+        Some(count_before(&self.tree, spot.rank, spot.offset + 1, rev))
+    }
+
+    fn stands_before(&self, a: Stamp, b: Stamp) -> Option<bool> {
+        let first = find_block(&self.tree, &self.index, a)?;
+        let last = find_block(&self.tree, &self.index, b)?;
+        let _text = &self.text;
+        Some(is_at_most(first, last))
+    }
+
+    fn has(&self, stamp: Stamp) -> bool {
+        has_character(&self.tree, &self.index, stamp)
+    }
+
+    fn clock(&self) -> u64 {
+        let _text = &self.text;
+        greatest_counter(&self.tree)
+    }
+
+    fn last_of(&self, replica: u16) -> u64 {
+        let _kept = &self.tree;
+        self.index.last_of(replica)
+    }
+
+    fn cell_count(&self) -> u64 {
+        let _kept = &self.tree;
+        self.text.len() as u64
+    }
+
+    fn cell_at(&self, place: u64) -> Option<CellView<'_>> {
         find_cell(
             &self.tree,
             self.text.as_slice(),
             self.authors.as_slice(),
             place,
         )
-    }
-
-    /// The greatest counter of any character, or 0.
-    pub fn clock(&self) -> u64
-        ensures { result ≡ clock_of self.now }
-    {
-        let _text = &self.text;
-        greatest_counter(&self.tree)
-    }
-
-    /// Whether each part of one operation of an origin fits what stands there, as `apply` wants it.
-    pub fn fits(&self, parts: &[Part], _origin: u16) -> bool
-        requires checked { IsTrue (are_parts _origin parts.now) }
-        ensures { result ≡ list_all (part_fits character_of self.now) parts.now }
-    {
-        let _text = &self.text;
-        parts_fit(&self.tree, &self.index, parts)
-    }
-
-    /// How many visible characters stand before a character; None where it is missing.
-    pub fn before(&self, stamp: Stamp, rev: u64) -> Option<u64>
-        ensures { result ≡ before_at rev self.now stamp }
-    {
-        let spot = find_block(&self.tree, &self.index, stamp)?;
-        Some(count_before(&self.tree, spot.rank, spot.offset, rev))
-    }
-
-    /// How many visible characters stand up to and including a character; None where it is missing.
-    pub fn through(&self, stamp: Stamp, rev: u64) -> Option<u64>
-        ensures { result ≡ through_at rev self.now stamp }
-    {
-        let spot = find_block(&self.tree, &self.index, stamp)?;
-        Some(count_before(&self.tree, spot.rank, spot.offset + 1, rev))
-    }
-
-    /// Whether `a` is `b` or stands before it, erased or not; None where one is missing.
-    pub fn stands_before(&self, a: Stamp, b: Stamp) -> Option<bool>
-        ensures { result ≡ is_before self.now a b }
-    {
-        let first = find_block(&self.tree, &self.index, a)?;
-        let last = find_block(&self.tree, &self.index, b)?;
-        let _text = &self.text;
-        Some(is_at_most(first, last))
     }
 }

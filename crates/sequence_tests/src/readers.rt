@@ -1,7 +1,7 @@
 //! What the plain sequence tells of its characters: numbers, stamps, places, runs and spans.
-use crate::sequence::sequences::{HELLO, named, site_of};
-use crate::sequence::site::Sketch::Typed;
-use crate::sequence::site::{Named, Site, stamp_of};
+use crate::sequences::{HELLO, named, site_of};
+use crate::site::Sketch::Typed;
+use crate::site::{Named, Site, stamp_of};
 use pad_model::{AuthorRun, Refusal, Sequence, Span, Stamp};
 use std::alloc::Global;
 use std::process::Abort;

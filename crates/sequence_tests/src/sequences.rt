@@ -1,6 +1,6 @@
 //! Operations in the plain sequence: where runs go, what deletions hide, what several parts do together.
-use crate::sequence::site::Sketch::{Erased, Typed};
-use crate::sequence::site::{Named, Site, Sketch};
+use crate::site::Sketch::{Erased, Typed};
+use crate::site::{Named, Site, Sketch};
 use pad_model::{Refusal, Sequence, Stamp};
 use std::alloc::Global;
 use std::test::Fail;

@@ -3,9 +3,9 @@ ghost use Rattle.std.specs.Prelude.{◌≡◌, IsTrue};
 ghost use Rattle.std.specs.List.{list_all};
 ghost use Rattle.pad_model.specs.Checked.{fits_clock, is_run, is_span};
 
-use crate::sequence::sequences::HELLO;
-use crate::sequence::site::Sketch::{Erased, Typed};
-use crate::sequence::site::{Sketch, is_text, part_of, stamp_of};
+use crate::sequences::HELLO;
+use crate::site::Sketch::{Erased, Typed};
+use crate::site::{Sketch, is_text, part_of, stamp_of};
 use block_seq::{BlockSeq, PlainSeq};
 use dice::Dice;
 use pad_model::{

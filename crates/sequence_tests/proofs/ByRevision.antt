@@ -47,7 +47,7 @@ erased_by rev spans [] h = tt
 erased_by rev spans (c ∷ cells) h =
     (split (is_hidden_by spans c) (λ e. rw e (h.0.0, λ died is. (let same : rev ≡ died = cc in omega arith))) (λ e. rw e h.0), erased_by rev spans cells h.1)
 
-later_by : (rev : ℕ) (cells : List Cell) → AllByRecursion (IsBy rev) cells → AllByRecursion (IsBy (rev + 1)) cells
+pub later_by : (rev : ℕ) (cells : List Cell) → AllByRecursion (IsBy rev) cells → AllByRecursion (IsBy (rev + 1)) cells
 later_by rev cells h = each-imply (IsBy rev) (IsBy (rev + 1)) (λ c k. (let l : c.born ≤ rev = k.0 in omega arith, λ died e. (let l : died ≤ rev = k.1 died e in omega arith))) cells h
 
 -- what the parts of an operation answer, case by case
@@ -60,26 +60,17 @@ answered P rev parts author cells no_change change =
     (λ room. rw (fit, room) (change _ fit)))
     (λ fault. rw fault (no_change _))
 
--- after an operation that was taken no cell is later than its revision
-pub taken_by : (rev : ℕ) (parts : List Part) (author : Author) (cells new : List Cell) (hidden : ℕ) → IsInOrder cells → AllByRecursion (IsBy rev) cells → are_parts author.origin parts ≡ true →
-    Answers cells (apply (rev + 1) parts author cells) (Ok hidden) new → AllByRecursion (IsBy (rev + 1)) new
-taken_by rev parts author cells new hidden o h checked (inl none) = absurd (cc)
-taken_by rev parts author cells new hidden o h checked (inr answer) =
-    subst (AllByRecursion (IsBy (rev + 1))) (ap (λ p. p.1) answer)
-    (answered (λ p. AllByRecursion (IsBy (rev + 1)) p.1) (rev + 1) parts author cells (λ refusal. later_by rev cells h)
+-- after an operation, whatever was answered, no cell is later than its revision
+pub applied_by : (rev : ℕ) (parts : List Part) (author : Author) (cells new : List Cell) (result : Result ℕ Refusal) → IsInOrder cells → AllByRecursion (IsBy rev) cells → are_parts author.origin parts ≡ true →
+    Answers cells (apply rev parts author cells) result new → AllByRecursion (IsBy rev) new
+applied_by rev parts author cells new result o h checked (inl none) = subst (AllByRecursion (IsBy rev)) (sym none.1) h
+applied_by rev parts author cells new result o h checked (inr answer) =
+    subst (AllByRecursion (IsBy rev)) (ap (λ p. p.1) answer)
+    (answered (λ p. AllByRecursion (IsBy rev) p.1) rev parts author cells (λ refusal. h)
     (λ n fit.
-    let runs = with_parts-runs (rev + 1) author parts cells o (rises_of_parts author.origin parts checked) (and_parts _ _ fit).0 in
-    subst (AllByRecursion (IsBy (rev + 1))) runs.1
-    (runs_by (rev + 1) author (without_spans (rev + 1) (spans_in parts) cells) parts (IsInOrder-without (rev + 1) (spans_in parts) cells o) (erased_by (rev + 1) (spans_in parts) cells (later_by rev cells h)) runs.0)))
-
--- after an operation that was refused no cell is later than the revision before it
-pub refused_by : (rev : ℕ) (parts : List Part) (author : Author) (cells new : List Cell) (refusal : Refusal) → AllByRecursion (IsBy rev) cells → Answers cells (apply (rev + 1) parts author cells) (Err refusal) new → AllByRecursion (IsBy rev) new
-refused_by rev parts author cells new refusal h (inl none) = subst (AllByRecursion (IsBy rev)) (sym none.1) h
-refused_by rev parts author cells new refusal h (inr answer) =
-    answered (λ p. p ≡ (Err refusal, new) → AllByRecursion (IsBy rev) new) (rev + 1) parts author cells
-    (λ other e. subst (AllByRecursion (IsBy rev)) (ap (λ p. p.1) e) h)
-    (λ hidden fit e. (let apart : Ok hidden ≡ Err refusal = ap (λ p. p.0) e in absurd (cc)))
-    answer
+    let runs = with_parts-runs rev author parts cells o (rises_of_parts author.origin parts checked) (and_parts _ _ fit).0 in
+    subst (AllByRecursion (IsBy rev)) runs.1
+    (runs_by rev author (without_spans rev (spans_in parts) cells) parts (IsInOrder-without rev (spans_in parts) cells o) (erased_by rev (spans_in parts) cells h) runs.0)))
 
 -- what an insertion answers, case by case
 insert_answered : (P : Result (Unit {0}) Refusal × List Cell → Type 0) (rev : ℕ) (run : Run) (author : Author) (cells : List Cell) → ((refusal : Refusal) → P (Err refusal, cells)) →

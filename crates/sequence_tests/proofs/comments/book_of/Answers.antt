@@ -1,8 +1,8 @@
 use Rattle.std.proofs.Common.{◌≡◌, [], sym, ap, ◌∙◌, subst}
 use Rattle.anchors.specs.Comments.{AreHeld, born_by, with_comment}
 use Rattle.anchors.proofs.CallerLemmas.{held-with_comment, held-with_resolution}
-use Rattle.part_tests.proofs.sequence.comments.book_of.Goals.{in-Some+in_ok-resolve, in_default}
-use Rattle.part_tests.proofs.sequence.comments.book_of.Goals as goal
+use Rattle.sequence_tests.proofs.comments.book_of.Goals.{in-Some+in_ok-resolve, in_default}
+use Rattle.sequence_tests.proofs.comments.book_of.Goals as goal
 
 pub returns : goal.returns
 returns c cells rev there =

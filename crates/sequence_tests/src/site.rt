@@ -1,19 +1,23 @@
 //! One server's copy of a text: operations go in, and its revisions count up.
+//!
+//! The copy is kept twice, as blocks and plainly: each operation is made on both, and both must answer and keep the same.
 ghost use Rattle.std.specs.Prelude.{◌≡◌, IsTrue, IfOk};
 ghost use Rattle.std.specs.List.{list_all};
 ghost use Rattle.pad_model.specs.Checked.{are_parts, is_edit};
 
-use block_seq::PlainSeq;
+use crate::compared::have_same_cells;
+use block_seq::{BlockSeq, PlainSeq};
 use pad_model::{
     Author, Name, Op, OpName, Part, Refusal, Row, Run, Seen, Sequence, Span, Stamp, Text,
 };
 use std::alloc::Global;
 use std::marker::Model;
 
-/// A sequence, and how many operations it took.
+/// A sequence of blocks and a plain one beside it, and how many operations they took.
 #[derive(Drop)]
 pub struct Site {
-    sequence: PlainSeq,
+    sequence: BlockSeq,
+    plain: PlainSeq,
     rev: u64,
 }
 
@@ -26,18 +30,21 @@ impl Model for Site {
 
     ghost view = { λ s. s.sequence };
 
-    ghost invariant = { λ s. AllByRecursion (IsBy s.rev) s.sequence };
+    ghost use Rattle.std.specs.Prelude.{◌+◌};
+
+    ghost invariant = { λ s. AllByRecursion (IsBy (s.rev + 1)) s.sequence × AllByRecursion (IsBy (s.rev + 1)) s.plain };
 }
 
 impl Site {
     pub fn new(alloc: Global) -> Result<Site, Refusal> {
         Ok(Site {
-            sequence: PlainSeq::empty(alloc)?,
+            sequence: BlockSeq::empty(alloc)?,
+            plain: PlainSeq::empty(alloc)?,
             rev: 0,
         })
     }
 
-    pub fn sequence(&self) -> &PlainSeq
+    pub fn sequence(&self) -> &BlockSeq
         ensures { result.now ≡ self.now }
     {
         &self.sequence
@@ -57,7 +64,12 @@ impl Site {
         self.make(alloc, op.parts.as_slice(), &author)
     }
 
-    /// Makes the parts of an operation that fits its limits and only edits the text.
+    pub fn plain(&self) -> &PlainSeq {
+        &self.plain
+    }
+
+    /// Makes the parts of an operation that fits its limits and only edits the text. `BadStamp`, which no sequence
+    /// answers, tells that the two differ.
     fn make(&mut self, alloc: Global, parts: &[Part], author: &Author) -> Result<u64, Refusal>
         requires checked { IsTrue (are_parts author.now.origin parts.now) }
         requires edits { IsTrue (list_all is_edit parts.now) }
@@ -66,14 +78,19 @@ impl Site {
             return Err(Refusal::BadOp);
         }
         let rev = self.rev + 1;
-        let _count = self.sequence.cell_count();
-        match self.sequence.apply(alloc, parts, author, rev) {
-            Ok(hidden) => {
-                self.rev = rev;
-                Ok(hidden)
-            }
-            Err(refusal) => Err(refusal),
+        let _rows = self.sequence.cell_count();
+        let _plain = self.plain.cell_count();
+        let wanted = self.plain.apply(alloc, parts, author, rev);
+        let made = self.sequence.apply(alloc, parts, author, rev);
+        if made != wanted || !have_same_cells(&self.sequence, &self.plain) {
+            return Err(Refusal::BadStamp);
         }
+        let hidden = match made {
+            Ok(hidden) => hidden,
+            Err(refusal) => return Err(refusal),
+        };
+        self.rev = rev;
+        Ok(hidden)
     }
 
     /// Takes an operation of these parts by the replica of a number.

@@ -1,7 +1,7 @@
 //! Three replicas that type at once, and take one another's operations in different orders.
 //!
 //! Whoever types in a round does so with the same counter, so that each round has ties.
-use crate::sequence::site::{Site, stamp_of};
+use crate::site::{Site, stamp_of};
 use dice::Dice;
 use pad_model::{Name, Op, OpName, Part, Refusal, Row, Run, Seen, Sequence, Text};
 use std::alloc::Global;
@@ -13,8 +13,14 @@ const ROUNDS: u64 = 100;
 /// In which order each replica takes the operations of a round, its own first.
 const ORDERS: [[usize; 3]; 3] = [[0, 1, 2], [1, 2, 0], [2, 1, 0]];
 
-/// Types one to three letters at a place of the text.
-fn typed(alloc: Global, site: &Site, replica: u16, dice: &mut Dice) -> Result<Part, Refusal> {
+/// Types one to three letters at a place of the text, with a counter so far ahead of the clock.
+pub fn typed(
+    alloc: Global,
+    site: &Site,
+    replica: u16,
+    ahead: u64,
+    dice: &mut Dice,
+) -> Result<Part, Refusal> {
     let (seq, rev) = (site.sequence(), site.rev());
     let after = match dice.roll(seq.len_at(rev).saturating_add(1)) {
         0 => None,
@@ -26,14 +32,14 @@ fn typed(alloc: Global, site: &Site, replica: u16, dice: &mut Dice) -> Result<Pa
         _ => "a😀b",
     };
     Ok(Part::Insert(Run {
-        first: stamp_of((seq.clock().saturating_add(1), replica))?,
+        first: stamp_of((seq.clock().saturating_add(ahead), replica))?,
         after,
         text: Text::from_str(alloc, text)?,
     }))
 }
 
 /// Erases up to four characters from a place of the text on.
-fn erased(alloc: Global, site: &Site, dice: &mut Dice) -> Result<Part, Refusal> {
+pub fn erased(alloc: Global, site: &Site, dice: &mut Dice) -> Result<Part, Refusal> {
     let (seq, rev) = (site.sequence(), site.rev());
     let len = seq.len_at(rev);
     let at = dice.roll(len).min(len);
@@ -52,7 +58,7 @@ fn made(alloc: Global, site: &Site, name: OpName, dice: &mut Dice) -> Result<Op,
         parts.push(erased(alloc, site, dice)?)?;
     }
     if kind <= 5 {
-        parts.push(typed(alloc, site, name.origin, dice)?)?;
+        parts.push(typed(alloc, site, name.origin, 1, dice)?)?;
     }
     Ok(Op {
         name,

@@ -3,8 +3,8 @@ ghost use Rattle.std.specs.Prelude.{◌≡◌, ℕ, List, true, IfOk};
 ghost use Rattle.anchors.specs.Comments.{AreHeld, born_by, has_both};
 ghost use Rattle.pad_model.specs.Cell.{Cell};
 
-use crate::sequence::site::Sketch::{Erased, Typed};
-use crate::sequence::site::{Named, Site, stamp_of};
+use crate::site::Sketch::{Erased, Typed};
+use crate::site::{Named, Site, stamp_of};
 use anchors::{CommentBook, Shown};
 use pad_model::{Author, Name, OpName, Refusal, Sequence, Stamp, Text};
 use std::alloc::Global;

@@ -5,6 +5,7 @@ pub mod RowChange
 pub mod RowCopy
 pub mod RowErase
 pub mod RowLists
+pub mod RowNow
 pub mod RowOrder
 pub mod RowParts
 pub mod RowReads

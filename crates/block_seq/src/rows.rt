@@ -17,9 +17,7 @@ use crate::row_copy::copy_blocks;
 use crate::row_erase::{cut_spans, has_spans, kill_named};
 use crate::row_lists::{find_cell, read_authors, read_spans};
 use crate::row_parts::{list_runs, list_spans, parts_fit};
-use crate::row_readers::{
-    count_before, count_visible, find_visible, greatest_counter, is_at_most, read_text,
-};
+use crate::row_readers::{count_before, count_visible, find_visible, is_at_most, read_text};
 use crate::run_place::{has_character, place_run, run_fits};
 use blocks::{Block, find_block, put_block};
 use ident_index::IdentIndex;
@@ -38,6 +36,10 @@ pub struct BlockSeq {
     index: IdentIndex,
     text: Vec<char>,
     authors: Vec<Author>,
+    /// The last revision that changed something.
+    latest: u64,
+    /// The greatest counter of any character, or 0.
+    clock: u64,
 }
 
 impl Model for BlockSeq {
@@ -51,7 +53,7 @@ impl Model for BlockSeq {
 
     ghost view = { λ s. cells_of s.authors.items s.text.items s.tree.items };
 
-    ghost invariant = { λ s. IsBlockSeq s.authors.items s.text.items s.index s.tree.items };
+    ghost invariant = { λ s. IsBlockSeq s.latest s.clock s.authors.items s.text.items s.index s.tree.items };
 }
 
 /// Adds characters in room that was made before.
@@ -97,7 +99,11 @@ impl BlockSeq {
         };
         put_block(alloc, &mut self.tree, &mut self.index, rank, block)?;
         push_text(&mut self.text, run.text.as_slice());
-        Ok(kill_named(&mut self.tree, &self.index, spans, rev))
+        let hidden = kill_named(&mut self.tree, &self.index, spans, rev);
+        let last = run.first.counter() + (run.text.len() as u64 - 1);
+        self.clock = self.clock.max(last);
+        self.latest = self.latest.max(rev);
+        Ok(hidden)
     }
 
     /// Puts a run at its place in the preorder, or changes nothing.
@@ -182,6 +188,8 @@ impl BlockSeq {
             index,
             text,
             authors,
+            latest: self.latest,
+            clock: self.clock,
         })
     }
 
@@ -192,7 +200,9 @@ impl BlockSeq {
         ensures { Answers self.old (Ok (count_by (is_hidden_by spans.now) self.old), without_spans rev spans.now self.old) result self.new }
     {
         cut_spans(alloc, &mut self.tree, &mut self.index, spans)?;
-        Ok(kill_named(&mut self.tree, &self.index, spans, rev))
+        let hidden = kill_named(&mut self.tree, &self.index, spans, rev);
+        self.latest = self.latest.max(rev);
+        Ok(hidden)
     }
 }
 
@@ -205,6 +215,8 @@ impl Sequence for BlockSeq {
             index: IdentIndex::new(alloc),
             text: Vec::new(alloc),
             authors: Vec::new(alloc),
+            latest: 0,
+            clock: 0,
         })
     }
 
@@ -264,12 +276,12 @@ impl Sequence for BlockSeq {
 
     fn len_at(&self, rev: u64) -> u64 {
         let _text = &self.text;
-        count_visible(&self.tree, rev)
+        count_visible(&self.tree, self.latest, rev)
     }
 
     fn stamp_at(&self, rev: u64, place: u64) -> Option<Stamp> {
         let _text = &self.text;
-        find_visible(&self.tree, rev, place)
+        find_visible(&self.tree, self.latest, rev, place)
     }
 
     fn text_at(&self, alloc: Global, rev: u64) -> Result<Text, Refusal> {
@@ -289,12 +301,12 @@ impl Sequence for BlockSeq {
 
     fn before(&self, stamp: Stamp, rev: u64) -> Option<u64> {
         let spot = find_block(&self.tree, &self.index, stamp)?;
-        Some(count_before(&self.tree, spot.rank, spot.offset, rev))
+        Some(count_before(&self.tree, self.latest, spot.rank, spot.offset, rev))
     }
 
     fn through(&self, stamp: Stamp, rev: u64) -> Option<u64> {
         let spot = find_block(&self.tree, &self.index, stamp)?;
-        Some(count_before(&self.tree, spot.rank, spot.offset + 1, rev))
+        Some(count_before(&self.tree, self.latest, spot.rank, spot.offset + 1, rev))
     }
 
     fn stands_before(&self, a: Stamp, b: Stamp) -> Option<bool> {
@@ -310,7 +322,7 @@ impl Sequence for BlockSeq {
 
     fn clock(&self) -> u64 {
         let _text = &self.text;
-        greatest_counter(&self.tree)
+        self.clock
     }
 
     fn last_of(&self, replica: u16) -> u64 {

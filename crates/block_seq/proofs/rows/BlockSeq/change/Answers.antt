@@ -1,4 +1,4 @@
-use Rattle.std.proofs.Common.{◌≡◌, ◌++◌, ◌+◌, ◌≤◌, true, inr, Ok, None, length, map, sym, ap, ap₂, ◌∙◌, refl, subst, arith, count_by}
+use Rattle.std.proofs.Common.{◌≡◌, ℕ, ◌++◌, ◌+◌, ◌-◌, ◌≤◌, max, true, inr, Ok, None, length, map, sym, ap, ap₂, ◌∙◌, refl, subst, arith, count_by}
 use Rattle.std.specs.List.{AllByRecursion}
 use Rattle.std.specs.Result.{IsErrAnd}
 use Rattle.pad_model.specs.Cell.{character_of, is_hidden_by, with_run, without_spans}
@@ -17,14 +17,14 @@ use Rattle.block_seq.proofs.RowErase.{all_aligned, killed_count, row_killed}
 use Rattle.block_seq.proofs.RowParts.{commute}
 use Rattle.block_seq.proofs.RowSteps.{unchanged, same_cells_kept, run_is_new, run_put}
 use Rattle.block_seq.proofs.rows.BlockSeq.change.Goals as goal
-use Rattle.block_seq.proofs.rows.BlockSeq.change.Goals.{After-cut_spans, After-place_author, After-place_run, After-kill_named}
+use Rattle.block_seq.proofs.rows.BlockSeq.change.Goals.{After-cut_spans, After-place_author, After-place_run, After-kill_named-hidden}
 
 -- what a cut, one more author or other labels leave
-moved : (c : After-place_author) (text : _) (n : Index) (after : _) → text ≡ c.self.inside.text.items → IsKept n after → SameCells c.self.inside.tree.items after → IsBlockSeq c.place_author.new.authors.items text n after
+moved : (c : After-place_author) (text : _) (n : Index) (after : _) → text ≡ c.self.inside.text.items → IsKept n after → SameCells c.self.inside.tree.items after → IsBlockSeq c.self.inside.latest c.self.inside.clock c.place_author.new.authors.items text n after
     × (cells_of c.place_author.new.authors.items text after ≡ c.args.self.now)
 moved c text n after is kept same =
     let done = unchanged c.self.inside.authors.items c.place_author.new.authors.items c.args.author.now c.self.inside.text.items c.self.inside.index n c.self.inside.tree.items after c.self.invariant c.place_author.ensures.more kept same in
-    (subst (λ t. IsBlockSeq c.place_author.new.authors.items t n after) (sym is) done.0, ap (λ t. cells_of c.place_author.new.authors.items t after) is ∙ done.1 ∙ c.self.view_is)
+    (subst (λ t. IsBlockSeq c.self.inside.latest c.self.inside.clock c.place_author.new.authors.items t n after) (sym is) done.0, ap (λ t. cells_of c.place_author.new.authors.items t after) is ∙ done.1 ∙ c.self.view_is)
 
 pub invariant_of-self : goal.invariant_of-self
 invariant_of-self c = (same_cells_kept c.self.inside.authors.items c.self.inside.text.items c.self.inside.index c.cut_spans.new.index c.self.inside.tree.items c.cut_spans.new.tree.items c.self.invariant c.cut_spans.ensures.kept c.cut_spans.ensures.cells).0
@@ -100,10 +100,15 @@ returns-in_err-put_block c =
     (moved g.After-place_author c.reserve.new.self.items c.put_block.new.index c.put_block.new.tree.items c.reserve.ensures.items c.put_block.ensures.kept
     (same_then c.self.inside.tree.items c.place_run.new.tree.items c.put_block.new.tree.items (placed g.After-place_run) (same_unlabelled c.place_run.new.tree.items c.put_block.new.tree.items c.in_err-put_block.ensures.err))).1 refl
 
+-- the counter of the run's last character
+abbrev last : (c : After-kill_named-hidden) → ℕ
+last c = c.args.run.now.first.counter + (length c.args.run.now.text - 1)
+
 -- the row with the run's block
-run_there : (c : After-kill_named) → IsBlockSeq c.place_author.new.authors.items c.push_text.new.text.items c.put_block.new.index c.put_block.new.tree.items
+run_there : (c : After-kill_named-hidden) → IsBlockSeq (max c.self.inside.latest c.args.rev) (max c.self.inside.clock (last c)) c.place_author.new.authors.items c.push_text.new.text.items c.put_block.new.index c.put_block.new.tree.items
     × (cells_of c.place_author.new.authors.items c.push_text.new.text.items c.put_block.new.tree.items ≡ with_run c.args.rev c.args.run.now c.args.author.now c.args.self.now)
 run_there c =
+    let run = run_sized c.args.author.now.origin 0 c.args.run.now c.requires.run in
     let authors = c.place_author.new.authors.items in
     let text = c.self.inside.text.items in
     let b : Block = record { first = c.args.run.now.first; parent = c.args.run.now.after; author = c.in_ok-author.author; born = c.args.rev; died = None; label = 0; start = c.len-2.result; len = c.len-3.result } in
@@ -117,36 +122,42 @@ run_there c =
     let wide = unchanged c.self.inside.authors.items authors c.args.author.now text c.cut_spans.new.index c.cut_spans.new.index c.cut_spans.new.tree.items c.cut_spans.new.tree.items cut.0 c.place_author.ensures.more c.cut_spans.ensures.kept (same_itself c.cut_spans.new.tree.items) in
     let joins = RunMayJoin-from_test character_of c.args.self.now c.args.run.now.first c.args.run.now.after c.requires.fits in
     let place = c.in_ok-rank.ensures.place authors text wide.0.within (ap (λ l. Rattle.pad_model.specs.Legal.has_parent character_of l c.args.run.now.after) (wide.1 ∙ cut.1 ∙ c.self.view_is) ∙ joins.rooted) in
-    let left = run_put c.self.inside.authors.items authors c.args.author.now text c.cut_spans.new.index c.place_run.new.index c.put_block.new.index c.cut_spans.new.tree.items c.place_run.new.tree.items c.put_block.new.tree.items c.args.self.now c.args.run.now c.in_ok-rank.rank c.args.rev c.in_ok-author.author b
-    cut.0 (cut.1 ∙ c.self.view_is) c.place_author.ensures.more c.in_ok-author.ensures.place c.requires.fits c.place_run.ensures.cells place c.put_block.ensures.kept b_is c.in_ok-put_block.ensures.ok
+    let left = run_put (max c.self.inside.latest c.args.rev) (last c) c.self.inside.authors.items authors c.args.author.now text c.cut_spans.new.index c.place_run.new.index c.put_block.new.index c.cut_spans.new.tree.items c.place_run.new.tree.items c.put_block.new.tree.items c.args.self.now c.args.run.now c.in_ok-rank.rank c.args.rev c.in_ok-author.author b
+    (omega arith) (omega arith) run.0 refl cut.0 (cut.1 ∙ c.self.view_is) c.place_author.ensures.more c.in_ok-author.ensures.place c.requires.fits c.place_run.ensures.cells place c.put_block.ensures.kept b_is c.in_ok-put_block.ensures.ok
     in
-    (subst (λ t. IsBlockSeq authors t c.put_block.new.index c.put_block.new.tree.items) (sym text_is) left.0, ap (λ t. cells_of authors t c.put_block.new.tree.items) text_is ∙ left.1)
+    (subst (λ t. IsBlockSeq (max c.self.inside.latest c.args.rev) (max c.self.inside.clock (last c)) authors t c.put_block.new.index c.put_block.new.tree.items) (sym text_is) left.0, ap (λ t. cells_of authors t c.put_block.new.tree.items) text_is ∙ left.1)
 
 -- the spans are still cut out of it
-still_cut : (c : After-kill_named) → AllByRecursion (IsCutOut c.put_block.new.index) c.args.spans.now
+still_cut : (c : After-kill_named-hidden) → AllByRecursion (IsCutOut c.put_block.new.index) c.args.spans.now
 still_cut c =
     cut_out_put c.place_run.new.index c.put_block.new.index c.args.spans.now c.args.run.now.first c.len-3.result c.in_ok-put_block.ensures.edges
     (named_below c.args.spans.now c.args.self.now c.args.run.now.first c.args.run.now.after c.requires.there c.requires.fits) c.requires.spans
     (cut_out_kept c.cut_spans.new.index c.place_run.new.index c.args.spans.now c.place_run.ensures.edges c.in_ok-cut_spans.ensures.cut)
 
-done : (c : After-kill_named) → (IsBlockSeq c.place_author.new.authors.items c.push_text.new.text.items c.put_block.new.index c.kill_named.new.tree.items
-    × (cells_of c.place_author.new.authors.items c.push_text.new.text.items c.kill_named.new.tree.items ≡ with_run c.args.rev c.args.run.now c.args.author.now (without_spans c.args.rev c.args.spans.now c.args.self.now)))
-    × (c.kill_named.result ≡ count_by (is_hidden_by c.args.spans.now) c.args.self.now)
+done : (c : After-kill_named-hidden) → (IsBlockSeq (max c.self.inside.latest c.args.rev) (max c.self.inside.clock (last c)) c.place_author.new.authors.items c.push_text.new.text.items c.put_block.new.index c.kill_named-hidden.new.tree.items
+    × (cells_of c.place_author.new.authors.items c.push_text.new.text.items c.kill_named-hidden.new.tree.items ≡ with_run c.args.rev c.args.run.now c.args.author.now (without_spans c.args.rev c.args.spans.now c.args.self.now)))
+    × (c.kill_named-hidden.result ≡ count_by (is_hidden_by c.args.spans.now) c.args.self.now)
 done c =
     let there = run_there c in
     let cut = still_cut c in
-    let killed = row_killed c.args.rev c.args.spans.now c.place_author.new.authors.items c.push_text.new.text.items c.put_block.new.index c.put_block.new.tree.items c.kill_named.new.tree.items (with_run c.args.rev c.args.run.now c.args.author.now c.args.self.now) there.0 there.1 cut c.kill_named.ensures.kept c.kill_named.ensures.items in
+    let killed = row_killed (max c.self.inside.latest c.args.rev) c.args.rev c.args.spans.now c.place_author.new.authors.items c.push_text.new.text.items c.put_block.new.index c.put_block.new.tree.items c.kill_named-hidden.new.tree.items (with_run c.args.rev c.args.run.now c.args.author.now c.args.self.now) (omega arith) (omega arith) there.0 there.1 cut c.kill_named-hidden.ensures.kept c.kill_named-hidden.ensures.items in
     let order = subst Rattle.pad_model.specs.Cell.IsInOrder c.self.view_is c.self.invariant.order in (
       (killed.0, killed.1 ∙ commute c.args.rev c.args.spans.now c.args.run.now c.args.author.now c.args.self.now c.requires.fits c.requires.there),
-      c.kill_named.ensures.hidden
+      c.kill_named-hidden.ensures.hidden
           ∙ sym (killed_count c.args.spans.now c.place_author.new.authors.items c.push_text.new.text.items c.put_block.new.tree.items there.0.within (all_aligned c.put_block.new.index c.put_block.new.tree.items c.args.spans.now there.0.kept.listed cut))
           ∙ ap (count_by (is_hidden_by c.args.spans.now)) there.1 ∙ hidden_with_run c.args.rev c.args.spans.now c.args.run.now c.args.author.now c.args.self.now order c.requires.fits c.requires.there,
     )
 
 pub invariant_of-self-2 : goal.invariant_of-self-2
-invariant_of-self-2 c = (done (goal.at.invariant_of-self-2 c).After-kill_named).0.0
+invariant_of-self-2 c =
+    let left = (done (goal.at.invariant_of-self-2 c).After-kill_named-hidden).0.0 in
+    let clock : c.max-self-inside.result ≡ max c.self.inside.clock (c.args.run.now.first.counter + (length c.args.run.now.text - 1)) =
+    c.max-self-inside.ensures ∙ ap₂ (λ counter len. max c.self.inside.clock (counter + (len - 1))) c.counter.ensures.value c.len-4.ensures
+    in
+    subst (λ n. IsBlockSeq n c.max-self-inside.result c.place_author.new.authors.items c.push_text.new.text.items c.put_block.new.index c.kill_named-hidden.new.tree.items) (sym c.max-self-inside-2.ensures)
+    (subst (λ k. IsBlockSeq (max c.self.inside.latest c.args.rev) k c.place_author.new.authors.items c.push_text.new.text.items c.put_block.new.index c.kill_named-hidden.new.tree.items) (sym clock) left)
 
 pub returns : goal.returns
 returns c =
-    let d = done (goal.at.returns c).After-kill_named in
+    let d = done (goal.at.returns c).After-kill_named-hidden in
     inr (ap₂ (λ n l. (Ok n, l)) (sym d.1) (sym d.0.1))

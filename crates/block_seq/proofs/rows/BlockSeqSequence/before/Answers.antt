@@ -13,6 +13,7 @@ use Rattle.block_seq.proofs.BlockCells.{none_held, held_cell, spot_block}
 use Rattle.block_seq.proofs.BlockScan.{one_rank}
 use Rattle.block_seq.proofs.Kept.{unless_has, where_has}
 use Rattle.block_seq.proofs.RowReads.{before-blocks}
+use Rattle.block_seq.proofs.RowNow.{dated_blocks}
 use Rattle.block_seq.proofs.rows.BlockSeqSequence.before.Goals as goal
 
 pub returns-in_err-spot : goal.returns-in_err-spot
@@ -54,3 +55,6 @@ returns c =
     ∙ sym (before-blocks c.args.rev c.self.inside.authors.items c.self.inside.text.items bs rank c.in_ok-spot.spot.offset b c.args.stamp c.self.invariant.within place.1 is inside
     (λ i x l f cov. one_rank bs i rank x b k.apart f place.1 l (c.in_ok-spot.ensures.sound.apart c.args.stamp x.first b.first (holds_here c.self.inside.index bs i x c.args.stamp k f cov) held)))
     ∙ ap (λ l. shown_before character_of (shown_at c.args.rev) l c.args.stamp) c.self.view_is)
+
+pub count_before-requires-clause-dated : goal.count_before-requires-clause-dated
+count_before-requires-clause-dated c = dated_blocks c.self.inside.latest c.self.inside.authors.items c.self.inside.text.items c.self.inside.tree.items c.self.invariant.within c.self.invariant.kept.listed.sized c.self.invariant.dated

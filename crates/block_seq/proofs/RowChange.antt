@@ -1,13 +1,12 @@
 -- A run and a deletion that are made together.
 use Rattle.std.proofs.Common.{◌≡◌, ℕ, zero, suc, ◌+◌, ◌-◌, ◌≤◌, ◌<◌, inl, inr, Bool, true, false, ◌&&◌, ◌||◌, List, [], ◌∷◌, ◌++◌, length, map, flat_map, sum_by, count_by, Option, Some, None, refl, sym, ap, ap₂, ◌∙◌, subst, arith, leb-true, eqb-true, get_or, drop, Ok}
 use Rattle.std.specs.List.{AllByRecursion, AllZip, list_all}
-use Rattle.std.proofs.lemmas.Bool.{and_parts, or_left, or_right, cases_lt}
+use Rattle.std.proofs.lemmas.Bool.{and_parts, or_left, or_right}
 use Rattle.std.proofs.lemmas.List.Folds.{list_any-append}
 use Rattle.std.proofs.lemmas.List.Sums.{sum_by-cons, sum_by-append}
 use Rattle.std.proofs.lemmas.List.Sorted.{sum_by-IsPermutation}
 use Rattle.pad_model.specs.Cell.{Cell, character_of, born_at, new_cells, with_run, is_hidden_by, IsInOrder}
 use Rattle.pad_model.specs.Checked.{is_run, is_span}
-use Rattle.pad_model.specs.Legal.{has_stamp}
 use Rattle.pad_model.specs.Log.{run_may_join, has_spans}
 use Rattle.pad_model.specs.Operation.{span_stamps}
 use Rattle.pad_model.specs.Stamp.{Stamp, same_stamp}

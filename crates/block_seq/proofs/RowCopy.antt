@@ -3,7 +3,7 @@ use Rattle.std.proofs.Common.{◌≡◌, ℕ, zero, suc, ◌+◌, ◌≤◌, ◌
 use Rattle.std.specs.List.{insert}
 use Rattle.std.proofs.lemmas.List.Sums.{sum_by-cons}
 use Rattle.pad_model.specs.Stamp.{Stamp}
-use Rattle.ident_index.specs.Index.{Index, IsSound, IsNew, Covers, Holds}
+use Rattle.ident_index.specs.Index.{Index, IsSound, IsNew, Covers}
 use Rattle.blocks.specs.declared.block.Block.{Block}
 use Rattle.blocks.specs.Blocks.{IsListed, unlabelled, without_labels}
 use Rattle.blocks.proofs.Cells.{unlabelled_at, length-without_labels}

@@ -1,11 +1,11 @@
 -- Lists of runs and spans that grow at their end, and what the blocks show of authors and stamps.
 use Rattle.std.proofs.Common.{◌≡◌, ℕ, zero, suc, ◌+◌, ◌-◌, ◌≤◌, ◌<◌, inl, inr, Bool, true, false, cond, ◌&&◌, min, List, [], ◌∷◌, ◌++◌, length, take, drop, map, flat_map, sum_by, replicate, Option, Some, None, refl, sym, ap, ap₂, ◌∙◌, subst, arith, slice_get, slice_set, get_or, append_assoc, nat_le, eq-eqb}
 use Rattle.std.specs.List.{AllByRecursion}
-use Rattle.std.proofs.lemmas.Bool.{cases_lt, and_from}
+use Rattle.std.proofs.lemmas.Bool.{and_from}
 use Rattle.std.proofs.lemmas.List.{map-append, take-map, drop-map}
 use Rattle.std.proofs.lemmas.List.Sums.{sum_by-cons}
 use Rattle.std.proofs.lemmas.Slice.Eq.{bytes_eq-Decides}
-use Rattle.pad_model.specs.Cell.{Cell, cells_at, is_after}
+use Rattle.pad_model.specs.Cell.{Cell, cells_at}
 use Rattle.pad_model.specs.Character.{next}
 use Rattle.pad_model.specs.Operation.{stamps_from}
 use Rattle.pad_model.specs.Stamp.{Stamp, same_stamp}

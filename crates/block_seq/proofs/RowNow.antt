@@ -1,7 +1,6 @@
 -- What the last revision that changed something and the greatest counter tell of the blocks.
-use Rattle.std.proofs.Common.{◌≡◌, ℕ, zero, suc, ◌+◌, ◌-◌, ◌≤◌, ◌<◌, inl, inr, Bool, true, false, cond, ◌&&◌, ltb, max, List, [], ◌∷◌, ◌++◌, length, take, map, fold, sum_by, Option, Some, None, is_none, refl, sym, ap, ap₂, ◌∙◌, subst, arith, slice_get, nat_le, le-leb, le-ltb, lt-ltb}
+use Rattle.std.proofs.Common.{◌≡◌, ℕ, zero, suc, ◌+◌, ◌-◌, ◌≤◌, ◌<◌, true, cond, ◌&&◌, max, List, [], ◌∷◌, ◌++◌, length, take, map, fold, sum_by, Option, Some, None, is_none, refl, sym, ap, ap₂, ◌∙◌, arith, slice_get, nat_le, le-leb, le-ltb, lt-ltb}
 use Rattle.std.specs.List.{AllByRecursion}
-use Rattle.std.specs.Option.{IsSomeAnd}
 use Rattle.std.proofs.lemmas.List.Sums.{sum_by-cons}
 use Rattle.std.proofs.lemmas.List.Sorted.{IsPermutation-sym}
 use Rattle.pad_model.specs.Cell.{Cell, IsBy, IsInOrder, born_at, character_of, clock_of, new_cells, with_run, is_after, is_hidden_by, without_spans}
@@ -17,11 +16,10 @@ use Rattle.pad_model.proofs.Members.{order-permutation}
 use Rattle.pad_model.proofs.Newer.{split}
 use Rattle.pad_model.proofs.Runs.{IsTree-run}
 use Rattle.ident_index.specs.Index.{stamp_behind}
-use Rattle.weight_tree.specs.Find.{FallsIn}
 use Rattle.blocks.specs.declared.block.Block.{Block}
 use Rattle.blocks.specs.Blocks.{IsSized, weight_of}
 use Rattle.blocks.specs.Cells.{author_at, run_cells, stretch, block_cells, cells_of, IsWithin}
-use Rattle.block_seq.specs.Rows.{IsDated, shows, shown_len, stamp_in}
+use Rattle.block_seq.specs.Rows.{IsDated, shown_len, stamp_in}
 use Rattle.block_seq.proofs.BlockCells.{length-stretch}
 
 -- ---- dates of cells

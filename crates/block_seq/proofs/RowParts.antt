@@ -1,17 +1,17 @@
 -- The spans and the runs of one operation's parts, and what they leave together.
-use Rattle.std.proofs.Common.{◌≡◌, ℕ, zero, suc, ◌+◌, ◌-◌, ◌≤◌, ◌<◌, inl, inr, Bool, true, false, cond, ◌&&◌, ◌||◌, not, List, [], ◌∷◌, ◌++◌, length, take, drop, map, flat_map, fold, sum_by, count_by, Option, Some, None, is_none, refl, sym, ap, ap₂, ◌∙◌, subst, arith, get_or, append-nil, IsPermutation}
+use Rattle.std.proofs.Common.{◌≡◌, ℕ, ◌+◌, ◌<◌, true, false, cond, List, [], ◌∷◌, ◌++◌, length, take, map, flat_map, count_by, Option, Some, refl, sym, ap, ap₂, ◌∙◌, arith, get_or, append-nil}
 use Rattle.std.specs.List.{AllByRecursion, list_all}
-use Rattle.std.proofs.lemmas.Bool.{and_parts, and_from, both_ways, or_left, or_right, false≢true, cases_lt}
+use Rattle.std.proofs.lemmas.Bool.{and_parts, and_from, both_ways, false≢true}
 use Rattle.std.proofs.lemmas.List.{take_more, map-append}
 use Rattle.std.proofs.lemmas.List.Concat.{flat_map-append}
-use Rattle.std.proofs.lemmas.List.Folds.{list_any-append, list_all-append}
-use Rattle.pad_model.specs.Cell.{Cell, character_of, born_at, new_cells, with_run, is_hidden_by, erased_at, without_spans, IsInOrder}
+use Rattle.std.proofs.lemmas.List.Folds.{list_all-append}
+use Rattle.pad_model.specs.Cell.{Cell, character_of, born_at, new_cells, with_run, is_hidden_by, erased_at, without_spans}
 use Rattle.pad_model.specs.Character.{next, run_characters}
-use Rattle.pad_model.specs.Checked.{is_run, is_span, is_part, are_parts}
+use Rattle.pad_model.specs.Checked.{is_run, is_span, is_part}
 use Rattle.pad_model.specs.Log.{run_may_join, has_spans}
 use Rattle.pad_model.specs.Operation.{span_stamps}
 use Rattle.pad_model.specs.Order.{order}
-use Rattle.pad_model.specs.Parts.{part_fits, part_spans, spans_in, with_parts}
+use Rattle.pad_model.specs.Parts.{part_fits, spans_in}
 use Rattle.pad_model.specs.Visible.{is_erased}
 use Rattle.pad_model.specs.declared.op.Part.{Part}
 use Rattle.pad_model.specs.declared.op.Part.TheVariants.{Insert, Delete, Comment, Resolve}
@@ -26,7 +26,7 @@ use Rattle.pad_model.proofs.Parts.{with_runs, RunsJoin}
 use Rattle.pad_model.proofs.Pushed.{stamps_there}
 use Rattle.pad_model.proofs.Runs.{run_fresh}
 use Rattle.pad_model.specs.Stamp.{Stamp}
-use Rattle.block_seq.specs.RowParts.{part_runs, runs_in, with_all, AllJoin}
+use Rattle.block_seq.specs.RowParts.{runs_in, with_all, AllJoin}
 
 -- the parts of a list that a loop has passed, and one more
 pub flat_more : {B : Type 0} (f : Part → List B) (parts : List Part) (i : ℕ) (part : Part) → i < length parts → part ≡ get_or parts i part → flat_map f (take (i + 1) parts) ≡ flat_map f (take i parts) ++ f part

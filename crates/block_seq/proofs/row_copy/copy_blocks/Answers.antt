@@ -1,8 +1,8 @@
-use Rattle.std.proofs.Common.{◌≡◌, ◌≤◌, ◌<◌, ap, sym, ◌∙◌, arith, length, take}
+use Rattle.std.proofs.Common.{ap, arith}
 use Rattle.pad_model.specs.declared.limits.TheConstants.{MAX_CHARACTERS}
 use Rattle.blocks.specs.Blocks.{IsSized, without_labels}
 use Rattle.blocks.proofs.Entries.{each_get}
-use Rattle.block_seq.proofs.RowCopy.{length-copied, copied_more, next_is_new, next_fits}
+use Rattle.block_seq.proofs.RowCopy.{copied_more, next_is_new, next_fits}
 use Rattle.block_seq.proofs.row_copy.copy_blocks.Goals as goal
 use Rattle.std.proofs.Common.{refl, []}
 use Rattle.block_seq.proofs.RowSteps.{nothing_kept}

@@ -1,4 +1,4 @@
-use Rattle.std.proofs.Common.{◌≡◌, ◌+◌, ◌-◌, ◌∷◌, ◌++◌, [], length, sym, ap, ap₂, ◌∙◌, arith, vec_len, slice_get, slice_set, Some, refl}
+use Rattle.std.proofs.Common.{◌≡◌, ◌-◌, ◌∷◌, ◌++◌, [], sym, ap, ap₂, ◌∙◌, arith, vec_len, refl}
 use Rattle.pad_model.specs.declared.who.Author.{Author}
 use Rattle.pad_model.specs.declared.who.AuthorRun.{AuthorRun}
 use Rattle.block_seq.specs.RowLists.{with_more}

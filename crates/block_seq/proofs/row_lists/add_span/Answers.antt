@@ -1,4 +1,4 @@
-use Rattle.std.proofs.Common.{◌≡◌, ◌+◌, ◌-◌, ◌≤◌, ◌<◌, ◌∷◌, ◌++◌, [], length, sym, ap, ◌∙◌, arith, vec_len, slice_get, slice_set, Some, refl}
+use Rattle.std.proofs.Common.{◌-◌, ◌∷◌, ◌++◌, [], sym, ap, ◌∙◌, arith, vec_len, refl}
 use Rattle.pad_model.specs.declared.op.Span.{Span}
 use Rattle.block_seq.specs.RowLists.{with_stamps}
 use Rattle.block_seq.proofs.RowLists.{get_here, set_itself, empty_list, none_there, stamps-join, stamps-apart}

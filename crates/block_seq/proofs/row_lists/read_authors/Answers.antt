@@ -1,7 +1,5 @@
-use Rattle.std.proofs.Common.{◌≡◌, ◌+◌, ◌-◌, ◌≤◌, ◌++◌, ◌<◌, [], List, sum_by, sym, ap, ap₂, ◌∙◌, refl, arith, subst, flat_map, length, replicate, append_assoc}
+use Rattle.std.proofs.Common.{◌≡◌, ◌++◌, [], sum_by, sym, ap, ◌∙◌, refl, arith, subst, flat_map, length, replicate}
 use Rattle.std.specs.List.{AllByRecursion}
-use Rattle.pad_model.specs.Visible.{runs}
-use Rattle.pad_model.specs.declared.who.Author.{Author}
 use Rattle.pad_model.specs.declared.who.AuthorRun.{AuthorRun}
 use Rattle.blocks.specs.Blocks.{IsSized}
 use Rattle.blocks.specs.Cells.{IsWithin}

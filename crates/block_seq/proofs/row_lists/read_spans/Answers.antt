@@ -1,9 +1,7 @@
-use Rattle.std.proofs.Common.{◌≡◌, ◌+◌, ◌-◌, ◌≤◌, ◌++◌, [], List, sum_by, sym, ap, ◌∙◌, refl, arith, subst, take, drop, flat_map}
+use Rattle.std.proofs.Common.{◌≡◌, ◌-◌, ◌++◌, [], sum_by, sym, ap, ◌∙◌, arith, subst, take, drop, flat_map}
 use Rattle.std.specs.List.{AllByRecursion}
 use Rattle.pad_model.specs.Operation.{stamps_from}
 use Rattle.pad_model.specs.Stamp.{Stamp}
-use Rattle.pad_model.specs.Visible.{spans}
-use Rattle.pad_model.specs.declared.limits.TheConstants.{MAX_CHARACTERS}
 use Rattle.pad_model.specs.declared.op.Span.{Span}
 use Rattle.ident_index.specs.Index.{stamp_behind}
 use Rattle.blocks.specs.Blocks.{IsSized}

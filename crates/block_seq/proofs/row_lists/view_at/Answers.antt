@@ -1,5 +1,4 @@
-use Rattle.std.proofs.Common.{◌≡◌, ◌+◌, ◌-◌, ◌<◌, ap, sym, refl, ◌∙◌, arith, subst, length, Some}
-use Rattle.pad_model.specs.Views.{IsViewOf}
+use Rattle.std.proofs.Common.{◌≡◌, ◌+◌, ap, sym, refl, ◌∙◌, arith, Some}
 use Rattle.block_seq.proofs.RowLists.{get_here, author_here, cell_in_block, parent_in, parent_first, parent_later}
 use Rattle.block_seq.proofs.row_lists.view_at.Goals as goal
 use Rattle.block_seq.proofs.row_lists.view_at.Goals.{then-offset-eq0, else-offset-eq0}

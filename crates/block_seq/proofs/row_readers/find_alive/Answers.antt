@@ -1,5 +1,5 @@
-use Rattle.std.proofs.Common.{◌≡◌, ◌+◌, ◌≤◌, ◌<◌, refl, sym, ap, ◌∙◌, arith, Some}
-use Rattle.weight_tree.proofs.CallerLemmas.{falls_within, falls_inside}
+use Rattle.std.proofs.Common.{refl, sym, ap, ◌∙◌, arith, Some}
+use Rattle.weight_tree.proofs.CallerLemmas.{falls_inside}
 use Rattle.blocks.specs.Blocks.{IsSized, weight_of}
 use Rattle.blocks.proofs.Entries.{each_get, weight-le-len}
 use Rattle.block_seq.proofs.RowNow.{stamp_now, none_now}

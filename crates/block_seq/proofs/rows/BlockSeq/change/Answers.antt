@@ -1,4 +1,4 @@
-use Rattle.std.proofs.Common.{◌≡◌, ℕ, ◌++◌, ◌+◌, ◌-◌, ◌≤◌, max, true, inr, Ok, None, length, map, sym, ap, ap₂, ◌∙◌, refl, subst, arith, count_by}
+use Rattle.std.proofs.Common.{◌≡◌, ℕ, ◌++◌, ◌+◌, ◌-◌, max, inr, Ok, None, length, sym, ap, ap₂, ◌∙◌, refl, subst, arith, count_by}
 use Rattle.std.specs.List.{AllByRecursion}
 use Rattle.std.specs.Result.{IsErrAnd}
 use Rattle.pad_model.specs.Cell.{character_of, is_hidden_by, with_run, without_spans}

@@ -1,4 +1,4 @@
-use Rattle.std.proofs.Common.{◌≡◌, sym, ap, ap₂, ◌∙◌, subst}
+use Rattle.std.proofs.Common.{◌≡◌, sym, ap₂, ◌∙◌, subst}
 use Rattle.std.proofs.lemmas.List.Elements.{same_from_all_zip}
 use Rattle.blocks.specs.Cells.{cells_of}
 use Rattle.blocks.proofs.Cells.{same_unlabelled}

@@ -1,13 +1,9 @@
-use Rattle.std.proofs.Common.{max, arith, ◌≡◌, Bool, true, false, inr, Ok, sym, ap, ap₂, ◌∙◌, subst, count_by}
-use Rattle.std.specs.Result.{IsErrAnd}
-use Rattle.pad_model.specs.Cell.{character_of, is_hidden_by, without_spans}
-use Rattle.pad_model.specs.Log.{has_spans}
-use Rattle.pad_model.proofs.Exits.{answers_memory, is_answered}
+use Rattle.std.proofs.Common.{max, arith, ◌≡◌, inr, Ok, sym, ap, ap₂, ◌∙◌, subst, count_by}
+use Rattle.pad_model.specs.Cell.{is_hidden_by, without_spans}
 use Rattle.blocks.specs.Cells.{cells_of}
 use Rattle.block_seq.specs.Rows.{IsBlockSeq}
-use Rattle.block_seq.proofs.Kept.{delete-fault}
 use Rattle.block_seq.proofs.RowErase.{all_aligned, killed_count, row_killed}
-use Rattle.block_seq.proofs.RowSteps.{same_cells_kept, delete-ok}
+use Rattle.block_seq.proofs.RowSteps.{same_cells_kept}
 use Rattle.block_seq.proofs.rows.BlockSeq.erase.Goals as goal
 use Rattle.block_seq.proofs.rows.BlockSeq.erase.Goals.{After-kill_named-hidden}
 

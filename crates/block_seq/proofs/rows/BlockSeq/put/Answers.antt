@@ -1,4 +1,4 @@
-use Rattle.std.proofs.Common.{◌≡◌, inl, inr, Ok, Err, sym, ap, ap₂, ◌∙◌, refl}
+use Rattle.std.proofs.Common.{◌≡◌, inl, inr, Ok, Err, sym, ap, ◌∙◌, refl}
 use Rattle.pad_model.specs.Cell.{with_run}
 use Rattle.pad_model.proofs.Erase.{without_none}
 use Rattle.block_seq.proofs.rows.BlockSeq.put.Goals as goal

@@ -1,7 +1,6 @@
-use Rattle.std.proofs.Common.{◌≡◌, ◌+◌, ◌≤◌, ◌∷◌, inl, inr, length, map, drop, sum_by, sym, ap, ◌∙◌, subst, arith}
+use Rattle.std.proofs.Common.{◌+◌, ◌∷◌, inl, inr, map, drop, sym, ap, ◌∙◌, subst, arith}
 use Rattle.pad_model.specs.declared.limits.TheConstants.{MAX_CHARACTERS}
-use Rattle.pad_model.specs.Cell.{with_run}
-use Rattle.block_seq.specs.RowParts.{AllJoin, with_all}
+use Rattle.block_seq.specs.RowParts.{with_all}
 use Rattle.block_seq.proofs.RowChange.{PutNext, put_next, lent_from, lent_checked, lent_sizes}
 use Rattle.block_seq.proofs.rows.BlockSeq.put_all.Goals as goal
 

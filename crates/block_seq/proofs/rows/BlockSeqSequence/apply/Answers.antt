@@ -1,4 +1,4 @@
-use Rattle.std.proofs.Common.{◌≡◌, ◌+◌, ◌≤◌, Bool, true, false, List, inr, Ok, eqb-true, vec_len, length, map, count_by, sum_by, sym, ap, ap₂, ◌∙◌, refl, subst, arith}
+use Rattle.std.proofs.Common.{◌≡◌, ◌+◌, ◌≤◌, Bool, true, false, List, inr, Ok, eqb-true, vec_len, length, map, count_by, sum_by, sym, ap, ◌∙◌, refl, subst, arith}
 use Rattle.std.specs.List.{list_all}
 use Rattle.pad_model.specs.Cell.{IsInOrder, character_of}
 use Rattle.pad_model.specs.Parts.{part_fits}

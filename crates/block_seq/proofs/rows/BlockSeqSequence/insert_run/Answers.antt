@@ -1,4 +1,4 @@
-use Rattle.std.proofs.Common.{◌≡◌, ◌+◌, ◌≤◌, Bool, true, false, inr, length, sym, ap, ◌∙◌, subst, arith}
+use Rattle.std.proofs.Common.{◌≡◌, Bool, true, false, inr, length, sym, ap, ◌∙◌, subst, arith}
 use Rattle.pad_model.specs.Answers.{Answers}
 use Rattle.pad_model.specs.Cell.{character_of}
 use Rattle.pad_model.specs.Log.{run_may_join}

@@ -1,4 +1,5 @@
-//! Sequences of characters. `PlainSeq` is the plain one: a vector of cells, walked from its start.
+//! Sequences of characters. `PlainSeq` is the plain one: a vector of cells, walked from its start. `BlockSeq` keeps
+//! characters that were typed at once as one block, in a balanced tree with an index.
 #![tactic(auto)]
 
 mod authors;

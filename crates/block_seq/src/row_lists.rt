@@ -1,5 +1,5 @@
-//! Whose the visible characters of the blocks are and which stamps they have, and single characters, by one walk along the
-//! tree.
+//! Whose the visible characters of the blocks are and which stamps they have, and single characters, by one walk
+//! along the tree.
 ghost use Rattle.std.specs.Prelude.{◌≡◌, ◌+◌, ◌≤◌, ◌<◌, ℕ, Some, List, length, sum_by, flat_map, take, drop, slice_get, IfOk, OnOk};
 ghost use Rattle.std.specs.List.{AllByRecursion};
 ghost use Rattle.pad_model.specs.Views.{IsViewOf};

@@ -149,7 +149,8 @@ fn front_visible(tree: &WeightTree<Block>, latest: u64, rank: usize, rev: u64) -
     count_front(tree, rank, rev)
 }
 
-/// How many visible characters stand before one, given where it is: those of its block, if it is visible, and of those before.
+/// How many visible characters stand before one, given where it is: those of its block, if it is visible, and of those
+/// before.
 pub fn count_before(
     tree: &WeightTree<Block>,
     latest: u64,

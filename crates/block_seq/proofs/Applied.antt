@@ -26,7 +26,7 @@ all_follow : {A : Type 0} (p q : A → Bool) → ((x : A) → p x ≡ true → q
 all_follow p q h [] e = refl
 all_follow p q h (x ∷ xs) e = let both = and_parts _ _ e in and_from _ _ (h x both.0) (all_follow p q h xs both.1)
 
-parts_each : (origin : ℕ) (parts : List Part) → are_parts origin parts ≡ true → list_all (is_part origin) parts ≡ true
+pub parts_each : (origin : ℕ) (parts : List Part) → are_parts origin parts ≡ true → list_all (is_part origin) parts ≡ true
 parts_each origin parts h = (and_parts _ _ (and_parts _ _ (and_parts _ _ h).0).0).1
 
 part_run : (origin : ℕ) (part : Part) → is_part origin part ≡ true → is_part_run part ≡ true

@@ -48,7 +48,7 @@ prefix_len-map f t [] = refl
 prefix_len-map f t (x ∷ xs) = ap (λ n. cond (t (f x)) (1 + n) 0) (prefix_len-map f t xs)
 
 -- what is left from a place on is the item there and the rest
-drop-item : {A : Type 0} (xs : List A) (i : ℕ) (x : A) → i < length xs → x ≡ get_or xs i x → drop i xs ≡ x ∷ drop (i + 1) xs
+pub drop-item : {A : Type 0} (xs : List A) (i : ℕ) (x : A) → i < length xs → x ≡ get_or xs i x → drop i xs ≡ x ∷ drop (i + 1) xs
 drop-item xs i x h e = drop-cons xs i x h ∙ ap₂ (λ y n. y ∷ drop n xs) (sym e) (let m : suc i ≡ i + 1 = omega arith in m)
 
 drop_further : {A : Type 0} (xs : List A) (i n : ℕ) → drop n (drop (i + 1) xs) ≡ drop (i + (n + 1)) xs

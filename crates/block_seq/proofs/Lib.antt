@@ -1,8 +1,13 @@
 pub mod Applied
 pub mod BlockCells
 pub mod BlockScan
+pub mod RowChange
+pub mod RowCopy
 pub mod RowErase
+pub mod RowLists
+pub mod RowNow
 pub mod RowOrder
+pub mod RowParts
 pub mod RowReads
 pub mod RowSteps
 pub mod Fronts

@@ -18,7 +18,8 @@ use Rattle.blocks.proofs.Parts.{holds_here, what_holds, some_block}
 use Rattle.std.proofs.Common.{get_or, ◌||◌}
 use Rattle.std.proofs.lemmas.List.{map-append, take_more}
 use Rattle.std.proofs.lemmas.List.Sums.{sum_by-append}
-use Rattle.pad_model.specs.Cell.{Cell, IsInOrder, erased_at, is_hidden_by, without_spans}
+use Rattle.block_seq.proofs.RowNow.{erased_by, later_by, clock-erased}
+use Rattle.pad_model.specs.Cell.{Cell, IsInOrder, erased_at, is_hidden_by, without_spans, IsBy, clock_of}
 use Rattle.pad_model.specs.Visible.{is_erased}
 use Rattle.pad_model.specs.declared.who.Author.{Author}
 use Rattle.pad_model.proofs.Each.{each-append, each-imply}
@@ -228,15 +229,17 @@ killed_sum rev spans (b ∷ bs) =
     ∙ sym (sum_by-cons (λ (x : Block). x.len) b bs)
 
 -- what a deletion leaves
-pub row_killed : (rev : ℕ) (spans : List Span) (authors : List Author) (text : List ℕ) (m : Index) (bs after : List Block) (now : List Cell) → IsBlockSeq authors text m bs → cells_of authors text bs ≡ now → AllByRecursion (IsCutOut m) spans → IsKept m after → after ≡ map (killed rev spans) bs
-    → IsBlockSeq authors text m after × (cells_of authors text after ≡ without_spans rev spans now)
-row_killed rev spans authors text m bs after now s is cut kept marked =
+pub row_killed : {latest clock : ℕ} (most rev : ℕ) (spans : List Span) (authors : List Author) (text : List ℕ) (m : Index) (bs after : List Block) (now : List Cell) → latest ≤ most → rev ≤ most → IsBlockSeq latest clock authors text m bs → cells_of authors text bs ≡ now → AllByRecursion (IsCutOut m) spans → IsKept m after → after ≡ map (killed rev spans) bs
+    → IsBlockSeq most clock authors text m after × (cells_of authors text after ≡ without_spans rev spans now)
+row_killed {latest} {clock} most rev spans authors text m bs after now latest_is rev_is s is cut kept marked =
     let cells = ap (cells_of authors text) marked ∙ killed_cells rev spans authors text bs s.within (all_aligned m bs spans s.kept.listed cut) ∙ ap (without_spans rev spans) is in (
       record {
         kept = kept;
         within = subst (AllByRecursion (IsWithin (length authors) (length text))) (sym marked) (killed_within rev spans (length authors) (length text) bs s.within);
         full = s.full ∙ sym (killed_sum rev spans bs) ∙ ap (sum_by (λ (b : Block). b.len)) (sym marked);
         order = subst IsInOrder (sym cells) (IsInOrder-without rev spans now (subst IsInOrder is s.order));
+        dated = subst (AllByRecursion (IsBy most)) (sym cells) (erased_by rev most spans now rev_is (later_by latest most now latest_is (subst (AllByRecursion (IsBy latest)) is s.dated)));
+        newest = ap clock_of cells ∙ clock-erased rev 0 spans now ∙ sym (ap clock_of is) ∙ s.newest;
       },
       cells,
     )

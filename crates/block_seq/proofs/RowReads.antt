@@ -28,7 +28,7 @@ shown_small rev (b ∷ bs) =
     rw (sum_by-cons (shown_len rev) b bs, sum_by-cons (λ (x : Block). x.len) b bs) (omega (arith, rest, here))
 
 -- a block is shown whole, or not at all
-abbrev shown_cells : ℕ → List Author → List ℕ → Block → List Cell
+abbrev pub shown_cells : ℕ → List Author → List ℕ → Block → List Cell
 shown_cells rev authors text b = cond (shows rev b) (block_cells authors text b) []
 
 shown_run : (rev : ℕ) (author : Author) (born : ℕ) (died : Option ℕ) (first : Stamp) (p : Option Stamp) (text : List ℕ)
@@ -77,12 +77,12 @@ text-at rev authors text bs = ap (map (λ c. c.character)) (cells_at-blocks rev 
         (texts bs)
 
 -- ---- the stamp at a place
-get_front : {A : Type 0} (xs ys : List A) (i : ℕ) → i < length xs → slice_get (xs ++ ys) i ≡ slice_get xs i
+pub get_front : {A : Type 0} (xs ys : List A) (i : ℕ) → i < length xs → slice_get (xs ++ ys) i ≡ slice_get xs i
 get_front [] ys i h = absurd (omega arith)
 get_front (x ∷ xs) ys zero h = refl
 get_front (x ∷ xs) ys (suc i) h = get_front xs ys i (omega arith)
 
-get_back : {A : Type 0} (xs ys : List A) (i j : ℕ) → i ≡ length xs + j → slice_get (xs ++ ys) i ≡ slice_get ys j
+pub get_back : {A : Type 0} (xs ys : List A) (i j : ℕ) → i ≡ length xs + j → slice_get (xs ++ ys) i ≡ slice_get ys j
 get_back [] ys i j e = ap (slice_get ys) (let same : i ≡ j = omega (arith, e) in same)
 get_back (x ∷ xs) ys zero j e = absurd (omega arith)
 get_back (x ∷ xs) ys (suc i) j e = get_back xs ys i j (omega arith)

@@ -1,10 +1,11 @@
 -- What a change leaves of the sequence of blocks.
-use Rattle.std.proofs.Common.{◌≡◌, ◌⊎◌, inl, inr, ℕ, ◌+◌, ◌<◌, true, List, [], ◌∷◌, ◌++◌, length, take, drop, sum_by, Option, None, refl, sym, ap, ap₂, ◌∙◌, subst, arith, length-append}
+use Rattle.std.proofs.Common.{◌≡◌, ◌⊎◌, inl, inr, ℕ, ◌+◌, ◌-◌, ◌≤◌, ◌<◌, max, true, List, [], ◌∷◌, ◌++◌, length, take, drop, sum_by, Option, None, refl, sym, ap, ap₂, ◌∙◌, subst, arith, length-append}
 use Rattle.std.specs.List.{AllByRecursion, insert}
 use Rattle.std.proofs.lemmas.List.{take-map, drop-map}
 use Rattle.std.proofs.lemmas.List.Sums.{sum_by-insert}
 use Rattle.std.proofs.lemmas.List.Concat.{flat_map-append}
-use Rattle.pad_model.specs.Cell.{Cell, IsInOrder, character_of, new_cells, with_run, delete_spans, is_hidden_by, without_spans}
+use Rattle.block_seq.proofs.RowNow.{run_by, later_by, clock-with_run}
+use Rattle.pad_model.specs.Cell.{Cell, IsBy, clock_of, IsInOrder, character_of, new_cells, with_run, delete_spans, is_hidden_by, without_spans}
 use Rattle.pad_model.specs.Log.{run_may_join, has_spans}
 use Rattle.pad_model.specs.declared.op.Span.{Span}
 use Rattle.std.proofs.Common.{Ok, count_by}
@@ -35,9 +36,9 @@ wider old new a text bs (inr more) w = (
 )
 
 -- what changes no cell keeps all
-pub unchanged : (old new : List Author) (a : Author) (text : List ℕ) (m n : Index) (bs after : List Block) → IsBlockSeq old text m bs → (new ≡ old) ⊎ (new ≡ old ++ a ∷ []) → IsKept n after → SameCells bs after
-    → IsBlockSeq new text n after × (cells_of new text after ≡ cells_of old text bs)
-unchanged old new a text m n bs after s more kept same =
+pub unchanged : {latest clock : ℕ} (old new : List Author) (a : Author) (text : List ℕ) (m n : Index) (bs after : List Block) → IsBlockSeq latest clock old text m bs → (new ≡ old) ⊎ (new ≡ old ++ a ∷ []) → IsKept n after → SameCells bs after
+    → IsBlockSeq latest clock new text n after × (cells_of new text after ≡ cells_of old text bs)
+unchanged {latest} {clock} old new a text m n bs after s more kept same =
     let wide = wider old new a text bs more s.within in
     let within = same.within (length new) (length text) wide.0 in
     let cells = same.cells new text wide.0 ∙ wide.1 in (
@@ -46,6 +47,8 @@ unchanged old new a text m n bs after s more kept same =
         within = within;
         full = s.full ∙ sym (length-cells old text bs s.within) ∙ ap length (sym cells) ∙ length-cells new text after within;
         order = subst IsInOrder (sym cells) s.order;
+        dated = subst (AllByRecursion (IsBy latest)) (sym cells) s.dated;
+        newest = ap clock_of cells ∙ s.newest;
       },
       cells,
     )
@@ -67,13 +70,13 @@ cells-insert : (authors : List Author) (text : List ℕ) (bs : List Block) (k : 
 cells-insert authors text bs k b = flat_map-append (block_cells authors text) (take k bs) (b ∷ drop k bs)
 
 -- what an insertion leaves
-pub run_put : (old new : List Author) (a : Author) (text : List ℕ) (m m1 m2 : Index) (bs mid after : List Block) (now : List Cell) (run : Run) (k rev author : ℕ) (nb : Block)
-    → IsBlockSeq old text m bs → cells_of old text bs ≡ now → (new ≡ old) ⊎ (new ≡ old ++ a ∷ []) → (author < length new) × (author_at new author ≡ a)
+pub run_put : {latest clock : ℕ} (most last : ℕ) (old new : List Author) (a : Author) (text : List ℕ) (m m1 m2 : Index) (bs mid after : List Block) (now : List Cell) (run : Run) (k rev author : ℕ) (nb : Block)
+    → latest ≤ most → rev ≤ most → 1 ≤ length run.text → last ≡ run.first.counter + (length run.text - 1) → IsBlockSeq latest clock old text m bs → cells_of old text bs ≡ now → (new ≡ old) ⊎ (new ≡ old ++ a ∷ []) → (author < length new) × (author_at new author ≡ a)
     → run_may_join character_of now run.first run.after ≡ true → SameCells bs mid → IsPlaceFor run.after run.first mid k → IsKept m2 after
     → nb ≡ record { first = run.first; parent = run.after; author = author; born = rev; died = None; label = 0; start = length text; len = length run.text }
     → without_labels after ≡ insert (without_labels mid) k (unlabelled nb)
-    → IsBlockSeq new (text ++ run.text) m2 after × (cells_of new (text ++ run.text) after ≡ with_run rev run a now)
-run_put old new a text m m1 m2 bs mid after now run k rev author nb s is more here may same place kept nb_is put_is =
+    → IsBlockSeq most (max clock last) new (text ++ run.text) m2 after × (cells_of new (text ++ run.text) after ≡ with_run rev run a now)
+run_put {latest} {clock} most last old new a text m m1 m2 bs mid after now run k rev author nb latest_is rev_is some last_is s is more here may same place kept nb_is put_is =
     let wide = text ++ run.text in
     let length_wide = length-append text run.text in
     let w = wider old new a text bs more s.within in
@@ -107,12 +110,14 @@ run_put old new a text m m1 m2 bs mid after now run k rev author nb s is more he
             length_wide ∙ ap₂ (λ x y. x + y) (s.full ∙ sym (length-cells old text bs s.within) ∙ ap length (sym (same.cells new text w.0 ∙ w.1)) ∙ length-cells new text mid mid_within ∙ sym (sum-without_labels mid)) (sym len_is)
             ∙ sym (sum_by-insert (λ (x : Block). x.len) (without_labels mid) k (unlabelled nb)) ∙ ap (sum_by (λ (x : Block). x.len)) (sym put_is) ∙ sum-without_labels after;
         order = subst IsInOrder (sym cells) (IsInOrder-with_run rev run a now (subst IsInOrder is s.order) may);
+        dated = subst (AllByRecursion (IsBy most)) (sym cells) (run_by rev most run a now rev_is (subst IsInOrder is s.order) (later_by latest most now latest_is (subst (AllByRecursion (IsBy latest)) is s.dated)) may);
+        newest = ap clock_of cells ∙ clock-with_run rev run a now (subst IsInOrder is s.order) may some ∙ ap₂ max (sym (ap clock_of is) ∙ s.newest) (sym last_is);
       },
       cells,
     )
 
 -- no blocks stand for no cells
-pub nothing_kept : (authors : List Author) (text : List ℕ) (m : Index) (bs : List Block) → bs ≡ [] → text ≡ [] → m ≡ Rattle.std.specs.FinMap.empty → IsBlockSeq authors text m bs
+pub nothing_kept : (authors : List Author) (text : List ℕ) (m : Index) (bs : List Block) → bs ≡ [] → text ≡ [] → m ≡ Rattle.std.specs.FinMap.empty → IsBlockSeq 0 0 authors text m bs
 nothing_kept authors text m bs none blank new = rw (none, blank, new) (record {
   kept = record {
     listed = record { index = λ s. Rattle.std.specs.FinMap.get-empty Rattle.ident_index.specs.Index.stamp_cmp s; apart = tt; sized = tt; small = omega arith };
@@ -121,11 +126,13 @@ nothing_kept authors text m bs none blank new = rw (none, blank, new) (record {
   within = tt;
   full = refl;
   order = record { tree = record { distinct = Rattle.pad_model.proofs.Rising.IsDistinct-nil character_of; rooted = tt; later = tt }; is = refl };
+  dated = tt;
+  newest = refl;
 })
 
 -- the same where the authors stay
-pub same_cells_kept : (authors : List Author) (text : List ℕ) (m n : Index) (bs after : List Block) → IsBlockSeq authors text m bs → IsKept n after → SameCells bs after
-    → IsBlockSeq authors text n after × (cells_of authors text after ≡ cells_of authors text bs)
+pub same_cells_kept : {latest clock : ℕ} (authors : List Author) (text : List ℕ) (m n : Index) (bs after : List Block) → IsBlockSeq latest clock authors text m bs → IsKept n after → SameCells bs after
+    → IsBlockSeq latest clock authors text n after × (cells_of authors text after ≡ cells_of authors text bs)
 same_cells_kept authors text m n bs after s kept same = unchanged authors authors (record { name = []; origin = 0 }) text m n bs after s (inl refl) kept same
 
 pub delete-ok : (rev : ℕ) (spans : List Span) (now : List Cell) → has_spans character_of now spans ≡ true → delete_spans rev spans now ≡ (Ok (count_by (is_hidden_by spans) now), without_spans rev spans now)

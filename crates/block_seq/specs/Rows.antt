@@ -1,7 +1,7 @@
 -- What the sequence of blocks keeps.
-use Rattle.std.specs.Prelude.{◌≡◌, ℕ, suc, ◌-◌, ◌<◌, List, ◌++◌, length, sum_by, take, drop, Option, Some, None, slice_get, [], ◌∷◌, Bool, nat_le, nat_lt, ◌&&◌, is_none, flat_map, if◌then◌else◌}
+use Rattle.std.specs.Prelude.{◌≡◌, ℕ, suc, ◌-◌, ◌≤◌, ◌<◌, List, ◌++◌, length, sum_by, take, drop, Option, Some, None, slice_get, [], ◌∷◌, Bool, nat_le, nat_lt, ◌&&◌, is_none, flat_map, if◌then◌else◌}
 use Rattle.std.specs.List.{AllByRecursion, prefix_len}
-use Rattle.pad_model.specs.Cell.{Cell, IsInOrder, character_of, is_after}
+use Rattle.pad_model.specs.Cell.{Cell, IsBy, IsInOrder, character_of, clock_of, is_after}
 use Rattle.pad_model.specs.Scan.{put}
 use Rattle.pad_model.specs.Stamp.{Stamp, newer}
 use Rattle.pad_model.specs.declared.who.Author.{Author}
@@ -13,12 +13,19 @@ use Rattle.blocks.specs.Blocks.{IsKept, IsEdge}
 use Rattle.blocks.specs.Cells.{cells_of, stretch, IsWithin}
 use Rattle.blocks.specs.declared.block.Block.{Block}
 
--- the index is that of the blocks, their stretches and authors are there, they fill the text, and the cells stand in preorder
-pub record IsBlockSeq (authors : List Author) (text : List ℕ) (m : Index) (bs : List Block) : Type 0 where
+-- the index is that of the blocks, their stretches and authors are there, they fill the text, the cells stand in preorder,
+-- none is later than the last revision, and the clock is their greatest counter
+pub record IsBlockSeq (latest clock : ℕ) (authors : List Author) (text : List ℕ) (m : Index) (bs : List Block) : Type 0 where
   pub kept : IsKept m bs
   pub within : AllByRecursion (IsWithin (length authors) (length text)) bs
   pub full : length text ≡ sum_by (λ b. b.len) bs
   pub order : IsInOrder (cells_of authors text bs)
+  pub dated : AllByRecursion (IsBy latest) (cells_of authors text bs)
+  pub newest : clock_of (cells_of authors text bs) ≡ clock
+
+-- no birth and no death of a block is later than a revision
+abbrev pub IsDated : ℕ → Block → Type 0
+IsDated rev b = (b.born ≤ rev) × ((died : ℕ) → b.died ≡ Some died → died ≤ rev)
 
 -- the block before the rank is the one that ends with the stamp, and none before it holds the stamp
 pub record IsBehind (bs : List Block) (p : Stamp) (rank : ℕ) : Type 0 where

@@ -1,4 +1,5 @@
-//! Sequences of characters. `PlainSeq` is the plain one: a vector of cells, walked from its start.
+//! Sequences of characters. `PlainSeq` is the plain one: a vector of cells, walked from its start. `BlockSeq` keeps
+//! characters that were typed at once as one block, in a balanced tree with an index.
 #![tactic(auto)]
 
 mod authors;
@@ -9,7 +10,9 @@ mod place;
 mod plain;
 mod put;
 mod readers;
+mod row_copy;
 mod row_erase;
+mod row_lists;
 mod row_parts;
 mod row_readers;
 mod rows;

@@ -131,6 +131,9 @@ pub fn kill_named(tree: &mut WeightTree<Block>, index: &IdentIndex, spans: &[Spa
     ensures hidden { result ≡ sum_by (hidden_len spans.now) tree.old.items }
 {
     let mut hidden = 0;
+    if spans.is_empty() {
+        return hidden;
+    }
     for rank in 0..tree.len() {
         hidden += kill_at(tree, index, spans, rank, rev);
     }

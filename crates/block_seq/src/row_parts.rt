@@ -1,18 +1,20 @@
-//! Whether the parts of one operation fit the sequence of blocks.
-ghost use Rattle.std.specs.Prelude.{◌≡◌, ℕ, List, IsTrue, length};
+//! The parts of one operation: whether they fit the sequence of blocks, their spans and their runs.
+ghost use Rattle.std.specs.Prelude.{◌≡◌, ℕ, List, IsTrue, length, map, IfOk, OnOk, ◌++◌};
 ghost use Rattle.std.specs.List.{AllByRecursion, list_all};
 ghost use Rattle.pad_model.specs.Cell.{character_of};
-ghost use Rattle.pad_model.specs.Parts.{part_fits};
+ghost use Rattle.pad_model.specs.Parts.{part_fits, part_spans, spans_in};
 ghost use Rattle.pad_model.specs.declared.who.Author.{Author as AuthorValue};
 ghost use Rattle.blocks.specs.Blocks.{IsKept};
 ghost use Rattle.blocks.specs.Cells.{cells_of, IsWithin};
 ghost use Rattle.block_seq.specs.KeptParts.{are_part_spans};
+ghost use Rattle.block_seq.specs.RowParts.{part_runs, runs_in};
 
 use crate::row_erase::has_spans;
 use crate::run_place::run_fits;
 use blocks::Block;
 use ident_index::IdentIndex;
-use pad_model::Part;
+use pad_model::{Part, Run, Span};
+use std::alloc::{AllocError, Global};
 use weight_tree::WeightTree;
 
 /// Whether an insertion or a deletion fits.
@@ -40,4 +42,46 @@ pub fn parts_fit(tree: &WeightTree<Block>, index: &IdentIndex, parts: &[Part]) -
         }
     }
     true
+}
+
+/// Adds the spans that a part erases.
+fn add_spans(all: &mut Vec<Span>, part: &Part) -> Result<(), AllocError>
+    ensures { OnOk result (all.new.items ≡ all.old.items ++ part_spans part.now) }
+{
+    match part {
+        Part::Delete(spans) => all.extend_from_slice(spans.as_slice()),
+        _ => Ok(()),
+    }
+}
+
+/// The spans that the parts erase.
+pub fn list_spans(alloc: Global, parts: &[Part]) -> Result<Vec<Span>, AllocError>
+    ensures { IfOk result (λ spans. spans.items ≡ spans_in parts.now) }
+{
+    let mut all = Vec::new(alloc);
+    for part in parts {
+        add_spans(&mut all, part)?;
+    }
+    Ok(all)
+}
+
+/// Adds the run that a part inserts.
+fn add_inserted<'a>(all: &mut Vec<&'a Run>, part: &'a Part) -> Result<(), AllocError>
+    ensures { OnOk result (map (λ run. run.now) all.new.items ≡ map (λ run. run.now) all.old.items ++ part_runs part.now) }
+{
+    if let Part::Insert(run) = part {
+        all.push(run)?;
+    }
+    Ok(())
+}
+
+/// The runs that the parts insert, in turn.
+pub fn list_runs<'a>(alloc: Global, parts: &'a [Part]) -> Result<Vec<&'a Run>, AllocError>
+    ensures { IfOk result (λ runs. map (λ run. run.now) runs.items ≡ runs_in parts.now) }
+{
+    let mut all = Vec::new(alloc);
+    for part in parts {
+        add_inserted(&mut all, part)?;
+    }
+    Ok(all)
 }

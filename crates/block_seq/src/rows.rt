@@ -1,22 +1,30 @@
 //! The sequence of blocks: a balanced tree of them, an index of their stamps, and one text that they only add to.
-ghost use Rattle.std.specs.Prelude.{◌≡◌, ◌+◌, ◌≤◌, ◌++◌, [], IsTrue, MatchResult, length, vec_len, vec_capacity};
+ghost use Rattle.std.specs.Prelude.{◌≡◌, ◌+◌, ◌≤◌, ◌++◌, [], IsTrue, IfErr, MatchResult, Ok, OnOk, count_by, length, map, sum_by, vec_len, vec_capacity, slice_get};
 ghost use Rattle.std.specs.List.{AllByRecursion, list_all};
 ghost use Rattle.pad_model.specs.Answers.{Answers};
-ghost use Rattle.pad_model.specs.Cell.{IsBy, before_at, is_before, through_at, clock_of, IsInOrder, cells_at, cell_stamp_at, text_at as cells_text, character_of, delete_spans as delete_cells, insert_run as insert_cells, last_of as greatest_of};
+ghost use Rattle.pad_model.specs.Cell.{IsBy, before_at, is_before, through_at, clock_of, IsInOrder, cells_at, cell_stamp_at, runs_at, spans_at as cells_spans, text_at as cells_text, character_of, delete_spans as delete_cells, insert_run as insert_cells, is_hidden_by, last_of as greatest_of, with_run, without_spans};
 ghost use Rattle.pad_model.specs.Legal.{has_stamp};
-ghost use Rattle.pad_model.specs.Parts.{part_fits};
-ghost use Rattle.pad_model.specs.Checked.{are_parts, is_run, is_span};
+ghost use Rattle.pad_model.specs.Log.{has_spans as holds_spans, run_may_join};
+ghost use Rattle.pad_model.specs.Parts.{apply as apply_parts, part_fits};
+ghost use Rattle.block_seq.specs.RowParts.{AllJoin, with_all};
+ghost use Rattle.pad_model.specs.declared.limits.TheConstants.{MAX_CHARACTERS};
+ghost use Rattle.pad_model.specs.Checked.{are_parts, is_edit, is_run, is_span};
+ghost use Rattle.pad_model.specs.Views.{IsViewOf};
 
 use crate::authors::place_author;
+use crate::parts::count_inserted;
+use crate::row_copy::copy_blocks;
 use crate::row_erase::{cut_spans, has_spans, kill_named};
-use crate::row_parts::parts_fit;
-use crate::row_readers::{
-    count_before, count_visible, find_visible, greatest_counter, is_at_most, read_text,
-};
+use crate::row_lists::{find_cell, read_authors, read_spans};
+use crate::row_parts::{list_runs, list_spans, parts_fit};
+use crate::row_readers::{count_before, count_visible, find_visible, is_at_most, read_text};
 use crate::run_place::{has_character, place_run, run_fits};
 use blocks::{Block, find_block, put_block};
 use ident_index::IdentIndex;
-use pad_model::{Author, MAX_CHARACTERS, Part, Refusal, Run, Span, Stamp, Text};
+use pad_model::{
+    Author, AuthorRun, CellView, MAX_CHARACTERS, Part, Refusal, Row, Run, Sequence, Span, Stamp,
+    Text,
+};
 use std::alloc::Global;
 use std::marker::Model;
 use weight_tree::WeightTree;
@@ -28,6 +36,10 @@ pub struct BlockSeq {
     index: IdentIndex,
     text: Vec<char>,
     authors: Vec<Author>,
+    /// The last revision that changed something.
+    latest: u64,
+    /// The greatest counter of any character, or 0.
+    clock: u64,
 }
 
 impl Model for BlockSeq {
@@ -41,7 +53,7 @@ impl Model for BlockSeq {
 
     ghost view = { λ s. cells_of s.authors.items s.text.items s.tree.items };
 
-    ghost invariant = { λ s. IsBlockSeq s.authors.items s.text.items s.index s.tree.items };
+    ghost invariant = { λ s. IsBlockSeq s.latest s.clock s.authors.items s.text.items s.index s.tree.items };
 }
 
 /// Adds characters in room that was made before.
@@ -55,36 +67,23 @@ fn push_text(text: &mut Vec<char>, more: &[char])
 }
 
 impl BlockSeq {
-    /// The sequence without characters.
-    pub fn empty(alloc: Global) -> Result<BlockSeq, Refusal>
-        ensures { MatchResult result (λ s. s ≡ []) (λ e. e ≡ Refusal.Memory) }
-    {
-        Ok(BlockSeq {
-            tree: WeightTree::new(),
-            index: IdentIndex::new(alloc),
-            text: Vec::new(alloc),
-            authors: Vec::new(alloc),
-        })
-    }
-
-    /// Puts a run at its place in the preorder.
-    pub fn insert_run(
+    /// Erases the characters of the spans and puts a run at its place, or changes nothing.
+    fn change(
         &mut self,
         alloc: Global,
+        spans: &[Span],
         run: &Run,
         author: &Author,
         rev: u64,
-    ) -> Result<(), Refusal>
-        requires checked { IsTrue (is_run author.now.origin run.now) }
-        requires latest { AllByRecursion (IsBy rev) self.old }
-        ensures { Answers self.old (insert_cells rev run.now author.now self.old) result self.new }
+    ) -> Result<u64, Refusal>
+        requires spans { IsTrue (list_all is_span spans.now) }
+        requires there { IsTrue (holds_spans character_of self.old spans.now) }
+        requires run { IsTrue (is_run author.now.origin run.now) }
+        requires fits { IsTrue (run_may_join character_of self.old run.now.first run.now.after) }
+        requires room { length self.old + length run.now.text ≤ MAX_CHARACTERS }
+        ensures { Answers self.old (Ok (count_by (is_hidden_by spans.now) self.old), with_run rev run.now author.now (without_spans rev spans.now self.old)) result self.new }
     {
-        if !run_fits(&self.tree, &self.index, run.first, run.after) {
-            return Err(Refusal::PeerFault);
-        }
-        if MAX_CHARACTERS < self.text.len() as u64 + run.text.len() as u64 {
-            return Err(Refusal::PadFull);
-        }
+        cut_spans(alloc, &mut self.tree, &mut self.index, spans)?;
         let author = place_author(&mut self.authors, author)?;
         self.text.reserve(run.text.len())?;
         let rank = place_run(alloc, &mut self.tree, &mut self.index, run.first, run.after)?;
@@ -100,111 +99,248 @@ impl BlockSeq {
         };
         put_block(alloc, &mut self.tree, &mut self.index, rank, block)?;
         push_text(&mut self.text, run.text.as_slice());
+        let hidden = kill_named(&mut self.tree, &self.index, spans, rev);
+        let last = run.first.counter() + (run.text.len() as u64 - 1);
+        self.clock = self.clock.max(last);
+        self.latest = self.latest.max(rev);
+        Ok(hidden)
+    }
+
+    /// Puts a run at its place in the preorder, or changes nothing.
+    fn put(&mut self, alloc: Global, run: &Run, author: &Author, rev: u64) -> Result<(), Refusal>
+        requires run { IsTrue (is_run author.now.origin run.now) }
+        requires fits { IsTrue (run_may_join character_of self.old run.now.first run.now.after) }
+        requires room { length self.old + length run.now.text ≤ MAX_CHARACTERS }
+        ensures { Answers self.old (Ok tt, with_run rev run.now author.now self.old) result self.new }
+    {
+        match self.change(alloc, &[], run, author, rev) {
+            Ok(_) => Ok(()),
+            Err(error) => Err(error),
+        }
+    }
+
+    /// Puts runs at their places, one after the other. Where memory is refused, some of them are put.
+    fn put_all(
+        &mut self,
+        alloc: Global,
+        runs: &[&Run],
+        author: &Author,
+        rev: u64,
+    ) -> Result<(), Refusal>
+        requires runs { IsTrue (list_all (λ run. is_run author.now.origin run.now) runs.now) }
+        requires join { AllJoin rev author.now self.old (map (λ run. run.now) runs.now) }
+        requires room { length self.old + sum_by (λ run. length run.now.text) runs.now ≤ MAX_CHARACTERS }
+        ensures ok { OnOk result (self.new ≡ with_all rev author.now self.old (map (λ run. run.now) runs.now)) }
+        ensures memory { IfErr result (λ e. e ≡ Refusal.Memory) }
+    {
+        let _text = &self.text;
+        for run in runs {
+            match self.put(alloc, run, author, rev) {
+                Ok(()) => {}
+                Err(error) => return Err(error),
+            }
+        }
         Ok(())
     }
 
-    /// Erases the characters of the spans that are not erased yet, and answers their number.
-    pub fn delete_spans(&mut self, spans: &[Span], rev: u64) -> Result<u64, Refusal>
-        requires checked { IsTrue (list_all is_span spans.now) }
-        requires latest { AllByRecursion (IsBy rev) self.old }
-        ensures { Answers self.old (delete_cells rev spans.now self.old) result self.new }
+    /// Erases the characters of the spans and puts several runs at their places, on a copy that then takes the place of
+    /// this sequence: so it changes nothing where memory is refused.
+    fn change_aside(
+        &mut self,
+        alloc: Global,
+        spans: &[Span],
+        runs: &[&Run],
+        author: &Author,
+        rev: u64,
+    ) -> Result<u64, Refusal>
+        requires spans { IsTrue (list_all is_span spans.now) }
+        requires there { IsTrue (holds_spans character_of self.old spans.now) }
+        requires runs { IsTrue (list_all (λ run. is_run author.now.origin run.now) runs.now) }
+        requires join { AllJoin rev author.now (without_spans rev spans.now self.old) (map (λ run. run.now) runs.now) }
+        requires room { length self.old + sum_by (λ run. length run.now.text) runs.now ≤ MAX_CHARACTERS }
+        ensures { Answers self.old (Ok (count_by (is_hidden_by spans.now) self.old), with_all rev author.now (without_spans rev spans.now self.old) (map (λ run. run.now) runs.now)) result self.new }
     {
+        let mut copy = match self.copy(alloc) {
+            Ok(copy) => copy,
+            Err(error) => return Err(error),
+        };
+        let hidden = match copy.erase(alloc, spans, rev) {
+            Ok(hidden) => hidden,
+            Err(error) => return Err(error),
+        };
+        match copy.put_all(alloc, runs, author, rev) {
+            Ok(()) => {}
+            Err(error) => return Err(error),
+        }
+        *self = copy;
+        Ok(hidden)
+    }
+
+    /// The same characters in memory of their own.
+    fn copy(&self, alloc: Global) -> Result<BlockSeq, Refusal>
+        ensures { MatchResult result (λ s. s ≡ self.now) (λ e. e ≡ Refusal.Memory) }
+    {
+        let text = self.text.clone()?;
+        let authors = self.authors.clone()?;
+        let (tree, index) = copy_blocks(alloc, &self.tree, &self.index)?;
+        Ok(BlockSeq {
+            tree,
+            index,
+            text,
+            authors,
+            latest: self.latest,
+            clock: self.clock,
+        })
+    }
+
+    /// Erases the characters of the spans.
+    fn erase(&mut self, alloc: Global, spans: &[Span], rev: u64) -> Result<u64, Refusal>
+        requires checked { IsTrue (list_all is_span spans.now) }
+        requires there { IsTrue (holds_spans character_of self.old spans.now) }
+        ensures { Answers self.old (Ok (count_by (is_hidden_by spans.now) self.old), without_spans rev spans.now self.old) result self.new }
+    {
+        cut_spans(alloc, &mut self.tree, &mut self.index, spans)?;
+        let hidden = kill_named(&mut self.tree, &self.index, spans, rev);
+        self.latest = self.latest.max(rev);
+        Ok(hidden)
+    }
+}
+
+impl Sequence for BlockSeq {
+    ghost cells = { λ s. s };
+
+    fn empty(alloc: Global) -> Result<BlockSeq, Refusal> {
+        Ok(BlockSeq {
+            tree: WeightTree::new(),
+            index: IdentIndex::new(alloc),
+            text: Vec::new(alloc),
+            authors: Vec::new(alloc),
+            latest: 0,
+            clock: 0,
+        })
+    }
+
+    fn insert_run(
+        &mut self,
+        alloc: Global,
+        run: &Run,
+        author: &Author,
+        rev: u64,
+    ) -> Result<(), Refusal> {
+        if !run_fits(&self.tree, &self.index, run.first, run.after) {
+            return Err(Refusal::PeerFault);
+        }
+        if MAX_CHARACTERS < self.text.len() as u64 + run.text.len() as u64 {
+            return Err(Refusal::PadFull);
+        }
+        self.put(alloc, run, author, rev)
+    }
+
+    fn delete_spans(&mut self, spans: &[Span], rev: u64) -> Result<u64, Refusal> {
         if !has_spans(&self.tree, &self.index, spans) {
             return Err(Refusal::PeerFault);
         }
         let alloc = *self.text.allocator();
-        cut_spans(alloc, &mut self.tree, &mut self.index, spans)?;
-        Ok(kill_named(&mut self.tree, &self.index, spans, rev))
+        self.erase(alloc, spans, rev)
     }
 
-    /// Whether a character is there, erased or not.
-    pub fn has(&self, stamp: Stamp) -> bool
-        ensures { result ≡ has_stamp character_of self.now stamp }
-    {
-        has_character(&self.tree, &self.index, stamp)
+    fn apply(
+        &mut self,
+        alloc: Global,
+        parts: &[Part],
+        author: &Author,
+        rev: u64,
+    ) -> Result<u64, Refusal> {
+        if !parts_fit(&self.tree, &self.index, parts) {
+            return Err(Refusal::PeerFault);
+        }
+        let more = count_inserted(parts);
+        if MAX_CHARACTERS < self.text.len() as u64 + more as u64 {
+            return Err(Refusal::PadFull);
+        }
+        let spans = list_spans(alloc, parts)?;
+        let runs = list_runs(alloc, parts)?;
+        if runs.is_empty() {
+            return self.erase(alloc, spans.as_slice(), rev);
+        }
+        if runs.len() == 1 {
+            return self.change(alloc, spans.as_slice(), runs[0], author, rev);
+        }
+        self.change_aside(alloc, spans.as_slice(), runs.as_slice(), author, rev)
     }
 
-    /// The greatest counter of a replica's characters, or 0.
-    pub fn last_of(&self, replica: u16) -> u64
-        ensures { result ≡ greatest_of replica self.now }
-    {
-        let _kept = &self.tree;
-        self.index.last_of(replica)
-    }
-
-    /// How many characters there are, those that are erased included.
-    pub fn cell_count(&self) -> u64
-        ensures value { result ≡ length self.now }
-        ensures order { IsInOrder self.now }
-    {
-        let _kept = &self.tree;
-        self.text.len() as u64
-    }
-
-    /// How many characters are visible.
-    pub fn len_at(&self, rev: u64) -> u64
-        ensures { result ≡ length (cells_at rev self.now) }
-    {
-        let _text = &self.text;
-        count_visible(&self.tree, rev)
-    }
-
-    /// The stamp of the visible character at a place, from 0.
-    pub fn stamp_at(&self, rev: u64, place: u64) -> Option<Stamp>
-        ensures { result ≡ cell_stamp_at rev self.now place }
-    {
-        let _text = &self.text;
-        find_visible(&self.tree, rev, place)
-    }
-
-    /// The text that is visible.
-    pub fn text_at(&self, alloc: Global, rev: u64) -> Result<Text, Refusal>
-        ensures { MatchResult result (λ text. text ≡ cells_text rev self.now) (λ e. e ≡ Refusal.Memory) }
-    {
-        let text = self.text.as_slice();
-        Ok(Text::from_vec(read_text(alloc, &self.tree, text, self.authors.len(), rev)?))
-    }
-
-    /// The greatest counter of any character, or 0.
-    pub fn clock(&self) -> u64
-        ensures { result ≡ clock_of self.now }
-    {
-        let _text = &self.text;
-        greatest_counter(&self.tree)
-    }
-
-    /// Whether each part of one operation of an origin fits what stands there, as `apply` wants it.
-    pub fn fits(&self, parts: &[Part], _origin: u16) -> bool
-        requires checked { IsTrue (are_parts _origin parts.now) }
-        ensures { result ≡ list_all (part_fits character_of self.now) parts.now }
-    {
+    fn fits(&self, parts: &[Part], _origin: u16) -> bool {
         let _text = &self.text;
         parts_fit(&self.tree, &self.index, parts)
     }
 
-    /// How many visible characters stand before a character; None where it is missing.
-    pub fn before(&self, stamp: Stamp, rev: u64) -> Option<u64>
-        ensures { result ≡ before_at rev self.now stamp }
-    {
-        let spot = find_block(&self.tree, &self.index, stamp)?;
-        Some(count_before(&self.tree, spot.rank, spot.offset, rev))
+    fn len_at(&self, rev: u64) -> u64 {
+        let _text = &self.text;
+        count_visible(&self.tree, self.latest, rev)
     }
 
-    /// How many visible characters stand up to and including a character; None where it is missing.
-    pub fn through(&self, stamp: Stamp, rev: u64) -> Option<u64>
-        ensures { result ≡ through_at rev self.now stamp }
-    {
-        let spot = find_block(&self.tree, &self.index, stamp)?;
-        Some(count_before(&self.tree, spot.rank, spot.offset + 1, rev))
+    fn stamp_at(&self, rev: u64, place: u64) -> Option<Stamp> {
+        let _text = &self.text;
+        find_visible(&self.tree, self.latest, rev, place)
     }
 
-    /// Whether `a` is `b` or stands before it, erased or not; None where one is missing.
-    pub fn stands_before(&self, a: Stamp, b: Stamp) -> Option<bool>
-        ensures { result ≡ is_before self.now a b }
-    {
+    fn text_at(&self, alloc: Global, rev: u64) -> Result<Text, Refusal> {
+        let text = self.text.as_slice();
+        Ok(Text::from_vec(read_text(alloc, &self.tree, text, self.authors.len(), rev)?))
+    }
+
+    fn authors_at(&self, alloc: Global, rev: u64) -> Result<Row<AuthorRun>, Refusal> {
+        let authors = self.authors.as_slice();
+        Ok(Row::from_vec(read_authors(alloc, &self.tree, authors, self.text.len(), rev)?))
+    }
+
+    fn spans_at(&self, alloc: Global, rev: u64, at: u64, len: u64) -> Result<Row<Span>, Refusal> {
+        let _text = &self.text;
+        Ok(Row::from_vec(read_spans(alloc, &self.tree, rev, at, len)?))
+    }
+
+    fn before(&self, stamp: Stamp, rev: u64) -> Option<u64> {
+        let spot = find_block(&self.tree, &self.index, stamp)?;
+        Some(count_before(&self.tree, self.latest, spot.rank, spot.offset, rev))
+    }
+
+    fn through(&self, stamp: Stamp, rev: u64) -> Option<u64> {
+        let spot = find_block(&self.tree, &self.index, stamp)?;
+        Some(count_before(&self.tree, self.latest, spot.rank, spot.offset + 1, rev))
+    }
+
+    fn stands_before(&self, a: Stamp, b: Stamp) -> Option<bool> {
         let first = find_block(&self.tree, &self.index, a)?;
         let last = find_block(&self.tree, &self.index, b)?;
         let _text = &self.text;
         Some(is_at_most(first, last))
+    }
+
+    fn has(&self, stamp: Stamp) -> bool {
+        has_character(&self.tree, &self.index, stamp)
+    }
+
+    fn clock(&self) -> u64 {
+        let _text = &self.text;
+        self.clock
+    }
+
+    fn last_of(&self, replica: u16) -> u64 {
+        let _kept = &self.tree;
+        self.index.last_of(replica)
+    }
+
+    fn cell_count(&self) -> u64 {
+        let _kept = &self.tree;
+        self.text.len() as u64
+    }
+
+    fn cell_at(&self, place: u64) -> Option<CellView<'_>> {
+        find_cell(
+            &self.tree,
+            self.text.as_slice(),
+            self.authors.as_slice(),
+            place,
+        )
     }
 }

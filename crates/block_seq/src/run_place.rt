@@ -6,7 +6,7 @@ ghost use Rattle.pad_model.specs.Legal.{has_stamp, has_parent, counter_of};
 ghost use Rattle.pad_model.specs.Log.{run_may_join};
 ghost use Rattle.pad_model.specs.declared.limits.TheConstants.{MAX_COUNTER};
 ghost use Rattle.pad_model.specs.declared.who.Author.{Author as AuthorValue};
-ghost use Rattle.blocks.specs.Blocks.{IsKept};
+ghost use Rattle.blocks.specs.Blocks.{IsKept, KeepsEdges};
 ghost use Rattle.blocks.specs.Cells.{cells_of, IsWithin, SameCells};
 ghost use Rattle.block_seq.specs.Rows.{IsBehind, StartsAt, IsPlaceFor, passes};
 
@@ -88,6 +88,7 @@ fn cut_behind(
     requires limit { stamp.counter < MAX_COUNTER }
     ensures kept { IsKept index.new tree.new.items }
     ensures cells { SameCells tree.old.items tree.new.items }
+    ensures edges { KeepsEdges index.old index.new }
     ensures behind { (authors : List AuthorValue) (text : List ℕ) → AllByRecursion (IsWithin (length authors) (length text)) tree.old.items → has_stamp character_of (cells_of authors text tree.old.items) stamp ≡ true → IfOk result (λ rank. IsBehind tree.new.items stamp rank) }
     ensures within { IfOk result (λ rank. rank ≤ length tree.new.items) }
     ensures memory { IfErr result (λ e. e ≡ Refusal.Memory) }
@@ -112,6 +113,7 @@ fn start_run(
     requires later { counter_of parent < first.counter }
     ensures kept { IsKept index.new tree.new.items }
     ensures cells { SameCells tree.old.items tree.new.items }
+    ensures edges { KeepsEdges index.old index.new }
     ensures start { (authors : List AuthorValue) (text : List ℕ) → AllByRecursion (IsWithin (length authors) (length text)) tree.old.items → has_parent character_of (cells_of authors text tree.old.items) parent ≡ true → IfOk result (λ rank. StartsAt parent tree.new.items rank) }
     ensures within { IfOk result (λ rank. rank ≤ length tree.new.items) }
     ensures memory { IfErr result (λ e. e ≡ Refusal.Memory) }
@@ -136,6 +138,7 @@ pub fn place_run(
     requires later { counter_of parent < first.counter }
     ensures kept { IsKept index.new tree.new.items }
     ensures cells { SameCells tree.old.items tree.new.items }
+    ensures edges { KeepsEdges index.old index.new }
     ensures place { (authors : List AuthorValue) (text : List ℕ) → AllByRecursion (IsWithin (length authors) (length text)) tree.old.items → has_parent character_of (cells_of authors text tree.old.items) parent ≡ true → IfOk result (λ rank. IsPlaceFor parent first tree.new.items rank) }
     ensures within { IfOk result (λ rank. rank ≤ length tree.new.items) }
     ensures memory { IfErr result (λ e. e ≡ Refusal.Memory) }

@@ -2,7 +2,8 @@
 ghost use Rattle.std.specs.Prelude.{◌≡◌, ℕ, ◌+◌, ◌-◌, ◌≤◌, ◌<◌, Some, length, map, sum_by, insert, slice_get, slice_set, IfErr, OnOk, OnErr};
 ghost use Rattle.std.specs.Option.{IsSomeAnd};
 ghost use Rattle.pad_model.specs.declared.limits.TheConstants.{MAX_CHARACTERS};
-ghost use Rattle.ident_index.specs.Index.{IsNew, stamp_behind};
+ghost use Rattle.ident_index.specs.Index.{Covers, IsNew, stamp_behind};
+ghost use Rattle.pad_model.specs.Stamp.{Stamp as StampValue};
 ghost use Rattle.blocks.specs.Blocks.{IsKept, IsSized, HoldsNoMore, IsEdge, KeepsEdges, left_part, right_part, unlabelled, without_labels};
 ghost use Rattle.blocks.specs.Cells.{SameCells};
 ghost use Rattle.blocks.specs.declared.block.Block.{Block as BlockValue};
@@ -111,6 +112,7 @@ pub fn put_block(
     ensures kept { IsKept index.new tree.new.items }
     ensures ok { OnOk result (without_labels tree.new.items ≡ insert (without_labels tree.old.items) rank (unlabelled block)) }
     ensures err { OnErr result (without_labels tree.new.items ≡ without_labels tree.old.items) }
+    ensures edges { OnOk result ((s : StampValue) → IsEdge index.old s → (Covers block.first block.len s → block.first ≡ s) → IsEdge index.new s) }
     ensures memory { IfErr result (λ e. e ≡ Refusal.Memory) }
 {
     let label = free_label(tree, index, rank);

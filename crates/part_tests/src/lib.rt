@@ -1,5 +1,5 @@
-//! Tests of the parts of a pad: the words, sequences, the log, author runs, comments, rights, held operations, accounts, visits,
-//! and the tree and the index of the fast sequence to come.
+//! Tests of the parts of a pad: the words, the log, author runs, comments, rights, held operations, accounts, visits,
+//! and the tree and the index of the sequence of blocks.
 #![tactic(auto)]
 
 #[cfg(test)]

@@ -1,5 +1,6 @@
-use Rattle.std.proofs.Common.{◌+◌, length, slice_get, slice_set, sym, ap, ◌∙◌, arith}
+use Rattle.std.proofs.Common.{eqb-true, ◌+◌, length, slice_get, slice_set, sym, ap, ◌∙◌, arith}
 use Rattle.blocks.proofs.Entries.{some_at}
+use Rattle.block_seq.proofs.RowChange.{killed_none, hidden_none}
 use Rattle.block_seq.specs.Rows.{killed, hidden_len}
 use Rattle.block_seq.proofs.RowErase.{killed_more, sum_more, length-killed_front, hidden_small}
 use Rattle.block_seq.proofs.row_erase.kill_named.Goals as goal
@@ -32,3 +33,9 @@ loop-rank-preserved c =
       items = c.kill_at-hidden.ensures.items found.0 found.1 ∙ ap (λ l. slice_set l c.loop-rank.rank (f found.0)) c.loop-rank.invariant.items ∙ killed_more f c.args.tree.now.items c.loop-rank.rank found.0 front;
       hidden = omega (arith, more, here, c.loop-rank.invariant.hidden);
     }
+
+pub returns-then-is_empty-clause-items : goal.returns-then-is_empty-clause-items
+returns-then-is_empty-clause-items c = killed_none c.args.rev c.args.spans.now c.args.tree.now.items (eqb-true (length c.args.spans.now) 0 (sym c.is_empty.ensures ∙ c.if-is_empty.true))
+
+pub returns-then-is_empty-clause-hidden : goal.returns-then-is_empty-clause-hidden
+returns-then-is_empty-clause-hidden c = hidden_none c.args.spans.now c.args.tree.now.items (eqb-true (length c.args.spans.now) 0 (sym c.is_empty.ensures ∙ c.if-is_empty.true))

@@ -1,9 +1,11 @@
-use Rattle.std.proofs.Common.{◌≡◌, length, refl, sym, ap, ◌∙◌, subst, arith, sum_by}
+use Rattle.std.proofs.Common.{◌≡◌, inl, inr, length, refl, sym, ap, ◌∙◌, subst, arith, sum_by}
 use Rattle.std.specs.List.{insert}
 use Rattle.blocks.specs.declared.block.Block.{Block}
 use Rattle.blocks.specs.Blocks.{IsKept, without_labels, unlabelled}
 use Rattle.blocks.proofs.Cells.{length-without_labels}
-use Rattle.blocks.proofs.Entries.{count_small, weight_fits_insert}
+use Rattle.blocks.proofs.Entries.{count_small, weight_fits_insert, edges_kept}
+use Rattle.ident_index.specs.Index.{Holds}
+use Rattle.ident_index.proofs.Sound.{holds_insert}
 use Rattle.blocks.proofs.Parts.{put_leaves, insert-without_labels, sum-without_labels}
 use Rattle.blocks.proofs.edit.put_block.Goals as goal
 use Rattle.blocks.proofs.edit.put_block.Goals.{After-free_label-label}
@@ -39,3 +41,11 @@ pub returns-clause-ok : goal.returns-clause-ok
 returns-clause-ok c =
     let b : Block = record c.args.block { label = c.free_label-label.result } in
     ap without_labels (c.insert.ensures.items ∙ (rw c.in_ok-node.ensures refl)) ∙ insert-without_labels c.free_label-label.new.tree.items c.args.rank b ∙ ap (λ l. insert l c.args.rank (unlabelled b)) c.free_label-label.ensures.labels
+
+pub returns-clause-edges : goal.returns-clause-edges
+returns-clause-edges c = λ s edge joins first held.
+    let label = c.free_label-label.result in
+    elim (holds_insert c.free_label-label.new.index c.args.block.first (record { len = c.args.block.len; label = label }) first s (subst (λ m. Holds m first s) c.in_ok-add.ensures.ok held)) [
+      | inl here ↦ here.0 ∙ joins here.1
+      | inr beside ↦ edges_kept c.args.index.now c.free_label-label.new.index c.free_label-label.ensures.held s edge first beside.1
+    ]

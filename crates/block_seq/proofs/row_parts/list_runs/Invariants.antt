@@ -1,0 +1,7 @@
+use Rattle.std.proofs.Common.{◌≡◌, take, map}
+use Rattle.block_seq.specs.RowParts.{runs_in}
+use Rattle.block_seq.proofs.row_parts.list_runs.Given as goal
+
+-- the runs of the parts so far
+abbrev pub invariant-loop-part : goal.invariant-loop-part
+invariant-loop-part l = map (λ run. run.now) l.all.items ≡ runs_in (take l.part-index l.parts)

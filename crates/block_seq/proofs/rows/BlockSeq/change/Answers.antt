@@ -1,0 +1,163 @@
+use Rattle.std.proofs.Common.{◌≡◌, ℕ, ◌++◌, ◌+◌, ◌-◌, max, inr, Ok, None, length, sym, ap, ap₂, ◌∙◌, refl, subst, arith, count_by}
+use Rattle.std.specs.List.{AllByRecursion}
+use Rattle.std.specs.Result.{IsErrAnd}
+use Rattle.pad_model.specs.Cell.{character_of, is_hidden_by, with_run, without_spans}
+use Rattle.pad_model.specs.Log.{run_may_join}
+use Rattle.pad_model.proofs.Cells.{RunMayJoin-from_test}
+use Rattle.pad_model.proofs.Exits.{answers_memory}
+use Rattle.ident_index.specs.Index.{Index}
+use Rattle.blocks.specs.declared.block.Block.{Block}
+use Rattle.blocks.specs.Blocks.{IsKept}
+use Rattle.blocks.specs.Cells.{cells_of, SameCells}
+use Rattle.blocks.proofs.Cells.{same_itself, same_unlabelled, same_then}
+use Rattle.block_seq.specs.Rows.{IsBlockSeq, IsCutOut}
+use Rattle.block_seq.proofs.BlockCells.{length-cells}
+use Rattle.block_seq.proofs.RowChange.{cut_out_kept, cut_out_put, named_below, hidden_with_run, run_sized}
+use Rattle.block_seq.proofs.RowErase.{all_aligned, killed_count, row_killed}
+use Rattle.block_seq.proofs.RowParts.{commute}
+use Rattle.block_seq.proofs.RowSteps.{unchanged, same_cells_kept, run_is_new, run_put}
+use Rattle.block_seq.proofs.rows.BlockSeq.change.Goals as goal
+use Rattle.block_seq.proofs.rows.BlockSeq.change.Goals.{After-cut_spans, After-place_author, After-place_run, After-kill_named-hidden}
+
+-- what a cut, one more author or other labels leave
+moved : (c : After-place_author) (text : _) (n : Index) (after : _) → text ≡ c.self.inside.text.items → IsKept n after → SameCells c.self.inside.tree.items after → IsBlockSeq c.self.inside.latest c.self.inside.clock c.place_author.new.authors.items text n after
+    × (cells_of c.place_author.new.authors.items text after ≡ c.args.self.now)
+moved c text n after is kept same =
+    let done = unchanged c.self.inside.authors.items c.place_author.new.authors.items c.args.author.now c.self.inside.text.items c.self.inside.index n c.self.inside.tree.items after c.self.invariant c.place_author.ensures.more kept same in
+    (subst (λ t. IsBlockSeq c.self.inside.latest c.self.inside.clock c.place_author.new.authors.items t n after) (sym is) done.0, ap (λ t. cells_of c.place_author.new.authors.items t after) is ∙ done.1 ∙ c.self.view_is)
+
+pub invariant_of-self : goal.invariant_of-self
+invariant_of-self c = (same_cells_kept c.self.inside.authors.items c.self.inside.text.items c.self.inside.index c.cut_spans.new.index c.self.inside.tree.items c.cut_spans.new.tree.items c.self.invariant c.cut_spans.ensures.kept c.cut_spans.ensures.cells).0
+
+pub invariant_of-self-in_err-author : goal.invariant_of-self-in_err-author
+invariant_of-self-in_err-author c = (moved (goal.at.invariant_of-self-in_err-author c).After-place_author c.self.inside.text.items c.cut_spans.new.index c.cut_spans.new.tree.items refl c.cut_spans.ensures.kept c.cut_spans.ensures.cells).0
+
+pub returns-in_err-author : goal.returns-in_err-author
+returns-in_err-author c =
+    answers_memory c.from_residual-in_err-author.result c.from_residual-in_err-author.ensures.1
+    (moved (goal.at.returns-in_err-author c).After-place_author c.self.inside.text.items c.cut_spans.new.index c.cut_spans.new.tree.items refl c.cut_spans.ensures.kept c.cut_spans.ensures.cells).1 refl
+
+pub invariant_of-self-in_err-reserve : goal.invariant_of-self-in_err-reserve
+invariant_of-self-in_err-reserve c = (moved (goal.at.invariant_of-self-in_err-reserve c).After-place_author c.reserve.new.self.items c.cut_spans.new.index c.cut_spans.new.tree.items c.reserve.ensures.items c.cut_spans.ensures.kept c.cut_spans.ensures.cells).0
+
+pub returns-in_err-reserve : goal.returns-in_err-reserve
+returns-in_err-reserve c =
+    answers_memory c.from_residual-in_err-reserve.result c.from_residual-in_err-reserve.ensures.1
+    (moved (goal.at.returns-in_err-reserve c).After-place_author c.reserve.new.self.items c.cut_spans.new.index c.cut_spans.new.tree.items c.reserve.ensures.items c.cut_spans.ensures.kept c.cut_spans.ensures.cells).1 refl
+
+-- the row in which the run's place is cut free
+placed : (c : After-place_run) → SameCells c.self.inside.tree.items c.place_run.new.tree.items
+placed c = same_then c.self.inside.tree.items c.cut_spans.new.tree.items c.place_run.new.tree.items c.cut_spans.ensures.cells c.place_run.ensures.cells
+
+pub invariant_of-self-in_err-rank : goal.invariant_of-self-in_err-rank
+invariant_of-self-in_err-rank c =
+    let g = goal.at.invariant_of-self-in_err-rank c in
+    (moved g.After-place_author c.reserve.new.self.items c.place_run.new.index c.place_run.new.tree.items c.reserve.ensures.items c.place_run.ensures.kept (placed g.After-place_run)).0
+
+pub returns-in_err-rank : goal.returns-in_err-rank
+returns-in_err-rank c =
+    let g = goal.at.returns-in_err-rank c in
+    answers_memory c.from_residual-in_err-rank.result (subst (λ m. IsErrAnd c.from_residual-in_err-rank.result (λ e. e ≡ m)) c.in_err-rank.ensures.memory c.from_residual-in_err-rank.ensures.1)
+    (moved g.After-place_author c.reserve.new.self.items c.place_run.new.index c.place_run.new.tree.items c.reserve.ensures.items c.place_run.ensures.kept (placed g.After-place_run)).1 refl
+
+-- the cells fill the text
+size : (c : After-place_author) → length c.args.self.now ≡ length c.self.inside.text.items
+size c = ap length (sym c.self.view_is) ∙ length-cells c.self.inside.authors.items c.self.inside.text.items c.self.inside.tree.items c.self.invariant.within ∙ sym c.self.invariant.full
+
+pub put_block-requires-clause-sized : goal.put_block-requires-clause-sized
+put_block-requires-clause-sized c =
+    let full = size (goal.at.put_block-requires-clause-sized c).After-place_author in
+    let run = run_sized c.args.author.now.origin 0 c.args.run.now c.requires.run in
+    let start : c.len-2.result ≡ length c.self.inside.text.items = c.len-2.ensures ∙ c.reserve.new.self.ok.0 ∙ ap length c.reserve.ensures.items in
+    (omega (arith, run.0, c.len-3.ensures), omega (arith, run.1, c.len-3.ensures), omega (arith, start, full, c.len-3.ensures, c.requires.room))
+
+pub put_block-requires-clause-fresh : goal.put_block-requires-clause-fresh
+put_block-requires-clause-fresh c =
+    let g = goal.at.put_block-requires-clause-fresh c in
+    let done = moved g.After-place_author c.reserve.new.self.items c.place_run.new.index c.place_run.new.tree.items c.reserve.ensures.items c.place_run.ensures.kept (placed g.After-place_run) in
+    run_is_new c.place_author.new.authors.items c.reserve.new.self.items c.place_run.new.index c.place_run.new.tree.items c.args.run.now.first c.args.run.now.after c.len-3.result done.0.kept.listed done.0.within
+    (ap (λ l. run_may_join character_of l c.args.run.now.first c.args.run.now.after) done.1 ∙ c.requires.fits)
+
+pub put_block-requires-clause-room : goal.put_block-requires-clause-room
+put_block-requires-clause-room c =
+    let g = goal.at.put_block-requires-clause-room c in
+    let done = moved g.After-place_author c.reserve.new.self.items c.place_run.new.index c.place_run.new.tree.items c.reserve.ensures.items c.place_run.ensures.kept (placed g.After-place_run) in
+    let full = done.0.full in
+    let all = size g.After-place_author in
+    let same = ap length c.reserve.ensures.items in
+    omega (arith, full, same, all, c.requires.room, c.len-3.ensures)
+
+pub invariant_of-self-in_err-put_block : goal.invariant_of-self-in_err-put_block
+invariant_of-self-in_err-put_block c =
+    let g = goal.at.invariant_of-self-in_err-put_block c in
+    (moved g.After-place_author c.reserve.new.self.items c.put_block.new.index c.put_block.new.tree.items c.reserve.ensures.items c.put_block.ensures.kept
+    (same_then c.self.inside.tree.items c.place_run.new.tree.items c.put_block.new.tree.items (placed g.After-place_run) (same_unlabelled c.place_run.new.tree.items c.put_block.new.tree.items c.in_err-put_block.ensures.err))).0
+
+pub returns-in_err-put_block : goal.returns-in_err-put_block
+returns-in_err-put_block c =
+    let g = goal.at.returns-in_err-put_block c in
+    answers_memory c.from_residual-in_err-put_block.result (subst (λ m. IsErrAnd c.from_residual-in_err-put_block.result (λ e. e ≡ m)) c.in_err-put_block.ensures.memory c.from_residual-in_err-put_block.ensures.1)
+    (moved g.After-place_author c.reserve.new.self.items c.put_block.new.index c.put_block.new.tree.items c.reserve.ensures.items c.put_block.ensures.kept
+    (same_then c.self.inside.tree.items c.place_run.new.tree.items c.put_block.new.tree.items (placed g.After-place_run) (same_unlabelled c.place_run.new.tree.items c.put_block.new.tree.items c.in_err-put_block.ensures.err))).1 refl
+
+-- the counter of the run's last character
+abbrev last : (c : After-kill_named-hidden) → ℕ
+last c = c.args.run.now.first.counter + (length c.args.run.now.text - 1)
+
+-- the row with the run's block
+run_there : (c : After-kill_named-hidden) → IsBlockSeq (max c.self.inside.latest c.args.rev) (max c.self.inside.clock (last c)) c.place_author.new.authors.items c.push_text.new.text.items c.put_block.new.index c.put_block.new.tree.items
+    × (cells_of c.place_author.new.authors.items c.push_text.new.text.items c.put_block.new.tree.items ≡ with_run c.args.rev c.args.run.now c.args.author.now c.args.self.now)
+run_there c =
+    let run = run_sized c.args.author.now.origin 0 c.args.run.now c.requires.run in
+    let authors = c.place_author.new.authors.items in
+    let text = c.self.inside.text.items in
+    let b : Block = record { first = c.args.run.now.first; parent = c.args.run.now.after; author = c.in_ok-author.author; born = c.args.rev; died = None; label = 0; start = c.len-2.result; len = c.len-3.result } in
+    let text_is : c.push_text.new.text.items ≡ text ++ c.args.run.now.text = c.push_text.ensures ∙ ap₂ (λ x y. x ++ y) c.reserve.ensures.items c.as_slice.ensures in
+    let start : c.len-2.result ≡ length text = c.len-2.ensures ∙ c.reserve.new.self.ok.0 ∙ ap length c.reserve.ensures.items in
+    let len : c.len-3.result ≡ length c.args.run.now.text = c.len-3.ensures in
+    let b_is : b ≡ record { first = c.args.run.now.first; parent = c.args.run.now.after; author = c.in_ok-author.author; born = c.args.rev; died = None; label = 0; start = length text; len = length c.args.run.now.text } =
+    ap₂ (λ s n. let it : Block = record { first = c.args.run.now.first; parent = c.args.run.now.after; author = c.in_ok-author.author; born = c.args.rev; died = None; label = 0; start = s; len = n } in it) start len
+    in
+    let cut = same_cells_kept c.self.inside.authors.items text c.self.inside.index c.cut_spans.new.index c.self.inside.tree.items c.cut_spans.new.tree.items c.self.invariant c.cut_spans.ensures.kept c.cut_spans.ensures.cells in
+    let wide = unchanged c.self.inside.authors.items authors c.args.author.now text c.cut_spans.new.index c.cut_spans.new.index c.cut_spans.new.tree.items c.cut_spans.new.tree.items cut.0 c.place_author.ensures.more c.cut_spans.ensures.kept (same_itself c.cut_spans.new.tree.items) in
+    let joins = RunMayJoin-from_test character_of c.args.self.now c.args.run.now.first c.args.run.now.after c.requires.fits in
+    let place = c.in_ok-rank.ensures.place authors text wide.0.within (ap (λ l. Rattle.pad_model.specs.Legal.has_parent character_of l c.args.run.now.after) (wide.1 ∙ cut.1 ∙ c.self.view_is) ∙ joins.rooted) in
+    let left = run_put (max c.self.inside.latest c.args.rev) (last c) c.self.inside.authors.items authors c.args.author.now text c.cut_spans.new.index c.place_run.new.index c.put_block.new.index c.cut_spans.new.tree.items c.place_run.new.tree.items c.put_block.new.tree.items c.args.self.now c.args.run.now c.in_ok-rank.rank c.args.rev c.in_ok-author.author b
+    (omega arith) (omega arith) run.0 refl cut.0 (cut.1 ∙ c.self.view_is) c.place_author.ensures.more c.in_ok-author.ensures.place c.requires.fits c.place_run.ensures.cells place c.put_block.ensures.kept b_is c.in_ok-put_block.ensures.ok
+    in
+    (subst (λ t. IsBlockSeq (max c.self.inside.latest c.args.rev) (max c.self.inside.clock (last c)) authors t c.put_block.new.index c.put_block.new.tree.items) (sym text_is) left.0, ap (λ t. cells_of authors t c.put_block.new.tree.items) text_is ∙ left.1)
+
+-- the spans are still cut out of it
+still_cut : (c : After-kill_named-hidden) → AllByRecursion (IsCutOut c.put_block.new.index) c.args.spans.now
+still_cut c =
+    cut_out_put c.place_run.new.index c.put_block.new.index c.args.spans.now c.args.run.now.first c.len-3.result c.in_ok-put_block.ensures.edges
+    (named_below c.args.spans.now c.args.self.now c.args.run.now.first c.args.run.now.after c.requires.there c.requires.fits) c.requires.spans
+    (cut_out_kept c.cut_spans.new.index c.place_run.new.index c.args.spans.now c.place_run.ensures.edges c.in_ok-cut_spans.ensures.cut)
+
+done : (c : After-kill_named-hidden) → (IsBlockSeq (max c.self.inside.latest c.args.rev) (max c.self.inside.clock (last c)) c.place_author.new.authors.items c.push_text.new.text.items c.put_block.new.index c.kill_named-hidden.new.tree.items
+    × (cells_of c.place_author.new.authors.items c.push_text.new.text.items c.kill_named-hidden.new.tree.items ≡ with_run c.args.rev c.args.run.now c.args.author.now (without_spans c.args.rev c.args.spans.now c.args.self.now)))
+    × (c.kill_named-hidden.result ≡ count_by (is_hidden_by c.args.spans.now) c.args.self.now)
+done c =
+    let there = run_there c in
+    let cut = still_cut c in
+    let killed = row_killed (max c.self.inside.latest c.args.rev) c.args.rev c.args.spans.now c.place_author.new.authors.items c.push_text.new.text.items c.put_block.new.index c.put_block.new.tree.items c.kill_named-hidden.new.tree.items (with_run c.args.rev c.args.run.now c.args.author.now c.args.self.now) (omega arith) (omega arith) there.0 there.1 cut c.kill_named-hidden.ensures.kept c.kill_named-hidden.ensures.items in
+    let order = subst Rattle.pad_model.specs.Cell.IsInOrder c.self.view_is c.self.invariant.order in (
+      (killed.0, killed.1 ∙ commute c.args.rev c.args.spans.now c.args.run.now c.args.author.now c.args.self.now c.requires.fits c.requires.there),
+      c.kill_named-hidden.ensures.hidden
+          ∙ sym (killed_count c.args.spans.now c.place_author.new.authors.items c.push_text.new.text.items c.put_block.new.tree.items there.0.within (all_aligned c.put_block.new.index c.put_block.new.tree.items c.args.spans.now there.0.kept.listed cut))
+          ∙ ap (count_by (is_hidden_by c.args.spans.now)) there.1 ∙ hidden_with_run c.args.rev c.args.spans.now c.args.run.now c.args.author.now c.args.self.now order c.requires.fits c.requires.there,
+    )
+
+pub invariant_of-self-2 : goal.invariant_of-self-2
+invariant_of-self-2 c =
+    let left = (done (goal.at.invariant_of-self-2 c).After-kill_named-hidden).0.0 in
+    let clock : c.max-self-inside.result ≡ max c.self.inside.clock (c.args.run.now.first.counter + (length c.args.run.now.text - 1)) =
+    c.max-self-inside.ensures ∙ ap₂ (λ counter len. max c.self.inside.clock (counter + (len - 1))) c.counter.ensures.value c.len-4.ensures
+    in
+    subst (λ n. IsBlockSeq n c.max-self-inside.result c.place_author.new.authors.items c.push_text.new.text.items c.put_block.new.index c.kill_named-hidden.new.tree.items) (sym c.max-self-inside-2.ensures)
+    (subst (λ k. IsBlockSeq (max c.self.inside.latest c.args.rev) k c.place_author.new.authors.items c.push_text.new.text.items c.put_block.new.index c.kill_named-hidden.new.tree.items) (sym clock) left)
+
+pub returns : goal.returns
+returns c =
+    let d = done (goal.at.returns c).After-kill_named-hidden in
+    inr (ap₂ (λ n l. (Ok n, l)) (sym d.1) (sym d.0.1))

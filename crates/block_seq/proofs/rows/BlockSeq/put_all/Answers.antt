@@ -1,0 +1,36 @@
+use Rattle.std.proofs.Common.{◌+◌, ◌∷◌, inl, inr, map, drop, sym, ap, ◌∙◌, subst, arith}
+use Rattle.pad_model.specs.declared.limits.TheConstants.{MAX_CHARACTERS}
+use Rattle.block_seq.specs.RowParts.{with_all}
+use Rattle.block_seq.proofs.RowChange.{PutNext, put_next, lent_from, lent_checked, lent_sizes}
+use Rattle.block_seq.proofs.rows.BlockSeq.put_all.Goals as goal
+
+pub loop-run-preserved : goal.loop-run-preserved
+loop-run-preserved c =
+    let i = c.loop-run.run-index in
+    let runs = c.args.runs.now in
+    let inv = c.loop-run.invariant in
+    let origin = c.args.author.now.origin in
+    let from = lent_from (λ run. run.now) runs i c.run-item.result c.loop-run-test.true c.run-item.is in
+    let before = lent_sizes (λ run. run.now) (drop i runs) in
+    let so_far : PutNext c.args.rev origin MAX_CHARACTERS c.args.author.now c.loop-run.self (with_all c.args.rev c.args.author.now c.args.self.now (map (λ run. run.now) runs)) (map (λ run. run.now) (drop i runs)) = record {
+      checked = sym (lent_checked (λ run. run.now) origin (drop i runs)) ∙ inv.checked;
+      join = inv.join;
+      whole = inv.all;
+      room = omega (arith, before, inv.room);
+      order = inv.order;
+    } in
+    let next : PutNext c.args.rev origin MAX_CHARACTERS c.args.author.now c.loop-run.self (with_all c.args.rev c.args.author.now c.args.self.now (map (λ run. run.now) runs)) (c.run-item.result.now ∷ map (λ run. run.now) (drop (i + 1) runs)) =
+    subst (PutNext c.args.rev origin MAX_CHARACTERS c.args.author.now c.loop-run.self (with_all c.args.rev c.args.author.now c.args.self.now (map (λ run. run.now) runs))) from so_far in
+    let after = lent_sizes (λ run. run.now) (drop (i + 1) runs) in
+    elim c.put.ensures [
+      | inl failed ↦ absurd (cc (failed.0, c.in-Ok.is))
+      | inr made ↦
+          let done = put_next c.args.rev origin MAX_CHARACTERS c.args.author.now c.loop-run.self c.put.new.self (with_all c.args.rev c.args.author.now c.args.self.now (map (λ run. run.now) runs)) c.run-item.result.now (map (λ run. run.now) (drop (i + 1) runs)) next (sym (ap (λ p. p.1) made)) in
+          record {
+            checked = lent_checked (λ run. run.now) origin (drop (i + 1) runs) ∙ done.checked;
+            join = done.join;
+            all = done.whole;
+            room = (let room = done.room in omega (arith, after, room));
+            order = done.order;
+          }
+    ]

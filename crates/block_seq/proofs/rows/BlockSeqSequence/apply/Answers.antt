@@ -1,0 +1,198 @@
+use Rattle.std.proofs.Common.{◌≡◌, ◌+◌, ◌≤◌, Bool, true, false, List, inr, Ok, eqb-true, vec_len, length, map, count_by, sum_by, sym, ap, ◌∙◌, refl, subst, arith}
+use Rattle.std.specs.List.{list_all}
+use Rattle.pad_model.specs.Cell.{IsInOrder, character_of}
+use Rattle.pad_model.specs.Parts.{part_fits}
+use Rattle.pad_model.proofs.Exits.{answers_memory, is_answered}
+use Rattle.block_seq.specs.KeptParts.{inserted_size}
+use Rattle.block_seq.proofs.Applied.{spans_checked, length-inserts_in, apply-fault, apply-full, apply-ok}
+use Rattle.block_seq.proofs.BlockCells.{length-cells}
+use Rattle.block_seq.proofs.RowChange.{PartsMade, parts_made}
+use Rattle.std.proofs.lemmas.Bool.{and_parts}
+use Rattle.pad_model.specs.Answers.{Answers}
+use Rattle.pad_model.specs.Cell.{is_hidden_by, without_spans}
+use Rattle.pad_model.specs.Checked.{is_run}
+use Rattle.pad_model.specs.declared.limits.TheConstants.{MAX_CHARACTERS}
+use Rattle.pad_model.specs.declared.op.Part.TheVariants.{Insert}
+use Rattle.pad_model.specs.declared.op.Span.{Span}
+use Rattle.pad_model.proofs.Parts.{part_fits-erased}
+use Rattle.block_seq.specs.RowParts.{AllJoin, with_all}
+use Rattle.block_seq.proofs.RowLists.{get_here}
+use Rattle.block_seq.proofs.RowChange.{lent_checked, lent_sizes, no_run, one_run, one_room}
+use Rattle.block_seq.proofs.rows.BlockSeqSequence.apply.Goals as goal
+use Rattle.block_seq.proofs.rows.BlockSeqSequence.apply.Goals.{After-parts_fit, After-count_inserted-more, In_ok-runs}
+
+-- whether the parts fit the cells
+fit : (c : After-parts_fit) (b : Bool) → c.parts_fit.result ≡ b → list_all (part_fits character_of c.args.self.now) c.args.parts.now ≡ b
+fit c b e =
+    ap (λ l. list_all (part_fits character_of l) c.args.parts.now) (sym c.self.view_is)
+    ∙ sym (c.parts_fit.ensures c.self.inside.authors.items c.self.inside.text.items c.self.invariant.within) ∙ e
+
+-- the cells fill the text
+size : (c : After-parts_fit) → length c.args.self.now ≡ length c.self.inside.text.items
+size c = ap length (sym c.self.view_is) ∙ length-cells c.self.inside.authors.items c.self.inside.text.items c.self.inside.tree.items c.self.invariant.within ∙ sym c.self.invariant.full
+
+pub parts_fit-requires-clause-checked : goal.parts_fit-requires-clause-checked
+parts_fit-requires-clause-checked c = spans_checked c.args.author.now.origin c.args.parts.now c.requires.checked
+
+pub returns-then-not-parts_fit : goal.returns-then-not-parts_fit
+returns-then-not-parts_fit c = inr (apply-fault c.args.rev c.args.parts.now c.args.author.now c.args.self.now c.requires.checked (fit (goal.at.returns-then-not-parts_fit c).After-parts_fit false c.if-not-parts_fit.true))
+
+pub returns-then-len-more-gt-MAX_CHARACTERS : goal.returns-then-len-more-gt-MAX_CHARACTERS
+returns-then-len-more-gt-MAX_CHARACTERS c =
+    let a = (goal.at.returns-then-len-more-gt-MAX_CHARACTERS c).After-parts_fit in
+    let s = size a in
+    let inserts = length-inserts_in c.args.author.now c.args.parts.now in
+    inr (apply-full c.args.rev c.args.parts.now c.args.author.now c.args.self.now c.requires.checked (fit a true c.if-not-parts_fit.false) (omega (arith, s, inserts, c.self.inside.text.ok.0, c.count_inserted-more.ensures.value)))
+
+pub returns-in_err-spans : goal.returns-in_err-spans
+returns-in_err-spans c =
+    let a = (goal.at.returns-in_err-spans c).After-parts_fit in
+    let s = size a in
+    let inserts = length-inserts_in c.args.author.now c.args.parts.now in
+    answers_memory c.from_residual.result c.from_residual.ensures.1 refl
+    (is_answered (apply-ok c.args.rev c.args.parts.now c.args.author.now c.args.self.now c.requires.checked (fit a true c.if-not-parts_fit.false) (omega (arith, s, inserts, c.self.inside.text.ok.0, c.count_inserted-more.ensures.value))))
+
+pub returns-in_err-runs : goal.returns-in_err-runs
+returns-in_err-runs c =
+    let a = (goal.at.returns-in_err-runs c).After-parts_fit in
+    let s = size a in
+    let inserts = length-inserts_in c.args.author.now c.args.parts.now in
+    answers_memory c.from_residual-in_err-runs.result c.from_residual-in_err-runs.ensures.1 refl
+    (is_answered (apply-ok c.args.rev c.args.parts.now c.args.author.now c.args.self.now c.requires.checked (fit a true c.if-not-parts_fit.false) (omega (arith, s, inserts, c.self.inside.text.ok.0, c.count_inserted-more.ensures.value))))
+
+-- there is room for what the parts insert
+room : (c : After-count_inserted-more) → length c.args.self.now ≡ length c.self.inside.text.items → length c.self.inside.text.items + c.count_inserted-more.result ≤ MAX_CHARACTERS → length c.args.self.now + sum_by inserted_size c.args.parts.now ≤ MAX_CHARACTERS
+room c s fits = omega (arith, s, fits, c.count_inserted-more.ensures.value)
+
+-- what the parts leave, by their spans and runs
+facts : (c : In_ok-runs) (spans : List Span) → spans ≡ c.in_ok-spans.spans.items → list_all (part_fits character_of c.args.self.now) c.args.parts.now ≡ true → length c.args.self.now + sum_by inserted_size c.args.parts.now ≤ MAX_CHARACTERS
+    → PartsMade c.args.rev c.args.author.now c.args.parts.now c.args.self.now spans (map (λ run. run.now) c.in_ok-runs.runs.items)
+facts c spans is fits small =
+    parts_made c.args.rev c.args.author.now c.args.parts.now c.args.self.now spans (map (λ run. run.now) c.in_ok-runs.runs.items) (subst IsInOrder c.self.view_is c.self.invariant.order) c.requires.checked fits small
+    (is ∙ c.in_ok-spans.ensures) c.in_ok-runs.ensures
+
+pub erase-requires-clause-checked : goal.erase-requires-clause-checked
+erase-requires-clause-checked c =
+    let g = goal.at.erase-requires-clause-checked c in
+    let small = room g.After-count_inserted-more (size g.After-parts_fit) (omega (arith, c.self.inside.text.ok.0, c.if-len-more-gt-MAX_CHARACTERS.false)) in
+    let f = facts g.In_ok-runs c.as_slice.result.now c.as_slice.ensures.value (fit g.After-parts_fit true c.if-not-parts_fit.false) small in
+    f.checked
+
+pub erase-requires-clause-there : goal.erase-requires-clause-there
+erase-requires-clause-there c =
+    let g = goal.at.erase-requires-clause-there c in
+    let small = room g.After-count_inserted-more (size g.After-parts_fit) (omega (arith, c.self.inside.text.ok.0, c.if-len-more-gt-MAX_CHARACTERS.false)) in
+    let f = facts g.In_ok-runs c.as_slice.result.now c.as_slice.ensures.value (fit g.After-parts_fit true c.if-not-parts_fit.false) small in
+    f.there
+
+pub returns-then-is_empty : goal.returns-then-is_empty
+returns-then-is_empty c =
+    let g = goal.at.returns-then-is_empty c in
+    let small = room g.After-count_inserted-more (size g.After-parts_fit) (omega (arith, c.self.inside.text.ok.0, c.if-len-more-gt-MAX_CHARACTERS.false)) in
+    let f = facts g.In_ok-runs c.as_slice.result.now c.as_slice.ensures.value (fit g.After-parts_fit true c.if-not-parts_fit.false) small in
+    let none = no_run (λ run. run.now) c.in_ok-runs.runs.items (sym c.in_ok-runs.runs.ok.0 ∙ eqb-true (vec_len c.in_ok-runs.runs) 0 (sym c.is_empty.ensures ∙ c.if-is_empty.true)) in
+    subst (λ x. Answers c.args.self.now x c.erase.result c.erase.new.self)
+    (sym (f.made ∙ ap (λ l. (Ok (count_by (is_hidden_by c.as_slice.result.now) c.args.self.now), with_all c.args.rev c.args.author.now (without_spans c.args.rev c.as_slice.result.now c.args.self.now) l)) none)) c.erase.ensures
+
+pub change-requires-clause-spans : goal.change-requires-clause-spans
+change-requires-clause-spans c =
+    let g = goal.at.change-requires-clause-spans c in
+    let small = room g.After-count_inserted-more (size g.After-parts_fit) (omega (arith, c.self.inside.text.ok.0, c.if-len-more-gt-MAX_CHARACTERS.false)) in
+    let f = facts g.In_ok-runs c.as_slice-then-len-eq1.result.now c.as_slice-then-len-eq1.ensures.value (fit g.After-parts_fit true c.if-not-parts_fit.false) small in
+    f.checked
+
+pub change-requires-clause-there : goal.change-requires-clause-there
+change-requires-clause-there c =
+    let g = goal.at.change-requires-clause-there c in
+    let small = room g.After-count_inserted-more (size g.After-parts_fit) (omega (arith, c.self.inside.text.ok.0, c.if-len-more-gt-MAX_CHARACTERS.false)) in
+    let f = facts g.In_ok-runs c.as_slice-then-len-eq1.result.now c.as_slice-then-len-eq1.ensures.value (fit g.After-parts_fit true c.if-not-parts_fit.false) small in
+    f.there
+
+pub change-requires-clause-run : goal.change-requires-clause-run
+change-requires-clause-run c =
+    let g = goal.at.change-requires-clause-run c in
+    let small = room g.After-count_inserted-more (size g.After-parts_fit) (omega (arith, c.self.inside.text.ok.0, c.if-len-more-gt-MAX_CHARACTERS.false)) in
+    let f = facts g.In_ok-runs c.as_slice-then-len-eq1.result.now c.as_slice-then-len-eq1.ensures.value (fit g.After-parts_fit true c.if-not-parts_fit.false) small in
+    let len = c.in_ok-runs.runs.ok.0 in
+    let some = get_here c.in_ok-runs.runs.items 0 c.index.result.now (omega (arith, len, c.len-2.ensures, c.if-len-eq1.true)) c.index.ensures in
+    let one = one_run (λ run. run.now) c.in_ok-runs.runs.items c.index.result.now (omega (arith, len, c.len-2.ensures, c.if-len-eq1.true)) some in
+    (and_parts _ _ (subst (λ l. list_all (is_run c.args.author.now.origin) l ≡ true) one f.sized)).0
+
+pub change-requires-clause-fits : goal.change-requires-clause-fits
+change-requires-clause-fits c =
+    let g = goal.at.change-requires-clause-fits c in
+    let small = room g.After-count_inserted-more (size g.After-parts_fit) (omega (arith, c.self.inside.text.ok.0, c.if-len-more-gt-MAX_CHARACTERS.false)) in
+    let f = facts g.In_ok-runs c.as_slice-then-len-eq1.result.now c.as_slice-then-len-eq1.ensures.value (fit g.After-parts_fit true c.if-not-parts_fit.false) small in
+    let len = c.in_ok-runs.runs.ok.0 in
+    let some = get_here c.in_ok-runs.runs.items 0 c.index.result.now (omega (arith, len, c.len-2.ensures, c.if-len-eq1.true)) c.index.ensures in
+    let one = one_run (λ run. run.now) c.in_ok-runs.runs.items c.index.result.now (omega (arith, len, c.len-2.ensures, c.if-len-eq1.true)) some in
+    let join = subst (AllJoin c.args.rev c.args.author.now (without_spans c.args.rev c.as_slice-then-len-eq1.result.now c.args.self.now)) one f.join in
+    sym (part_fits-erased c.args.rev c.as_slice-then-len-eq1.result.now c.args.self.now (Insert c.index.result.now.now)) ∙ join.0
+
+pub change-requires-clause-room : goal.change-requires-clause-room
+change-requires-clause-room c =
+    let g = goal.at.change-requires-clause-room c in
+    let small = room g.After-count_inserted-more (size g.After-parts_fit) (omega (arith, c.self.inside.text.ok.0, c.if-len-more-gt-MAX_CHARACTERS.false)) in
+    let f = facts g.In_ok-runs c.as_slice-then-len-eq1.result.now c.as_slice-then-len-eq1.ensures.value (fit g.After-parts_fit true c.if-not-parts_fit.false) small in
+    let len = c.in_ok-runs.runs.ok.0 in
+    let some = get_here c.in_ok-runs.runs.items 0 c.index.result.now (omega (arith, len, c.len-2.ensures, c.if-len-eq1.true)) c.index.ensures in
+    let one = one_run (λ run. run.now) c.in_ok-runs.runs.items c.index.result.now (omega (arith, len, c.len-2.ensures, c.if-len-eq1.true)) some in
+    let all = subst (λ l. length c.args.self.now + sum_by (λ run. length run.text) l ≤ MAX_CHARACTERS) one f.room in
+    let single = one_room c.index.result.now.now in
+    omega (arith, all, single)
+
+pub returns-then-len-eq1 : goal.returns-then-len-eq1
+returns-then-len-eq1 c =
+    let g = goal.at.returns-then-len-eq1 c in
+    let small = room g.After-count_inserted-more (size g.After-parts_fit) (omega (arith, c.self.inside.text.ok.0, c.if-len-more-gt-MAX_CHARACTERS.false)) in
+    let f = facts g.In_ok-runs c.as_slice-then-len-eq1.result.now c.as_slice-then-len-eq1.ensures.value (fit g.After-parts_fit true c.if-not-parts_fit.false) small in
+    let len = c.in_ok-runs.runs.ok.0 in
+    let some = get_here c.in_ok-runs.runs.items 0 c.index.result.now (omega (arith, len, c.len-2.ensures, c.if-len-eq1.true)) c.index.ensures in
+    let one = one_run (λ run. run.now) c.in_ok-runs.runs.items c.index.result.now (omega (arith, len, c.len-2.ensures, c.if-len-eq1.true)) some in
+    subst (λ x. Answers c.args.self.now x c.change.result c.change.new.self)
+    (sym (f.made ∙ ap (λ l. (Ok (count_by (is_hidden_by c.as_slice-then-len-eq1.result.now) c.args.self.now), with_all c.args.rev c.args.author.now (without_spans c.args.rev c.as_slice-then-len-eq1.result.now c.args.self.now) l)) one)) c.change.ensures
+
+pub change_aside-requires-clause-spans : goal.change_aside-requires-clause-spans
+change_aside-requires-clause-spans c =
+    let g = goal.at.change_aside-requires-clause-spans c in
+    let small = room g.After-count_inserted-more (size g.After-parts_fit) (omega (arith, c.self.inside.text.ok.0, c.if-len-more-gt-MAX_CHARACTERS.false)) in
+    let f = facts g.In_ok-runs c.as_slice-2.result.now c.as_slice-2.ensures.value (fit g.After-parts_fit true c.if-not-parts_fit.false) small in
+    f.checked
+
+pub change_aside-requires-clause-there : goal.change_aside-requires-clause-there
+change_aside-requires-clause-there c =
+    let g = goal.at.change_aside-requires-clause-there c in
+    let small = room g.After-count_inserted-more (size g.After-parts_fit) (omega (arith, c.self.inside.text.ok.0, c.if-len-more-gt-MAX_CHARACTERS.false)) in
+    let f = facts g.In_ok-runs c.as_slice-2.result.now c.as_slice-2.ensures.value (fit g.After-parts_fit true c.if-not-parts_fit.false) small in
+    f.there
+
+pub change_aside-requires-clause-runs : goal.change_aside-requires-clause-runs
+change_aside-requires-clause-runs c =
+    let g = goal.at.change_aside-requires-clause-runs c in
+    let small = room g.After-count_inserted-more (size g.After-parts_fit) (omega (arith, c.self.inside.text.ok.0, c.if-len-more-gt-MAX_CHARACTERS.false)) in
+    let f = facts g.In_ok-runs c.as_slice-2.result.now c.as_slice-2.ensures.value (fit g.After-parts_fit true c.if-not-parts_fit.false) small in
+    ap (list_all (λ run. is_run c.args.author.now.origin run.now)) c.as_slice-3.ensures.value ∙ lent_checked (λ run. run.now) c.args.author.now.origin c.in_ok-runs.runs.items ∙ f.sized
+
+pub change_aside-requires-clause-join : goal.change_aside-requires-clause-join
+change_aside-requires-clause-join c =
+    let g = goal.at.change_aside-requires-clause-join c in
+    let small = room g.After-count_inserted-more (size g.After-parts_fit) (omega (arith, c.self.inside.text.ok.0, c.if-len-more-gt-MAX_CHARACTERS.false)) in
+    let f = facts g.In_ok-runs c.as_slice-2.result.now c.as_slice-2.ensures.value (fit g.After-parts_fit true c.if-not-parts_fit.false) small in
+    subst (λ l. AllJoin c.args.rev c.args.author.now (without_spans c.args.rev c.as_slice-2.result.now c.args.self.now) (map (λ run. run.now) l)) (sym c.as_slice-3.ensures.value) f.join
+
+pub change_aside-requires-clause-room : goal.change_aside-requires-clause-room
+change_aside-requires-clause-room c =
+    let g = goal.at.change_aside-requires-clause-room c in
+    let small = room g.After-count_inserted-more (size g.After-parts_fit) (omega (arith, c.self.inside.text.ok.0, c.if-len-more-gt-MAX_CHARACTERS.false)) in
+    let f = facts g.In_ok-runs c.as_slice-2.result.now c.as_slice-2.ensures.value (fit g.After-parts_fit true c.if-not-parts_fit.false) small in
+    let all = f.room in
+    let sizes = ap (sum_by (λ run. length run.now.text)) c.as_slice-3.ensures.value ∙ lent_sizes (λ run. run.now) c.in_ok-runs.runs.items in
+    omega (arith, all, sizes)
+
+pub returns : goal.returns
+returns c =
+    let g = goal.at.returns c in
+    let small = room g.After-count_inserted-more (size g.After-parts_fit) (omega (arith, c.self.inside.text.ok.0, c.if-len-more-gt-MAX_CHARACTERS.false)) in
+    let f = facts g.In_ok-runs c.as_slice-2.result.now c.as_slice-2.ensures.value (fit g.After-parts_fit true c.if-not-parts_fit.false) small in
+    subst (λ x. Answers c.args.self.now x c.change_aside.result c.change_aside.new.self)
+    (sym (f.made ∙ ap (λ l. (Ok (count_by (is_hidden_by c.as_slice-2.result.now) c.args.self.now), with_all c.args.rev c.args.author.now (without_spans c.args.rev c.as_slice-2.result.now c.args.self.now) (map (λ run. run.now) l))) (sym c.as_slice-3.ensures.value))) c.change_aside.ensures

@@ -1,0 +1,163 @@
+//! Comments over the plain sequence: they keep their words.
+ghost use Rattle.std.specs.Prelude.{◌≡◌, ℕ, List, true, IfOk};
+ghost use Rattle.anchors.specs.Comments.{AreHeld, born_by, has_both};
+ghost use Rattle.pad_model.specs.Cell.{Cell};
+
+use crate::site::Sketch::{Erased, Typed};
+use crate::site::{Named, Site, stamp_of};
+use anchors::{CommentBook, Shown};
+use pad_model::{Author, Name, OpName, Refusal, Sequence, Stamp, Text};
+use std::alloc::Global;
+use std::test::Fail;
+
+const COMMENT: OpName = OpName {
+    origin: 1,
+    number: 3,
+};
+
+const ANOTHER: OpName = OpName {
+    origin: 1,
+    number: 1,
+};
+
+/// A comment of revision 1 on the characters from one stamp to another, and the revision that resolves it, if any.
+#[derive(Clone, Copy)]
+struct Draft {
+    first: Stamp,
+    last: Stamp,
+    resolved: Option<u64>,
+}
+
+fn on(first: Named, last: Named) -> Result<Draft, Refusal> {
+    Ok(Draft {
+        first: stamp_of(first)?,
+        last: stamp_of(last)?,
+        resolved: None,
+    })
+}
+
+fn book_of(alloc: Global, draft: Draft) -> Result<CommentBook, Refusal>
+    ensures { IfOk result (λ book. (cells : List Cell) (rev : ℕ) → has_both cells draft.first draft.last ≡ true → AreHeld cells (born_by rev book)) }
+{
+    let author = Author {
+        name: Name::from_str(alloc, "ada")?,
+        origin: 1,
+    };
+    let text = Text::from_str(alloc, "c")?;
+    let mut book = CommentBook::new(alloc);
+    book.add(alloc, COMMENT, draft.first, draft.last, &author, &text, 1)?;
+    if let Some(rev) = draft.resolved {
+        book.resolve(COMMENT, rev)?;
+    }
+    Ok(book)
+}
+
+/// Place, length and resolution of a comment, as a list of comments shows it.
+type Seen = (u64, u64, bool);
+
+fn are_seen(comments: &[Shown], want: &[Seen]) -> bool {
+    for (row, want) in comments.iter().zip(want) {
+        if row.at != want.0 || row.len != want.1 || row.resolved != want.2 {
+            return false;
+        }
+    }
+    comments.len() == want.len()
+}
+
+/// Whether a list of comments at a revision shows these.
+fn lists(
+    alloc: Global,
+    site: &Site,
+    draft: Draft,
+    rev: u64,
+    want: &[Seen],
+) -> Result<bool, Refusal> {
+    let seq = site.sequence();
+    if !seq.has(draft.first) || !seq.has(draft.last) {
+        return Err(Refusal::PeerFault);
+    }
+    let book = book_of(alloc, draft)?;
+    let comments = book.list_at(alloc, seq, rev)?;
+    Ok(are_seen(comments.as_slice(), want))
+}
+
+/// The same by the range of its name alone.
+fn range_of(
+    alloc: Global,
+    site: &Site,
+    draft: Draft,
+    rev: u64,
+) -> Result<Option<(u64, u64)>, Refusal> {
+    let book = book_of(alloc, draft)?;
+    match book.range(site.sequence(), COMMENT, rev) {
+        Some(range) => Ok(Some((range.at, range.len))),
+        None => Ok(None),
+    }
+}
+
+/// `hello` in the first revision, `heXYllo` in the second, and `XY` in the third.
+fn keeping_xy(alloc: Global) -> Result<Site, Refusal> {
+    let mut site = Site::new(alloc)?;
+    site.take(alloc, 1, &[Typed((1, 1), None, "hello")])?;
+    site.take(alloc, 1, &[Typed((6, 1), Some((2, 1)), "XY")])?;
+    match site.take(alloc, 1, &[Erased(&[((1, 1), 5)])])? {
+        5 => Ok(site),
+        _ => Err(Refusal::PeerFault),
+    }
+}
+
+/// A comment on `hello` that the fourth revision resolves.
+fn on_hello() -> Result<Draft, Refusal> {
+    Ok(Draft {
+        resolved: Some(4),
+        ..on((1, 1), (5, 1))?
+    })
+}
+
+/// How the comment is listed at each revision.
+const LISTED: &[(u64, &[Seen])] = &[
+    (0, &[]),
+    (1, &[(0, 5, false)]),
+    (2, &[(0, 7, false)]),
+    (3, &[(0, 2, false)]),
+    (4, &[(0, 2, true)]),
+];
+
+fn resolves_another(alloc: Global, draft: Draft) -> Result<bool, Refusal> {
+    let mut book = book_of(alloc, draft)?;
+    Ok(book.resolve(ANOTHER, 5) != Err(Refusal::NoComment))
+}
+
+#[test]
+fn comment_keeps_its_words(rt: HostRuntime) -> Result<(), Fail> {
+    let alloc = rt.alloc();
+    let draft = on_hello()?;
+    assert!(rt; !resolves_another(alloc, draft)?);
+    let site = keeping_xy(alloc)?;
+    for (rev, want) in LISTED {
+        assert!(rt; lists(alloc, &site, draft, *rev, want)?, "{rev}");
+    }
+    assert!(rt; range_of(alloc, &site, draft, 2)? == Some((0, 7)));
+    Ok(())
+}
+
+/// `abc` in the first revision, without its `b` in the second.
+fn without_b(alloc: Global) -> Result<Site, Refusal> {
+    let mut site = Site::new(alloc)?;
+    site.take(alloc, 1, &[Typed((1, 1), None, "abc")])?;
+    site.take(alloc, 1, &[Erased(&[((2, 1), 1)])])?;
+    Ok(site)
+}
+
+#[test]
+fn comment_on_deleted_word(rt: HostRuntime) -> Result<(), Fail> {
+    let alloc = rt.alloc();
+    let draft = on((2, 1), (2, 1))?;
+    let beyond = on((2, 1), (9, 1))?;
+    let site = without_b(alloc)?;
+    assert!(rt; range_of(alloc, &site, draft, 1)? == Some((1, 1)));
+    assert!(rt; range_of(alloc, &site, draft, 2)? == Some((1, 0)));
+    assert!(rt; lists(alloc, &site, draft, 2, &[(1, 0, false)])?);
+    assert!(rt; range_of(alloc, &site, beyond, 2)?.is_none());
+    Ok(())
+}

@@ -1,0 +1,84 @@
+//! Two sequences side by side.
+use block_seq::{BlockSeq, PlainSeq};
+use pad_model::{CellView, Refusal, Sequence, Stamp};
+use std::alloc::Global;
+
+/// Whether two cells are the same.
+fn is_same_cell(one: &CellView<'_>, other: &CellView<'_>) -> bool {
+    one.stamp == other.stamp
+        && one.parent == other.parent
+        && one.character == other.character
+        && one.author == other.author
+        && one.born == other.born
+        && one.died == other.died
+}
+
+/// Whether both have the same cell at a place, or none.
+fn have_same_cell(rows: &BlockSeq, plain: &PlainSeq, place: u64) -> bool {
+    match (rows.cell_at(place), plain.cell_at(place)) {
+        (Some(one), Some(other)) => is_same_cell(&one, &other),
+        (None, None) => true,
+        _ => false,
+    }
+}
+
+/// Whether both have the same cells.
+pub fn have_same_cells(rows: &BlockSeq, plain: &PlainSeq) -> bool {
+    let count = plain.cell_count();
+    rows.cell_count() == count && (0..=count).all(|place| have_same_cell(rows, plain, place))
+}
+
+/// Whether both say the same of a stamp at a revision.
+fn place_the_same(rows: &BlockSeq, plain: &PlainSeq, rev: u64, stamp: Stamp) -> bool {
+    rows.before(stamp, rev) == plain.before(stamp, rev)
+        && rows.through(stamp, rev) == plain.through(stamp, rev)
+        && rows.has(stamp) == plain.has(stamp)
+}
+
+/// Whether both say the same of each character at a revision.
+fn place_all_the_same(rows: &BlockSeq, plain: &PlainSeq, rev: u64) -> bool {
+    for place in 0..plain.cell_count() {
+        match plain.cell_at(place) {
+            Some(cell) if place_the_same(rows, plain, rev, cell.stamp) => {}
+            _ => return false,
+        }
+    }
+    true
+}
+
+/// Whether both have the same spans at each third of a revision.
+fn have_same_spans(
+    alloc: Global,
+    rows: &BlockSeq,
+    plain: &PlainSeq,
+    rev: u64,
+) -> Result<bool, Refusal> {
+    let len = plain.len_at(rev);
+    if rows.len_at(rev) != len {
+        return Ok(false);
+    }
+    let third = len / 3;
+    for at in [0, third, len - third] {
+        if rows.spans_at(alloc, rev, at, third)? != plain.spans_at(alloc, rev, at, third)? {
+            return Ok(false);
+        }
+    }
+    Ok(true)
+}
+
+/// Whether both tell the same of a revision: its text, authors, spans, stamps and places.
+pub fn tell_the_same(
+    alloc: Global,
+    rows: &BlockSeq,
+    plain: &PlainSeq,
+    rev: u64,
+) -> Result<bool, Refusal> {
+    Ok(
+        rows.text_at(alloc, rev)? == plain.text_at(alloc, rev)?
+            && rows.authors_at(alloc, rev)? == plain.authors_at(alloc, rev)?
+            && have_same_spans(alloc, rows, plain, rev)?
+            && (0..=plain.len_at(rev)).all(|at| rows.stamp_at(rev, at) == plain.stamp_at(rev, at))
+            && place_all_the_same(rows, plain, rev)
+            && rows.clock() == plain.clock(),
+    )
+}

@@ -1,0 +1,222 @@
+//! Three replicas that type at once, and take one another's operations in different orders.
+//!
+//! Whoever types in a round does so with the same counter, so that each round has ties.
+use crate::site::{Site, stamp_of};
+use dice::Dice;
+use pad_model::{Name, Op, OpName, Part, Refusal, Row, Run, Seen, Sequence, Text};
+use std::alloc::Global;
+use std::process::Abort;
+use std::test::Fail;
+
+const ROUNDS: u64 = 100;
+
+/// In which order each replica takes the operations of a round, its own first.
+const ORDERS: [[usize; 3]; 3] = [[0, 1, 2], [1, 2, 0], [2, 1, 0]];
+
+/// Types one to three letters at a place of the text, with a counter so far ahead of the clock.
+pub fn typed(
+    alloc: Global,
+    site: &Site,
+    replica: u16,
+    ahead: u64,
+    dice: &mut Dice,
+) -> Result<Part, Refusal> {
+    let (seq, rev) = (site.sequence(), site.rev());
+    let after = match dice.roll(seq.len_at(rev).saturating_add(1)) {
+        0 => None,
+        place => seq.stamp_at(rev, place - 1),
+    };
+    let text = match dice.roll(3) {
+        0 => "x",
+        1 => "yé",
+        _ => "a😀b",
+    };
+    Ok(Part::Insert(Run {
+        first: stamp_of((seq.clock().saturating_add(ahead), replica))?,
+        after,
+        text: Text::from_str(alloc, text)?,
+    }))
+}
+
+/// Erases up to four characters from a place of the text on.
+pub fn erased(alloc: Global, site: &Site, dice: &mut Dice) -> Result<Part, Refusal> {
+    let (seq, rev) = (site.sequence(), site.rev());
+    let len = seq.len_at(rev);
+    let at = dice.roll(len).min(len);
+    let count = dice.roll(4).saturating_add(1).min(len - at);
+    Ok(Part::Delete(seq.spans_at(alloc, rev, at, count)?))
+}
+
+/// What a replica does next: half of the time it types, else it erases, or does both at once.
+fn made(alloc: Global, site: &Site, name: OpName, dice: &mut Dice) -> Result<Op, Refusal> {
+    let kind = match site.sequence().len_at(site.rev()) {
+        0..=9 => 0,
+        _ => dice.roll(10),
+    };
+    let mut parts = Row::new(alloc);
+    if kind >= 5 {
+        parts.push(erased(alloc, site, dice)?)?;
+    }
+    if kind <= 5 {
+        parts.push(typed(alloc, site, name.origin, 1, dice)?)?;
+    }
+    Ok(Op {
+        name,
+        seen: Seen::new(alloc),
+        author: Name::from_str(alloc, "ada")?,
+        parts,
+    })
+}
+
+/// How many operations type, erase, and were refused, and how many characters they hid.
+#[derive(Clone, Copy, Default)]
+struct Shares {
+    typed: u64,
+    erased: u64,
+    refused: u64,
+    hidden: u64,
+}
+
+impl Shares {
+    fn count(&mut self, ops: &[Op]) {
+        for op in ops {
+            self.count_parts(op.parts.as_slice());
+        }
+    }
+
+    fn count_parts(&mut self, parts: &[Part]) {
+        for part in parts {
+            match part {
+                Part::Insert(_) => self.typed = self.typed.saturating_add(1),
+                _ => self.erased = self.erased.saturating_add(1),
+            }
+        }
+    }
+
+    fn answer(&mut self, answer: Result<u64, Refusal>) {
+        match answer {
+            Ok(hidden) => self.hidden = self.hidden.saturating_add(hidden),
+            Err(_) => self.refused = self.refused.saturating_add(1),
+        }
+    }
+}
+
+/// Whether two replicas keep the same character at a place: all but the revisions, which each counts for itself.
+fn agree(one: &Site, other: &Site, place: u64) -> bool {
+    let Some(a) = one.sequence().cell_at(place) else {
+        return false;
+    };
+    let Some(b) = other.sequence().cell_at(place) else {
+        return false;
+    };
+    a.stamp == b.stamp
+        && a.parent == b.parent
+        && a.character == b.character
+        && a.author == b.author
+        && a.died.is_some() == b.died.is_some()
+}
+
+/// How many characters are erased.
+fn count_dead(site: &Site) -> u64 {
+    let cells = site.sequence().cell_count();
+    cells.saturating_sub(site.sequence().len_at(site.rev()))
+}
+
+/// An operation of each replica.
+fn all_made(
+    alloc: Global,
+    sites: &[Site],
+    number: u64,
+    dice: &mut Dice,
+) -> Result<Vec<Op>, Refusal> {
+    let mut ops = Vec::new(alloc);
+    let mut origin: u16 = 1;
+    for site in sites {
+        ops.push(made(alloc, site, OpName { origin, number }, dice)?)?;
+        origin = origin.saturating_add(1);
+    }
+    Ok(ops)
+}
+
+fn take(alloc: Global, site: &mut Site, ops: &[Op], place: usize, shares: &mut Shares) {
+    if let Some(op) = ops.get(place) {
+        shares.answer(site.deliver(alloc, op));
+    }
+}
+
+/// A replica takes the operations in an order, and the first of them once more.
+fn take_all(alloc: Global, site: &mut Site, ops: &[Op], order: [usize; 3], shares: &mut Shares) {
+    let [first, second, third] = order;
+    for place in [first, second, third, first] {
+        take(alloc, site, ops, place, shares);
+    }
+}
+
+fn exchange(alloc: Global, sites: &mut [Site], ops: &[Op], shares: &mut Shares) {
+    for (place, order) in ORDERS.iter().enumerate() {
+        if let Some(site) = sites.get_mut(place) {
+            take_all(alloc, site, ops, *order, shares);
+        }
+    }
+}
+
+/// Each replica makes an operation, and takes those of all three in its own order, and its own once more.
+fn round(
+    alloc: Global,
+    sites: &mut [Site],
+    number: u64,
+    dice: &mut Dice,
+    shares: &mut Shares,
+) -> Result<(), Refusal> {
+    let ops = all_made(alloc, sites, number, dice)?;
+    shares.count(&ops);
+    exchange(alloc, sites, &ops, shares);
+    Ok(())
+}
+
+fn three_sites(alloc: Global) -> Result<Vec<Site>, Refusal> {
+    let mut sites = Vec::new(alloc);
+    for _ in 0..3 {
+        sites.push(Site::new(alloc)?)?;
+    }
+    Ok(sites)
+}
+
+fn play(alloc: Global, sites: &mut [Site]) -> Result<Shares, Refusal> {
+    let mut dice = Dice::new(7);
+    let mut shares = Shares::default();
+    for number in 1..=ROUNDS {
+        round(alloc, sites, number, &mut dice, &mut shares)?;
+    }
+    Ok(shares)
+}
+
+/// Two replicas keep the same characters.
+fn keep_the_same(rt: &impl Abort, one: &Site, other: &Site) {
+    let cells = one.sequence().cell_count();
+    assert!(rt; other.sequence().cell_count() == cells);
+    for place in 0..cells {
+        assert!(rt; agree(one, other, place), "at {place}");
+    }
+}
+
+/// All replicas do, and as many characters are erased in each.
+fn all_agree(rt: &impl Abort, sites: &[Site], erased: u64) {
+    assert!(rt; sites.len() == 3);
+    for site in sites {
+        keep_the_same(rt, &sites[0], site);
+        assert!(rt; count_dead(site) == erased);
+    }
+}
+
+#[test]
+fn replicas_agree_in_every_order(rt: HostRuntime) -> Result<(), Fail> {
+    let mut sites = three_sites(rt.alloc())?;
+    let shares = play(rt.alloc(), &mut sites)?;
+    assert!(rt; shares.typed >= 150, "{}", shares.typed);
+    assert!(rt; shares.erased >= 120, "{}", shares.erased);
+    assert!(rt; shares.refused == shares.typed);
+    assert!(rt; shares.hidden % 3 == 0);
+    all_agree(&rt, &sites, shares.hidden / 3);
+    Ok(())
+}

@@ -1,0 +1,19 @@
+//! Tests of the sequences of characters: the sequence of blocks and the plain one beside it.
+#![tactic(auto)]
+
+#[cfg(test)]
+mod comments;
+#[cfg(test)]
+mod compared;
+#[cfg(test)]
+mod converge;
+#[cfg(test)]
+mod readers;
+#[cfg(test)]
+mod sequences;
+#[cfg(test)]
+mod several;
+#[cfg(test)]
+mod side_by_side;
+#[cfg(test)]
+mod site;

@@ -1,0 +1,70 @@
+//! Operations of several parts on the sequence of blocks beside the plain one, and what both tell of older revisions.
+use crate::compared::tell_the_same;
+use crate::converge::{erased, typed};
+use crate::site::Site;
+use dice::Dice;
+use pad_model::{Name, Op, OpName, Part, Refusal, Row, Seen, Sequence};
+use std::alloc::Global;
+use std::test::Fail;
+
+const OPERATIONS: u64 = 120;
+
+/// One to four insertions, and a deletion between them where there is text.
+fn parts_of(
+    alloc: Global,
+    site: &Site,
+    replica: u16,
+    dice: &mut Dice,
+) -> Result<Row<Part>, Refusal> {
+    let mut parts = Row::new(alloc);
+    for turn in 0..=dice.roll(4) {
+        parts.push(typed(
+            alloc,
+            site,
+            replica,
+            turn.saturating_mul(4).saturating_add(1),
+            dice,
+        )?)?;
+        if turn == 1 && site.sequence().len_at(site.rev()) > 0 {
+            parts.push(erased(alloc, site, dice)?)?;
+        }
+    }
+    Ok(parts)
+}
+
+fn op_of(alloc: Global, site: &Site, number: u64, dice: &mut Dice) -> Result<Op, Refusal> {
+    let origin = dice.roll(3).saturating_add(1) as u16;
+    Ok(Op {
+        name: OpName { origin, number },
+        seen: Seen::new(alloc),
+        author: Name::from_str(alloc, "ada")?,
+        parts: parts_of(alloc, site, origin, dice)?,
+    })
+}
+
+/// How many operations are taken before the first that is not.
+fn take_many(alloc: Global, site: &mut Site) -> Result<u64, Refusal> {
+    let mut dice = Dice::new(5);
+    for number in 1..=OPERATIONS {
+        let op = op_of(alloc, site, number, &mut dice)?;
+        if site.deliver(alloc, &op).is_err() {
+            return Ok(number);
+        }
+    }
+    Ok(0)
+}
+
+#[test]
+fn several_parts_at_once(rt: HostRuntime) -> Result<(), Fail> {
+    let mut site = Site::new(rt.alloc())?;
+    let stopped = take_many(rt.alloc(), &mut site)?;
+    assert!(rt; stopped == 0, "at {stopped}");
+    assert!(rt; site.rev() == OPERATIONS);
+    for rev in [0, 1, 2, 3, 10, 30, 60, 90, 119, 120] {
+        assert!(rt;
+            tell_the_same(rt.alloc(), site.sequence(), site.plain(), rev)?,
+            "revision {rev}"
+        );
+    }
+    Ok(())
+}

@@ -1,0 +1,177 @@
+//! One server's copy of a text: operations go in, and its revisions count up.
+//!
+//! The copy is kept twice, as blocks and plainly: each operation is made on both, and both must answer and keep the same.
+ghost use Rattle.std.specs.Prelude.{◌≡◌, IsTrue, IfOk};
+ghost use Rattle.std.specs.List.{list_all};
+ghost use Rattle.pad_model.specs.Checked.{are_parts, is_edit};
+
+use crate::compared::have_same_cells;
+use block_seq::{BlockSeq, PlainSeq};
+use pad_model::{
+    Author, Name, Op, OpName, Part, Refusal, Row, Run, Seen, Sequence, Span, Stamp, Text,
+};
+use std::alloc::Global;
+use std::marker::Model;
+
+/// A sequence of blocks and a plain one beside it, and how many operations they took.
+#[derive(Drop)]
+pub struct Site {
+    sequence: BlockSeq,
+    plain: PlainSeq,
+    rev: u64,
+}
+
+impl Model for Site {
+    ghost use Rattle.std.specs.Prelude.{ℕ, List};
+    ghost use Rattle.std.specs.List.{AllByRecursion};
+    ghost use Rattle.pad_model.specs.Cell.{Cell, IsBy};
+
+    ghost Value = { List Cell };
+
+    ghost view = { λ s. s.sequence };
+
+    ghost use Rattle.std.specs.Prelude.{◌+◌};
+
+    ghost invariant = { λ s. AllByRecursion (IsBy (s.rev + 1)) s.sequence × AllByRecursion (IsBy (s.rev + 1)) s.plain };
+}
+
+impl Site {
+    pub fn new(alloc: Global) -> Result<Site, Refusal> {
+        Ok(Site {
+            sequence: BlockSeq::empty(alloc)?,
+            plain: PlainSeq::empty(alloc)?,
+            rev: 0,
+        })
+    }
+
+    pub fn sequence(&self) -> &BlockSeq
+        ensures { result.now ≡ self.now }
+    {
+        &self.sequence
+    }
+
+    pub fn rev(&self) -> u64 {
+        self.rev
+    }
+
+    /// Takes an operation that only edits the text, and answers how many characters it hides.
+    pub fn deliver(&mut self, alloc: Global, op: &Op) -> Result<u64, Refusal> {
+        op.check()?;
+        if !op.is_edit() {
+            return Err(Refusal::BadOp);
+        }
+        let author = author_of(op)?;
+        self.make(alloc, op.parts.as_slice(), &author)
+    }
+
+    pub fn plain(&self) -> &PlainSeq {
+        &self.plain
+    }
+
+    /// Makes the parts of an operation that fits its limits and only edits the text. `BadStamp`, which no sequence
+    /// answers, tells that the two differ.
+    fn make(&mut self, alloc: Global, parts: &[Part], author: &Author) -> Result<u64, Refusal>
+        requires checked { IsTrue (are_parts author.now.origin parts.now) }
+        requires edits { IsTrue (list_all is_edit parts.now) }
+    {
+        if self.rev == u64::MAX {
+            return Err(Refusal::BadOp);
+        }
+        let rev = self.rev + 1;
+        let _rows = self.sequence.cell_count();
+        let _plain = self.plain.cell_count();
+        let wanted = self.plain.apply(alloc, parts, author, rev);
+        let made = self.sequence.apply(alloc, parts, author, rev);
+        if made != wanted || !have_same_cells(&self.sequence, &self.plain) {
+            return Err(Refusal::BadStamp);
+        }
+        let hidden = match made {
+            Ok(hidden) => hidden,
+            Err(refusal) => return Err(refusal),
+        };
+        self.rev = rev;
+        Ok(hidden)
+    }
+
+    /// Takes an operation of these parts by the replica of a number.
+    pub fn take(&mut self, alloc: Global, origin: u16, parts: &[Sketch]) -> Result<u64, Refusal> {
+        let op = op_of(alloc, origin, parts)?;
+        self.deliver(alloc, &op)
+    }
+
+    /// Whether a revision shows this text.
+    pub fn shows(&self, alloc: Global, rev: u64, want: &str) -> Result<bool, Refusal> {
+        let text = self.sequence.text_at(alloc, rev)?;
+        is_text(alloc, &text, want)
+    }
+}
+
+pub fn is_text(alloc: Global, text: &Text, want: &str) -> Result<bool, Refusal> {
+    let text = text.to_string(alloc)?;
+    Ok(text.as_str() == want)
+}
+
+fn author_of(op: &Op) -> Result<Author, Refusal>
+    ensures { IfOk result (λ author. author.origin ≡ op.now.name.origin) }
+{
+    Ok(Author {
+        name: op.author.clone()?,
+        origin: op.name.origin,
+    })
+}
+
+/// Counter and replica of a stamp.
+pub type Named = (u64, u16);
+
+/// A part by its numbers.
+#[derive(Clone, Copy)]
+pub enum Sketch {
+    /// The first stamp, the character in front, and the text.
+    Typed(Named, Option<Named>, &'static str),
+    /// First stamps and lengths of spans.
+    Erased(&'static [(Named, u64)]),
+}
+
+pub fn stamp_of(named: Named) -> Result<Stamp, Refusal> {
+    Stamp::new(named.0, named.1)
+}
+
+pub fn part_of(alloc: Global, sketch: &Sketch) -> Result<Part, Refusal> {
+    match sketch {
+        Sketch::Typed(first, after, text) => {
+            let after = match after {
+                None => None,
+                Some(named) => Some(stamp_of(*named)?),
+            };
+            Ok(Part::Insert(Run {
+                first: stamp_of(*first)?,
+                after,
+                text: Text::from_str(alloc, text)?,
+            }))
+        }
+        Sketch::Erased(named) => {
+            let mut spans = Row::new(alloc);
+            for (first, len) in *named {
+                spans.push(Span {
+                    first: stamp_of(*first)?,
+                    len: *len,
+                })?;
+            }
+            Ok(Part::Delete(spans))
+        }
+    }
+}
+
+/// The first operation of a replica, by its parts.
+pub fn op_of(alloc: Global, origin: u16, sketches: &[Sketch]) -> Result<Op, Refusal> {
+    let mut parts = Row::new(alloc);
+    for sketch in sketches {
+        parts.push(part_of(alloc, sketch)?)?;
+    }
+    Ok(Op {
+        name: OpName { origin, number: 1 },
+        seen: Seen::new(alloc),
+        author: Name::from_str(alloc, "ada")?,
+        parts,
+    })
+}

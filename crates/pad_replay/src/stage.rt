@@ -3,7 +3,7 @@ ghost use Rattle.std.specs.Prelude.{◌≤◌};
 ghost use Rattle.server_core.specs.declared.limits.TheConstants.{MAX_CELLS};
 
 use crate::fault::Fault;
-use block_seq::PlainSeq;
+use block_seq::BlockSeq;
 use command_line::replica_or;
 use pad_core::Reply;
 use pad_model::Refusal;
@@ -19,7 +19,7 @@ pub struct Stage {
     replica: u16,
     cells: u32,
     accounts: Vec<u8>,
-    server: Server<PlainSeq>,
+    server: Server<BlockSeq>,
     names: Vec<Vec<u8>>,
     ghost numbered: { 1 ≤ replica },
     ghost in_row: { cells ≤ MAX_CELLS },
@@ -30,7 +30,7 @@ fn make_server(
     replica: u16,
     cells: u32,
     accounts: &[u8],
-) -> Result<Server<PlainSeq>, Fault>
+) -> Result<Server<BlockSeq>, Fault>
     requires numbered { 1 ≤ replica }
     requires row { cells ≤ MAX_CELLS }
 {

@@ -10,7 +10,7 @@ use crate::contact::Contact;
 use crate::exchange::{contacts, exchange_all};
 use crate::failure::Failure;
 use crate::wake::{Wake, Waker};
-use block_seq::PlainSeq;
+use block_seq::BlockSeq;
 use crossbeam_channel::{Receiver, Sender};
 use log::Log;
 use shared_pads::{Seat, SharedPad};
@@ -42,7 +42,7 @@ where
 {
     let alloc = rt.alloc();
     let accounts = read_accounts(rt, path)?;
-    let cells: Vec<SharedPad<PlainSeq>> = open_row(alloc, asked.replica, asked.cells)?;
+    let cells: Vec<SharedPad<BlockSeq>> = open_row(alloc, asked.replica, asked.cells)?;
     let mut crew = Vec::new(alloc);
     take_all_seats(rt, alloc, cells.as_slice(), asked.workers, &mut crew)?;
     let mut seats = Vec::new(alloc);
@@ -100,7 +100,7 @@ struct Relaying<'a> {
 /// Accepts connections in a thread of its own, and serves them in as many as there are seats for. One more exchanges with
 /// the peers, and once more after the last connection.
 fn serve<R>(
-    row: &Row<'_, PlainSeq, R, Waker<'_, R>>,
+    row: &Row<'_, BlockSeq, R, Waker<'_, R>>,
     listener: TcpListener,
     connections: Option<u32>,
     crew: &mut [Vec<Seat>],

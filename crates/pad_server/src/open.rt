@@ -5,7 +5,7 @@ ghost use Rattle.server_core.specs.declared.limits.TheConstants.{MAX_CELLS};
 use crate::accounts::read_accounts;
 use crate::args::Asked;
 use crate::failure::Failure;
-use block_seq::PlainSeq;
+use block_seq::BlockSeq;
 use pad_core::Request;
 use pad_model::{Name, Refusal};
 use server_core::Server;
@@ -17,7 +17,7 @@ use workers::{Alone, Pads};
 const SOLO: &str = "solo";
 
 /// The server that is asked for, whose actor is the author `solo` where there is no accounts file, else nobody.
-pub fn open<'a>(rt: &HostRuntime, asked: Asked<'a>) -> Result<Alone<PlainSeq>, Failure<'a>>
+pub fn open<'a>(rt: &HostRuntime, asked: Asked<'a>) -> Result<Alone<BlockSeq>, Failure<'a>>
     requires { (1 ≤ asked.replica) × (asked.cells ≤ MAX_CELLS) }
 {
     let alloc = rt.alloc();
@@ -38,7 +38,7 @@ fn open_server(
     replica: u16,
     cells: u32,
     accounts: Accounts,
-) -> Result<Alone<PlainSeq>, Refusal>
+) -> Result<Alone<BlockSeq>, Refusal>
     requires { (1 ≤ replica) × (cells ≤ MAX_CELLS) }
 {
     let mut server = Server::new(alloc, replica, cells, accounts)?;
@@ -54,7 +54,7 @@ fn hello(alloc: Global) -> Result<Request, Refusal> {
 }
 
 /// Logs the author `solo` in.
-fn greet(alloc: Global, pads: &mut Alone<PlainSeq>) -> Result<(), Refusal> {
+fn greet(alloc: Global, pads: &mut Alone<BlockSeq>) -> Result<(), Refusal> {
     let hello = hello(alloc)?;
     let _welcome = pads.call(alloc, &hello)?;
     Ok(())

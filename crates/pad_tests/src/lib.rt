@@ -12,8 +12,6 @@ mod limits;
 #[cfg(test)]
 mod page;
 #[cfg(test)]
-mod records;
-#[cfg(test)]
 mod replies;
 #[cfg(test)]
 mod rig;
@@ -21,8 +19,6 @@ mod rig;
 mod runs;
 #[cfg(test)]
 mod scan;
-#[cfg(test)]
-mod seats;
 #[cfg(test)]
 mod seeded;
 #[cfg(test)]

@@ -22,23 +22,6 @@ fn hello(alloc: Global) -> Result<Act, Refusal> {
     })
 }
 
-/// The same, after ann has inserted `hello`.
-pub fn typed(alloc: Global) -> Result<Pad<PlainSeq>, Refusal> {
-    let mut pad = claimed(alloc)?;
-    let who = Who::Author(Name::from_str(alloc, "ann")?);
-    let act = hello(alloc)?;
-    let event = PadEvent {
-        pad: "p",
-        who: &who,
-        visit: Some(1),
-        act: &act,
-    };
-    match pad.step(alloc, &event) {
-        Ok(_) => Ok(pad),
-        Err(refusal) => Err(refusal),
-    }
-}
-
 fn is_made(reply: &Result<PadReply, Refusal>) -> bool {
     match reply {
         Ok(PadReply::Made { now, name }) => *now == 1 && name.origin == 1 && name.number == 1,

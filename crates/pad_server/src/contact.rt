@@ -5,18 +5,20 @@ use log::{Log, warn};
 use relay::{Link, Relayed, relay_round};
 use sessions::Peer;
 use std::alloc::Global;
+use std::io;
 use std::io::ErrorKind;
 use std::net::{Net, TcpListener, TcpStream, ToSocketAddrs};
 use std::time::{Clock, Duration, Instant};
-use std::io;
 use wire_lines::{Fault, Std};
 use workers::Pads;
 
 /// For how many seconds a peer may keep this server waiting: to connect, for each reply, and for each line to be taken.
 const PATIENCE: u64 = 30;
 
-/// The first and the longest pause after a failed round, in seconds. Each is twice the one before.
+/// The pause after a failed round, in seconds. After each further one it is twice as long.
 const FIRST_PAUSE: u64 = 1;
+
+/// The longest pause, in seconds.
 const LONGEST_PAUSE: u64 = 60;
 
 /// Why a round failed, as far as two causes are told apart.

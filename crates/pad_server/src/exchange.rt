@@ -51,7 +51,8 @@ pub fn exchange_all<S: Sequence, R, G: Gate>(
     mut contacts: Vec<Contact<'_>>,
     wakes: &Receiver<Wake>,
     seats: Vec<Seat>,
-) where
+)
+where
     R: AllocGlobal + Net<Listener = TcpListener, Stream = TcpStream> + Clock + Wait + Log,
 {
     let rt = row.rt;

@@ -49,7 +49,14 @@ where
     take_seats(rt, cells.as_slice(), &mut seats)?;
     let contacts = contacts(alloc, accounts.peers(), asked.replica)?;
     let (to, wakes) = crossbeam_channel::bounded(alloc, 1)?;
-    let gate = Waker::new(rt, if contacts.is_empty() { None } else { Some(to.clone()?) });
+    let gate = Waker::new(
+        rt,
+        if contacts.is_empty() {
+            None
+        } else {
+            Some(to.clone()?)
+        },
+    );
     let row = Row {
         rt,
         cells: cells.as_slice(),
@@ -64,7 +71,13 @@ where
         to,
         wakes,
     };
-    serve(&row, listener, asked.connections, crew.as_mut_slice(), relaying)
+    serve(
+        &row,
+        listener,
+        asked.connections,
+        crew.as_mut_slice(),
+        relaying,
+    )
 }
 
 /// A listener at an address. The one that the system chose is printed, where the port is 0.

@@ -5,7 +5,8 @@ use std::test::Fail;
 use wire_lines::Fault;
 
 // A whole talk of a peer that takes the one operation of server 1.
-const TALK: &[u8] = b"{\"ok\":true,\"replica\":2,\"version\":2}\n{\"now\":0,\"ok\":true,\"ops\":[]}\n{\"now\":0,\"ok\":true,\"seen\":[]}\n{\"dropped\":0,\"now\":1,\"ok\":true,\"released\":0,\"state\":\"delivered\"}\n{\"now\":1,\"ok\":true,\"seen\":[[1,1]]}\n";
+const TALK: &[u8] =
+    b"{\"ok\":true,\"replica\":2,\"version\":2}\n{\"now\":0,\"ok\":true,\"ops\":[]}\n{\"now\":0,\"ok\":true,\"seen\":[]}\n{\"dropped\":0,\"now\":1,\"ok\":true,\"released\":0,\"state\":\"delivered\"}\n{\"now\":1,\"ok\":true,\"seen\":[[1,1]]}\n";
 
 // How a round ends with a peer that writes these bytes.
 fn ends(alloc: Global, peer: &[u8]) -> Result<Option<Fault>, Fail> {

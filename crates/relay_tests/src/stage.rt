@@ -12,6 +12,7 @@ use wire_lines::{Fault, Input, Output};
 use workers::{Alone, Pads};
 
 const HELLO: &str = r#"{"do":"hello","name":"ann","token":"t"}"#;
+
 const CREATE: &str = r#"{"do":"create","pad":"p"}"#;
 /// What ann types.
 pub const TYPES: &str = r#"{"at":0,"do":"insert","pad":"p","rev":0,"text":"one"}"#;

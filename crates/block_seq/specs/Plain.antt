@@ -45,7 +45,7 @@ kept_run first parent [] author rev = []
 kept_run first parent (c ∷ text) author rev =
     record { stamp = first; parent = parent; character = c; author = author; born = rev; died = None } ∷ kept_run (next first) (Some first) text author rev
 
--- whether a deletion of these spans hides a kept cell anew
+-- whether a deletion of these spans newly hides a kept cell
 abbrev pub is_hidden_by : List Span → PlainCell → Bool
 is_hidden_by spans c = is_erased (flat_map span_stamps spans) c.stamp && is_none c.died
 

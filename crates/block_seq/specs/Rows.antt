@@ -55,7 +55,7 @@ passes first bs = prefix_len (λ b. newer b.first first) bs
 abbrev pub IsCutOut : Index → Span → Type 0
 IsCutOut m span = IsEdge m span.first × IsEdge m (stamp_behind span.first span.len)
 
--- whether a deletion hides a block anew, by its first stamp
+-- whether a deletion newly hides a block, by its first stamp
 abbrev pub is_killed : List Span → Block → Bool
 is_killed spans b = is_erased (flat_map span_stamps spans) b.first && is_none b.died
 
@@ -63,7 +63,7 @@ is_killed spans b = is_erased (flat_map span_stamps spans) b.first && is_none b.
 abbrev pub killed : ℕ → List Span → Block → Block
 killed rev spans b = if is_killed spans b then record b { died = Some rev } else b
 
--- how many characters of a block a deletion hides anew
+-- how many characters of a block a deletion newly hides
 abbrev pub hidden_len : List Span → Block → ℕ
 hidden_len spans b = if is_killed spans b then b.len else 0
 

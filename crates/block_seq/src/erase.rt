@@ -66,14 +66,14 @@ pub fn has_spans(cells: &[PlainCell], spans: &[Span]) -> bool
     true
 }
 
-/// Whether a deletion of the spans hides a cell anew.
+/// Whether a deletion of the spans newly hides a cell.
 fn is_hidden(cell: &PlainCell, spans: &[Span]) -> bool
     ensures { result ≡ is_hidden_by spans.now cell.now }
 {
     is_named(spans, cell.stamp) && cell.died.is_none()
 }
 
-/// How many cells a deletion of the spans hides anew.
+/// How many cells a deletion of the spans newly hides.
 pub fn count_hidden(cells: &[PlainCell], spans: &[Span]) -> usize
     ensures { result ≡ count_by (is_hidden_by spans.now) cells.now }
 {
@@ -92,7 +92,7 @@ fn erased(cell: &PlainCell, spans: &[Span], rev: u64) -> PlainCell
     PlainCell { died, ..*cell }
 }
 
-/// Marks the cells that a deletion hides anew.
+/// Marks the cells that a deletion newly hides.
 pub fn erase(cells: &mut [PlainCell], spans: &[Span], rev: u64)
     ensures { cells.new ≡ map (erased_at rev spans.now) cells.old }
 {

@@ -55,7 +55,7 @@ pub fn count_inserted(parts: &[Part]) -> usize
     count
 }
 
-/// Marks the cells that a deletion hides anew, and answers how many they are.
+/// Marks the cells that a deletion newly hides, and answers how many they are.
 fn erase_part(cells: &mut [PlainCell], part: &Part, rev: u64) -> usize
     ensures value { result ≡ count_by (is_hidden_by (part_spans part.now)) cells.old }
     ensures cells { cells.new ≡ map (erased_at rev (part_spans part.now)) cells.old }
@@ -70,7 +70,7 @@ fn erase_part(cells: &mut [PlainCell], part: &Part, rev: u64) -> usize
     }
 }
 
-/// Marks the cells that the deletions hide anew, and answers how many they are.
+/// Marks the cells that the deletions newly hide, and answers how many they are.
 pub fn erase_parts(cells: &mut [PlainCell], parts: &[Part], rev: u64) -> usize
     ensures value { result ≡ count_by (is_hidden_by (spans_in parts.now)) cells.old }
     ensures cells { cells.new ≡ map (erased_at rev (spans_in parts.now)) cells.old }

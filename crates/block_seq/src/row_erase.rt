@@ -93,7 +93,7 @@ pub fn cut_spans(
     Ok(())
 }
 
-/// Whether a deletion hides a block anew, by its first stamp.
+/// Whether a deletion newly hides a block, by its first stamp.
 fn is_doomed(block: &Block, spans: &[Span]) -> bool
     ensures { result ≡ is_killed spans.now block.now }
 {

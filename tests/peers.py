@@ -102,6 +102,7 @@ def a_server_that_was_away_is_caught_up_with():
     with open("said", "rb") as said:
         lines = [line for line in said.read().decode().splitlines() if "peer 2" in line]
     want(len(lines), 1, f"the lines that tell of the failed rounds, among {lines}")
+    want("peer 2: no connection: " in lines[0], True, f"that it says so, in {lines[0]!r}")
 
 
 def exchange(numbers, links):

@@ -21,11 +21,37 @@ const FIRST_PAUSE: u64 = 1;
 /// The longest pause, in seconds.
 const LONGEST_PAUSE: u64 = 60;
 
-/// Why a round failed, as far as two causes are told apart.
+/// What a round with a peer brought.
 #[derive(Clone, Copy, Debug, PartialEq, Eq)]
-struct Cause {
-    fault: Fault,
-    kind: Option<ErrorKind>,
+pub enum Brought {
+    /// No operation that this server lacked.
+    Nothing,
+    /// Operations, which other peers may lack.
+    Operations,
+    /// The round broke off, perhaps after it had brought some.
+    Unknown,
+}
+
+/// Why a round failed.
+#[derive(Clone, Copy, Debug)]
+enum Broken {
+    /// There was no connection.
+    Apart(io::Error),
+    /// The connection broke, or the peer answered otherwise than a server does.
+    Off {
+        fault: Fault,
+        cause: Option<io::Error>,
+    },
+}
+
+impl Broken {
+    // What tells one cause from another: the fault behind a connection, and what the system called the error.
+    fn kind(self) -> (Option<Fault>, Option<ErrorKind>) {
+        match self {
+            Broken::Apart(error) => (None, Some(error.kind())),
+            Broken::Off { fault, cause } => (Some(fault), cause.map(|error| error.kind())),
+        }
+    }
 }
 
 /// A peer, and how its last round went.
@@ -35,7 +61,7 @@ pub struct Contact<'a> {
     /// How many seconds the next round is put off after a failure; 0 where the last one succeeded.
     pause: u64,
     failed_at: Option<Instant>,
-    told: Option<Cause>,
+    told: Option<(Option<Fault>, Option<ErrorKind>)>,
 }
 
 impl<'a> Contact<'a> {
@@ -65,9 +91,14 @@ impl<'a> Contact<'a> {
         }
     }
 
-    /// Makes a round, and says whether operations came that other peers may lack. A failure is logged with its cause, once
-    /// until that changes or a round succeeds.
-    pub fn exchange<P: Pads, R>(&mut self, rt: &R, alloc: Global, pads: &mut P, own: u16) -> bool
+    /// Makes a round. A failure is logged with its cause, once until that changes or a round succeeds.
+    pub fn exchange<P: Pads, R>(
+        &mut self,
+        rt: &R,
+        alloc: Global,
+        pads: &mut P,
+        own: u16,
+    ) -> Brought
     where
         R: Net<Listener = TcpListener, Stream = TcpStream> + Clock + Log,
     {
@@ -76,30 +107,41 @@ impl<'a> Contact<'a> {
                 self.pause = 0;
                 self.failed_at = None;
                 self.told = None;
-                relayed.pulled > 0
+                if relayed.pulled > 0 {
+                    Brought::Operations
+                } else {
+                    Brought::Nothing
+                }
             }
-            Err((fault, cause)) => {
-                self.note(rt, fault, cause);
-                false
+            Err(broken) => {
+                self.note(rt, broken);
+                match broken {
+                    Broken::Apart(_) => Brought::Nothing,
+                    Broken::Off { .. } => Brought::Unknown,
+                }
             }
         }
     }
 
     // Puts the next round off, and logs what is new.
-    fn note<R: Clock + Log>(&mut self, rt: &R, fault: Fault, error: Option<io::Error>) {
+    fn note<R: Clock + Log>(&mut self, rt: &R, broken: Broken) {
         self.pause = match self.pause {
             0 => FIRST_PAUSE,
             pause => pause.saturating_mul(2).min(LONGEST_PAUSE),
         };
         self.failed_at = Instant::now(rt).ok();
-        let cause = Cause {
-            fault,
-            kind: error.map(|error| error.kind()),
-        };
-        if self.told != Some(cause) {
-            let failure = Failure::of(fault, error, error);
-            warn!(rt; "peer {}: {failure}", self.peer.number);
-            self.told = Some(cause);
+        let kind = broken.kind();
+        if self.told == Some(kind) {
+            return;
+        }
+        self.told = Some(kind);
+        let number = self.peer.number;
+        match broken {
+            Broken::Apart(error) => warn!(rt; "peer {number}: no connection: {error}"),
+            Broken::Off { fault, cause } => {
+                let failure = Failure::of(fault, cause, cause);
+                warn!(rt; "peer {number}: {failure}");
+            }
         }
     }
 }
@@ -111,13 +153,13 @@ fn make_round<P: Pads, R>(
     pads: &mut P,
     own: u16,
     peer: &Peer,
-) -> Result<Relayed, (Fault, Option<io::Error>)>
+) -> Result<Relayed, Broken>
 where
     R: Net<Listener = TcpListener, Stream = TcpStream>,
 {
     let stream = match connect(rt, peer.address.as_str()) {
         Ok(stream) => stream,
-        Err(error) => return Err((Fault::ReadFault, Some(error))),
+        Err(error) => return Err(Broken::Apart(error)),
     };
     let mut input = Watched::new(&stream);
     let mut output = Watched::new(&stream);
@@ -130,8 +172,13 @@ where
     };
     match relayed {
         Ok(relayed) => Ok(relayed),
-        Err(Fault::WriteFault) => Err((Fault::WriteFault, output.cause())),
-        Err(fault) => Err((fault, input.cause())),
+        Err(fault) => Err(Broken::Off {
+            fault,
+            cause: match fault {
+                Fault::WriteFault => output.cause(),
+                _ => input.cause(),
+            },
+        }),
     }
 }
 

@@ -1,5 +1,5 @@
 //! The thread that exchanges the operations of the pads with the peers of the accounts file.
-use crate::contact::Contact;
+use crate::contact::{Brought, Contact};
 use crate::wake::Wake;
 use crossbeam_channel::{Receiver, RecvTimeoutError};
 use log::Log;
@@ -44,8 +44,10 @@ pub fn contacts<'a>(
 }
 
 /// Makes rounds until the last wake-up: one with each peer after a wake-up, and one with a peer whose round failed after a
-/// pause. Wake-ups that come before a round begins are served by that round. Where a peer gave operations, all peers are
-/// asked once more, since others may lack them.
+/// pause. Wake-ups that come before a round begins are served by that round. Where a peer gave operations, or its round
+/// broke off and may have brought some, all peers are asked once more, since others may lack them. After the last
+/// connection only operations that are known to have come bring another round, so that a peer that breaks off each time
+/// keeps no server from ending.
 pub fn exchange_all<S: Sequence, R, G: Gate>(
     row: &Row<'_, S, R, G>,
     mut contacts: Vec<Contact<'_>>,
@@ -69,22 +71,26 @@ where
             wait(rt, wakes, contacts.iter().any(Contact::has_failed))
         };
         is_last = is_last || matches!(turn, Turn::Last | Turn::Gone);
-        has_come = rounds(rt, &mut contacts, &mut pads, row.replica, turn);
+        has_come = match rounds(rt, &mut contacts, &mut pads, row.replica, turn) {
+            Brought::Nothing => false,
+            Brought::Operations => true,
+            Brought::Unknown => !is_last,
+        };
     }
 }
 
-// One round with each peer that is meant. Says whether operations came.
+// One round with each peer that is meant.
 fn rounds<P: Pads, R>(
     rt: &R,
     contacts: &mut Vec<Contact<'_>>,
     pads: &mut P,
     own: u16,
     turn: Turn,
-) -> bool
+) -> Brought
 where
     R: AllocGlobal + Net<Listener = TcpListener, Stream = TcpStream> + Clock + Log,
 {
-    let mut has_come = false;
+    let mut all = Brought::Nothing;
     for contact in contacts.iter_mut() {
         let is_meant = match turn {
             Turn::All => contact.is_due(rt),
@@ -92,11 +98,17 @@ where
             Turn::Last => true,
             Turn::Gone => false,
         };
-        if is_meant && contact.exchange(rt, rt.alloc(), pads, own) {
-            has_come = true;
+        if !is_meant {
+            continue;
+        }
+        match contact.exchange(rt, rt.alloc(), pads, own) {
+            Brought::Nothing => {}
+            Brought::Operations => all = Brought::Operations,
+            Brought::Unknown if all == Brought::Nothing => all = Brought::Unknown,
+            Brought::Unknown => {}
         }
     }
-    has_come
+    all
 }
 
 // Waits for a wake-up, and no longer than a moment where a round is to be tried again.

@@ -1,0 +1,150 @@
+//! Writers that each send one request at a time over TCP, and how long the replies took.
+//!
+//! drive ADDRESS pads|echo WRITERS PADS SIZE REQUESTS
+//!
+//! An author first makes the pads, types SIZE characters into each, and lets the writers write. Then each writer inserts a
+//! character at a random place of the revision that its last reply told, REQUESTS times. With `echo` the same lines are
+//! written to a server that echoes them. It prints replies a second, and the median, the 99th of 100 and the 999th of 1,000
+//! times from a line to its reply, in microseconds. A refusal ends it with a failure.
+use std::io::{BufRead, BufReader, Write};
+use std::net::TcpStream;
+use std::sync::{Arc, Barrier};
+use std::time::Instant;
+use std::{env, process, thread};
+
+struct Client {
+    input: BufReader<TcpStream>,
+    output: TcpStream,
+    reply: String,
+}
+
+impl Client {
+    fn connect(address: &str) -> Client {
+        let output = TcpStream::connect(address).expect("a connection");
+        output.set_nodelay(true).expect("a socket without delay");
+        let input = BufReader::new(output.try_clone().expect("a second handle"));
+        Client { input, output, reply: String::new() }
+    }
+
+    /// Sends a line and waits for its reply.
+    fn ask(&mut self, line: &str) -> &str {
+        self.output.write_all(line.as_bytes()).expect("a line that is taken");
+        self.reply.clear();
+        self.input.read_line(&mut self.reply).expect("a reply");
+        &self.reply
+    }
+
+    /// The same, where a refusal is a failure. The revision that the reply tells of.
+    fn does(&mut self, line: &str) -> u64 {
+        let reply = self.ask(line);
+        if !reply.contains("\"ok\":true") {
+            eprintln!("drive: {line}{reply}");
+            process::exit(1);
+        }
+        number_after(reply, "\"now\":").unwrap_or(0)
+    }
+}
+
+fn number_after(text: &str, key: &str) -> Option<u64> {
+    let rest = &text[text.find(key)? + key.len()..];
+    let end = rest.find(|c: char| !c.is_ascii_digit()).unwrap_or(rest.len());
+    rest[..end].parse().ok()
+}
+
+/// Makes the pads, and lets the writers write. The revision of each.
+fn prepare(address: &str, writers: u64, pads: u64, size: u64) -> u64 {
+    let mut owner = Client::connect(address);
+    owner.does("{\"do\":\"hello\",\"name\":\"owner\",\"token\":\"t\"}\n");
+    let mut now = 0;
+    for pad in 0..pads {
+        owner.does(&format!("{{\"do\":\"create\",\"pad\":\"p{pad}\"}}\n"));
+        let text = "etaoin shrdlu ".repeat(size as usize / 14 + 1);
+        now = owner.does(&format!(
+            "{{\"at\":0,\"do\":\"insert\",\"pad\":\"p{pad}\",\"rev\":0,\"text\":\"{}\"}}\n",
+            &text[..size as usize]
+        ));
+        for writer in 0..writers {
+            owner.does(&format!(
+                "{{\"author\":\"w{writer}\",\"do\":\"grant\",\"pad\":\"p{pad}\",\"right\":\"write\"}}\n"
+            ));
+        }
+    }
+    now
+}
+
+/// A linear congruential generator, of which the high bits are used.
+struct Dice(u64);
+
+impl Dice {
+    fn below(&mut self, limit: u64) -> u64 {
+        self.0 = self.0.wrapping_mul(6364136223846793005).wrapping_add(1442695040888963407);
+        (self.0 >> 33) % limit
+    }
+}
+
+struct Task {
+    address: String,
+    is_echo: bool,
+    writer: u64,
+    pad: u64,
+    size: u64,
+    requests: u64,
+    rev: u64,
+}
+
+/// Types as one writer. When it began and ended, and the time of each reply in nanoseconds.
+fn write(task: Task, start: &Barrier) -> (Instant, Instant, Vec<u64>) {
+    let mut client = Client::connect(&task.address);
+    let (writer, pad) = (task.writer, task.pad);
+    if !task.is_echo {
+        client.does(&format!("{{\"do\":\"hello\",\"name\":\"w{writer}\",\"token\":\"t\"}}\n"));
+        client.does(&format!("{{\"do\":\"join\",\"pad\":\"p{pad}\"}}\n"));
+    }
+    let mut dice = Dice(writer + 1);
+    let mut rev = task.rev;
+    let mut times = Vec::with_capacity(task.requests as usize);
+    start.wait();
+    let begun = Instant::now();
+    for _ in 0..task.requests {
+        let at = dice.below(task.size);
+        let line = format!("{{\"at\":{at},\"do\":\"insert\",\"pad\":\"p{pad}\",\"rev\":{rev},\"text\":\"x\"}}\n");
+        let asked = Instant::now();
+        if task.is_echo {
+            client.ask(&line);
+            rev += 1;
+        } else {
+            rev = client.does(&line);
+        }
+        times.push(asked.elapsed().as_nanos() as u64);
+    }
+    (begun, Instant::now(), times)
+}
+
+fn main() {
+    let words: Vec<String> = env::args().collect();
+    let [_, address, kind, numbers @ ..] = words.as_slice() else {
+        panic!("drive ADDRESS pads|echo WRITERS PADS SIZE REQUESTS");
+    };
+    let numbers: Vec<u64> = numbers.iter().map(|word| word.parse().expect("a number")).collect();
+    let [writers, pads, size, requests] = numbers[..] else {
+        panic!("drive ADDRESS pads|echo WRITERS PADS SIZE REQUESTS");
+    };
+    let is_echo = kind == "echo";
+    let rev = if is_echo { 1 } else { prepare(address, writers, pads, size) };
+    let start = Arc::new(Barrier::new(writers as usize));
+    let threads: Vec<_> = (0..writers)
+        .map(|writer| {
+            let (start, address) = (start.clone(), address.clone());
+            let task = Task { address, is_echo, writer, pad: writer % pads, size, requests, rev };
+            thread::spawn(move || write(task, &start))
+        })
+        .collect();
+    let all: Vec<_> = threads.into_iter().map(|thread| thread.join().expect("a writer")).collect();
+    let begun = all.iter().map(|each| each.0).min().expect("a writer");
+    let ended = all.iter().map(|each| each.1).max().expect("a writer");
+    let mut times: Vec<u64> = all.into_iter().flat_map(|each| each.2).collect();
+    times.sort_unstable();
+    let at = |part: f64| times[((times.len() - 1) as f64 * part) as usize] as f64 / 1000.0;
+    let rate = times.len() as f64 / (ended - begun).as_secs_f64();
+    println!("{rate:.0} {:.1} {:.1} {:.1}", at(0.5), at(0.99), at(0.999));
+}

@@ -1,0 +1,272 @@
+//! Two servers that exchange while four authors work at each: in the end both show the same, and nothing was lost.
+use crate::side::{Side, close, listen, make_round, serve_other};
+use crate::stage::{accounts, shown, thread_of};
+use crate::tally::Tally;
+use crate::writer::write;
+use block_seq::BlockSeq;
+use pad_core::Recorded;
+use pad_model::Refusal;
+use relay::Relayed;
+use sessions::Session;
+use shared_pads::{Seat, SharedPad};
+use std::alloc::Global;
+use std::net::{Net, TcpStream};
+use std::sync::Wait;
+use std::sync::atomic::{AtomicU64, Ordering};
+use std::test::Fail;
+use std::thread;
+use std::time::{Clock, Duration};
+use wire_lines::Fault;
+use workers::{Pads, Shared, open_row, take_seats};
+
+// Turns after which a thread that waits gives up: each is a look and a sleep of a millisecond.
+const TURNS: u32 = 30_000;
+
+const HELLOS: [&str; 4] = [
+    r#"{"do":"hello","name":"a1","token":"t"}"#,
+    r#"{"do":"hello","name":"a2","token":"t"}"#,
+    r#"{"do":"hello","name":"a3","token":"t"}"#,
+    r#"{"do":"hello","name":"a4","token":"t"}"#,
+];
+
+// What the owner asks before the others come.
+const BEGINNING: [&str; 5] = [
+    r#"{"do":"hello","name":"a1","token":"t"}"#,
+    r#"{"do":"create","pad":"p"}"#,
+    r#"{"do":"grant","pad":"p","author":"a2","right":"write"}"#,
+    r#"{"do":"grant","pad":"p","author":"a3","right":"write"}"#,
+    r#"{"do":"grant","pad":"p","author":"a4","right":"write"}"#,
+];
+
+/// One of the two servers.
+#[derive(Clone, Copy, Debug, PartialEq, Eq)]
+pub enum Server {
+    First,
+    Second,
+}
+
+// What a thread has to do.
+#[derive(Clone, Copy)]
+enum Task {
+    Write(&'static str),
+    Relay,
+    Serve,
+}
+
+#[derive(Drop)]
+struct Job {
+    server: Server,
+    task: Task,
+    seats: Vec<Seat>,
+}
+
+/// What a thread was answered.
+#[derive(Drop)]
+pub enum Outcome {
+    Wrote(Result<Vec<Recorded>, Refusal>),
+    Exchanged(Result<Relayed, Fault>),
+    Served,
+}
+
+/// What became of a thread's work.
+#[derive(Drop)]
+pub struct Done {
+    pub server: Server,
+    pub outcome: Outcome,
+    pub seats: Vec<Seat>,
+}
+
+// How far the threads of both servers have got.
+#[derive(Drop)]
+struct Course {
+    writers: AtomicU64,
+    relays: AtomicU64,
+    last_rounds: AtomicU64,
+}
+
+fn come(count: &AtomicU64) {
+    count.fetch_add(1, Ordering::SeqCst);
+}
+
+// Waits until so many have come, or gives up: what follows fails then.
+fn wait<R: Clock>(rt: &R, count: &AtomicU64, wanted: u64) {
+    for _ in 0..TURNS {
+        if count.load(Ordering::SeqCst) >= wanted {
+            return;
+        }
+        thread::sleep(rt, Duration::from_millis(1));
+    }
+}
+
+fn added(one: Relayed, other: Relayed) -> Relayed {
+    Relayed {
+        pads: other.pads,
+        pulled: one.pulled.saturating_add(other.pulled),
+        pushed: one.pushed.saturating_add(other.pushed),
+        refused: one.refused.saturating_add(other.refused),
+        unsaid: one.unsaid.saturating_add(other.unsaid),
+    }
+}
+
+// Rounds with the other server until all authors of both have ended.
+fn exchange<R: Wait + Net<Stream = TcpStream>, P: Pads>(
+    alloc: Global,
+    own: &Side<'_, R>,
+    pads: &mut P,
+    course: &Course,
+) -> Result<Relayed, Fault> {
+    let mut all = make_round(alloc, own, pads)?;
+    for _ in 0..TURNS {
+        if course.writers.load(Ordering::SeqCst) == 8 {
+            break;
+        }
+        all = added(all, make_round(alloc, own, pads)?);
+    }
+    Ok(all)
+}
+
+// Such rounds, and a last one of each server, the first server's first. The other server serves no more then.
+fn relay<R: Wait + Clock + Net<Stream = TcpStream>, P: Pads>(
+    alloc: Global,
+    own: &Side<'_, R>,
+    other: &Side<'_, R>,
+    pads: &mut P,
+    course: &Course,
+) -> Result<Relayed, Fault> {
+    let rt = own.row.rt;
+    let relayed = exchange(alloc, own, pads, course);
+    come(&course.relays);
+    wait(rt, &course.relays, 2);
+    wait(
+        rt,
+        &course.last_rounds,
+        u64::from(own.row.replica.saturating_sub(1)),
+    );
+    let last = make_round(alloc, own, pads);
+    come(&course.last_rounds);
+    close(other, own);
+    Ok(added(relayed?, last?))
+}
+
+fn work<R: Wait + Clock + Net<Stream = TcpStream>>(
+    alloc: Global,
+    first: &Side<'_, R>,
+    second: &Side<'_, R>,
+    course: &Course,
+    job: Job,
+) -> Done {
+    let Job {
+        server,
+        task,
+        seats,
+    } = job;
+    let (own, other) = match server {
+        Server::First => (first, second),
+        Server::Second => (second, first),
+    };
+    if let Task::Serve = task {
+        return Done {
+            server,
+            outcome: Outcome::Served,
+            seats: serve_other(alloc, own, seats),
+        };
+    }
+    let mut pads = Shared::new(&own.row, seats, Session::new(alloc));
+    let outcome = match task {
+        Task::Write(hello) => {
+            let records = write(alloc, &mut pads, hello);
+            pads.end(alloc);
+            come(&course.writers);
+            Outcome::Wrote(records)
+        }
+        _ => Outcome::Exchanged(relay(alloc, own, other, &mut pads, course)),
+    };
+    Done {
+        server,
+        outcome,
+        seats: pads.seats(),
+    }
+}
+
+// The jobs at one server, each with a seat.
+fn add_jobs<R: Wait>(
+    rt: &R,
+    alloc: Global,
+    server: Server,
+    cells: &[SharedPad<BlockSeq>],
+    jobs: &mut Vec<Job>,
+) -> Result<(), Refusal> {
+    for place in 0..6 {
+        let mut seats = Vec::new(alloc);
+        take_seats(rt, cells, &mut seats)?;
+        let task = match HELLOS.get(place) {
+            Some(hello) => Task::Write(hello),
+            None if place == 4 => Task::Relay,
+            None => Task::Serve,
+        };
+        jobs.push(Job {
+            server,
+            task,
+            seats,
+        })?;
+    }
+    Ok(())
+}
+
+fn seats_of<R: Wait>(
+    rt: &R,
+    alloc: Global,
+    cells: &[SharedPad<BlockSeq>],
+) -> Result<Vec<Seat>, Refusal> {
+    let mut seats = Vec::new(alloc);
+    take_seats(rt, cells, &mut seats)?;
+    Ok(seats)
+}
+
+#[test]
+fn two_servers_under_stress(rt: HostRuntime) -> Result<(), Fail> {
+    let alloc = rt.alloc();
+    let accounts = accounts(alloc)?;
+    let cells_one: Vec<SharedPad<BlockSeq>> = open_row(alloc, 1, 1)?;
+    let cells_two: Vec<SharedPad<BlockSeq>> = open_row(alloc, 2, 1)?;
+    let (at_one, to_one) = listen(&rt)?;
+    let (at_two, to_two) = listen(&rt)?;
+    let first = Side::new(&rt, cells_one.as_slice(), 1, &accounts, at_one, to_two);
+    let second = Side::new(&rt, cells_two.as_slice(), 2, &accounts, at_two, to_one);
+    let theirs = seats_of(&rt, alloc, cells_one.as_slice())?;
+    let mut owner_one = thread_of(alloc, &first.row, theirs, &BEGINNING)?;
+    let theirs = seats_of(&rt, alloc, cells_two.as_slice())?;
+    let mut owner_two = thread_of(alloc, &second.row, theirs, &BEGINNING)?;
+    let mut jobs = Vec::new(alloc);
+    add_jobs(&rt, alloc, Server::First, cells_one.as_slice(), &mut jobs)?;
+    add_jobs(&rt, alloc, Server::Second, cells_two.as_slice(), &mut jobs)?;
+    let course = Course {
+        writers: AtomicU64::new(0),
+        relays: AtomicU64::new(0),
+        last_rounds: AtomicU64::new(0),
+    };
+    let all = thread::map_vec(
+        &rt,
+        jobs,
+        &|job: Job| work(alloc, &first, &second, &course, job),
+    )?;
+    let shown_one = shown(alloc, &mut owner_one, 2)?;
+    let shown_two = shown(alloc, &mut owner_two, 1)?;
+    assert_eq!(rt; shown_one.as_str(), shown_two.as_str());
+    let mut one = Tally::new(owner_one.seats(), alloc);
+    let mut two = Tally::new(owner_two.seats(), alloc);
+    for done in all {
+        match done.server {
+            Server::First => one.take(done)?,
+            Server::Second => two.take(done)?,
+        }
+    }
+    assert_eq!(rt; one.records.len(), 800);
+    assert_eq!(rt; two.records.len(), 800);
+    assert!(rt; one.relayed.refused == 0 && two.relayed.refused == 0);
+    assert_eq!(rt; 400 + one.relayed.pulled + two.relayed.pushed, 800);
+    assert_eq!(rt; 400 + two.relayed.pulled + one.relayed.pushed, 800);
+    one.close(&rt, alloc, cells_one)?;
+    two.close(&rt, alloc, cells_two)?;
+    Ok(())
+}

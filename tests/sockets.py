@@ -6,6 +6,7 @@ import socket
 import struct
 import subprocess
 import threading
+import time
 
 from harness import Case, Failed, Has, Test, put_files, start, want
 
@@ -71,6 +72,14 @@ class Client:
 
     def join(self, pad):
         return self.does(do="join", pad=pad)["visit"]
+
+    def overwhelm(self, text):
+        """Sends for as long as the server takes it."""
+        try:
+            self.socket.settimeout(None)
+            self.send(text)
+        except OSError:
+            pass
 
     def finish(self):
         """Ends the input, and reads what is left."""
@@ -211,6 +220,34 @@ def a_broken_connection_ends_alone():
     want(server.author("ann").join("p"), 3, "the next visit")
 
 
+def a_silent_connection_ends_where_the_server_says_so():
+    """The one that goes on speaking stays, and sees the visit of the silent one end."""
+    server = Server("--idle 2", stderr=subprocess.PIPE)
+    speaks = server.author("ann")
+    speaks.does(do="create", pad="p")
+    silent = server.author("ann", "p")
+    end = time.monotonic() + WAIT
+    while [entry["visit"] for entry in speaks.does(do="who", pad="p")["who"]] != [1]:
+        if time.monotonic() > end:
+            raise Failed(f"the silent visit is there after {WAIT} s")
+        time.sleep(0.1)
+    want(silent.replies.read(), b"", "what the silent connection reads")
+    said = server.process.stderr.readline().decode()
+    want("connection 2 ended: it said nothing for too long" in said, True, f"what {said!r} says")
+
+
+def a_client_that_reads_nothing_is_not_waited_for():
+    """Its replies fill the socket; the one worker is free again when the time limit for taking them is over."""
+    server = Server("--workers 1", stderr=subprocess.PIPE)
+    greedy = server.author("ann")
+    greedy.does(do="create", pad="p")
+    for rev in range(20):
+        greedy.does(do="insert", pad="p", rev=rev, at=0, text="x" * 10_000)
+    threading.Thread(target=lambda: greedy.overwhelm('{"do":"text","pad":"p"}\n' * 1_000), daemon=True).start()
+    server.process.stderr.readline()
+    want(server.author("ann", "p").does(do="revs", pad="p")["now"], 20, "the revision")
+
+
 def a_session_is_left_before_its_connection_ends():
     server = Server()
     keeps = server.author("ann")
@@ -266,6 +303,7 @@ CASES = [
     refused("--listen without an address", "--replica 1 --accounts accounts --listen", "--listen"),
     *[refused(f"workers {text}", f"{LISTEN} --workers={text}", "--workers") for text in ["0", "64", "-1", "x"]],
     *[refused(f"connections {text}", f"{LISTEN} --connections={text}", "--connections") for text in ["0", "-1", "x"]],
+    *[refused(f"idle {text}", f"{LISTEN} --idle={text}", "--idle") for text in ["0", "-1", "x"]],
     refused("an address without a port", "--listen 127.0.0.1 --replica 1 --accounts accounts", "pad_server: cannot listen at 127.0.0.1", status=1),
     refused("no accounts file", "--listen 127.0.0.1:0 --replica 1 --accounts none", "pad_server: the accounts file none", status=1),
     Case("workers and connections change nothing on standard input", "--stdin --replica 1 --workers 1 --connections 1"),
@@ -277,6 +315,8 @@ FUNCTIONS = [
     silent_clients_do_not_stop_others,
     more_clients_than_workers_are_served_in_the_end,
     a_broken_connection_ends_alone,
+    a_silent_connection_ends_where_the_server_says_so,
+    a_client_that_reads_nothing_is_not_waited_for,
     a_session_is_left_before_its_connection_ends,
     a_line_that_is_too_long_ends_its_connection,
     too_many_files,

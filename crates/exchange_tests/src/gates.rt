@@ -1,11 +1,13 @@
 //! What a gate is told before each reply.
+use crate::stage::accounts;
 use block_seq::BlockSeq;
 use server_core::Server;
 use shared_pads::Gate;
+use std::alloc::Global;
 use std::sync::atomic::{AtomicU64, Ordering};
 use std::test::Fail;
 use wire_lines::{Input, Output};
-use workers::{Alone, serve_connection};
+use workers::{Alone, Served, serve_connection};
 
 const LINES: &str = concat!(
     "{\"do\":\"hello\",\"name\":\"a1\",\"token\":\"t\"}\n",
@@ -16,11 +18,24 @@ const LINES: &str = concat!(
     "{\"at\":1,\"do\":\"delete\",\"len\":3,\"pad\":\"p\",\"rev\":1}\n",
 );
 
-// Notes of which replies it was told that they tell of a delivered operation.
+// Notes of which replies it was told that they tell of a delivered operation, and before how many long lines are read.
 #[derive(Drop)]
 struct Heard {
     replies: AtomicU64,
     delivered: AtomicU64,
+    long_lines: AtomicU64,
+    long_lines_read: AtomicU64,
+}
+
+impl Heard {
+    fn new() -> Heard {
+        Heard {
+            replies: AtomicU64::new(0),
+            delivered: AtomicU64::new(0),
+            long_lines: AtomicU64::new(0),
+            long_lines_read: AtomicU64::new(0),
+        }
+    }
 }
 
 impl Gate for Heard {
@@ -34,32 +49,59 @@ impl Gate for Heard {
         }
     }
 
+    fn before_long_line(&self, _connection: u64) {
+        self.long_lines.fetch_add(1, Ordering::SeqCst);
+    }
+
+    fn after_long_line(&self, _connection: u64) {
+        self.long_lines_read.fetch_add(1, Ordering::SeqCst);
+    }
+
     fn done(&self, _connection: u64) {}
+}
+
+// What a connection with these lines to a server of one pad comes to.
+fn serve(alloc: Global, lines: &str, gate: &Heard) -> Result<Served, Fail> {
+    let mut server: Server<BlockSeq> = Server::new(alloc, 1, 1, accounts(alloc)?)?;
+    let actor = server.open(alloc)?;
+    let mut pads = Alone::new(server, actor);
+    let mut reader = Input::new(lines.as_bytes());
+    let mut writer = Output::new(alloc);
+    Ok(serve_connection(alloc, &mut pads, &mut reader, &mut writer, 1, gate)?)
 }
 
 #[test]
 fn an_insertion_is_told_as_delivered_and_a_reading_is_not(rt: HostRuntime) -> Result<(), Fail> {
-    let alloc = rt.alloc();
-    let accounts = crate::stage::accounts(alloc)?;
-    let mut server: Server<BlockSeq> = Server::new(alloc, 1, 1, accounts)?;
-    let actor = server.open(alloc)?;
-    let mut pads = Alone::new(server, actor);
-    let gate = Heard {
-        replies: AtomicU64::new(0),
-        delivered: AtomicU64::new(0),
-    };
-    let mut writer = Output::new(alloc);
-    let served = serve_connection(
-        alloc,
-        &mut pads,
-        &mut Input::new(LINES.as_bytes()),
-        &mut writer,
-        1,
-        &gate,
-    )?;
+    let gate = Heard::new();
+    let served = serve(rt.alloc(), LINES, &gate)?;
     // The third line inserts and the sixth one erases; the fifth, an insertion past the end, is refused.
-    assert!(rt; gate.replies.load(Ordering::SeqCst) == 6);
-    assert!(rt; gate.delivered.load(Ordering::SeqCst) == 0b100100);
-    assert!(rt; served.delivered == 2);
+    assert_eq!(rt; gate.replies.load(Ordering::SeqCst), 6);
+    assert_eq!(rt; gate.delivered.load(Ordering::SeqCst), 0b100100);
+    assert_eq!(rt; served.delivered, 2);
+    Ok(())
+}
+
+// A line of so many bytes, without its line feed, which no server takes.
+fn spaces(alloc: Global, count: usize) -> Result<String, Fail> {
+    let mut line = String::new(alloc);
+    for _ in 0..count {
+        line.push(' ')?;
+    }
+    line.push('\n')?;
+    Ok(line)
+}
+
+#[test]
+fn a_line_of_more_than_64_kib_is_told_before_it_is_read_and_after(
+    rt: HostRuntime,
+) -> Result<(), Fail> {
+    let alloc = rt.alloc();
+    let gate = Heard::new();
+    serve(alloc, &spaces(alloc, 65_536)?, &gate)?;
+    assert_eq!(rt; gate.long_lines.load(Ordering::SeqCst), 0);
+    serve(alloc, &spaces(alloc, 65_537)?, &gate)?;
+    assert_eq!(rt; gate.long_lines.load(Ordering::SeqCst), 1);
+    assert_eq!(rt; gate.long_lines_read.load(Ordering::SeqCst), 1);
+    assert_eq!(rt; gate.replies.load(Ordering::SeqCst), 2);
     Ok(())
 }

@@ -1,7 +1,7 @@
 //! A connection whose lines are echoed.
 use std::alloc::Global;
 use std::net::TcpStream;
-use wire_lines::{Fault, Found, LineBuffer, Std, write_all};
+use wire_lines::{Fault, Found, LineBuffer, Sink, Std, write_all};
 use workers::{Connection, Gate, Pads, Served};
 
 /// A connection whose lines come back as they are.
@@ -18,26 +18,37 @@ impl Connection for Echo {
         _number: u64,
         _gate: &G,
     ) -> Result<Served, Fault> {
-        let echoed = echo(alloc, &self.stream);
+        let echoed = write_back(alloc, &self.stream);
         pads.end(alloc);
         echoed
     }
 }
 
 /// Writes each line again until the lines end, or one is too long.
-fn echo(alloc: Global, stream: &TcpStream) -> Result<Served, Fault> {
+fn write_back(alloc: Global, stream: &TcpStream) -> Result<Served, Fault> {
     let mut reader = Std::new(stream);
     let mut writer = Std::new(stream);
     let mut buffer = LineBuffer::new(alloc)?;
-    let mut lines = 0u64;
     let mut text: Vec<u8> = Vec::new(alloc);
-    while let Found::Text = buffer.find_line(&mut reader)? {
-        text.clear();
-        if text.extend_from_slice(buffer.line()).is_err() || text.push(b'\n').is_err() {
-            return Err(Fault::Memory);
+    let mut lines = 0u64;
+    for _ in 0..u64::MAX {
+        match buffer.find_line(&mut reader)? {
+            Found::Text => write_line(&mut writer, &mut text, buffer.line())?,
+            Found::End | Found::TooLong => break,
         }
-        write_all(&mut writer, text.as_slice())?;
         lines = lines.saturating_add(1);
     }
-    Ok(Served { lines, delivered: 0 })
+    Ok(Served {
+        lines,
+        delivered: 0,
+    })
+}
+
+/// Writes a line and its line feed at once, as replies are written.
+fn write_line<W: Sink>(writer: &mut W, text: &mut Vec<u8>, line: &[u8]) -> Result<(), Fault> {
+    text.clear();
+    if text.extend_from_slice(line).is_err() || text.push(b'\n').is_err() {
+        return Err(Fault::Memory);
+    }
+    write_all(writer, text.as_slice())
 }

@@ -11,12 +11,11 @@ use echo::Echo;
 use sessions::Accounts;
 use shared_pads::{Open, Seat};
 use std::alloc::Global;
-use std::io;
 use std::net::{Net, TcpListener, TcpStream};
 use std::process::ExitCode;
 use std::sync::Wait;
-use std::thread;
 use std::thread::Threads;
+use std::{io, thread};
 use workers::{Row, pool};
 
 /// How many threads serve connections.
@@ -77,7 +76,10 @@ where
 {
     let rt = row.rt;
     thread::scope(thread::scope_env(), rt, |scope| {
-        if scope.spawn(move || accept(rt, &listener, connections, &to)).is_err() {
+        if scope
+            .spawn(move || accept(rt, &listener, connections, &to))
+            .is_err()
+        {
             return ExitCode::FAILURE;
         }
         pool(rt.alloc(), row, from, crew);

@@ -4,18 +4,30 @@ use crossbeam_channel::Sender;
 use log::{Log, warn};
 use std::net::{TcpListener, TcpStream};
 use std::sync::Wait;
-use std::thread;
 use std::time::{Clock, Duration};
+use std::{io, thread};
 
 /// For how many milliseconds nothing is accepted after the system refused a connection: it mostly refuses the next too.
 const PAUSE: u64 = 50;
+
+/// For how many seconds a client may leave a reply untaken.
+const PATIENCE: u64 = 30;
+
+/// How many connections are accepted, and how long they may be silent.
+#[derive(Clone, Copy)]
+pub struct Limits {
+    /// None: any number.
+    pub connections: Option<u32>,
+    /// Seconds from one line to the next. None: any time.
+    pub idle: Option<u32>,
+}
 
 /// Accepts connections until there were so many, and hands them to the workers. A connection that the system refuses is
 /// logged, and not counted.
 pub fn accept_all<'a, R: Wait + Clock + Log>(
     rt: &'a R,
     listener: &TcpListener,
-    most: Option<u32>,
+    limits: Limits,
     to: &Sender<(u64, Client<'a, R>)>,
 ) {
     let mut accepted = 0u64;
@@ -23,6 +35,9 @@ pub fn accept_all<'a, R: Wait + Clock + Log>(
         match stream {
             Ok(stream) => {
                 accepted = accepted.saturating_add(1);
+                if let Err(cause) = prepare(&stream, limits.idle) {
+                    warn!(rt; "connection {accepted}: it may be late, or stay for too long: {cause}");
+                }
                 hand_over(rt, accepted, stream, to);
             }
             Err(cause) => {
@@ -30,10 +45,23 @@ pub fn accept_all<'a, R: Wait + Clock + Log>(
                 thread::sleep(rt, Duration::from_millis(PAUSE));
             }
         }
-        if most.is_some_and(|most| accepted >= u64::from(most)) {
+        if limits
+            .connections
+            .is_some_and(|most| accepted >= u64::from(most))
+        {
             return;
         }
     }
+}
+
+// Replies go out at once; who takes none, or says nothing, is not waited for without end.
+fn prepare(stream: &TcpStream, idle: Option<u32>) -> io::Result<()> {
+    stream.set_nodelay(true)?;
+    stream.set_write_timeout(Some(Duration::from_secs(PATIENCE)))?;
+    if let Some(seconds) = idle {
+        stream.set_read_timeout(Some(Duration::from_secs(u64::from(seconds).max(1))))?;
+    }
+    Ok(())
 }
 
 /// Hands a connection to the workers, and waits while as many as the channel holds are before it.
@@ -43,9 +71,6 @@ fn hand_over<'a, R: Wait + Log>(
     stream: TcpStream,
     to: &Sender<(u64, Client<'a, R>)>,
 ) {
-    if let Err(cause) = stream.set_nodelay(true) {
-        warn!(rt; "connection {number}: its replies may be late: {cause}");
-    }
     if to.send(rt, (number, Client::new(rt, stream))).is_err() {
         warn!(rt; "connection {number} is not served: out of memory");
     }

@@ -3,6 +3,8 @@ use crate::failure::Failure;
 use crate::watched::Watched;
 use log::{Log, warn};
 use std::alloc::Global;
+use std::io;
+use std::io::ErrorKind;
 use std::net::TcpStream;
 use wire_lines::{Fault, Std};
 use workers::{Connection, Gate, Pads, Served, serve_client};
@@ -21,6 +23,11 @@ impl<'a, R: Log> Client<'a, R> {
     }
 }
 
+// Whether the time limit of a socket was passed.
+fn is_late(cause: io::Error) -> bool {
+    matches!(cause.kind(), ErrorKind::WouldBlock | ErrorKind::TimedOut)
+}
+
 impl<R: Log> Connection for Client<'_, R> {
     fn serve<P: Pads, G: Gate>(
         self,
@@ -35,8 +42,18 @@ impl<R: Log> Connection for Client<'_, R> {
         let mut writer = Std::new(&mut output);
         let served = serve_client(alloc, pads, &mut reader, &mut writer, number, gate);
         if let Err(fault) = served {
-            let failure = Failure::of(fault, input.cause(), output.cause());
-            warn!(self.rt; "connection {number} ended: {failure}");
+            match (fault, input.cause(), output.cause()) {
+                (Fault::ReadFault, Some(cause), _) if is_late(cause) => {
+                    warn!(self.rt; "connection {number} ended: it said nothing for too long");
+                }
+                (Fault::WriteFault, _, Some(cause)) if is_late(cause) => {
+                    warn!(self.rt; "connection {number} ended: it took no reply for too long");
+                }
+                (fault, unread, unwritten) => {
+                    let failure = Failure::of(fault, unread, unwritten);
+                    warn!(self.rt; "connection {number} ended: {failure}");
+                }
+            }
         }
         served
     }

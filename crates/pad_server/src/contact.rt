@@ -92,13 +92,7 @@ impl<'a> Contact<'a> {
     }
 
     /// Makes a round. A failure is logged with its cause, once until that changes or a round succeeds.
-    pub fn exchange<P: Pads, R>(
-        &mut self,
-        rt: &R,
-        alloc: Global,
-        pads: &mut P,
-        own: u16,
-    ) -> Brought
+    pub fn exchange<P: Pads, R>(&mut self, rt: &R, alloc: Global, pads: &mut P, own: u16) -> Brought
     where
         R: Net<Listener = TcpListener, Stream = TcpStream> + Clock + Log,
     {

@@ -2,13 +2,15 @@
 ghost use Rattle.std.specs.Prelude.{◌≤◌};
 ghost use Rattle.server_core.specs.declared.limits.TheConstants.{MAX_CELLS};
 
-use crate::accept::accept_all;
+use crate::accept::{Limits, accept_all};
 use crate::accounts::read_accounts;
 use crate::args::Asked;
 use crate::client::Client;
 use crate::contact::Contact;
+use crate::course::Course;
 use crate::exchange::{contacts, exchange_all};
 use crate::failure::Failure;
+use crate::turnstile::Turnstile;
 use crate::wake::{Wake, Waker};
 use block_seq::BlockSeq;
 use crossbeam_channel::{Receiver, Sender};
@@ -49,14 +51,12 @@ where
     take_seats(rt, cells.as_slice(), &mut seats)?;
     let contacts = contacts(alloc, accounts.peers(), asked.replica)?;
     let (to, wakes) = crossbeam_channel::bounded(alloc, 1)?;
-    let gate = Waker::new(
-        rt,
-        if contacts.is_empty() {
-            None
-        } else {
-            Some(to.clone()?)
-        },
-    );
+    let waker = Waker::new(if contacts.is_empty() {
+        None
+    } else {
+        Some(to.clone()?)
+    });
+    let gate = Course::new(rt, waker, Turnstile::new(alloc)?);
     let row = Row {
         rt,
         cells: cells.as_slice(),
@@ -74,7 +74,10 @@ where
     serve(
         &row,
         listener,
-        asked.connections,
+        Limits {
+            connections: asked.connections,
+            idle: asked.idle,
+        },
         crew.as_mut_slice(),
         relaying,
     )
@@ -113,9 +116,9 @@ struct Relaying<'a> {
 /// Accepts connections in a thread of its own, and serves them in as many as there are seats for. One more exchanges with
 /// the peers, and once more after the last connection.
 fn serve<R>(
-    row: &Row<'_, BlockSeq, R, Waker<'_, R>>,
+    row: &Row<'_, BlockSeq, R, Course<'_, R>>,
     listener: TcpListener,
-    connections: Option<u32>,
+    limits: Limits,
     crew: &mut [Vec<Seat>],
     relaying: Relaying<'_>,
 ) -> Result<(), Failure<'static>>
@@ -141,7 +144,7 @@ where
         if relay.is_err() {
             return Err(Failure::Alone);
         }
-        let acceptor = scope.spawn(move || accept_all(rt, &listener, connections, &to));
+        let acceptor = scope.spawn(move || accept_all(rt, &listener, limits, &to));
         if acceptor.is_err() {
             let _ended = last.send(rt, Wake::Last);
             return Err(Failure::Alone);

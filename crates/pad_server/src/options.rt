@@ -2,7 +2,7 @@
 ghost use Rattle.std.specs.Prelude.{◌≡◌, ◌≤◌, ℕ, codes, false, unwrap_or};
 ghost use Rattle.clap.specs.Words.{rule_of};
 ghost use Rattle.command_line.specs.Options.{Holds};
-ghost use Rattle.pad_server.specs.CommandLine.{connections_rule, listen_rule, stdin_rule, workers_rule};
+ghost use Rattle.pad_server.specs.CommandLine.{connections_rule, idle_rule, listen_rule, stdin_rule, workers_rule};
 
 use clap::{Arg, ArgAction, ArgMatches, value_parser};
 use std::alloc::Global;
@@ -57,6 +57,19 @@ pub fn connections_option<'a>(alloc: Global) -> Arg<'a>
         .help("Ends after so many connections [without it the server does not end]")
 }
 
+/// `--idle SECONDS`.
+pub fn idle_option<'a>(alloc: Global) -> Arg<'a>
+    ensures { (rule_of result ≡ idle_rule) × (result.global ≡ false) }
+{
+    Arg::new(alloc, "idle")
+        .long("idle")
+        .value_name("SECONDS")
+        .value_parser(value_parser!(u32).range(1..))
+        .help(
+            "Ends a connection that says nothing for so long [without it a connection may be silent]",
+        )
+}
+
 /// What `--workers` holds; 16 where it holds no such number.
 pub fn workers_of(matches: &ArgMatches<'_>) -> u32
     ensures value { Holds (codes "workers") 0 MAX_WORKERS DEFAULT_WORKERS matches.now result }
@@ -73,4 +86,11 @@ pub fn connections_of(matches: &ArgMatches<'_>) -> Option<u32>
     ensures { (other : ℕ) → Holds (codes "connections") 0 4294967295 other matches.now (unwrap_or result other) }
 {
     matches.get_one::<u32>("connections")
+}
+
+/// What `--idle` holds, if it holds a number.
+pub fn idle_of(matches: &ArgMatches<'_>) -> Option<u32>
+    ensures { (other : ℕ) → Holds (codes "idle") 0 4294967295 other matches.now (unwrap_or result other) }
+{
+    matches.get_one::<u32>("idle")
 }

@@ -1,7 +1,6 @@
 //! Wake-ups for the thread that exchanges with peers.
 use crossbeam_channel::Sender;
 use std::sync::Wait;
-use workers::Gate;
 
 /// Why a relay thread is woken.
 #[derive(Clone, Copy, Debug, PartialEq, Eq)]
@@ -12,32 +11,22 @@ pub enum Wake {
     Last,
 }
 
-/// Wakes the relay thread before each reply that tells of a delivered operation. A wake-up that waits already is enough:
-/// the round that follows it serves both.
+/// Wakes the relay thread. A wake-up that waits already is enough: the round that follows it serves both.
 #[derive(Drop)]
-pub struct Waker<'a, R> {
-    rt: &'a R,
+pub struct Waker {
     to: Option<Sender<Wake>>,
 }
 
-impl<'a, R> Waker<'a, R> {
-    /// A gate that wakes whoever receives; None: nobody.
-    pub fn new(rt: &'a R, to: Option<Sender<Wake>>) -> Waker<'a, R> {
-        Waker { rt, to }
+impl Waker {
+    /// Wakes whoever receives; None: nobody.
+    pub fn new(to: Option<Sender<Wake>>) -> Waker {
+        Waker { to }
     }
-}
 
-impl<R: Wait> Gate for Waker<'_, R> {
-    fn inside(&self, _cell: u32) {}
-
-    fn before_reply(&self, _connection: u64, delivered: bool) {
-        if !delivered {
-            return;
-        }
+    /// An operation was delivered.
+    pub fn wake<R: Wait>(&self, rt: &R) {
         if let Some(to) = &self.to {
-            let _waits_already = to.try_send(self.rt, Wake::Delivered);
+            let _waits_already = to.try_send(rt, Wake::Delivered);
         }
     }
-
-    fn done(&self, _connection: u64) {}
 }

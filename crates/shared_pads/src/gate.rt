@@ -8,6 +8,13 @@ pub trait Gate {
     /// A reply is about to be written; whether it tells of a delivered operation.
     fn before_reply(&self, connection: u64, delivered: bool);
 
+    /// A line of more than 64 KiB is about to be read as a request, which may take a hundred times its memory. A gate can
+    /// wait here until no other one is read.
+    fn before_long_line(&self, _connection: u64) {}
+
+    /// That line was read.
+    fn after_long_line(&self, _connection: u64) {}
+
     /// A connection has ended.
     fn done(&self, connection: u64);
 }

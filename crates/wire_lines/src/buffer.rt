@@ -20,6 +20,9 @@ pub const MAX_READS: u64 = 4_294_967_296;
 // How many bytes one read may give.
 const CHUNK: usize = 65_536;
 
+// How much room is kept for bytes that wait. What a longer line took is given back when it was answered.
+const KEPT: usize = 2 * CHUNK;
+
 /// What stands at the front of the bytes.
 #[derive(Clone, Copy, Debug, PartialEq, Eq)]
 pub enum Found {
@@ -238,6 +241,7 @@ fn drop_front(held: &mut Vec<u8>, count: usize)
     let rest = held.len() - count;
     held.copy_within(count.., 0);
     held.truncate(rest);
+    held.shrink_to(KEPT);
 }
 
 // Reads once, and puts what came behind what is held. Answers whether the source is at its end.

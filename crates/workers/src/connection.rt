@@ -2,6 +2,7 @@
 ghost use Rattle.std.specs.Prelude.{◌≡◌, ℕ, [], ◌∷◌, take, Err, IfOk, IfErr, OnOk, OnErr};
 ghost use Rattle.std.specs.Io.KnownBytes.{Appends};
 ghost use Rattle.wire_json.specs.Lines.{request};
+ghost use Rattle.wire_json.specs.Reading.{IsLine};
 ghost use Rattle.wire_json.specs.Replies.{line_of};
 ghost use Rattle.wire_lines.specs.declared.fault.Fault.TheVariants.{ReadFault, Memory};
 ghost use Rattle.workers.specs.Session.{Answers, ServesSome};
@@ -10,12 +11,15 @@ ghost use Rattle.workers.specs.Connection.{ServesAll, ServesOne, BreaksOff, Serv
 
 use crate::delivered::delivered_by;
 use crate::pads::Pads;
-use pad_core::Reply;
+use pad_core::{Reply, Request};
 use pad_model::Refusal;
 use shared_pads::Gate;
 use std::alloc::Global;
 use wire_json::{read_request, reply_line};
 use wire_lines::{Fault, Found, LineBuffer, Sink, Source, write_all};
+
+/// The bytes of a line from which on it is long: a gate is told before it is read, and after.
+pub const LONG_LINE: usize = 65_536;
 
 /// What a connection came to.
 #[derive(Clone, Copy, Debug, PartialEq, Eq)]
@@ -135,25 +139,45 @@ fn serve_line<P: Pads, W: Sink, G: Gate>(
     if line.is_empty() {
         return Ok(None);
     }
-    let answer = answer_line(alloc, pads, line)?;
+    let answer = answer_line(alloc, pads, line, connection, gate)?;
     let delivered = write_answer(alloc, writer, connection, gate, &answer)?;
     Ok(Some(delivered))
 }
 
 // The answer to a line.
-fn answer_line<P: Pads>(
+fn answer_line<P: Pads, G: Gate>(
     alloc: Global,
     pads: &mut P,
     line: &[u8],
+    connection: u64,
+    gate: &G,
 ) -> Result<Result<Reply, Refusal>, Fault>
     ensures ok { IfOk result (λ answer. Answers P.calls pads.old (request line.now) answer pads.new) }
     ensures err { IfErr result (λ fault. (fault ≡ Memory) × (pads.new ≡ pads.old)) }
 {
-    match read_request(alloc, line) {
+    match read_line(alloc, line, connection, gate) {
         Ok(request) => Ok(pads.call(alloc, &request)),
         Err(Refusal::Memory) => Err(Fault::Memory),
         Err(refusal) => Ok(Err(refusal)),
     }
+}
+
+// Reads a line as a request; a gate may let long ones wait for each other.
+fn read_line<G: Gate>(
+    alloc: Global,
+    line: &[u8],
+    connection: u64,
+    gate: &G,
+) -> Result<Request, Refusal>
+    ensures { IsLine (request line.now) result }
+{
+    if line.len() <= LONG_LINE {
+        return read_request(alloc, line);
+    }
+    gate.before_long_line(connection);
+    let asked = read_request(alloc, line);
+    gate.after_long_line(connection);
+    asked
 }
 
 // Writes an answer, and says how many operations it tells of as delivered.

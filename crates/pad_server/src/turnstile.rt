@@ -1,0 +1,29 @@
+//! A place for one thread at a time.
+use crossbeam_channel::{Receiver, Sender};
+use std::alloc::{AllocError, Global};
+use std::sync::Wait;
+
+/// A place that one thread at a time may hold: a channel with room for one.
+#[derive(Drop)]
+pub struct Turnstile {
+    enter: Sender<()>,
+    leave: Receiver<()>,
+}
+
+impl Turnstile {
+    /// Nobody holds it.
+    pub fn new(alloc: Global) -> Result<Turnstile, AllocError> {
+        let (enter, leave) = crossbeam_channel::bounded(alloc, 1)?;
+        Ok(Turnstile { enter, leave })
+    }
+
+    /// Waits until nobody holds it, and takes it.
+    pub fn enter<R: Wait>(&self, rt: &R) {
+        let _held = self.enter.send(rt, ());
+    }
+
+    /// Gives it back.
+    pub fn leave<R: Wait>(&self, rt: &R) {
+        let _held = self.leave.try_recv(rt);
+    }
+}

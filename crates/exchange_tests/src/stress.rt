@@ -10,11 +10,12 @@ use relay::Relayed;
 use sessions::Session;
 use shared_pads::{Seat, SharedPad};
 use std::alloc::Global;
-use std::net::{Net, TcpStream};
+use std::net::{Net, TcpListener, TcpStream};
 use std::sync::Wait;
 use std::sync::atomic::{AtomicU64, Ordering};
 use std::test::Fail;
 use std::thread;
+use std::thread::Threads;
 use std::time::{Clock, Duration};
 use wire_lines::Fault;
 use workers::{Pads, Shared, open_row, take_seats};
@@ -223,50 +224,104 @@ fn seats_of<R: Wait>(
     Ok(seats)
 }
 
-#[test]
-fn two_servers_under_stress(rt: HostRuntime) -> Result<(), Fail> {
-    let alloc = rt.alloc();
-    let accounts = accounts(alloc)?;
-    let cells_one: Vec<SharedPad<BlockSeq>> = open_row(alloc, 1, 1)?;
-    let cells_two: Vec<SharedPad<BlockSeq>> = open_row(alloc, 2, 1)?;
-    let (at_one, to_one) = listen(&rt)?;
-    let (at_two, to_two) = listen(&rt)?;
-    let first = Side::new(&rt, cells_one.as_slice(), 1, &accounts, at_one, to_two);
-    let second = Side::new(&rt, cells_two.as_slice(), 2, &accounts, at_two, to_one);
-    let theirs = seats_of(&rt, alloc, cells_one.as_slice())?;
-    let mut owner_one = thread_of(alloc, &first.row, theirs, &BEGINNING)?;
-    let theirs = seats_of(&rt, alloc, cells_two.as_slice())?;
-    let mut owner_two = thread_of(alloc, &second.row, theirs, &BEGINNING)?;
-    let mut jobs = Vec::new(alloc);
-    add_jobs(&rt, alloc, Server::First, cells_one.as_slice(), &mut jobs)?;
-    add_jobs(&rt, alloc, Server::Second, cells_two.as_slice(), &mut jobs)?;
-    let course = Course {
-        writers: AtomicU64::new(0),
-        relays: AtomicU64::new(0),
-        last_rounds: AtomicU64::new(0),
-    };
-    let all = thread::map_vec(
-        &rt,
-        jobs,
-        &|job: Job| work(alloc, &first, &second, &course, job),
-    )?;
-    let shown_one = shown(alloc, &mut owner_one, 2)?;
-    let shown_two = shown(alloc, &mut owner_two, 1)?;
-    assert_eq!(rt; shown_one.as_str(), shown_two.as_str());
-    let mut one = Tally::new(owner_one.seats(), alloc);
-    let mut two = Tally::new(owner_two.seats(), alloc);
+// What both servers show in the end, and what their threads were answered.
+#[derive(Drop)]
+struct Ended {
+    shown_one: String,
+    shown_two: String,
+    one: Tally,
+    two: Tally,
+}
+
+// The tallies of both servers, with what all threads were answered.
+fn sum(
+    alloc: Global,
+    all: Vec<Done>,
+    one: Vec<Seat>,
+    two: Vec<Seat>,
+) -> Result<(Tally, Tally), Fail> {
+    let mut one = Tally::new(one, alloc);
+    let mut two = Tally::new(two, alloc);
     for done in all {
         match done.server {
             Server::First => one.take(done)?,
             Server::Second => two.take(done)?,
         }
     }
+    Ok((one, two))
+}
+
+// Lets the threads of both servers work.
+fn run<R>(alloc: Global, first: &Side<'_, R>, second: &Side<'_, R>) -> Result<Ended, Fail>
+where
+    R: Net<Listener = TcpListener, Stream = TcpStream> + Threads + Wait + Clock + Sync,
+{
+    let rt = first.row.rt;
+    let theirs = seats_of(rt, alloc, first.row.cells)?;
+    let mut owner_one = thread_of(alloc, &first.row, theirs, &BEGINNING)?;
+    let theirs = seats_of(rt, alloc, second.row.cells)?;
+    let mut owner_two = thread_of(alloc, &second.row, theirs, &BEGINNING)?;
+    let mut jobs = Vec::new(alloc);
+    add_jobs(rt, alloc, Server::First, first.row.cells, &mut jobs)?;
+    add_jobs(rt, alloc, Server::Second, second.row.cells, &mut jobs)?;
+    let course = Course {
+        writers: AtomicU64::new(0),
+        relays: AtomicU64::new(0),
+        last_rounds: AtomicU64::new(0),
+    };
+    let all = thread::map_vec(
+        rt,
+        jobs,
+        &|job: Job| work(alloc, first, second, &course, job),
+    )?;
+    let shown_one = shown(alloc, &mut owner_one, 2)?;
+    let shown_two = shown(alloc, &mut owner_two, 1)?;
+    let (one, two) = sum(alloc, all, owner_one.seats(), owner_two.seats())?;
+    Ok(Ended {
+        shown_one,
+        shown_two,
+        one,
+        two,
+    })
+}
+
+// Both servers, with these pads, until all their threads have ended.
+fn run_over_loopback<R>(
+    rt: &R,
+    alloc: Global,
+    first: &[SharedPad<BlockSeq>],
+    second: &[SharedPad<BlockSeq>],
+) -> Result<Ended, Fail>
+where
+    R: Net<Listener = TcpListener, Stream = TcpStream> + Threads + Wait + Clock + Sync,
+{
+    let accounts = accounts(alloc)?;
+    let (at_first, to_first) = listen(rt)?;
+    let (at_second, to_second) = listen(rt)?;
+    let first = Side::new(rt, first, 1, &accounts, at_first, to_second);
+    let second = Side::new(rt, second, 2, &accounts, at_second, to_first);
+    run(alloc, &first, &second)
+}
+
+#[test]
+fn two_servers_under_stress(rt: HostRuntime) -> Result<(), Fail> {
+    let alloc = rt.alloc();
+    let first: Vec<SharedPad<BlockSeq>> = open_row(alloc, 1, 1)?;
+    let second: Vec<SharedPad<BlockSeq>> = open_row(alloc, 2, 1)?;
+    let ended = run_over_loopback(&rt, alloc, first.as_slice(), second.as_slice())?;
+    let Ended {
+        shown_one,
+        shown_two,
+        one,
+        two,
+    } = ended;
+    assert_eq!(rt; shown_one.as_str(), shown_two.as_str());
     assert_eq!(rt; one.records.len(), 800);
     assert_eq!(rt; two.records.len(), 800);
     assert!(rt; one.relayed.refused == 0 && two.relayed.refused == 0);
     assert_eq!(rt; 400 + one.relayed.pulled + two.relayed.pushed, 800);
     assert_eq!(rt; 400 + two.relayed.pulled + one.relayed.pushed, 800);
-    one.close(&rt, alloc, cells_one)?;
-    two.close(&rt, alloc, cells_two)?;
+    one.close(&rt, alloc, first)?;
+    two.close(&rt, alloc, second)?;
     Ok(())
 }

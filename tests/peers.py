@@ -23,11 +23,11 @@ def free_ports(count):
 class Server:
     """A server with this number, which knows some authors and its peers."""
 
-    def __init__(self, number, ports, authors, peers, **streams):
+    def __init__(self, number, ports, authors, peers, more="", **streams):
         lines = [f"author {name} t{name}\n" for name in authors]
         lines += [f"peer {peer} secret 127.0.0.1:{ports[peer]}\n" for peer in peers]
         put_files(((f"accounts{number}", "".join(lines)),))
-        args = f"--listen 127.0.0.1:{ports[number]} --replica {number} --accounts accounts{number}"
+        args = f"--listen 127.0.0.1:{ports[number]} --replica {number} --accounts accounts{number} {more}"
         self.number, self.port = number, ports[number]
         self.process = start("pad_server", args, stdin=subprocess.DEVNULL, stdout=subprocess.PIPE, **streams)
         want(self.process.stdout.readline().decode(), f"listening on 127.0.0.1:{self.port}\n", "the first line")

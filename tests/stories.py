@@ -1,5 +1,7 @@
 """pad_replay: its command line, the lines of a story, and sessions side by side."""
-from harness import CLOSED, FULL, Case, Has
+import os
+
+from harness import CLOSED, FULL, ROOT, Case, Has
 from sessions import comment, delete, edit, insert, read, refusal
 
 ARGS = "--replica 1 --cells 2 --accounts accounts"
@@ -247,4 +249,18 @@ COMMAND_LINE = [
     run("another replica", f"a\t{HELLO['ann']}\n", f"a\t{welcome('ann', 300)}\n", args=ARGS.replace("replica 1", "replica 300")),
 ]
 
-TESTS = [case.test() for case in COMMAND_LINE + LINES + STORIES]
+
+
+def all_examples(name):
+    """A file of the worked examples."""
+    with open(os.path.join(ROOT, "crates", "pad_replay", name)) as file:
+        return file.read()
+
+
+def plain():
+    """The worked examples, with the characters of pads in the plain sequence: the replies are the same, byte for byte."""
+    accounts = (("accounts", all_examples("data/accounts")),)
+    return Case("the worked examples by the plain sequence", ARGS + " --plain", all_examples("stdin"), all_examples("stdout"), 0, "", accounts, "pad_replay", seconds=120)
+
+
+TESTS = [case.test() for case in COMMAND_LINE + LINES + STORIES + [plain()]]

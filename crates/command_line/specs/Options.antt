@@ -1,7 +1,8 @@
 -- What the options of a command line hold, and the status of a program that gets none.
-use Rattle.std.specs.Prelude.{◌≡◌, ◌≤◌, ℕ, zero, suc, List, Option, Some, None, codes, pos, true}
+use Rattle.std.specs.Prelude.{◌≡◌, ◌≤◌, ℕ, zero, suc, List, Option, Some, None, codes, pos, Bool, true, false}
 use Rattle.std.specs.Str.Parse.{IsNumeral, digits_value, without_leading_plus}
 use Rattle.clap.specs.Words.{App, Rule, first_of, found_of, matches_of, new_rule, one_of, one_text}
+use Rattle.clap.specs.declared.builder.action.ArgAction.TheVariants.{SetTrue}
 use Rattle.clap.specs.declared.builder.value_parser.ValueParser.TheVariants as parser
 use Rattle.clap.specs.declared.error.kind.ErrorKind.{ErrorKind}
 use Rattle.clap.specs.declared.error.kind.ErrorKind.TheVariants as kind
@@ -15,6 +16,10 @@ option_rule name = record (new_rule name) { long = Some name; value_names = 1 }
 -- the same, of a value that is a number from `low` to `high`
 abbrev pub number_rule : List ℕ → ℕ → ℕ → Rule
 number_rule name low high = record (option_rule name) { parser = Some (parser.Signed (pos low) (pos high)) }
+
+-- an option `--name` that takes no value
+abbrev pub flag_rule : List ℕ → Rule
+flag_rule name = record (new_rule name) { long = Some name; action = Some SetTrue }
 
 -- `--replica N`, which has to be there
 abbrev pub replica_rule : Rule
@@ -71,3 +76,9 @@ abbrev pub status : ErrorKind → ℕ
 status kind.DisplayHelp = 0
 status kind.OutOfMemory = 1
 status other = 2
+
+-- a flag by the text that stands under its name
+pub record IsFlag (held : Option (List ℕ)) (flag : Bool) : Type 0 where
+  pub absent : held ≡ None → flag ≡ false
+  pub set : held ≡ Some (codes "true") → flag ≡ true
+  pub unset : held ≡ Some (codes "false") → flag ≡ false

@@ -1,7 +1,7 @@
 -- The command line of the program, and what it asks for.
 use Rattle.std.specs.Prelude.{◌≡◌, List, ℕ, codes, true, unwrap_or, []}
-use Rattle.clap.specs.Words.{App, Rule, new_app, with_rule}
-use Rattle.command_line.specs.Options.{Gives, accounts_rule, cells_rule, replica_rule, text_given}
+use Rattle.clap.specs.Words.{App, Rule, matches_of, new_app, one_of, with_rule}
+use Rattle.command_line.specs.Options.{Gives, IsFlag, accounts_rule, cells_rule, flag_rule, replica_rule, text_given}
 use Rattle.server_core.specs.declared.limits.TheConstants.{MAX_CELLS}
 use Rattle.pad_replay.specs.declared.args.Asked.{Asked}
 
@@ -11,10 +11,11 @@ mandatory rule = record rule { required = true }
 
 -- the command line: clap's words say which words it takes, and what they give under a name
 abbrev pub line : App
-line = with_rule (with_rule (with_rule (new_app (codes "pad_replay")) replica_rule) (mandatory cells_rule)) (mandatory accounts_rule)
+line = with_rule (with_rule (with_rule (with_rule (new_app (codes "pad_replay")) replica_rule) (mandatory cells_rule)) (mandatory accounts_rule)) (flag_rule (codes "plain"))
 
--- the words ask for this: the numbers that they give under `--replica` and `--cells`, and the path under `--accounts`
+-- the words ask for this: the numbers that they give under `--replica` and `--cells`, the path under `--accounts`, and `--plain`
 pub record AsksFor (words : List (List ℕ)) (asked : Asked) : Type 0 where
   pub replica : Gives line words (codes "replica") 1 65535 1 asked.replica
   pub cells : Gives line words (codes "cells") 0 MAX_CELLS MAX_CELLS asked.cells
   pub accounts : asked.accounts.now ≡ unwrap_or (text_given line words (codes "accounts")) []
+  pub plain : IsFlag (one_of (codes "plain") (matches_of line words)) asked.plain

@@ -1,11 +1,12 @@
 //! The command line.
-ghost use Rattle.std.specs.Prelude.{◌≡◌, ◌≤◌, IfOk, map, string_bytes};
+ghost use Rattle.std.specs.Prelude.{◌≡◌, ◌≤◌, IfOk, map, string_bytes, codes, false};
 ghost use Rattle.clap.specs.Faults.{fault_of};
 ghost use Rattle.clap.specs.Words.{FailsBy, app_of, rule_of};
+ghost use Rattle.command_line.specs.Options.{flag_rule};
 ghost use Rattle.server_core.specs.declared.limits.TheConstants.{MAX_CELLS};
 ghost use Rattle.pad_replay.specs.CommandLine.{AsksFor, line, mandatory};
 
-use clap::{Arg, Command, Error};
+use clap::{Arg, ArgAction, Command, Error};
 use command_line::{accounts_option, cells_of, cells_option, replica_of, replica_option};
 use std::alloc::{AllocError, Global};
 
@@ -18,6 +19,8 @@ pub struct Asked<'a> {
     pub cells: u32,
     /// The path of the accounts file.
     pub accounts: &'a str,
+    /// Whether pads keep their characters in the plain sequence, which is slow, and not as blocks. No reply differs.
+    pub plain: bool,
 }
 
 // The option, which has to be there.
@@ -26,6 +29,16 @@ fn mandatory<'a>(option: Arg<'a>) -> Arg<'a>
     ensures local { result.global ≡ option.entry.global }
 {
     option.required(true)
+}
+
+// `--plain`.
+fn plain_flag<'a>(alloc: Global) -> Arg<'a>
+    ensures { (rule_of result ≡ flag_rule (codes "plain")) × (result.global ≡ false) }
+{
+    Arg::new(alloc, "plain")
+        .long("plain")
+        .action(ArgAction::SetTrue)
+        .help("Keeps characters in the plain sequence, to compare the replies with")
 }
 
 fn command<'a>(alloc: Global) -> Result<Command<'a>, AllocError>
@@ -37,7 +50,8 @@ fn command<'a>(alloc: Global) -> Result<Command<'a>, AllocError>
         .about("Plays sessions against a pad server, from lines NAME<TAB>REQUEST")
         .arg(replica_option(alloc, replica_help))?
         .arg(mandatory(cells_option(alloc, cells_help)))?
-        .arg(mandatory(accounts_option(alloc, "The accounts file")))
+        .arg(mandatory(accounts_option(alloc, "The accounts file")))?
+        .arg(plain_flag(alloc))
 }
 
 /// What the words of the command line ask for, or what is wrong with them.
@@ -51,5 +65,6 @@ pub fn parse<'a>(alloc: Global, words: &'a [String]) -> Result<Asked<'a>, Error>
         replica: replica_of(&matches),
         cells: cells_of(&matches),
         accounts: matches.get_str("accounts").unwrap_or(""),
+        plain: matches.get_flag("plain"),
     })
 }

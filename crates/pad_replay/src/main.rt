@@ -14,8 +14,10 @@ mod play;
 mod stage;
 
 use args::{Asked, parse};
+use block_seq::{BlockSeq, PlainSeq};
 use command_line::report;
 use fault::Fault;
+use pad_model::Sequence;
 use play::play;
 use stage::Stage;
 use std::fs;
@@ -39,7 +41,12 @@ fn main(rt: HostRuntime) -> anyhow::Result<ExitCode> {
             return Ok(ExitCode::FAILURE);
         }
     };
-    match play_all(&rt, asked, accounts) {
+    let played = if asked.plain {
+        play_all::<PlainSeq>(&rt, asked, accounts)
+    } else {
+        play_all::<BlockSeq>(&rt, asked, accounts)
+    };
+    match played {
         Ok(()) => Ok(ExitCode::SUCCESS),
         Err(fault) => {
             // The status says it too, where standard error is closed.
@@ -49,12 +56,12 @@ fn main(rt: HostRuntime) -> anyhow::Result<ExitCode> {
     }
 }
 
-/// Plays the story of standard input.
-fn play_all(rt: &HostRuntime, asked: Asked<'_>, accounts: Vec<u8>) -> Result<(), Fault>
+/// Plays the story of standard input, with the characters of pads in a sequence of this kind.
+fn play_all<S: Sequence>(rt: &HostRuntime, asked: Asked<'_>, accounts: Vec<u8>) -> Result<(), Fault>
     requires { (1 ≤ asked.replica) × (asked.cells ≤ MAX_CELLS) }
 {
     let alloc = rt.alloc();
-    let mut stage = Stage::new(alloc, asked.replica, asked.cells, accounts)?;
+    let mut stage: Stage<S> = Stage::new(alloc, asked.replica, asked.cells, accounts)?;
     let mut input = BufReader::new(alloc, rt.reader())?;
     let mut output = BufWriter::new(alloc, std::io::writer(rt))?;
     play(alloc, &mut stage, &mut input, &mut output)

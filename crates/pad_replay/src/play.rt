@@ -2,13 +2,14 @@
 use crate::fault::Fault;
 use crate::line::Line;
 use crate::stage::Stage;
+use pad_model::Sequence;
 use std::alloc::Global;
 use std::io::{BufRead, Write};
 
 /// Plays the lines of a reader to its end. Each line is answered before the next one is read.
-pub fn play<R: BufRead, W: Write>(
+pub fn play<S: Sequence, R: BufRead, W: Write>(
     alloc: Global,
-    stage: &mut Stage,
+    stage: &mut Stage<S>,
     reader: &mut R,
     writer: &mut W,
 ) -> Result<(), Fault> {
@@ -32,9 +33,9 @@ fn without_end(line: &[u8]) -> &[u8] {
     }
 }
 
-fn play_line<W: Write>(
+fn play_line<S: Sequence, W: Write>(
     alloc: Global,
-    stage: &mut Stage,
+    stage: &mut Stage<S>,
     line: &[u8],
     number: u64,
     writer: &mut W,
@@ -59,9 +60,9 @@ fn repeat<W: Write>(line: &[u8], writer: &mut W) -> Result<(), Fault> {
 }
 
 /// Asks, and writes the reply behind the session's name. An empty request has no reply.
-fn tell<W: Write>(
+fn tell<S: Sequence, W: Write>(
     alloc: Global,
-    stage: &mut Stage,
+    stage: &mut Stage<S>,
     name: &[u8],
     request: &[u8],
     writer: &mut W,

@@ -3,34 +3,33 @@ ghost use Rattle.std.specs.Prelude.{◌≤◌};
 ghost use Rattle.server_core.specs.declared.limits.TheConstants.{MAX_CELLS};
 
 use crate::fault::Fault;
-use block_seq::BlockSeq;
 use command_line::replica_or;
 use pad_core::Reply;
-use pad_model::Refusal;
+use pad_model::{Refusal, Sequence};
 use server_core::{Moved, Server, Step};
 use sessions::Accounts;
 use std::alloc::Global;
 use wire_json::{read_request, reply_line};
 
-/// A server, and the names of its sessions in the order of their first use: the place of a name is its actor's number.
+/// A server whose pads keep their characters in a sequence of this kind, and the names of its sessions in the order of their first use: the place of a name is its actor's number.
 #[derive(Drop)]
-pub struct Stage {
+pub struct Stage<S: Sequence> {
     /// The replica number of a server whose title names none.
     replica: u16,
     cells: u32,
     accounts: Vec<u8>,
-    server: Server<BlockSeq>,
+    server: Server<S>,
     names: Vec<Vec<u8>>,
     ghost numbered: { 1 ≤ replica },
     ghost in_row: { cells ≤ MAX_CELLS },
 }
 
-fn make_server(
+fn make_server<S: Sequence>(
     alloc: Global,
     replica: u16,
     cells: u32,
     accounts: &[u8],
-) -> Result<Server<BlockSeq>, Fault>
+) -> Result<Server<S>, Fault>
     requires numbered { 1 ≤ replica }
     requires row { cells ≤ MAX_CELLS }
 {
@@ -42,9 +41,14 @@ fn step_of(alloc: Global, line: &[u8]) -> Result<Step, Refusal> {
     Ok(Step::Ask(read_request(alloc, line)?))
 }
 
-impl Stage {
+impl<S: Sequence> Stage<S> {
     /// A new server, of which each later one takes the row and the accounts.
-    pub fn new(alloc: Global, replica: u16, cells: u32, accounts: Vec<u8>) -> Result<Stage, Fault>
+    pub fn new(
+        alloc: Global,
+        replica: u16,
+        cells: u32,
+        accounts: Vec<u8>,
+    ) -> Result<Stage<S>, Fault>
         requires numbered { 1 ≤ replica }
         requires row { cells ≤ MAX_CELLS }
     {

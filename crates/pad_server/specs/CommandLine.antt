@@ -1,15 +1,14 @@
 -- The command line of the program, and what it gives.
-use Rattle.std.specs.Prelude.{◌≡◌, List, ℕ, Bool, true, false, Option, Some, None, codes, option_map, unwrap_or}
-use Rattle.clap.specs.Words.{App, Rule, matches_of, new_app, new_rule, one_of, with_rule}
-use Rattle.clap.specs.declared.builder.action.ArgAction.TheVariants.{SetTrue}
-use Rattle.command_line.specs.Options.{Gives, accounts_rule, cells_rule, number_rule, option_rule, replica_rule, text_given}
+use Rattle.std.specs.Prelude.{◌≡◌, List, ℕ, codes, option_map, unwrap_or}
+use Rattle.clap.specs.Words.{App, Rule, matches_of, new_app, one_of, with_rule}
+use Rattle.command_line.specs.Options.{Gives, IsFlag, accounts_rule, cells_rule, flag_rule, number_rule, option_rule, replica_rule, text_given}
 use Rattle.server_core.specs.declared.limits.TheConstants.{MAX_CELLS}
 use Rattle.pad_server.specs.declared.args.Asked.{Asked}
 use Rattle.pad_server.specs.declared.options.TheConstants.{MAX_WORKERS, DEFAULT_WORKERS}
 
--- `--stdin`, which takes no value
+-- `--stdin`
 abbrev pub stdin_rule : Rule
-stdin_rule = record (new_rule (codes "stdin")) { long = Some (codes "stdin"); action = Some SetTrue }
+stdin_rule = flag_rule (codes "stdin")
 
 -- `--listen ADDR`
 abbrev pub listen_rule : Rule
@@ -34,12 +33,6 @@ first_line = with_rule (with_rule (with_rule (with_rule (new_app (codes "pad_ser
 -- the command line: clap's words say which words it takes, and what they give under a name
 abbrev pub line : App
 line = with_rule (with_rule (with_rule (with_rule first_line cells_rule) workers_rule) connections_rule) idle_rule
-
--- a flag by the text that stands under its name
-pub record IsFlag (held : Option (List ℕ)) (flag : Bool) : Type 0 where
-  pub absent : held ≡ None → flag ≡ false
-  pub set : held ≡ Some (codes "true") → flag ≡ true
-  pub unset : held ≡ Some (codes "false") → flag ≡ false
 
 -- the words give this: the numbers, the flag and the texts under the names of the options
 pub record AsksFor (words : List (List ℕ)) (asked : Asked) : Type 0 where

@@ -68,24 +68,9 @@ fn one_round_makes_two_servers_the_same(rt: HostRuntime) -> Result<(), Fail> {
     let accounts = accounts(alloc)?;
     let cells: [Vec<SharedPad<BlockSeq>>; 2] = [open_row(alloc, 1, 1)?, open_row(alloc, 2, 1)?];
     let [first_cells, second_cells] = &cells;
-    let (at_first, to_first) = listen(&rt)?;
     let (at_second, to_second) = listen(&rt)?;
-    let first = Side::new(
-        &rt,
-        first_cells.as_slice(),
-        1,
-        &accounts,
-        at_first,
-        to_second,
-    );
-    let second = Side::new(
-        &rt,
-        second_cells.as_slice(),
-        2,
-        &accounts,
-        at_second,
-        to_first,
-    );
+    let first = Side::new(&rt, first_cells.as_slice(), 1, &accounts, to_second);
+    let second = Side::new(&rt, second_cells.as_slice(), 2, &accounts, to_second);
     let theirs = seats_of(&rt, alloc, first_cells.as_slice())?;
     let mut one = thread_of(alloc, &first.row, theirs, &FIRST)?;
     let theirs = seats_of(&rt, alloc, second_cells.as_slice())?;
@@ -95,7 +80,7 @@ fn one_round_makes_two_servers_the_same(rt: HostRuntime) -> Result<(), Fail> {
     let (relayed, _seats) = thread::join(
         &rt,
         || exchange(alloc, &first, &second, relaying),
-        || serve_other(alloc, &second, serving),
+        || serve_other(alloc, &second, &at_second, serving),
     );
     let wanted = Relayed {
         pads: 1,

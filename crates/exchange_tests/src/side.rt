@@ -19,22 +19,19 @@ const PATIENCE: u64 = 30;
 #[derive(Drop)]
 pub struct Side<'a, R: Wait> {
     pub row: Row<'a, BlockSeq, R, Open>,
-    /// Where it accepts the other server's connections.
-    pub listener: TcpListener,
-    /// Where the other server does.
+    /// Where the other server accepts connections.
     pub other: SocketAddr,
     /// Whether the next connection is its last.
     pub is_closing: AtomicBool,
 }
 
 impl<'a, R: Wait> Side<'a, R> {
-    /// The server with these pads and this number, which accepts at a listener and reaches the other server at an address.
+    /// The server with these pads and this number, which reaches the other server at an address.
     pub fn new(
         rt: &'a R,
         cells: &'a [SharedPad<BlockSeq>],
         replica: u16,
         accounts: &'a Accounts,
-        listener: TcpListener,
         other: SocketAddr,
     ) -> Side<'a, R> {
         Side {
@@ -45,7 +42,6 @@ impl<'a, R: Wait> Side<'a, R> {
                 accounts,
                 gate: &Open,
             },
-            listener,
             other,
             is_closing: AtomicBool::new(false),
         }
@@ -84,9 +80,14 @@ pub fn make_round<R: Wait + Net<Stream = TcpStream>, P: Pads>(
 }
 
 /// Serves the other server's connections, one after the other, up to the last one. Its seats are there again at the end.
-pub fn serve_other<R: Wait>(alloc: Global, side: &Side<'_, R>, seats: Vec<Seat>) -> Vec<Seat> {
+pub fn serve_other<R: Wait>(
+    alloc: Global,
+    side: &Side<'_, R>,
+    listener: &TcpListener,
+    seats: Vec<Seat>,
+) -> Vec<Seat> {
     let mut pads = Shared::new(&side.row, seats, Session::new(alloc));
-    for stream in side.listener.incoming() {
+    for stream in listener.incoming() {
         if let Ok(stream) = stream {
             let mut reader = Std::new(&stream);
             let mut writer = Std::new(&stream);

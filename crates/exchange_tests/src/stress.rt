@@ -46,12 +46,12 @@ pub enum Server {
     Second,
 }
 
-// What a thread has to do.
-#[derive(Clone, Copy)]
+// What a thread has to do: write as the author who greets so, make rounds, or serve those of the other server.
+#[derive(Drop)]
 enum Task {
     Write(&'static str),
     Relay,
-    Serve,
+    Serve(TcpListener),
 }
 
 #[derive(Drop)]
@@ -165,50 +165,65 @@ fn work<R: Wait + Clock + Net<Stream = TcpStream>>(
         Server::First => (first, second),
         Server::Second => (second, first),
     };
-    if let Task::Serve = task {
-        return Done {
+    match task {
+        Task::Write(hello) => write_as(alloc, own, server, course, hello, seats),
+        Task::Relay => {
+            let mut pads = Shared::new(&own.row, seats, Session::new(alloc));
+            let relayed = relay(alloc, own, other, &mut pads, course);
+            Done {
+                server,
+                outcome: Outcome::Exchanged(relayed),
+                seats: pads.seats(),
+            }
+        }
+        Task::Serve(listener) => Done {
             server,
             outcome: Outcome::Served,
-            seats: serve_other(alloc, own, seats),
-        };
+            seats: serve_other(alloc, own, &listener, seats),
+        },
     }
+}
+
+fn write_as<R: Wait>(
+    alloc: Global,
+    own: &Side<'_, R>,
+    server: Server,
+    course: &Course,
+    hello: &str,
+    seats: Vec<Seat>,
+) -> Done {
     let mut pads = Shared::new(&own.row, seats, Session::new(alloc));
-    let outcome = match task {
-        Task::Write(hello) => {
-            let records = write(alloc, &mut pads, hello);
-            pads.end(alloc);
-            come(&course.writers);
-            Outcome::Wrote(records)
-        }
-        _ => Outcome::Exchanged(relay(alloc, own, other, &mut pads, course)),
-    };
+    let records = write(alloc, &mut pads, hello);
+    pads.end(alloc);
+    come(&course.writers);
     Done {
         server,
-        outcome,
+        outcome: Outcome::Wrote(records),
         seats: pads.seats(),
     }
 }
 
-// The jobs at one server, each with a seat.
+// The jobs at one server, each with a seat: the one that serves last, since it ends when the others have.
 fn add_jobs<R: Wait>(
     rt: &R,
     alloc: Global,
     server: Server,
+    listener: TcpListener,
     cells: &[SharedPad<BlockSeq>],
     jobs: &mut Vec<Job>,
 ) -> Result<(), Refusal> {
-    for place in 0..6 {
-        let mut seats = Vec::new(alloc);
-        take_seats(rt, cells, &mut seats)?;
-        let task = match HELLOS.get(place) {
-            Some(hello) => Task::Write(hello),
-            None if place == 4 => Task::Relay,
-            None => Task::Serve,
-        };
+    for hello in HELLOS {
+        jobs.push(Job {
+            server,
+            task: Task::Write(hello),
+            seats: seats_of(rt, alloc, cells)?,
+        })?;
+    }
+    for task in [Task::Relay, Task::Serve(listener)] {
         jobs.push(Job {
             server,
             task,
-            seats,
+            seats: seats_of(rt, alloc, cells)?,
         })?;
     }
     Ok(())
@@ -252,7 +267,12 @@ fn sum(
 }
 
 // Lets the threads of both servers work.
-fn run<R>(alloc: Global, first: &Side<'_, R>, second: &Side<'_, R>) -> Result<Ended, Fail>
+fn run<R>(
+    alloc: Global,
+    first: &Side<'_, R>,
+    second: &Side<'_, R>,
+    jobs: Vec<Job>,
+) -> Result<Ended, Fail>
 where
     R: Net<Listener = TcpListener, Stream = TcpStream> + Threads + Wait + Clock + Sync,
 {
@@ -261,9 +281,6 @@ where
     let mut owner_one = thread_of(alloc, &first.row, theirs, &BEGINNING)?;
     let theirs = seats_of(rt, alloc, second.row.cells)?;
     let mut owner_two = thread_of(alloc, &second.row, theirs, &BEGINNING)?;
-    let mut jobs = Vec::new(alloc);
-    add_jobs(rt, alloc, Server::First, first.row.cells, &mut jobs)?;
-    add_jobs(rt, alloc, Server::Second, second.row.cells, &mut jobs)?;
     let course = Course {
         writers: AtomicU64::new(0),
         relays: AtomicU64::new(0),
@@ -298,9 +315,12 @@ where
     let accounts = accounts(alloc)?;
     let (at_first, to_first) = listen(rt)?;
     let (at_second, to_second) = listen(rt)?;
-    let first = Side::new(rt, first, 1, &accounts, at_first, to_second);
-    let second = Side::new(rt, second, 2, &accounts, at_second, to_first);
-    run(alloc, &first, &second)
+    let mut jobs = Vec::new(alloc);
+    add_jobs(rt, alloc, Server::First, at_first, first, &mut jobs)?;
+    add_jobs(rt, alloc, Server::Second, at_second, second, &mut jobs)?;
+    let first = Side::new(rt, first, 1, &accounts, to_second);
+    let second = Side::new(rt, second, 2, &accounts, to_first);
+    run(alloc, &first, &second, jobs)
 }
 
 #[test]

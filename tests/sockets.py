@@ -316,7 +316,6 @@ FUNCTIONS = [
     more_clients_than_workers_are_served_in_the_end,
     a_broken_connection_ends_alone,
     a_silent_connection_ends_where_the_server_says_so,
-    a_client_that_reads_nothing_is_not_waited_for,
     a_session_is_left_before_its_connection_ends,
     a_line_that_is_too_long_ends_its_connection,
     too_many_files,
@@ -325,3 +324,5 @@ FUNCTIONS = [
 
 TESTS = [case.test() for case in CASES]
 TESTS += [Test(f"pad_server: listen: {function.__name__.replace('_', ' ')}", function) for function in FUNCTIONS]
+# The server waits for 30 seconds.
+TESTS += [Test("pad_server: listen: a client that reads nothing is not waited for", a_client_that_reads_nothing_is_not_waited_for, 90)]

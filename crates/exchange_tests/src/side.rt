@@ -5,7 +5,7 @@ use sessions::{Accounts, Session};
 use shared_pads::{Open, Seat, SharedPad};
 use std::alloc::Global;
 use std::io;
-use std::net::{Net, SocketAddr, TcpListener, TcpStream};
+use std::net::{Net, TcpListener, TcpStream};
 use std::sync::Wait;
 use std::sync::atomic::{AtomicBool, Ordering};
 use std::time::Duration;
@@ -19,20 +19,20 @@ const PATIENCE: u64 = 30;
 #[derive(Drop)]
 pub struct Side<'a, R: Wait> {
     pub row: Row<'a, BlockSeq, R, Open>,
-    /// Where the other server accepts connections.
-    pub other: SocketAddr,
+    /// The port at which the other server accepts connections, on this machine.
+    pub other: u16,
     /// Whether the next connection is its last.
     pub is_closing: AtomicBool,
 }
 
 impl<'a, R: Wait> Side<'a, R> {
-    /// The server with these pads and this number, which reaches the other server at an address.
+    /// The server with these pads and this number, which reaches the other server at a port.
     pub fn new(
         rt: &'a R,
         cells: &'a [SharedPad<BlockSeq>],
         replica: u16,
         accounts: &'a Accounts,
-        other: SocketAddr,
+        other: u16,
     ) -> Side<'a, R> {
         Side {
             row: Row {
@@ -48,17 +48,17 @@ impl<'a, R: Wait> Side<'a, R> {
     }
 }
 
-/// A listener at a port of the system's choice on this machine, and its address.
+/// A listener at a port of the system's choice on this machine, and that port.
 pub fn listen<R: Net<Listener = TcpListener, Stream = TcpStream>>(
     rt: &R,
-) -> io::Result<(TcpListener, SocketAddr)> {
+) -> io::Result<(TcpListener, u16)> {
     let listener = TcpListener::bind(rt, "127.0.0.1:0")?;
-    let address = listener.local_addr()?;
-    Ok((listener, address))
+    let port = listener.local_addr()?.port();
+    Ok((listener, port))
 }
 
-fn connect<R: Net<Stream = TcpStream>>(rt: &R, address: SocketAddr) -> io::Result<TcpStream> {
-    let stream = TcpStream::connect(rt, address)?;
+fn connect<R: Net<Stream = TcpStream>>(rt: &R, port: u16) -> io::Result<TcpStream> {
+    let stream = TcpStream::connect(rt, ("127.0.0.1", port))?;
     stream.set_nodelay(true)?;
     stream.set_read_timeout(Some(Duration::from_secs(PATIENCE)))?;
     Ok(stream)

@@ -4,6 +4,7 @@ pub mod BlockScan
 pub mod RowChange
 pub mod RowCopy
 pub mod RowErase
+pub mod RowKills
 pub mod RowLists
 pub mod RowNow
 pub mod RowOrder

@@ -55,6 +55,10 @@ passes first bs = prefix_len (λ b. newer b.first first) bs
 abbrev pub IsCutOut : Index → Span → Type 0
 IsCutOut m span = IsEdge m span.first × IsEdge m (stamp_behind span.first span.len)
 
+-- the span of so many stamps from a first one on, alone
+abbrev pub span_from : Stamp → ℕ → List Span
+span_from first n = record { first = first; len = n } ∷ []
+
 -- whether a deletion newly hides a block, by its first stamp
 abbrev pub is_killed : List Span → Block → Bool
 is_killed spans b = is_erased (flat_map span_stamps spans) b.first && is_none b.died

@@ -12,6 +12,7 @@ mod put;
 mod readers;
 mod row_copy;
 mod row_erase;
+mod row_kills;
 mod row_lists;
 mod row_parts;
 mod row_readers;

@@ -22,4 +22,4 @@ mod stretches;
 
 pub use place::PlainCell;
 pub use plain::PlainSeq;
-pub use rows::BlockSeq;
+pub use rows::{BlockSeq, KeptRow};

@@ -7,6 +7,8 @@ ghost use Rattle.pad_model.specs.Legal.{has_stamp};
 ghost use Rattle.pad_model.specs.Log.{has_spans as holds_spans, run_may_join};
 ghost use Rattle.pad_model.specs.Parts.{apply as apply_parts, part_fits};
 ghost use Rattle.block_seq.specs.RowParts.{AllJoin, with_all};
+ghost use Rattle.blocks.specs.Blocks.{IsKept};
+ghost use Rattle.blocks.specs.Cells.{cells_of};
 ghost use Rattle.pad_model.specs.declared.limits.TheConstants.{MAX_CHARACTERS};
 ghost use Rattle.pad_model.specs.Checked.{are_parts, is_edit, is_run, is_span};
 ghost use Rattle.pad_model.specs.Views.{IsViewOf};
@@ -57,6 +59,16 @@ impl Model for BlockSeq {
     ghost invariant = { λ s. IsBlockSeq s.latest s.clock s.authors.items s.text.items s.index s.tree.items };
 }
 
+/// What a sequence of blocks keeps: its blocks in the order of the text, the index of their stamps, all characters in the
+/// order in which they came, and each author once.
+#[derive(Clone, Copy)]
+pub struct KeptRow<'a> {
+    pub tree: &'a WeightTree<Block>,
+    pub index: &'a IdentIndex,
+    pub text: &'a [char],
+    pub authors: &'a [Author],
+}
+
 /// Adds characters in room that was made before.
 fn push_text(text: &mut Vec<char>, more: &[char])
     requires { vec_len text.old + length more.now ≤ vec_capacity text.old }
@@ -68,6 +80,20 @@ fn push_text(text: &mut Vec<char>, more: &[char])
 }
 
 impl BlockSeq {
+    /// What the sequence keeps, for measures and tests: how it is cut into blocks, and their labels, are promised to nobody.
+    pub fn kept(&self) -> KeptRow<'_>
+        ensures index { IsKept result.index.now result.tree.now.items }
+        ensures full { length result.text.now ≡ sum_by (λ b. b.len) result.tree.now.items }
+        ensures cells { cells_of result.authors.now result.text.now result.tree.now.items ≡ self.now }
+    {
+        KeptRow {
+            tree: &self.tree,
+            index: &self.index,
+            text: self.text.as_slice(),
+            authors: self.authors.as_slice(),
+        }
+    }
+
     /// Erases the characters of the spans and puts a run at its place, or changes nothing.
     fn change(
         &mut self,

@@ -8,6 +8,8 @@ mod compared;
 #[cfg(test)]
 mod converge;
 #[cfg(test)]
+mod labels;
+#[cfg(test)]
 mod readers;
 #[cfg(test)]
 mod sequences;

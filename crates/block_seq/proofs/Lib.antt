@@ -1,5 +1,6 @@
 pub mod Applied
 pub mod BlockCells
+pub mod ByRevision
 pub mod BlockScan
 pub mod RowChange
 pub mod RowCopy

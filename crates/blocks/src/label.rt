@@ -80,8 +80,8 @@ fn window_at(tree: &WeightTree<Block>, rank: usize, reach: usize) -> Window
     }
 }
 
-/// The smallest window round a rank, of those that double, whose new labels leave gaps wider than it has
-/// blocks. So the wider a window, the more new blocks fit before it is labelled again.
+/// The smallest window round a rank, of those that double, whose new labels lie further apart than the square
+/// of its number of blocks. So the wider a window, the more new blocks fit before it is labelled again.
 fn window_round(tree: &WeightTree<Block>, rank: usize) -> Window
     requires rises { Rises 1 0 tree.now.items LAST_LABEL }
     requires within { rank ≤ length tree.now.items }
@@ -92,7 +92,8 @@ fn window_round(tree: &WeightTree<Block>, rank: usize) -> Window
     let mut reach = 1;
     while reach < tree.len() {
         let window = window_at(tree, rank, reach);
-        if window.step >= 2 && window.step > (window.to - window.from) as u64 {
+        let blocks = (window.to - window.from) as u64;
+        if window.step >= 2 && window.step > blocks.saturating_mul(blocks) {
             return window;
         }
         reach *= 2;

@@ -77,6 +77,9 @@ fn typing_forward_writes_one_label_an_edit(rt: HostRuntime) -> Result<(), Fail> 
 #[test]
 fn typing_backward_writes_few_labels(rt: HostRuntime) -> Result<(), Fail> {
     let writes = count_writes(rt.alloc(), true)?;
-    assert!(rt; writes.is_some_and(|writes| writes < 10 * TYPED), "{writes:?}");
+    assert!(rt;
+        writes.is_some_and(|writes| writes < 10 * TYPED),
+        "{writes:?}"
+    );
     Ok(())
 }

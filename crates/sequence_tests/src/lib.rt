@@ -10,6 +10,8 @@ mod converge;
 #[cfg(test)]
 mod labels;
 #[cfg(test)]
+mod million;
+#[cfg(test)]
 mod readers;
 #[cfg(test)]
 mod sequences;

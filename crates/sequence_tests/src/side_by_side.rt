@@ -137,7 +137,7 @@ impl Pair {
     }
 }
 
-fn is_run(origin: u16, run: &Run) -> bool
+pub fn is_run(origin: u16, run: &Run) -> bool
     ensures { result ≡ is_run origin run.now }
 {
     let len = run.text.len() as u64;

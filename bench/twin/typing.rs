@@ -277,9 +277,10 @@ impl Row {
     fn counts(&self) -> String {
         let mut check: u64 = 0;
         for block in self.tree.iter() {
+            let parent = block.parent.map_or(0, |stamp| stamp.counter);
             check = check
                 .wrapping_mul(31)
-                .wrapping_add(block.first.counter ^ block.label);
+                .wrapping_add(block.first.counter ^ parent ^ block.label);
         }
         format!(
             "blocks {}, shown {}, check {check}",

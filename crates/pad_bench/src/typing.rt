@@ -147,13 +147,14 @@ impl Desk {
         }
     }
 
-    // The blocks, what is shown, and a check sum over the stamps and the labels of the blocks in order.
+    // The blocks, what is shown, and a check sum over the stamps, parents and labels of the blocks in order.
     fn counts(&self, alloc: Global) -> Result<String, Refusal> {
         let mut check: u64 = 0;
         for block in self.row.kept().tree {
+            let parent = block.parent.map_or(0, |stamp| stamp.counter());
             check = check
                 .wrapping_mul(31)
-                .wrapping_add(block.first.counter() ^ block.label);
+                .wrapping_add(block.first.counter() ^ parent ^ block.label);
         }
         let (blocks, shown) = (self.row.kept().tree.len(), self.row.len_at(self.rev));
         Ok(format!(in alloc; "blocks {blocks}, shown {shown}, check {check}")?)

@@ -23,6 +23,13 @@ pub record IsBlockSeq (latest clock : ℕ) (authors : List Author) (text : List 
   pub dated : AllByRecursion (IsBy latest) (cells_of authors text bs)
   pub newest : clock_of (cells_of authors text bs) ≡ clock
 
+-- the cells are those of these blocks, over some text and some authors, and the index has just these blocks
+pub record IsRowOf (cells : List Cell) (m : Index) (bs : List Block) : Type 0 where
+  pub authors : List Author
+  pub text : List ℕ
+  pub kept : IsKept m bs
+  pub same : cells_of authors text bs ≡ cells
+
 -- no birth and no death of a block is later than a revision
 abbrev pub IsDated : ℕ → Block → Type 0
 IsDated rev b = (b.born ≤ rev) × ((died : ℕ) → b.died ≡ Some died → died ≤ rev)

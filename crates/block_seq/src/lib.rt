@@ -16,10 +16,12 @@ mod row_kills;
 mod row_lists;
 mod row_parts;
 mod row_readers;
+mod row_view;
 mod rows;
 mod run_place;
 mod stretches;
 
 pub use place::PlainCell;
 pub use plain::PlainSeq;
-pub use rows::{BlockSeq, KeptRow};
+pub use row_view::KeptRow;
+pub use rows::BlockSeq;

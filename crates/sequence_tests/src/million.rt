@@ -97,7 +97,8 @@ fn all_typed(alloc: Global) -> Result<Long, Refusal> {
 fn a_million_characters(rt: HostRuntime) -> Result<(), Fail> {
     let long = all_typed(rt.alloc())?;
     assert!(rt; long.row.cell_count() == 1_000_000);
-    assert!(rt; long.row.kept().tree.len() == 100);
+    assert!(rt; long.row.blocks() == RUNS && long.row.tree().len() == 100);
+    assert!(rt; long.row.index().len() == 100);
     for rev in [1, 2, 50, RUNS] {
         assert!(rt; long.row.len_at(rev) == rev * MAX_TEXT, "revision {rev}");
         for place in [0, 1, 9_999, 10_000, 499_999, 500_000, 999_999] {

@@ -5,29 +5,73 @@ use std::collections::BTreeMap;
 const REPLICAS: u16 = 8;
 
 #[derive(Clone, Copy, PartialEq, Eq, PartialOrd, Ord)]
-struct Stamp {
-    replica: u16,
-    counter: u64,
+pub struct Stamp {
+    pub replica: u16,
+    pub counter: u64,
+}
+
+impl Stamp {
+    pub fn plus(self, places: u64) -> Stamp {
+        let counter = self.counter + places;
+        Stamp { counter, ..self }
+    }
+
+    pub fn is_newer(self, other: Stamp) -> bool {
+        (self.counter, self.replica) > (other.counter, other.replica)
+    }
 }
 
 #[derive(Clone, Copy)]
-struct Entry {
-    len: u64,
-    label: u64,
+pub struct Entry {
+    pub len: u64,
+    pub label: u64,
 }
 
-struct Place {
-    first: Stamp,
-    offset: u64,
-    label: u64,
+pub struct Place {
+    pub first: Stamp,
+    pub offset: u64,
+    pub label: u64,
 }
 
-struct Index {
+pub struct Index {
     entries: BTreeMap<Stamp, Entry>,
 }
 
 impl Index {
-    fn locate(&self, stamp: Stamp) -> Option<Place> {
+    pub fn new() -> Index {
+        Index {
+            entries: BTreeMap::new(),
+        }
+    }
+
+    pub fn add(&mut self, first: Stamp, entry: Entry) {
+        self.entries.insert(first, entry);
+    }
+
+    pub fn relabel(&mut self, first: Stamp, label: u64) {
+        self.entries
+            .get_mut(&first)
+            .expect("the block is there")
+            .label = label;
+    }
+
+    /// The greatest counter of a replica, or 0.
+    pub fn last_of(&self, replica: u16) -> u64 {
+        let counter = u64::MAX;
+        let last = self
+            .entries
+            .range(..=Stamp { replica, counter })
+            .next_back();
+        last.map_or(0, |(first, entry)| {
+            if first.replica == replica {
+                first.counter + (entry.len - 1)
+            } else {
+                0
+            }
+        })
+    }
+
+    pub fn locate(&self, stamp: Stamp) -> Option<Place> {
         let (first, entry) = self.entries.range(..=stamp).next_back()?;
         if first.replica != stamp.replica {
             return None;
@@ -40,7 +84,7 @@ impl Index {
         })
     }
 
-    fn cut(&mut self, first: Stamp, offset: u64, label: u64) {
+    pub fn cut(&mut self, first: Stamp, offset: u64, label: u64) {
         let left = self.entries.get_mut(&first).expect("the block is there");
         let right = Entry {
             len: left.len - offset,

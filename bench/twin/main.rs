@@ -4,9 +4,24 @@ mod dice;
 mod index;
 mod log;
 mod tree;
+mod typing;
 
 use std::io;
 use std::process::ExitCode;
+use typing::Trace;
+
+fn trace(work: &str) -> Option<Trace> {
+    Some(match work {
+        "append" => Trace::Append,
+        "forward" => Trace::Forward,
+        "backward" => Trace::Backward,
+        "random" => Trace::Random,
+        "stale1" => Trace::Stale(1),
+        "stale4" => Trace::Stale(4),
+        "stale64" => Trace::Stale(64),
+        _ => return None,
+    })
+}
 
 fn counts(line: &str) -> Option<String> {
     let words: Vec<&str> = line.split_whitespace().collect();
@@ -16,6 +31,12 @@ fn counts(line: &str) -> Option<String> {
     let (Ok(size), Ok(times)) = (size.parse(), times.parse()) else {
         return None;
     };
+    if let Some(trace) = trace(work) {
+        return Some(typing::edits(trace, size, times));
+    }
+    if let Some(trace) = work.strip_prefix("writes-").and_then(trace) {
+        return Some(typing::writes(trace, size).to_string());
+    }
     match *work {
         "insert" => Some(tree::insert(size, times)),
         "iterate" => Some(tree::iterate(size, times)),

@@ -3,15 +3,15 @@
 use crate::dice::Dice;
 use std::mem;
 
-trait Weigh {
+pub trait Weigh {
     fn weight(&self) -> u64;
 }
 
-struct Tree<T> {
+pub struct Tree<T> {
     root: Option<Box<Branch<T>>>,
 }
 
-struct Branch<T> {
+pub struct Branch<T> {
     item: T,
     size: usize,
     weight: u64,
@@ -29,15 +29,15 @@ impl<T: Weigh> Branch<T> {
 }
 
 impl<T: Weigh> Tree<T> {
-    fn new() -> Self {
+    pub fn new() -> Self {
         Tree { root: None }
     }
 
-    fn len(&self) -> usize {
+    pub fn len(&self) -> usize {
         self.root.as_ref().map_or(0, |branch| branch.size)
     }
 
-    fn weight(&self) -> u64 {
+    pub fn weight(&self) -> u64 {
         self.root.as_ref().map_or(0, |branch| branch.weight)
     }
 
@@ -45,7 +45,7 @@ impl<T: Weigh> Tree<T> {
         self.root.as_ref().map_or(0, |branch| branch.height)
     }
 
-    fn get(&self, rank: usize) -> &T {
+    pub fn get(&self, rank: usize) -> &T {
         let branch = self.root.as_ref().expect("the rank is in range");
         let left = branch.left.len();
         if rank < left {
@@ -57,7 +57,7 @@ impl<T: Weigh> Tree<T> {
         }
     }
 
-    fn insert(&mut self, rank: usize, item: T) {
+    pub fn insert(&mut self, rank: usize, item: T) {
         match &mut self.root {
             None => {
                 let weight = item.weight();
@@ -79,6 +79,44 @@ impl<T: Weigh> Tree<T> {
                 }
                 self.rebalance();
             }
+        }
+    }
+
+    /// Puts an item in the place of the one at a rank.
+    pub fn replace(&mut self, rank: usize, item: T) {
+        let branch = self.root.as_mut().expect("the rank is in range");
+        let left = branch.left.len();
+        if rank < left {
+            branch.left.replace(rank, item);
+        } else if rank == left {
+            branch.item = item;
+        } else {
+            branch.right.replace(rank - left - 1, item);
+        }
+        branch.weight = branch.left.weight() + branch.item.weight() + branch.right.weight();
+    }
+
+    /// The item that a number falls in, and how far.
+    pub fn find(&self, number: u64) -> Option<(&T, u64)> {
+        let branch = self.root.as_ref()?;
+        let left = branch.left.weight();
+        if number < left {
+            return branch.left.find(number);
+        }
+        let (offset, weight) = (number - left, branch.item.weight());
+        if offset < weight {
+            return Some((&branch.item, offset));
+        }
+        branch.right.find(offset - weight)
+    }
+
+    /// How many items in front are below a place.
+    pub fn rank_by(&self, below: impl Fn(&T) -> bool + Copy) -> usize {
+        let Some(branch) = &self.root else { return 0 };
+        if below(&branch.item) {
+            branch.left.len() + 1 + branch.right.rank_by(below)
+        } else {
+            branch.left.rank_by(below)
         }
     }
 
@@ -140,7 +178,7 @@ impl<T: Weigh> Tree<T> {
         self.root = Some(above);
     }
 
-    fn iter(&self) -> Iter<'_, T> {
+    pub fn iter(&self) -> Iter<'_, T> {
         let mut iter = Iter {
             waiting: Vec::with_capacity(self.height()),
         };
@@ -149,7 +187,7 @@ impl<T: Weigh> Tree<T> {
     }
 }
 
-struct Iter<'a, T> {
+pub struct Iter<'a, T> {
     waiting: Vec<&'a Branch<T>>,
 }
 

@@ -1,9 +1,11 @@
 pub mod Applied
 pub mod BlockCells
+pub mod ByRevision
 pub mod BlockScan
 pub mod RowChange
 pub mod RowCopy
 pub mod RowErase
+pub mod RowKills
 pub mod RowLists
 pub mod RowNow
 pub mod RowOrder

@@ -23,9 +23,8 @@ use Rattle.pad_model.proofs.Newer.{same_stamp-true}
 use Rattle.pad_model.proofs.Pushed.{stamps_there}
 use Rattle.pad_model.proofs.Runs.{IsTree-run}
 use Rattle.ident_index.specs.Index.{Index, Covers, stamp_behind}
-use Rattle.blocks.specs.declared.block.Block.{Block}
 use Rattle.blocks.specs.Blocks.{IsEdge, KeepsEdges}
-use Rattle.block_seq.specs.Rows.{IsCutOut, killed, hidden_len}
+use Rattle.block_seq.specs.Rows.{IsCutOut}
 use Rattle.block_seq.proofs.BlockCells.{covers-in_span}
 use Rattle.block_seq.specs.RowParts.{AllJoin, with_all}
 use Rattle.block_seq.proofs.Fronts.{drop-item}
@@ -90,17 +89,6 @@ hidden_with_run rev spans run author cells o may named =
     sum_by-IsPermutation (λ c. Rattle.std.proofs.Common.cond (is_hidden_by spans c) 1 0) (cells ++ new) (with_run rev run author cells) (order-permutation character_of (cells ++ new) more)
     ∙ sum_by-append (λ c. Rattle.std.proofs.Common.cond (is_hidden_by spans c) 1 0) cells new
     ∙ (let sum : count_by (is_hidden_by spans) cells + count_by (is_hidden_by spans) new ≡ count_by (is_hidden_by spans) cells = omega (arith, none) in sum)
-
--- no spans kill nothing
-pub killed_none : (rev : ℕ) (spans : List Span) (bs : List Block) → length spans ≡ 0 → bs ≡ map (killed rev spans) bs
-killed_none rev [] [] e = refl
-killed_none rev [] (b ∷ bs) e = ap (λ l. b ∷ l) (killed_none rev [] bs e)
-killed_none rev (span ∷ spans) bs e = absurd (omega arith)
-
-pub hidden_none : (spans : List Span) (bs : List Block) → length spans ≡ 0 → 0 ≡ sum_by (hidden_len spans) bs
-hidden_none [] [] e = refl
-hidden_none [] (b ∷ bs) e = ap (λ n. 0 + n) (hidden_none [] bs e) ∙ sym (sum_by-cons (hidden_len []) b bs)
-hidden_none (span ∷ spans) bs e = absurd (omega arith)
 
 -- copied authors
 pub same_authors : (xs ys : List Author) → AllZip (λ a b. (b.name ≡ a.name) × (b.origin ≡ a.origin)) xs ys → ys ≡ xs

@@ -1,5 +1,5 @@
 -- Deletions over blocks.
-use Rattle.std.proofs.Common.{◌≡◌, ℕ, zero, suc, ◌+◌, ◌-◌, ◌≤◌, ◌<◌, inl, inr, Bool, true, false, cond, ◌&&◌, List, [], ◌∷◌, ◌++◌, length, take, drop, map, sum_by, count_by, flat_map, is_none, Option, Some, None, refl, sym, ap, ap₂, ◌∙◌, subst, arith, slice_get, slice_set}
+use Rattle.std.proofs.Common.{◌≡◌, ℕ, zero, suc, ◌+◌, ◌-◌, ◌≤◌, ◌<◌, inl, inr, Bool, true, false, cond, ◌&&◌, List, [], ◌∷◌, ◌++◌, length, take, map, sum_by, count_by, flat_map, is_none, Option, Some, refl, sym, ap, ap₂, ◌∙◌, subst, arith, slice_get, slice_set}
 use Rattle.std.specs.List.{AllByRecursion, list_all, list_any}
 use Rattle.std.proofs.lemmas.Bool.{cases_lt, and_from}
 use Rattle.std.proofs.lemmas.List.Sums.{sum_by-cons}
@@ -30,7 +30,7 @@ use Rattle.block_seq.proofs.BlockCells.{covers-in_span, in_span-covers, length-s
 use Rattle.block_seq.specs.Rows.{IsBlockSeq, IsCutOut, is_killed, killed, hidden_len}
 
 -- ---- the stamps of a span, one by one
-behind_none : (first : Stamp) → stamp_behind first 0 ≡ first
+pub behind_none : (first : Stamp) → stamp_behind first 0 ≡ first
 behind_none first = same_stamps _ _ (omega arith) refl
 
 behind_next : (first : Stamp) (k : ℕ) → stamp_behind (next first) k ≡ stamp_behind first (suc k)
@@ -70,43 +70,6 @@ more_there m bs first done rank offset more b listed e spot is so_far k l =
 pub spot_within : (bs : List Block) (s : Stamp) (rank offset : ℕ) (b : Block) → IsSpot bs s rank offset → slice_get bs rank ≡ Some b → offset < b.len
 spot_within bs s rank offset b spot e =
     let here = subst (λ o. Rattle.std.specs.Option.IsSomeAnd o (λ (x : Block). (s ≡ stamp_behind x.first offset) × (offset < x.len))) e spot in let pair : (s ≡ stamp_behind b.first offset) × (offset < b.len) = here in pair.1
-
--- ---- one more block of a row is marked
-pub killed_more : (f : Block → Block) (bs : List Block) (i : ℕ) (b : Block) → slice_get (map f (take i bs) ++ drop i bs) i ≡ Some b → slice_set (map f (take i bs) ++ drop i bs) i (f b) ≡ map f (take (i + 1) bs) ++ drop (i + 1) bs
-killed_more f [] zero b e = absurd (cc)
-killed_more f [] (suc i) b e = absurd (cc)
-killed_more f (x ∷ bs) zero b e = let same : x ≡ b = cc in ap (λ (y : Block). f y ∷ bs) (sym same)
-killed_more f (x ∷ bs) (suc i) b e = rw Rattle.std.proofs.Common.suc-add (ap (λ l. f x ∷ l) (killed_more f bs i b e))
-
-pub left_more : (f : Block → Block) (bs : List Block) (i : ℕ) (b : Block) → slice_get (map f (take i bs) ++ drop i bs) i ≡ Some b → f b ≡ b → map f (take i bs) ++ drop i bs ≡ map f (take (i + 1) bs) ++ drop (i + 1) bs
-left_more f [] zero b e h = absurd (cc)
-left_more f [] (suc i) b e h = absurd (cc)
-left_more f (x ∷ bs) zero b e h = let same : x ≡ b = cc in ap (λ (y : Block). y ∷ bs) (same ∙ sym h ∙ ap f (sym same))
-left_more f (x ∷ bs) (suc i) b e h = rw Rattle.std.proofs.Common.suc-add (ap (λ l. f x ∷ l) (left_more f bs i b e h))
-
-pub sum_more : (g : Block → ℕ) (f : Block → Block) (bs : List Block) (i : ℕ) (b : Block) → slice_get (map f (take i bs) ++ drop i bs) i ≡ Some b → sum_by g (take (i + 1) bs) ≡ sum_by g (take i bs) + g b
-sum_more g f [] zero b e = absurd (cc)
-sum_more g f [] (suc i) b e = absurd (cc)
-sum_more g f (x ∷ bs) zero b e = let same : x ≡ b = cc in sum_by-cons g x [] ∙ (let gs = ap g same in omega (arith, gs))
-sum_more g f (x ∷ bs) (suc i) b e =
-    let rest = sum_more g f bs i b e in
-    rw Rattle.std.proofs.Common.suc-add (rw (sum_by-cons g x (take (i + 1) bs), sum_by-cons g x (take i bs)) (omega (arith, rest)))
-
-pub length-killed_front : (f : Block → Block) (bs : List Block) (i : ℕ) → length (map f (take i bs) ++ drop i bs) ≡ length bs
-length-killed_front f [] zero = refl
-length-killed_front f [] (suc i) = refl
-length-killed_front f (x ∷ bs) zero = refl
-length-killed_front f (x ∷ bs) (suc i) = ap suc (length-killed_front f bs i)
-
--- what dies is no more than what there is
-pub hidden_small : (spans : List Span) (bs : List Block) (i : ℕ) → sum_by (hidden_len spans) (take i bs) ≤ sum_by (λ b. b.len) bs
-hidden_small spans [] zero = omega arith
-hidden_small spans [] (suc i) = omega arith
-hidden_small spans (x ∷ bs) zero = omega arith
-hidden_small spans (x ∷ bs) (suc i) =
-    let rest = hidden_small spans bs i in
-    let here : hidden_len spans x ≤ x.len = split (is_killed spans x) (λ e. rw e (omega arith)) (λ e. rw e (omega arith)) in
-    rw (sum_by-cons (hidden_len spans) x (take i bs), sum_by-cons (λ (b : Block). b.len) x bs) (omega (arith, rest, here))
 
 pub set_same : (bs : List Block) (i : ℕ) (b : Block) → slice_get bs i ≡ Some b → slice_set bs i b ≡ bs
 set_same [] i b e = refl

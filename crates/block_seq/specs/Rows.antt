@@ -23,6 +23,13 @@ pub record IsBlockSeq (latest clock : ℕ) (authors : List Author) (text : List 
   pub dated : AllByRecursion (IsBy latest) (cells_of authors text bs)
   pub newest : clock_of (cells_of authors text bs) ≡ clock
 
+-- the cells are those of these blocks, over some text and some authors, and the index has just these blocks
+pub record IsRowOf (cells : List Cell) (m : Index) (bs : List Block) : Type 0 where
+  pub authors : List Author
+  pub text : List ℕ
+  pub kept : IsKept m bs
+  pub same : cells_of authors text bs ≡ cells
+
 -- no birth and no death of a block is later than a revision
 abbrev pub IsDated : ℕ → Block → Type 0
 IsDated rev b = (b.born ≤ rev) × ((died : ℕ) → b.died ≡ Some died → died ≤ rev)
@@ -54,6 +61,10 @@ passes first bs = prefix_len (λ b. newer b.first first) bs
 -- no block reaches over the beginning of a span, nor over its end
 abbrev pub IsCutOut : Index → Span → Type 0
 IsCutOut m span = IsEdge m span.first × IsEdge m (stamp_behind span.first span.len)
+
+-- the span of so many stamps from a first one on, alone
+abbrev pub span_from : Stamp → ℕ → List Span
+span_from first n = record { first = first; len = n } ∷ []
 
 -- whether a deletion newly hides a block, by its first stamp
 abbrev pub is_killed : List Span → Block → Bool

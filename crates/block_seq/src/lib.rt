@@ -12,13 +12,16 @@ mod put;
 mod readers;
 mod row_copy;
 mod row_erase;
+mod row_kills;
 mod row_lists;
 mod row_parts;
 mod row_readers;
+mod row_view;
 mod rows;
 mod run_place;
 mod stretches;
 
 pub use place::PlainCell;
 pub use plain::PlainSeq;
+pub use row_view::KeptRow;
 pub use rows::BlockSeq;

@@ -12,8 +12,7 @@ ghost use Rattle.blocks.specs.Cells.{cells_of, IsWithin, SameCells};
 ghost use Rattle.block_seq.specs.Rows.{IsCutOut, is_killed, killed, hidden_len};
 ghost use Rattle.blocks.specs.declared.block.Block.{Block as BlockValue};
 
-use crate::erase::is_named;
-use blocks::{Block, cut_at, find_block, kill};
+use blocks::{Block, cut_at, find_block};
 use ident_index::IdentIndex;
 use pad_model::{Refusal, Span, Stamp};
 use std::alloc::Global;
@@ -91,51 +90,4 @@ pub fn cut_spans(
         cut_span(alloc, tree, index, span)?;
     }
     Ok(())
-}
-
-/// Whether a deletion newly hides a block, by its first stamp.
-fn is_doomed(block: &Block, spans: &[Span]) -> bool
-    ensures { result ≡ is_killed spans.now block.now }
-{
-    is_named(spans, block.first) && block.died.is_none()
-}
-
-/// Marks the death of the block at a rank, if the spans name it, and answers how many characters die.
-fn kill_at(
-    tree: &mut WeightTree<Block>,
-    index: &IdentIndex,
-    spans: &[Span],
-    rank: usize,
-    rev: u64,
-) -> u64
-    requires kept { IsKept index.now tree.old.items }
-    requires within { rank < length tree.old.items }
-    ensures kept { IsKept index.now tree.new.items }
-    ensures items { (b : BlockValue) → slice_get tree.old.items rank ≡ Some b → tree.new.items ≡ slice_set tree.old.items rank (killed rev spans.now b) }
-    ensures hidden { (b : BlockValue) → slice_get tree.old.items rank ≡ Some b → result ≡ hidden_len spans.now b }
-{
-    let block = tree.get(rank);
-    let len = block.len;
-    if !is_doomed(block, spans) {
-        return 0;
-    }
-    kill(tree, index, rank, rev);
-    len
-}
-
-/// Marks the death of each block that begins with a stamp of the spans, and answers how many characters die.
-pub fn kill_named(tree: &mut WeightTree<Block>, index: &IdentIndex, spans: &[Span], rev: u64) -> u64
-    requires { IsKept index.now tree.old.items }
-    ensures kept { IsKept index.now tree.new.items }
-    ensures items { tree.new.items ≡ map (killed rev spans.now) tree.old.items }
-    ensures hidden { result ≡ sum_by (hidden_len spans.now) tree.old.items }
-{
-    let mut hidden = 0;
-    if spans.is_empty() {
-        return hidden;
-    }
-    for rank in 0..tree.len() {
-        hidden += kill_at(tree, index, spans, rank, rev);
-    }
-    hidden
 }

@@ -1,5 +1,5 @@
 //! The sequence of blocks: a balanced tree of them, an index of their stamps, and one text that they only add to.
-ghost use Rattle.std.specs.Prelude.{◌≡◌, ◌+◌, ◌≤◌, ◌++◌, [], IsTrue, IfErr, MatchResult, Ok, OnOk, count_by, length, map, sum_by, vec_len, vec_capacity, slice_get};
+ghost use Rattle.std.specs.Prelude.{◌≡◌, List, ◌+◌, ◌≤◌, ◌++◌, [], IsTrue, IfErr, MatchResult, Ok, OnOk, count_by, length, map, sum_by, vec_len, vec_capacity, slice_get};
 ghost use Rattle.std.specs.List.{AllByRecursion, list_all};
 ghost use Rattle.pad_model.specs.Answers.{Answers};
 ghost use Rattle.pad_model.specs.Cell.{IsBy, before_at, is_before, through_at, clock_of, IsInOrder, cells_at, cell_stamp_at, runs_at, spans_at as cells_spans, text_at as cells_text, character_of, delete_spans as delete_cells, insert_run as insert_cells, is_hidden_by, last_of as greatest_of, with_run, without_spans};
@@ -7,6 +7,11 @@ ghost use Rattle.pad_model.specs.Legal.{has_stamp};
 ghost use Rattle.pad_model.specs.Log.{has_spans as holds_spans, run_may_join};
 ghost use Rattle.pad_model.specs.Parts.{apply as apply_parts, part_fits};
 ghost use Rattle.block_seq.specs.RowParts.{AllJoin, with_all};
+ghost use Rattle.blocks.specs.Blocks.{IsKept};
+ghost use Rattle.blocks.specs.declared.block.Block.{Block as BlockValue};
+ghost use Rattle.ident_index.specs.Index.{Index};
+ghost use Rattle.block_seq.specs.Rows.{IsRowOf};
+ghost use Rattle.blocks.specs.Cells.{cells_of};
 ghost use Rattle.pad_model.specs.declared.limits.TheConstants.{MAX_CHARACTERS};
 ghost use Rattle.pad_model.specs.Checked.{are_parts, is_edit, is_run, is_span};
 ghost use Rattle.pad_model.specs.Views.{IsViewOf};
@@ -14,10 +19,12 @@ ghost use Rattle.pad_model.specs.Views.{IsViewOf};
 use crate::authors::place_author;
 use crate::parts::count_inserted;
 use crate::row_copy::copy_blocks;
-use crate::row_erase::{cut_spans, has_spans, kill_named};
+use crate::row_erase::{cut_spans, has_spans};
+use crate::row_kills::kill_named;
 use crate::row_lists::{find_cell, read_authors, read_spans};
 use crate::row_parts::{list_runs, list_spans, parts_fit};
 use crate::row_readers::{count_before, count_visible, find_visible, is_at_most, read_text};
+use crate::row_view::KeptRow;
 use crate::run_place::{has_character, place_run, run_fits};
 use blocks::{Block, find_block, put_block};
 use ident_index::IdentIndex;
@@ -67,6 +74,41 @@ fn push_text(text: &mut Vec<char>, more: &[char])
 }
 
 impl BlockSeq {
+    /// What the sequence keeps, for measures and tests: how it is cut into blocks, and their labels, are promised to nobody.
+    pub fn kept(&self) -> KeptRow<'_>
+        ensures index { IsKept result.index.now result.tree.now.items }
+        ensures full { length result.text.now ≡ sum_by (λ b. b.len) result.tree.now.items }
+        ensures cells { cells_of result.authors.now result.text.now result.tree.now.items ≡ self.now }
+    {
+        KeptRow {
+            tree: &self.tree,
+            index: &self.index,
+            text: self.text.as_slice(),
+            authors: self.authors.as_slice(),
+        }
+    }
+
+    /// The blocks, in the order of the text.
+    pub fn tree(&self) -> &WeightTree<Block>
+        ensures { (m : Index) × IsRowOf self.now m result.now.items }
+    {
+        &self.tree
+    }
+
+    /// Where the blocks are found by the stamps of their characters.
+    pub fn index(&self) -> &IdentIndex
+        ensures { (bs : List BlockValue) × IsRowOf self.now result.now bs }
+    {
+        &self.index
+    }
+
+    /// How many blocks there are. An insertion adds two at most, and a deletion two for each span.
+    pub fn blocks(&self) -> u64
+        ensures { (m : Index) × (bs : List BlockValue) × IsRowOf self.now m bs × (result ≡ length bs) }
+    {
+        self.tree.len() as u64
+    }
+
     /// Erases the characters of the spans and puts a run at its place, or changes nothing.
     fn change(
         &mut self,

@@ -1,5 +1,5 @@
 -- Labels that rise.
-use Rattle.std.proofs.Common.{◌≡◌, ℕ, zero, suc, ◌+◌, ◌*◌, ◌/◌, ◌-◌, ◌≤◌, ◌<◌, ◌⊎◌, inl, inr, Bool, true, false, cond, List, [], ◌∷◌, ◌++◌, length, take, drop, get_or, map, Option, Some, None, refl, sym, ap, ◌∙◌, subst, arith, slice_get, slice_set, count_by}
+use Rattle.std.proofs.Common.{◌≡◌, ℕ, zero, suc, ◌+◌, ◌*◌, ◌/◌, ◌≤◌, ◌<◌, inl, inr, Bool, cond, List, [], ◌∷◌, ◌++◌, length, take, drop, get_or, Some, refl, sym, ap, ◌∙◌, subst, arith, slice_get, slice_set, count_by}
 use Rattle.std.specs.List.{insert}
 use Rattle.std.specs.Ordering.{nat_cmp, is_lt, ordering_index}
 use Rattle.std.specs.Cmp.{nat_cmp_is}
@@ -7,7 +7,7 @@ use Rattle.std.specs.declared.cmp.Ordering.TheVariants.{Less, Equal, Greater}
 use Rattle.std.proofs.lemmas.Bool.{cases_order}
 use Rattle.std.proofs.lemmas.List.Sums.{sum_by-cons}
 use Rattle.weight_tree.specs.Rank.{IsRising, count_less}
-use Rattle.std.proofs.Math.Nat.{le-div_iff_mul-le, div-mul-le_self}
+use Rattle.std.proofs.Math.Nat.{le-div_iff_mul-le}
 use Rattle.pad_model.specs.declared.limits.TheConstants.{MAX_CHARACTERS}
 use Rattle.blocks.specs.declared.block.Block.{Block}
 use Rattle.blocks.specs.declared.block.TheConstants.{LAST_LABEL}
@@ -125,56 +125,131 @@ Rises-set low high (x ∷ bs) zero b c r e f =
 Rises-set low high (x ∷ bs) (suc i) b c r e f = (r.0, Rises-set x.label high bs i b c r.1 e f)
 
 -- ---- labels at even steps
-pub Rises-spread : (step low high : ℕ) (bs : List Block) → low + step * (length bs + 1) ≤ high → Rises step low (spread step low bs) high
-Rises-spread step low high [] h = omega arith
-Rises-spread step low high (b ∷ bs) h = (omega arith, Rises-spread step (low + step) high bs (omega arith))
-
 pub Rises-weaker : (step low high : ℕ) (bs : List Block) → 1 ≤ step → Rises step low bs high → Rises 1 low bs high
 Rises-weaker step low high [] s r = omega arith
 Rises-weaker step low high (b ∷ bs) s r = let first = r.0 in (omega arith, Rises-weaker step b.label high bs s r.1)
 
-pub length-spread : (step low : ℕ) (bs : List Block) → length (spread step low bs) ≡ length bs
-length-spread step low [] = refl
-length-spread step low (b ∷ bs) = ap suc (length-spread step (low + step) bs)
+length-spread : (step low n : ℕ) (bs : List Block) → length (spread step low n bs) ≡ length bs
+length-spread step low zero bs = refl
+length-spread step low (suc n) [] = refl
+length-spread step low (suc n) (b ∷ bs) = ap suc (length-spread step (low + step) n bs)
 
-pub without_labels-spread : (step low : ℕ) (bs : List Block) → without_labels (spread step low bs) ≡ without_labels bs
-without_labels-spread step low [] = refl
-without_labels-spread step low (b ∷ bs) = ap (λ l. unlabelled b ∷ l) (without_labels-spread step (low + step) bs)
+pub length-front : (step low i n : ℕ) (bs : List Block) → length (take i bs ++ spread step low n (drop i bs)) ≡ length bs
+length-front step low zero n [] = length-spread step low n []
+length-front step low zero n (b ∷ bs) = length-spread step low n (b ∷ bs)
+length-front step low (suc i) n [] = length-spread step low n []
+length-front step low (suc i) n (b ∷ bs) = ap suc (length-front step low i n bs)
+
+unlabelled-spread : (step low n : ℕ) (bs : List Block) → without_labels (spread step low n bs) ≡ without_labels bs
+unlabelled-spread step low zero bs = refl
+unlabelled-spread step low (suc n) [] = refl
+unlabelled-spread step low (suc n) (b ∷ bs) = ap (λ l. unlabelled b ∷ l) (unlabelled-spread step (low + step) n bs)
+
+pub unlabelled-front : (step low i n : ℕ) (bs : List Block) → without_labels (take i bs ++ spread step low n (drop i bs)) ≡ without_labels bs
+unlabelled-front step low zero n [] = unlabelled-spread step low n []
+unlabelled-front step low zero n (b ∷ bs) = unlabelled-spread step low n (b ∷ bs)
+unlabelled-front step low (suc i) n [] = unlabelled-spread step low n []
+unlabelled-front step low (suc i) n (b ∷ bs) = ap (λ l. unlabelled b ∷ l) (unlabelled-front step low i n bs)
+
+-- the labels of a window rise, and so do those behind it
+rises_spread : (step was low high n : ℕ) (bs : List Block) → 1 ≤ step → Rises 1 was bs high → low + step * (n + 1) ≤ above bs n high → Rises 1 low (spread step low n bs) high
+rises_spread step was low high zero [] s r h = omega arith
+rises_spread step was low high zero (b ∷ bs) s r h = (omega arith, r.1)
+rises_spread step was low high (suc n) [] s r h = omega arith
+rises_spread step was low high (suc n) (b ∷ bs) s r h = (omega arith, rises_spread step b.label (low + step) high n bs s r.1 (omega arith))
+
+above_next : (b : Block) (bs : List Block) (i n high : ℕ) → above (b ∷ bs) (suc i + n) high ≡ above bs (i + n) high
+above_next b bs i n high = ap (λ k. above (b ∷ bs) k high) (let e : suc i + n ≡ suc (i + n) = omega arith in e)
+
+pub rises_front : (step low from high i n : ℕ) (bs : List Block) → 1 ≤ step → Rises 1 low bs high → i ≤ length bs → from ≡ below low bs i → from + step * (n + 1) ≤ above bs (i + n) high → Rises 1 low (take i bs ++ spread step from n (drop i bs)) high
+rises_front step low from high zero n [] s r w e h =
+    let fits : low + step * (n + 1) ≤ high = omega arith in
+    subst (λ f. Rises 1 low (spread step f n []) high) (sym e) (rises_spread step low low high n [] s r fits)
+rises_front step low from high zero n (b ∷ bs) s r w e h =
+    let at : 0 + n ≡ n = omega arith in
+    let fits = rw at at h in
+    subst (λ f. Rises 1 low (spread step f n (b ∷ bs)) high) (sym e) (rises_spread step low low high n (b ∷ bs) s r (omega arith))
+rises_front step low from high (suc i) n [] s r w e h = absurd (omega arith)
+rises_front step low from high (suc i) n (b ∷ bs) s r w e h =
+    let same = above_next b bs i n high in
+    (r.0, rises_front step b.label from high i n bs s r.1 (omega arith) e (omega (arith, same, h)))
+
+-- the neighbours of a rank in a window are a step apart
+gap_spread : (step was low high n rank : ℕ) (bs : List Block) → Rises 1 was bs high → low + step * (n + 1) ≤ above bs n high → rank ≤ n → below low (spread step low n bs) rank + step ≤ above (spread step low n bs) rank high
+gap_spread step was low high zero zero [] r h k = omega arith
+gap_spread step was low high zero zero (b ∷ bs) r h k = omega arith
+gap_spread step was low high zero (suc rank) bs r h k = absurd (omega arith)
+gap_spread step was low high (suc n) zero [] r h k = omega arith
+gap_spread step was low high (suc n) zero (b ∷ bs) r h k = omega arith
+gap_spread step was low high (suc n) (suc rank) [] r h k = omega arith
+gap_spread step was low high (suc n) (suc rank) (b ∷ bs) r h k = gap_spread step b.label (low + step) high n rank bs r.1 (omega arith) (omega arith)
+
+pub gap_front : (step low from high i n rank : ℕ) (bs : List Block) → Rises 1 low bs high → i ≤ length bs → from ≡ below low bs i → from + step * (n + 1) ≤ above bs (i + n) high → i ≤ rank → rank ≤ i + n
+    → below low (take i bs ++ spread step from n (drop i bs)) rank + step ≤ above (take i bs ++ spread step from n (drop i bs)) rank high
+gap_front step low from high zero n rank [] r w e h lo hi =
+    let fits : low + step * (n + 1) ≤ high = omega arith in
+    subst (λ f. below low (spread step f n []) rank + step ≤ above (spread step f n []) rank high) (sym e) (gap_spread step low low high n rank [] r fits (omega arith))
+gap_front step low from high zero n rank (b ∷ bs) r w e h lo hi =
+    let at : 0 + n ≡ n = omega arith in
+    let fits = rw at at h in
+    subst (λ f. below low (spread step f n (b ∷ bs)) rank + step ≤ above (spread step f n (b ∷ bs)) rank high) (sym e) (gap_spread step low low high n rank (b ∷ bs) r (omega arith) (omega arith))
+gap_front step low from high (suc i) n rank [] r w e h lo hi = absurd (omega arith)
+gap_front step low from high (suc i) n zero (b ∷ bs) r w e h lo hi = absurd (omega arith)
+gap_front step low from high (suc i) n (suc rank) (b ∷ bs) r w e h lo hi =
+    let same = above_next b bs i n high in
+    gap_front step b.label from high i n rank bs r.1 (omega arith) e (omega (arith, same, h)) (omega arith) (omega arith)
 
 -- one more block with its new label
-pub spread_more : (step low label : ℕ) (bs : List Block) (i : ℕ) (b : Block) → slice_get (spread step low (take i bs) ++ drop i bs) i ≡ Some b → label ≡ low + step * i + step
-    → slice_set (spread step low (take i bs) ++ drop i bs) i (record b { label = label }) ≡ spread step low (take (i + 1) bs) ++ drop (i + 1) bs
-spread_more step low label [] zero b e is = absurd (cc)
-spread_more step low label [] (suc i) b e is = absurd (cc)
-spread_more step low label (x ∷ bs) zero b e is =
+spread_one : (step low label n : ℕ) (bs : List Block) (b : Block) → slice_get (spread step low n bs) n ≡ Some b → label ≡ low + step * n + step
+    → slice_set (spread step low n bs) n (record b { label = label }) ≡ spread step low (suc n) bs
+spread_one step low label zero [] b e is = absurd (cc)
+spread_one step low label zero (x ∷ bs) b e is =
     let same : x ≡ b = cc in
     let here : label ≡ low + step = omega arith in
     subst (λ (y : Block). (let it : Block = record y { label = label } in it) ∷ bs ≡ (let it : Block = record x { label = low + step } in it) ∷ bs) same
     (ap (λ l. (let it : Block = record x { label = l } in it) ∷ bs) here)
-spread_more step low label (x ∷ bs) (suc i) b e is =
-    rw Rattle.std.proofs.Common.suc-add
-    (ap (λ l. (let it : Block = record x { label = low + step } in it) ∷ l) (spread_more step (low + step) label bs i b e (omega arith)))
+spread_one step low label (suc n) [] b e is = absurd (cc)
+spread_one step low label (suc n) (x ∷ bs) b e is =
+    ap (λ l. (let it : Block = record x { label = low + step } in it) ∷ l) (spread_one step (low + step) label n bs b e (omega arith))
 
-pub length-spread_front : (step low : ℕ) (bs : List Block) (i : ℕ) → length (spread step low (take i bs) ++ drop i bs) ≡ length bs
-length-spread_front step low [] zero = refl
-length-spread_front step low [] (suc i) = refl
-length-spread_front step low (x ∷ bs) zero = refl
-length-spread_front step low (x ∷ bs) (suc i) = ap suc (length-spread_front step (low + step) bs i)
+pub front_more : (step low label i n rank : ℕ) (bs : List Block) (b : Block) → slice_get (take i bs ++ spread step low n (drop i bs)) rank ≡ Some b → rank ≡ i + n → i ≤ length bs → label ≡ low + step * n + step
+    → slice_set (take i bs ++ spread step low n (drop i bs)) rank (record b { label = label }) ≡ take i bs ++ spread step low (suc n) (drop i bs)
+front_more step low label zero n rank [] b e at within is =
+    let there : rank ≡ n = omega arith in
+    subst (λ k. slice_set (spread step low n []) k (record b { label = label }) ≡ spread step low (suc n) []) (sym there)
+    (spread_one step low label n [] b (ap (slice_get (spread step low n [])) (sym there) ∙ e) is)
+front_more step low label zero n rank (x ∷ bs) b e at within is =
+    let there : rank ≡ n = omega arith in
+    subst (λ k. slice_set (spread step low n (x ∷ bs)) k (record b { label = label }) ≡ spread step low (suc n) (x ∷ bs)) (sym there)
+    (spread_one step low label n (x ∷ bs) b (ap (slice_get (spread step low n (x ∷ bs))) (sym there) ∙ e) is)
+front_more step low label (suc i) n rank [] b e at within is = absurd (omega arith)
+front_more step low label (suc i) n zero (x ∷ bs) b e at within is = absurd (omega arith)
+front_more step low label (suc i) n (suc rank) (x ∷ bs) b e at within is = ap (λ l. x ∷ l) (front_more step low label i n rank bs b e (omega arith) (omega arith) is)
 
 -- ---- where all blocks are labelled, at steps of two or more
 pub two_fit : (n : ℕ) → n ≤ MAX_CHARACTERS → 2 ≤ LAST_LABEL / (n + 1)
 two_fit n h = (le-div_iff_mul-le {k = n + 1} {x = 2} {y = LAST_LABEL} (omega arith)).1 (omega arith)
 
-pub steps_fit : (n : ℕ) → 0 + LAST_LABEL / (n + 1) * (n + 1) ≤ LAST_LABEL
-steps_fit n = let h = div-mul-le_self LAST_LABEL (n + 1) in omega (arith, h)
+pub steps_under : (step n m : ℕ) → n ≤ m → step * n ≤ step * m
+steps_under zero n m h = omega arith
+steps_under (suc step) n m h = let rest = steps_under step n m h in omega (arith, rest)
 
-pub Rises-respaced : (bs : List Block) → length bs ≤ MAX_CHARACTERS → Rises 2 0 (spread (LAST_LABEL / (length bs + 1)) 0 bs) LAST_LABEL
-Rises-respaced bs h =
-    rises_two _ 0 LAST_LABEL _ (two_fit (length bs) h) (Rises-spread (LAST_LABEL / (length bs + 1)) 0 LAST_LABEL bs (steps_fit (length bs)))
+pub above_under : (low high i : ℕ) (bs : List Block) → Rises 1 low bs high → above bs i high ≤ high
+above_under low high i [] r = omega arith
+above_under low high zero (b ∷ bs) r = label_under b.label high bs r.1
   where
-    rises_two : (step low high : ℕ) (bs : List Block) → 2 ≤ step → Rises step low bs high → Rises 2 low bs high
-    rises_two step low high [] s r = omega arith
-    rises_two step low high (b ∷ bs) s r = let first = r.0 in (omega arith, rises_two step b.label high bs s r.1)
+    label_under : (low high : ℕ) (bs : List Block) → Rises 1 low bs high → low ≤ high
+    label_under low high [] r = omega arith
+    label_under low high (b ∷ bs) r = let first = r.0 in let rest = label_under b.label high bs r.1 in omega arith
+above_under low high (suc i) (b ∷ bs) r = above_under b.label high i bs r.1
+
+-- the labels at two ranks
+pub low_under_high : (low high i j : ℕ) (bs : List Block) → Rises 1 low bs high → i ≤ j → j ≤ length bs → below low bs i ≤ above bs j high
+low_under_high low high i j [] r h k = omega arith
+low_under_high low high zero zero (b ∷ bs) r h k = let first = r.0 in omega arith
+low_under_high low high zero (suc j) (b ∷ bs) r h k = let first = r.0 in let rest = low_under_high b.label high zero j bs r.1 (omega arith) (omega arith) in let same = below-zero b.label bs in omega arith
+low_under_high low high (suc i) zero (b ∷ bs) r h k = absurd (omega arith)
+low_under_high low high (suc i) (suc j) (b ∷ bs) r h k = low_under_high b.label high i j bs r.1 (omega arith) (omega arith)
 
 -- ---- after a change of the block at a rank
 pub above-set : (bs : List Block) (i j : ℕ) (c : Block) (high : ℕ) → j ≡ suc i → above (slice_set bs i c) j high ≡ above bs j high

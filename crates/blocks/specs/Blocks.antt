@@ -1,5 +1,5 @@
 -- Blocks in a row, and the index that finds them.
-use Rattle.std.specs.Prelude.{◌≡◌, ℕ, zero, suc, ◌+◌, ◌-◌, ◌≤◌, ◌<◌, List, [], ◌∷◌, map, sum_by, Option, Some, None, if◌then◌else◌, is_none, slice_get, IsSomeAnd}
+use Rattle.std.specs.Prelude.{◌≡◌, ℕ, zero, suc, ◌+◌, ◌-◌, ◌*◌, ◌≤◌, ◌<◌, List, [], ◌∷◌, ◌++◌, length, take, drop, map, sum_by, Option, Some, None, if◌then◌else◌, is_none, slice_get, IsSomeAnd}
 use Rattle.std.specs.FinMap.{get}
 use Rattle.std.specs.List.{AllByRecursion}
 use Rattle.std.specs.Ordering.{eq_by_cmp}
@@ -9,6 +9,7 @@ use Rattle.ident_index.specs.Index.{Index, stamp_cmp, stamp_behind, Holds}
 use Rattle.ident_index.specs.declared.place.Entry.{Entry}
 use Rattle.blocks.specs.declared.block.Block.{Block}
 use Rattle.blocks.specs.declared.block.TheConstants.{LAST_LABEL}
+use Rattle.blocks.specs.declared.label.Window.{Window}
 
 -- how many characters of a block are alive
 abbrev pub weight_of : Block → ℕ
@@ -61,10 +62,23 @@ above [] i high = high
 above (b ∷ bs) zero high = b.label
 above (b ∷ bs) (suc i) high = above bs i high
 
--- the blocks with labels that rise by a step each
-abbrev pub spread : ℕ → ℕ → List Block → List Block
-spread step low [] = []
-spread step low (b ∷ bs) = record b { label = low + step } ∷ spread step (low + step) bs
+-- the blocks, the first n of them with labels that rise by a step each
+abbrev pub spread : ℕ → ℕ → ℕ → List Block → List Block
+spread step low zero bs = bs
+spread step low (suc n) [] = []
+spread step low (suc n) (b ∷ bs) = record b { label = low + step } ∷ spread step (low + step) n bs
+
+-- the blocks, those of a window with labels that rise by its step each
+abbrev pub respaced : Window → List Block → List Block
+respaced w bs = take w.from bs ++ spread w.step w.low (w.to - w.from) (drop w.from bs)
+
+-- a window round a rank, whose new labels fit between the labels beside it
+pub record IsWindow (bs : List Block) (rank : ℕ) (w : Window) : Type 0 where
+  pub before : w.from ≤ rank
+  pub behind : rank ≤ w.to
+  pub within : w.to ≤ length bs
+  pub low : w.low ≡ below 0 bs w.from
+  pub fits : w.low + w.step * (w.to - w.from + 1) ≤ above bs w.to LAST_LABEL
 
 -- a block without its label
 abbrev pub unlabelled : Block → Block

@@ -1,6 +1,7 @@
 //! Labels for new blocks.
 ghost use Rattle.std.specs.Prelude.{◌≡◌, ℕ, ◌+◌, ◌-◌, ◌*◌, ◌/◌, ◌<◌, ◌≤◌, length, slice_get, slice_set, Some, MatchOption};
-ghost use Rattle.blocks.specs.Blocks.{Rises, IsListed, IsKept, below, above, spread, without_labels, HoldsNoMore};
+ghost use Rattle.blocks.specs.Blocks.{Rises, IsListed, IsKept, IsWindow, below, above, respaced, without_labels, HoldsNoMore};
+ghost use Rattle.pad_model.specs.declared.limits.TheConstants.{MAX_CHARACTERS};
 ghost use Rattle.blocks.specs.declared.block.Block.{Block as BlockValue};
 
 use crate::block::{Block, LAST_LABEL};
@@ -48,17 +49,71 @@ fn relabel(tree: &mut WeightTree<Block>, index: &mut IdentIndex, rank: usize, la
     tree.replace(rank, block);
 }
 
-/// Labels all blocks, evenly.
-fn respace(tree: &mut WeightTree<Block>, index: &mut IdentIndex)
-    requires { IsListed index.old tree.old.items }
+/// Blocks beside each other that get new labels together: from a rank on, and before another.
+#[derive(Clone, Copy, Debug)]
+struct Window {
+    from: usize,
+    to: usize,
+    /// The label before them.
+    low: u64,
+    /// How far apart their new labels are.
+    step: u64,
+}
+
+/// The window that reaches so many blocks to each side of a rank, or to the end of the blocks there.
+fn window_at(tree: &WeightTree<Block>, rank: usize, reach: usize) -> Window
+    requires rises { Rises 1 0 tree.now.items LAST_LABEL }
+    requires within { rank ≤ length tree.now.items }
+    requires small { length tree.now.items ≤ MAX_CHARACTERS }
+    ensures window { IsWindow tree.now.items rank result }
+    ensures whole { length tree.now.items ≤ reach → 2 ≤ result.step }
+{
+    let from = rank.saturating_sub(reach);
+    let to = rank.saturating_add(reach).min(tree.len());
+    let low = label_before(tree, from);
+    let gap = label_from(tree, to) - low;
+    Window {
+        from,
+        to,
+        low,
+        step: gap / ((to - from) as u64 + 1),
+    }
+}
+
+/// The smallest window round a rank, of those that double, whose new labels lie further apart than the square
+/// of its number of blocks. So the wider a window, the more new blocks fit before it is labelled again.
+fn window_round(tree: &WeightTree<Block>, rank: usize) -> Window
+    requires rises { Rises 1 0 tree.now.items LAST_LABEL }
+    requires within { rank ≤ length tree.now.items }
+    requires small { length tree.now.items ≤ MAX_CHARACTERS }
+    ensures window { IsWindow tree.now.items rank result }
+    ensures room { 2 ≤ result.step }
+{
+    let mut reach = 1;
+    while reach < tree.len() {
+        let window = window_at(tree, rank, reach);
+        let blocks = (window.to - window.from) as u64;
+        if window.step >= 2 && window.step > blocks.saturating_mul(blocks) {
+            return window;
+        }
+        reach *= 2;
+    }
+    window_at(tree, rank, tree.len())
+}
+
+/// Labels the blocks of a window, evenly.
+fn respace(tree: &mut WeightTree<Block>, index: &mut IdentIndex, window: Window)
+    requires listed { IsListed index.old tree.old.items }
+    requires ordered { window.from ≤ window.to }
+    requires within { window.to ≤ length tree.old.items }
+    requires room { window.low + window.step * (window.to - window.from + 1) ≤ LAST_LABEL }
     ensures listed { IsListed index.new tree.new.items }
     ensures held { HoldsNoMore index.old index.new }
-    ensures spread { tree.new.items ≡ spread (LAST_LABEL / (length tree.old.items + 1)) 0 tree.old.items }
+    ensures respaced { tree.new.items ≡ respaced window tree.old.items }
 {
-    let step = LAST_LABEL / (tree.len() as u64 + 1);
-    let mut label = 0;
-    for rank in 0..tree.len() {
-        label += step;
+    let mut label = window.low;
+    for rank in window.from..window.to {
+        label += window.step;
         relabel(tree, index, rank, label);
     }
 }
@@ -77,7 +132,7 @@ fn label_between(tree: &WeightTree<Block>, rank: usize) -> Option<u64>
     Some(left + (gap / 2).min(STRIDE))
 }
 
-/// A label for a new block at a rank. Where there is none, blocks get new labels first.
+/// A label for a new block at a rank. Where there is none, the blocks round it get new labels first.
 pub fn free_label(tree: &mut WeightTree<Block>, index: &mut IdentIndex, rank: usize) -> u64
     requires kept { IsKept index.old tree.old.items }
     requires within { rank ≤ length tree.old.items }
@@ -90,7 +145,8 @@ pub fn free_label(tree: &mut WeightTree<Block>, index: &mut IdentIndex, rank: us
     if let Some(label) = label_between(tree, rank) {
         return label;
     }
-    respace(tree, index);
+    let window = window_round(tree, rank);
+    respace(tree, index, window);
     let Some(label) = label_between(tree, rank) else {
         unreachable!()
     };

@@ -7,12 +7,14 @@
 mod index;
 mod pull;
 mod tree;
+mod typing;
 mod wire;
 
 use pad_model::Refusal;
 use std::alloc::Global;
 use std::io;
 use std::process::ExitCode;
+use typing::Trace;
 
 // The seed of each work's dice; the twin has the same.
 const SEED: u64 = 2026;
@@ -31,6 +33,13 @@ fn counts(alloc: Global, line: &str) -> Result<Option<String>, Refusal> {
         "iterate" => tree::iterate(alloc, size, times),
         "locate" => index::locate(alloc, size, times),
         "pull" => pull::pull(alloc, size, times),
+        "append" => typing::edits(alloc, Trace::Append, size, times),
+        "forward" => typing::edits(alloc, Trace::Forward, size, times),
+        "backward" => typing::edits(alloc, Trace::Backward, size, times),
+        "random" => typing::edits(alloc, Trace::Random, size, times),
+        "stale1" => typing::edits(alloc, Trace::Stale(1), size, times),
+        "stale4" => typing::edits(alloc, Trace::Stale(4), size, times),
+        "stale64" => typing::edits(alloc, Trace::Stale(64), size, times),
         "wire" => wire::wire(alloc, size, times),
         "json" => wire::json(alloc, size, times),
         _ => return Ok(None),

@@ -8,6 +8,10 @@ mod compared;
 #[cfg(test)]
 mod converge;
 #[cfg(test)]
+mod labels;
+#[cfg(test)]
+mod million;
+#[cfg(test)]
 mod readers;
 #[cfg(test)]
 mod sequences;

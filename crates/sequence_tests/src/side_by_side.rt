@@ -17,7 +17,7 @@ use std::test::Fail;
 
 /// Both sequences, and how many changes they took.
 #[derive(Drop)]
-struct Pair {
+pub struct Pair {
     plain: PlainSeq,
     rows: BlockSeq,
     rev: u64,
@@ -36,12 +36,16 @@ impl Model for Pair {
 }
 
 impl Pair {
-    fn new(alloc: Global) -> Result<Pair, Refusal> {
+    pub fn new(alloc: Global) -> Result<Pair, Refusal> {
         Ok(Pair {
             plain: PlainSeq::empty(alloc)?,
             rows: BlockSeq::empty(alloc)?,
             rev: 0,
         })
+    }
+
+    pub fn rows(&self) -> &BlockSeq {
+        &self.rows
     }
 
     /// Puts a run into both. Whether both answer the same.
@@ -75,7 +79,7 @@ impl Pair {
     }
 
     /// Makes a part on both. Whether both answer the same.
-    fn take(&mut self, alloc: Global, part: &Part, author: &Author) -> bool {
+    pub fn take(&mut self, alloc: Global, part: &Part, author: &Author) -> bool {
         match part {
             Part::Insert(run) => is_run(author.origin, run) && self.insert(alloc, run, author),
             Part::Delete(spans) => are_spans(spans.as_slice()) && self.erase(spans.as_slice()),
@@ -133,7 +137,7 @@ impl Pair {
     }
 }
 
-fn is_run(origin: u16, run: &Run) -> bool
+pub fn is_run(origin: u16, run: &Run) -> bool
     ensures { result ≡ is_run origin run.now }
 {
     let len = run.text.len() as u64;
@@ -158,7 +162,7 @@ fn fits_clock(first: Stamp, len: u64) -> bool
     first.counter().saturating_add(len) <= MAX_COUNTER + 1
 }
 
-fn author_of(alloc: Global, origin: u16) -> Result<Author, Refusal> {
+pub fn author_of(alloc: Global, origin: u16) -> Result<Author, Refusal> {
     Ok(Author {
         name: Name::from_str(alloc, "ada")?,
         origin,

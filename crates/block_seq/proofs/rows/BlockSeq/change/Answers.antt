@@ -17,7 +17,7 @@ use Rattle.block_seq.proofs.RowErase.{all_aligned, killed_count, row_killed}
 use Rattle.block_seq.proofs.RowParts.{commute}
 use Rattle.block_seq.proofs.RowSteps.{unchanged, same_cells_kept, run_is_new, run_put}
 use Rattle.block_seq.proofs.rows.BlockSeq.change.Goals as goal
-use Rattle.block_seq.proofs.rows.BlockSeq.change.Goals.{After-cut_spans, After-place_author, After-place_run, After-kill_named-hidden}
+use Rattle.block_seq.proofs.rows.BlockSeq.change.Goals.{After-cut_spans, After-place_author, After-place_run, After-push_text, After-kill_named-hidden}
 
 -- what a cut, one more author or other labels leave
 moved : (c : After-place_author) (text : _) (n : Index) (after : _) → text ≡ c.self.inside.text.items → IsKept n after → SameCells c.self.inside.tree.items after → IsBlockSeq c.self.inside.latest c.self.inside.clock c.place_author.new.authors.items text n after
@@ -100,6 +100,16 @@ returns-in_err-put_block c =
     (moved g.After-place_author c.reserve.new.self.items c.put_block.new.index c.put_block.new.tree.items c.reserve.ensures.items c.put_block.ensures.kept
     (same_then c.self.inside.tree.items c.place_run.new.tree.items c.put_block.new.tree.items (placed g.After-place_run) (same_unlabelled c.place_run.new.tree.items c.put_block.new.tree.items c.in_err-put_block.ensures.err))).1 refl
 
+-- the spans are still cut out of it
+still_cut : (c : After-push_text) → AllByRecursion (IsCutOut c.put_block.new.index) c.args.spans.now
+still_cut c =
+    cut_out_put c.place_run.new.index c.put_block.new.index c.args.spans.now c.args.run.now.first c.len-3.result c.in_ok-put_block.ensures.edges
+    (named_below c.args.spans.now c.args.self.now c.args.run.now.first c.args.run.now.after c.requires.there c.requires.fits) c.requires.spans
+    (cut_out_kept c.cut_spans.new.index c.place_run.new.index c.args.spans.now c.place_run.ensures.edges c.in_ok-cut_spans.ensures.cut)
+
+pub kill_named-hidden-requires-clause-cut : goal.kill_named-hidden-requires-clause-cut
+kill_named-hidden-requires-clause-cut c = still_cut (goal.at.kill_named-hidden-requires-clause-cut c).After-push_text
+
 -- the counter of the run's last character
 abbrev last : (c : After-kill_named-hidden) → ℕ
 last c = c.args.run.now.first.counter + (length c.args.run.now.text - 1)
@@ -127,19 +137,11 @@ run_there c =
     in
     (subst (λ t. IsBlockSeq (max c.self.inside.latest c.args.rev) (max c.self.inside.clock (last c)) authors t c.put_block.new.index c.put_block.new.tree.items) (sym text_is) left.0, ap (λ t. cells_of authors t c.put_block.new.tree.items) text_is ∙ left.1)
 
--- the spans are still cut out of it
-still_cut : (c : After-kill_named-hidden) → AllByRecursion (IsCutOut c.put_block.new.index) c.args.spans.now
-still_cut c =
-    cut_out_put c.place_run.new.index c.put_block.new.index c.args.spans.now c.args.run.now.first c.len-3.result c.in_ok-put_block.ensures.edges
-    (named_below c.args.spans.now c.args.self.now c.args.run.now.first c.args.run.now.after c.requires.there c.requires.fits) c.requires.spans
-    (cut_out_kept c.cut_spans.new.index c.place_run.new.index c.args.spans.now c.place_run.ensures.edges c.in_ok-cut_spans.ensures.cut)
-
-done : (c : After-kill_named-hidden) → (IsBlockSeq (max c.self.inside.latest c.args.rev) (max c.self.inside.clock (last c)) c.place_author.new.authors.items c.push_text.new.text.items c.put_block.new.index c.kill_named-hidden.new.tree.items
+done : (c : After-kill_named-hidden) → AllByRecursion (IsCutOut c.put_block.new.index) c.args.spans.now → (IsBlockSeq (max c.self.inside.latest c.args.rev) (max c.self.inside.clock (last c)) c.place_author.new.authors.items c.push_text.new.text.items c.put_block.new.index c.kill_named-hidden.new.tree.items
     × (cells_of c.place_author.new.authors.items c.push_text.new.text.items c.kill_named-hidden.new.tree.items ≡ with_run c.args.rev c.args.run.now c.args.author.now (without_spans c.args.rev c.args.spans.now c.args.self.now)))
     × (c.kill_named-hidden.result ≡ count_by (is_hidden_by c.args.spans.now) c.args.self.now)
-done c =
+done c cut =
     let there = run_there c in
-    let cut = still_cut c in
     let killed = row_killed (max c.self.inside.latest c.args.rev) c.args.rev c.args.spans.now c.place_author.new.authors.items c.push_text.new.text.items c.put_block.new.index c.put_block.new.tree.items c.kill_named-hidden.new.tree.items (with_run c.args.rev c.args.run.now c.args.author.now c.args.self.now) (omega arith) (omega arith) there.0 there.1 cut c.kill_named-hidden.ensures.kept c.kill_named-hidden.ensures.items in
     let order = subst Rattle.pad_model.specs.Cell.IsInOrder c.self.view_is c.self.invariant.order in (
       (killed.0, killed.1 ∙ commute c.args.rev c.args.spans.now c.args.run.now c.args.author.now c.args.self.now c.requires.fits c.requires.there),
@@ -150,7 +152,7 @@ done c =
 
 pub invariant_of-self-2 : goal.invariant_of-self-2
 invariant_of-self-2 c =
-    let left = (done (goal.at.invariant_of-self-2 c).After-kill_named-hidden).0.0 in
+    let left = (let g = goal.at.invariant_of-self-2 c in done g.After-kill_named-hidden (still_cut g.After-push_text)).0.0 in
     let clock : c.max-self-inside.result ≡ max c.self.inside.clock (c.args.run.now.first.counter + (length c.args.run.now.text - 1)) =
     c.max-self-inside.ensures ∙ ap₂ (λ counter len. max c.self.inside.clock (counter + (len - 1))) c.counter.ensures.value c.len-4.ensures
     in
@@ -159,5 +161,6 @@ invariant_of-self-2 c =
 
 pub returns : goal.returns
 returns c =
-    let d = done (goal.at.returns c).After-kill_named-hidden in
+    let g = goal.at.returns c in
+    let d = done g.After-kill_named-hidden (still_cut g.After-push_text) in
     inr (ap₂ (λ n l. (Ok n, l)) (sym d.1) (sym d.0.1))

@@ -1,4 +1,4 @@
-use Rattle.sequence_tests.proofs.ByRevision.{deleted_by}
+use Rattle.block_seq.proofs.ByRevision.{deleted_by}
 use Rattle.sequence_tests.proofs.side_by_side.Pair.erase.Goals as goal
 
 pub invariant_of-self : goal.invariant_of-self

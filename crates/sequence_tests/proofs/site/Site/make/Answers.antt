@@ -1,4 +1,4 @@
-use Rattle.sequence_tests.proofs.ByRevision.{applied_by, later_by}
+use Rattle.block_seq.proofs.ByRevision.{applied_by, later_by}
 use Rattle.sequence_tests.proofs.site.Site.make.Goals as goal
 use Rattle.std.proofs.Common.{◌+◌}
 use Rattle.sequence_tests.proofs.site.Site.make.Goals.{After-apply-made}

@@ -1,0 +1,18 @@
+use Rattle.std.proofs.Common.{◌≡◌, ◌-◌, ◌≤◌, map, sum_by}
+use Rattle.ident_index.specs.Index.{stamp_behind}
+use Rattle.blocks.specs.Blocks.{IsKept, IsEdge}
+use Rattle.block_seq.specs.Rows.{killed, hidden_len, span_from}
+use Rattle.block_seq.proofs.row_kills.kill_span.Given as goal
+
+-- the blocks of the stamps that were passed are dead, and the next stamp begins a block
+abbrev pub invariant-loop-done : goal.invariant-loop-done
+invariant-loop-done l = record {
+  kept : IsKept l.index l.tree.items;
+  within : l.done ≤ l.span.len;
+  begins : IsEdge l.index (stamp_behind l.span.first l.done);
+  items : l.tree.items ≡ map (killed l.rev (span_from l.span.first l.done)) l.initial.tree.items;
+  hidden : l.hidden ≡ sum_by (hidden_len (span_from l.span.first l.done)) l.initial.tree.items;
+}
+
+abbrev pub decreases-loop-done : goal.decreases-loop-done
+decreases-loop-done l = l.span.len - l.done

@@ -1,0 +1,9 @@
+use Rattle.std.proofs.Common.{◌≤◌, ◌-◌, length}
+use Rattle.blocks.proofs.label.window_round.Given as goal
+
+-- the reach doubles from 1 on
+abbrev pub invariant-loop-reach : goal.invariant-loop-reach
+invariant-loop-reach l = 1 ≤ l.reach
+
+abbrev pub decreases-loop-reach : goal.decreases-loop-reach
+decreases-loop-reach l = length l.tree.items - l.reach

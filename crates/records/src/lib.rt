@@ -1,13 +1,14 @@
-// A library with one function.
+//! What is kept of a pad to put it together again after a restart.
+//!
+//! A request at a cell leaves records; replayed in their order they lead from the restarted pad before it to the restarted
+//! pad after it. How records are written down is decided above.
 #![tactic(auto)]
 
-ghost use Rattle.std.specs.Prelude.{◌≡◌};
-ghost use Rattle.records.specs.Echo.{echo_of};
+mod again;
+mod kept_record;
+pub mod laws;
+mod step;
 
-// The `ensures` clause is the contract: what `echo` returns is `echo_of` of its argument, a definition
-// in `specs/Echo.antt`, which a caller's clause can cite too.
-pub fn echo(x: usize) -> usize
-    ensures { result ≡ echo_of x }
-{
-    x
-}
+pub use again::{rebuild, replay};
+pub use kept_record::Record;
+pub use step::records_of;

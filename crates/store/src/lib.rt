@@ -1,13 +1,12 @@
-// A library with one function.
+//! The file of a pad: lines that a person can read, each with a sum over all before it.
 #![tactic(auto)]
 
-ghost use Rattle.std.specs.Prelude.{◌≡◌};
-ghost use Rattle.store.specs.Echo.{echo_of};
+mod form;
+mod header;
+mod line;
+mod reader;
 
-// The `ensures` clause is the contract: what `echo` returns is `echo_of` of its argument, a definition
-// in `specs/Echo.antt`, which a caller's clause can cite too.
-pub fn echo(x: usize) -> usize
-    ensures { result ≡ echo_of x }
-{
-    x
-}
+pub use form::{read_record, record_value};
+pub use header::{FORMAT, Header, header_text, read_header};
+pub use line::{Linked, link, text_of};
+pub use reader::{Damage, Loaded, load, record_text};

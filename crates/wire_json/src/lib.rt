@@ -23,7 +23,7 @@ mod short;
 mod show;
 mod word;
 
-pub use field::{field, name_field, number_field, str_field};
+pub use field::{name_field, number_field, str_field};
 pub use op_read::read_op;
 pub use op_write::op_value;
 pub use peer_answer::{

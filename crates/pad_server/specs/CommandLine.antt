@@ -23,13 +23,17 @@ workers_rule = number_rule (codes "workers") 1 MAX_WORKERS
 abbrev pub connections_rule : Rule
 connections_rule = number_rule (codes "connections") 1 4294967295
 
+-- `--store DIR`
+abbrev pub store_rule : Rule
+store_rule = option_rule (codes "store")
+
 -- the options that say what is served, by which server, and for whom
 abbrev pub first_line : App
 first_line = with_rule (with_rule (with_rule (with_rule (new_app (codes "pad_server")) stdin_rule) listen_rule) replica_rule) accounts_rule
 
 -- the command line: clap's words say which words it takes, and what they give under a name
 abbrev pub line : App
-line = with_rule (with_rule (with_rule first_line cells_rule) workers_rule) connections_rule
+line = with_rule (with_rule (with_rule (with_rule first_line cells_rule) workers_rule) connections_rule) store_rule
 
 -- a flag by the text that stands under its name
 pub record IsFlag (held : Option (List ℕ)) (flag : Bool) : Type 0 where
@@ -46,3 +50,4 @@ pub record AsksFor (words : List (List ℕ)) (asked : Asked) : Type 0 where
   pub listen : option_map (λ address. address.now) asked.listen ≡ text_given line words (codes "listen")
   pub workers : Gives line words (codes "workers") 0 MAX_WORKERS DEFAULT_WORKERS asked.workers
   pub connections : (other : ℕ) → Gives line words (codes "connections") 0 4294967295 other (unwrap_or asked.connections other)
+  pub store : option_map (λ folder. folder.now) asked.store ≡ text_given line words (codes "store")

@@ -1,5 +1,6 @@
 //! Connections are accepted, and handed to the workers.
 use crate::client::Client;
+use crate::keeper::Keeper;
 use crossbeam_channel::Sender;
 use log::{Log, warn};
 use std::net::{TcpListener, TcpStream};
@@ -17,13 +18,14 @@ pub fn accept_all<'a, R: Wait + Clock + Log>(
     listener: &TcpListener,
     most: Option<u32>,
     to: &Sender<(u64, Client<'a, R>)>,
+    keeper: Option<&'a Keeper<'a>>,
 ) {
     let mut accepted = 0u64;
     for stream in listener.incoming() {
         match stream {
             Ok(stream) => {
                 accepted = accepted.saturating_add(1);
-                hand_over(rt, accepted, stream, to);
+                hand_over(rt, accepted, stream, to, keeper);
             }
             Err(cause) => {
                 warn!(rt; "no connection is accepted: {cause}");
@@ -42,11 +44,15 @@ fn hand_over<'a, R: Wait + Log>(
     number: u64,
     stream: TcpStream,
     to: &Sender<(u64, Client<'a, R>)>,
+    keeper: Option<&'a Keeper<'a>>,
 ) {
     if let Err(cause) = stream.set_nodelay(true) {
         warn!(rt; "connection {number}: its replies may be late: {cause}");
     }
-    if to.send(rt, (number, Client::new(rt, stream))).is_err() {
+    if to
+        .send(rt, (number, Client::new(rt, stream, keeper)))
+        .is_err()
+    {
         warn!(rt; "connection {number} is not served: out of memory");
     }
 }

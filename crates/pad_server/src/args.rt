@@ -7,7 +7,8 @@ ghost use Rattle.pad_server.specs.CommandLine.{AsksFor, first_line, line};
 ghost use Rattle.pad_server.specs.declared.options.TheConstants.{MAX_WORKERS};
 
 use crate::options::{
-    connections_of, connections_option, listen_option, stdin_flag, workers_of, workers_option,
+    connections_of, connections_option, listen_option, stdin_flag, store_option, workers_of,
+    workers_option,
 };
 use clap::{Command, Error};
 use command_line::{accounts_option, cells_of, cells_option, replica_of, replica_option};
@@ -30,6 +31,8 @@ pub struct Asked<'a> {
     pub workers: u32,
     /// After how many connections the server ends. None: it does not.
     pub connections: Option<u32>,
+    /// The folder where pads are kept. None: they end with the server.
+    pub store: Option<&'a str>,
 }
 
 const ACCOUNTS_HELP: &str =
@@ -55,7 +58,8 @@ fn command<'a>(alloc: Global) -> Result<Command<'a>, AllocError>
     first_options(alloc)?
         .arg(cells_option(alloc, cells_help))?
         .arg(workers_option(alloc))?
-        .arg(connections_option(alloc))
+        .arg(connections_option(alloc))?
+        .arg(store_option(alloc))
 }
 
 /// What the words of the command line give, or what is wrong with them.
@@ -76,5 +80,6 @@ pub fn parse<'a>(alloc: Global, words: &'a [String]) -> Result<Asked<'a>, Error>
         listen: matches.get_str("listen"),
         workers: workers_of(&matches),
         connections: connections_of(&matches),
+        store: matches.get_str("store"),
     })
 }

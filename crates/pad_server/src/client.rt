@@ -1,5 +1,7 @@
 //! A connection over TCP.
 use crate::failure::Failure;
+use crate::keeper::Keeper;
+use crate::settled::Settled;
 use crate::watched::Watched;
 use log::{Log, warn};
 use std::alloc::Global;
@@ -12,12 +14,13 @@ use workers::{Connection, Gate, Pads, Served, serve_client};
 pub struct Client<'a, R: Log> {
     rt: &'a R,
     stream: TcpStream,
+    keeper: Option<&'a Keeper<'a>>,
 }
 
 impl<'a, R: Log> Client<'a, R> {
-    /// A client whose stream was accepted.
-    pub fn new(rt: &'a R, stream: TcpStream) -> Client<'a, R> {
-        Client { rt, stream }
+    /// A client whose stream was accepted. Its replies wait for the keeper, if there is one.
+    pub fn new(rt: &'a R, stream: TcpStream, keeper: Option<&'a Keeper<'a>>) -> Client<'a, R> {
+        Client { rt, stream, keeper }
     }
 }
 
@@ -30,7 +33,7 @@ impl<R: Log> Connection for Client<'_, R> {
         gate: &G,
     ) -> Result<Served, Fault> {
         let mut input = Watched::new(&self.stream);
-        let mut output = Watched::new(&self.stream);
+        let mut output = Watched::new(Settled::new(&self.stream, self.keeper));
         let mut reader = Std::new(&mut input);
         let mut writer = Std::new(&mut output);
         let served = serve_client(alloc, pads, &mut reader, &mut writer, number, gate);

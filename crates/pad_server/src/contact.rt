@@ -1,5 +1,7 @@
 //! A peer that this server exchanges with, and how its rounds went.
 use crate::failure::Failure;
+use crate::keeper::Keeper;
+use crate::settled::Settled;
 use crate::watched::Watched;
 use log::{Log, warn};
 use relay::{Link, Relayed, relay_round};
@@ -32,6 +34,8 @@ struct Cause {
 #[derive(Drop)]
 pub struct Contact<'a> {
     peer: &'a Peer,
+    /// What has to be synced before a line is written to the peer.
+    keeper: Option<&'a Keeper<'a>>,
     /// How many seconds the next round is put off after a failure; 0 where the last one succeeded.
     pause: u64,
     failed_at: Option<Instant>,
@@ -40,9 +44,10 @@ pub struct Contact<'a> {
 
 impl<'a> Contact<'a> {
     /// A peer without a round yet.
-    pub fn new(peer: &'a Peer) -> Contact<'a> {
+    pub fn new(peer: &'a Peer, keeper: Option<&'a Keeper<'a>>) -> Contact<'a> {
         Contact {
             peer,
+            keeper,
             pause: 0,
             failed_at: None,
             told: None,
@@ -71,7 +76,7 @@ impl<'a> Contact<'a> {
     where
         R: Net<Listener = TcpListener, Stream = TcpStream> + Clock + Log,
     {
-        match make_round(rt, alloc, pads, own, self.peer) {
+        match make_round(rt, alloc, pads, own, self.peer, self.keeper) {
             Ok(relayed) => {
                 self.pause = 0;
                 self.failed_at = None;
@@ -111,6 +116,7 @@ fn make_round<P: Pads, R>(
     pads: &mut P,
     own: u16,
     peer: &Peer,
+    keeper: Option<&Keeper<'_>>,
 ) -> Result<Relayed, (Fault, Option<io::Error>)>
 where
     R: Net<Listener = TcpListener, Stream = TcpStream>,
@@ -120,7 +126,7 @@ where
         Err(error) => return Err((Fault::ReadFault, Some(error))),
     };
     let mut input = Watched::new(&stream);
-    let mut output = Watched::new(&stream);
+    let mut output = Watched::new(Settled::new(&stream, keeper));
     let relayed = match Link::new(alloc, Std::new(&mut input), Std::new(&mut output)) {
         Ok(mut link) => {
             let _session = pads.relay(alloc, peer.number);

@@ -1,5 +1,6 @@
 //! The thread that exchanges the operations of the pads with the peers of the accounts file.
 use crate::contact::Contact;
+use crate::keeper::Keeper;
 use crate::wake::Wake;
 use crossbeam_channel::{Receiver, RecvTimeoutError};
 use log::Log;
@@ -33,11 +34,12 @@ pub fn contacts<'a>(
     alloc: Global,
     peers: &'a [Peer],
     own: u16,
+    keeper: Option<&'a Keeper<'a>>,
 ) -> Result<Vec<Contact<'a>>, AllocError> {
     let mut contacts = Vec::new(alloc);
     for peer in peers {
         if peer.number != own {
-            contacts.push(Contact::new(peer))?;
+            contacts.push(Contact::new(peer, keeper))?;
         }
     }
     Ok(contacts)

@@ -1,7 +1,4 @@
 //! The server of many connections over TCP.
-ghost use Rattle.std.specs.Prelude.{◌≤◌};
-ghost use Rattle.server_core.specs.declared.limits.TheConstants.{MAX_CELLS};
-
 use crate::accept::accept_all;
 use crate::accounts::read_accounts;
 use crate::args::Asked;
@@ -9,6 +6,7 @@ use crate::client::Client;
 use crate::contact::Contact;
 use crate::exchange::{contacts, exchange_all};
 use crate::failure::Failure;
+use crate::keeper::Keeper;
 use crate::wake::{Wake, Waker};
 use block_seq::BlockSeq;
 use crossbeam_channel::{Receiver, Sender};
@@ -22,11 +20,14 @@ use std::sync::Wait;
 use std::thread::Threads;
 use std::time::Clock;
 use std::{io, thread};
-use workers::{Row, open_row, pool, take_all_seats, take_seats};
+use workers::{Row, pool, take_all_seats, take_seats};
 
-/// Serves connections at an address, until as many as the command line names have ended.
-pub fn listen<'a, R>(
+/// Serves connections at an address, until as many as the command line names have ended. Where there is a keeper, each
+/// reply waits until what it tells of is synced.
+pub fn serve_row<'a, R>(
     rt: &R,
+    cells: Vec<SharedPad<BlockSeq>>,
+    keeper: Option<&Keeper<'_>>,
     asked: Asked<'a>,
     address: &'a str,
     path: &'a str,
@@ -38,16 +39,14 @@ where
         + Wait
         + Sync
         + Log,
-    requires { (1 ≤ asked.replica) × (asked.cells ≤ MAX_CELLS) }
 {
     let alloc = rt.alloc();
     let accounts = read_accounts(rt, path)?;
-    let cells: Vec<SharedPad<BlockSeq>> = open_row(alloc, asked.replica, asked.cells)?;
     let mut crew = Vec::new(alloc);
     take_all_seats(rt, alloc, cells.as_slice(), asked.workers, &mut crew)?;
     let mut seats = Vec::new(alloc);
     take_seats(rt, cells.as_slice(), &mut seats)?;
-    let contacts = contacts(alloc, accounts.peers(), asked.replica)?;
+    let contacts = contacts(alloc, accounts.peers(), asked.replica, keeper)?;
     let (to, wakes) = crossbeam_channel::bounded(alloc, 1)?;
     let gate = Waker::new(
         rt,
@@ -56,6 +55,7 @@ where
         } else {
             Some(to.clone()?)
         },
+        keeper,
     );
     let row = Row {
         rt,
@@ -70,6 +70,7 @@ where
         seats,
         to,
         wakes,
+        keeper,
     };
     serve(
         &row,
@@ -108,6 +109,7 @@ struct Relaying<'a> {
     seats: Vec<Seat>,
     to: Sender<Wake>,
     wakes: Receiver<Wake>,
+    keeper: Option<&'a Keeper<'a>>,
 }
 
 /// Accepts connections in a thread of its own, and serves them in as many as there are seats for. One more exchanges with
@@ -135,13 +137,14 @@ where
         seats,
         to: last,
         wakes,
+        keeper,
     } = relaying;
     thread::scope(thread::scope_env(), rt, |scope| {
         let relay = scope.spawn(move || exchange_all(row, contacts, &wakes, seats));
         if relay.is_err() {
             return Err(Failure::Alone);
         }
-        let acceptor = scope.spawn(move || accept_all(rt, &listener, connections, &to));
+        let acceptor = scope.spawn(move || accept_all(rt, &listener, connections, &to, keeper));
         if acceptor.is_err() {
             let _ended = last.send(rt, Wake::Last);
             return Err(Failure::Alone);

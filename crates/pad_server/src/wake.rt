@@ -1,5 +1,8 @@
 //! Wake-ups for the thread that exchanges with peers.
+use crate::keeper::Keeper;
 use crossbeam_channel::Sender;
+use shared_pads::Answered;
+use std::alloc::Global;
 use std::sync::Wait;
 use workers::Gate;
 
@@ -18,16 +21,27 @@ pub enum Wake {
 pub struct Waker<'a, R> {
     rt: &'a R,
     to: Option<Sender<Wake>>,
+    keeper: Option<&'a Keeper<'a>>,
 }
 
 impl<'a, R> Waker<'a, R> {
-    /// A gate that wakes whoever receives; None: nobody.
-    pub fn new(rt: &'a R, to: Option<Sender<Wake>>) -> Waker<'a, R> {
-        Waker { rt, to }
+    /// A gate that wakes whoever receives, and has what is answered noted; None: nobody.
+    pub fn new(
+        rt: &'a R,
+        to: Option<Sender<Wake>>,
+        keeper: Option<&'a Keeper<'a>>,
+    ) -> Waker<'a, R> {
+        Waker { rt, to, keeper }
     }
 }
 
 impl<R: Wait> Gate for Waker<'_, R> {
+    fn answered(&self, alloc: Global, told: &Answered<'_>) {
+        if let Some(keeper) = self.keeper {
+            keeper.note(alloc, told);
+        }
+    }
+
     fn inside(&self, _cell: u32) {}
 
     fn before_reply(&self, _connection: u64, delivered: bool) {

@@ -16,7 +16,7 @@ use thiserror::Error;
 pub enum Damage {
     #[error("out of memory")]
     Memory,
-    #[error("there is no first line")]
+    #[error("no pad was named")]
     Empty,
     #[error("line {line}: it was changed, or lines before it are missing")]
     Unlinked {
@@ -59,22 +59,20 @@ pub fn record_text(alloc: Global, at: u64, kept: &Record) -> Result<String, Allo
 pub fn load<S: Sequence>(alloc: Global, replica: u16, bytes: &[u8]) -> Result<Loaded<S>, Damage>
     requires { 1 ≤ replica }
 {
-    let whole = match bytes.iter().rposition(|byte| *byte == b'\n') {
-        Some(last) => last + 1,
-        None => 0,
+    let Some(last) = bytes.iter().rposition(|byte| *byte == b'\n') else {
+        return Err(Damage::Empty);
     };
-    let mut lines = bytes[..whole].split(|byte| *byte == b'\n');
-    let mut sum = String::new(alloc);
+    let whole = last + 1;
+    let mut lines = bytes[..last].split(|byte| *byte == b'\n');
     let Some(first) = lines.next() else {
         return Err(Damage::Empty);
     };
-    let (header, next) = first_line(alloc, first)?;
+    let (header, mut sum) = first_line(alloc, first)?;
     if header.replica != u64::from(replica) {
         return Err(Damage::OtherReplica {
             replica: header.replica,
         });
     }
-    sum = next;
     let mut pad = match Pad::new(alloc, replica) {
         Ok(pad) => pad,
         Err(_) => return Err(Damage::Memory),
@@ -82,10 +80,10 @@ pub fn load<S: Sequence>(alloc: Global, replica: u16, bytes: &[u8]) -> Result<Lo
     let mut number: u64 = 1;
     for line in lines {
         number = number.saturating_add(1);
-        if line.is_empty() {
-            continue;
-        }
         sum = replay_line(alloc, &mut pad, sum.as_str(), line, number)?;
+    }
+    if pad.name().is_none() {
+        return Err(Damage::Empty);
     }
     Ok(Loaded {
         pad,

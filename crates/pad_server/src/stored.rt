@@ -1,0 +1,168 @@
+//! The pads of a store at the start of the server.
+ghost use Rattle.std.specs.Prelude.{◌≤◌};
+
+use crate::failure::Failure;
+use crate::keeper::{Book, Keeper};
+use block_seq::BlockSeq;
+use log::warn;
+use pad_core::Pad;
+use shared_pads::SharedPad;
+use std::alloc::Global;
+use std::fs::{File, OpenOptions};
+use std::sync::Mutex;
+use std::{fs, io};
+use store::{Damage, load};
+
+/// The row of a server, and who keeps it in files.
+#[derive(Drop)]
+pub struct Stored<'a> {
+    pub cells: Vec<SharedPad<BlockSeq>>,
+    pub keeper: Keeper<'a>,
+}
+
+/// Loads the pads of a folder, each from its file, in the order of the files' names. The other cells are free.
+pub fn restore<'a>(
+    rt: &'a HostRuntime,
+    folder: &'a str,
+    replica: u16,
+    count: u32,
+) -> Result<Stored<'a>, Failure<'a>>
+    requires { 1 ≤ replica }
+{
+    let alloc = rt.alloc();
+    let lock = match lock_folder(rt, folder) {
+        Ok(Some(lock)) => lock,
+        Ok(None) => return Err(Failure::InUse { folder }),
+        Err(cause) => return Err(Failure::Unopened { folder, cause }),
+    };
+    let names = match names_of(rt, folder) {
+        Ok(names) => names,
+        Err(cause) => return Err(Failure::Unopened { folder, cause }),
+    };
+    let mut row = Loading {
+        cells: Vec::new(alloc),
+        books: Vec::new(alloc),
+        handles: Vec::new(alloc),
+    };
+    for name in names.iter() {
+        if row.cells.len() >= count as usize {
+            return Err(Failure::Crowded { folder });
+        }
+        load_file(rt, folder, name.as_str(), replica, &mut row)?;
+    }
+    for cell in row.cells.len() as u32..count {
+        row.cells
+            .push(SharedPad::new(alloc, Pad::new(alloc, replica)?, cell))?;
+        row.books.push(Mutex::new(Book {
+            file: None,
+            sum: String::new(alloc),
+        }))?;
+        row.handles.push(Mutex::new(None))?;
+    }
+    let Loading {
+        cells,
+        books,
+        handles,
+    } = row;
+    Ok(Stored {
+        cells,
+        keeper: Keeper::new(rt, folder, replica, books, handles, lock),
+    })
+}
+
+// The pads so far, each with its file.
+struct Loading {
+    cells: Vec<SharedPad<BlockSeq>>,
+    books: Vec<Mutex<Book>>,
+    handles: Vec<Mutex<Option<File>>>,
+}
+
+// Makes the folder where it is not there, and takes its lock. None: another process has it.
+fn lock_folder(rt: &HostRuntime, folder: &str) -> io::Result<Option<File>> {
+    fs::create_dir_all(rt, folder)?;
+    let path = format!(in rt.alloc(); "{folder}/lock")?;
+    let mut options = OpenOptions::new();
+    options.write(true).create(true);
+    let lock = options.open(rt, path.as_str())?;
+    File::open(rt, folder)?.sync_all()?;
+    match lock.try_lock() {
+        Ok(()) => Ok(Some(lock)),
+        Err(_) => Ok(None),
+    }
+}
+
+// The names of the files of pads, in order.
+fn names_of(rt: &HostRuntime, folder: &str) -> io::Result<Vec<String>> {
+    let alloc = rt.alloc();
+    let mut names = Vec::new(alloc);
+    for entry in fs::read_dir(rt, folder)? {
+        let entry = entry?;
+        if entry.file_name().ends_with(".pad") {
+            names.push(String::from_str(alloc, entry.file_name())?)?;
+        }
+    }
+    names.sort()?;
+    Ok(names)
+}
+
+// Loads one pad. Its file is cut behind its last whole line; a file whose pad was never named is taken away.
+fn load_file<'a>(
+    rt: &'a HostRuntime,
+    folder: &'a str,
+    name: &str,
+    replica: u16,
+    row: &mut Loading,
+) -> Result<(), Failure<'a>>
+    requires { 1 ≤ replica }
+{
+    let alloc = rt.alloc();
+    let path = format!(in alloc; "{folder}/{name}")?;
+    let bytes = match fs::read(rt, path.as_str()) {
+        Ok(bytes) => bytes,
+        Err(cause) => return Err(Failure::Unopened { folder, cause }),
+    };
+    match load(alloc, replica, bytes.as_slice()) {
+        Ok(loaded) => {
+            if loaded.cut > 0 {
+                let cut = loaded.cut;
+                warn!(rt; "{path}: the last line was not whole: {cut} bytes are cut off");
+            }
+            match open_file(rt, path.as_str(), loaded.whole) {
+                Ok((file, handle)) => {
+                    let cell = row.cells.len() as u32;
+                    row.cells.push(SharedPad::new(alloc, loaded.pad, cell))?;
+                    row.books.push(Mutex::new(Book {
+                        file: Some(file),
+                        sum: loaded.sum,
+                    }))?;
+                    row.handles.push(Mutex::new(Some(handle)))?;
+                    Ok(())
+                }
+                Err(cause) => Err(Failure::Unopened { folder, cause }),
+            }
+        }
+        Err(Damage::Empty) => {
+            warn!(rt; "{path}: the pad was never named, and its file is taken away");
+            match fs::remove_file(rt, path.as_str()) {
+                Ok(()) => Ok(()),
+                Err(cause) => Err(Failure::Unopened { folder, cause }),
+            }
+        }
+        Err(Damage::OtherReplica { replica }) => Err(Failure::OtherReplica { folder, replica }),
+        Err(damage) => {
+            let _told = eprintln!(rt; "pad_server: {path}: {damage}");
+            Err(Failure::Damaged { folder })
+        }
+    }
+}
+
+// Opens a file for appending behind its whole lines, twice.
+fn open_file(rt: &HostRuntime, path: &str, whole: u64) -> io::Result<(File, File)> {
+    let mut options = OpenOptions::new();
+    options.append(true);
+    let file = options.open(rt, path)?;
+    file.set_len(whole)?;
+    file.sync_all()?;
+    let handle = file.try_clone()?;
+    Ok((file, handle))
+}

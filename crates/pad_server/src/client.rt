@@ -6,6 +6,7 @@ use crate::watched::Watched;
 use log::{Log, warn};
 use std::alloc::Global;
 use std::net::TcpStream;
+use std::sync::Wait;
 use wire_lines::{Fault, Std};
 use workers::{Connection, Gate, Pads, Served, serve_client};
 
@@ -14,17 +15,17 @@ use workers::{Connection, Gate, Pads, Served, serve_client};
 pub struct Client<'a, R: Log> {
     rt: &'a R,
     stream: TcpStream,
-    keeper: Option<&'a Keeper<'a>>,
+    keeper: Option<&'a Keeper<'a, R>>,
 }
 
 impl<'a, R: Log> Client<'a, R> {
     /// A client whose stream was accepted. Its replies wait for the keeper, if there is one.
-    pub fn new(rt: &'a R, stream: TcpStream, keeper: Option<&'a Keeper<'a>>) -> Client<'a, R> {
+    pub fn new(rt: &'a R, stream: TcpStream, keeper: Option<&'a Keeper<'a, R>>) -> Client<'a, R> {
         Client { rt, stream, keeper }
     }
 }
 
-impl<R: Log> Connection for Client<'_, R> {
+impl<R: Wait + Log> Connection for Client<'_, R> {
     fn serve<P: Pads, G: Gate>(
         self,
         alloc: Global,

@@ -10,6 +10,7 @@ use std::alloc::Global;
 use std::io;
 use std::io::ErrorKind;
 use std::net::{Net, TcpListener, TcpStream, ToSocketAddrs};
+use std::sync::Wait;
 use std::time::{Clock, Duration, Instant};
 use wire_lines::{Fault, Std};
 use workers::Pads;
@@ -32,19 +33,19 @@ struct Cause {
 
 /// A peer, and how its last round went.
 #[derive(Drop)]
-pub struct Contact<'a> {
+pub struct Contact<'a, R> {
     peer: &'a Peer,
     /// What has to be synced before a line is written to the peer.
-    keeper: Option<&'a Keeper<'a>>,
+    keeper: Option<&'a Keeper<'a, R>>,
     /// How many seconds the next round is put off after a failure; 0 where the last one succeeded.
     pause: u64,
     failed_at: Option<Instant>,
     told: Option<Cause>,
 }
 
-impl<'a> Contact<'a> {
+impl<'a, R> Contact<'a, R> {
     /// A peer without a round yet.
-    pub fn new(peer: &'a Peer, keeper: Option<&'a Keeper<'a>>) -> Contact<'a> {
+    pub fn new(peer: &'a Peer, keeper: Option<&'a Keeper<'a, R>>) -> Contact<'a, R> {
         Contact {
             peer,
             keeper,
@@ -72,9 +73,9 @@ impl<'a> Contact<'a> {
 
     /// Makes a round, and says whether operations came that other peers may lack. A failure is logged with its cause, once
     /// until that changes or a round succeeds.
-    pub fn exchange<P: Pads, R>(&mut self, rt: &R, alloc: Global, pads: &mut P, own: u16) -> bool
+    pub fn exchange<P: Pads>(&mut self, rt: &R, alloc: Global, pads: &mut P, own: u16) -> bool
     where
-        R: Net<Listener = TcpListener, Stream = TcpStream> + Clock + Log,
+        R: Net<Listener = TcpListener, Stream = TcpStream> + Clock + Wait + Log,
     {
         match make_round(rt, alloc, pads, own, self.peer, self.keeper) {
             Ok(relayed) => {
@@ -91,7 +92,10 @@ impl<'a> Contact<'a> {
     }
 
     // Puts the next round off, and logs what is new.
-    fn note<R: Clock + Log>(&mut self, rt: &R, fault: Fault, error: Option<io::Error>) {
+    fn note(&mut self, rt: &R, fault: Fault, error: Option<io::Error>)
+    where
+        R: Clock + Log,
+    {
         self.pause = match self.pause {
             0 => FIRST_PAUSE,
             pause => pause.saturating_mul(2).min(LONGEST_PAUSE),
@@ -116,10 +120,10 @@ fn make_round<P: Pads, R>(
     pads: &mut P,
     own: u16,
     peer: &Peer,
-    keeper: Option<&Keeper<'_>>,
+    keeper: Option<&Keeper<'_, R>>,
 ) -> Result<Relayed, (Fault, Option<io::Error>)>
 where
-    R: Net<Listener = TcpListener, Stream = TcpStream>,
+    R: Net<Listener = TcpListener, Stream = TcpStream> + Wait + Log,
 {
     let stream = match connect(rt, peer.address.as_str()) {
         Ok(stream) => stream,

@@ -30,12 +30,12 @@ enum Turn {
 }
 
 /// The peers that a server exchanges with: all but itself.
-pub fn contacts<'a>(
+pub fn contacts<'a, R>(
     alloc: Global,
     peers: &'a [Peer],
     own: u16,
-    keeper: Option<&'a Keeper<'a>>,
-) -> Result<Vec<Contact<'a>>, AllocError> {
+    keeper: Option<&'a Keeper<'a, R>>,
+) -> Result<Vec<Contact<'a, R>>, AllocError> {
     let mut contacts = Vec::new(alloc);
     for peer in peers {
         if peer.number != own {
@@ -50,7 +50,7 @@ pub fn contacts<'a>(
 /// asked once more, since others may lack them.
 pub fn exchange_all<S: Sequence, R, G: Gate>(
     row: &Row<'_, S, R, G>,
-    mut contacts: Vec<Contact<'_>>,
+    mut contacts: Vec<Contact<'_, R>>,
     wakes: &Receiver<Wake>,
     seats: Vec<Seat>,
 )
@@ -78,13 +78,13 @@ where
 // One round with each peer that is meant. Says whether operations came.
 fn rounds<P: Pads, R>(
     rt: &R,
-    contacts: &mut Vec<Contact<'_>>,
+    contacts: &mut Vec<Contact<'_, R>>,
     pads: &mut P,
     own: u16,
     turn: Turn,
 ) -> bool
 where
-    R: AllocGlobal + Net<Listener = TcpListener, Stream = TcpStream> + Clock + Log,
+    R: AllocGlobal + Net<Listener = TcpListener, Stream = TcpStream> + Clock + Wait + Log,
 {
     let mut has_come = false;
     for contact in contacts.iter_mut() {

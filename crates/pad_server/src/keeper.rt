@@ -1,16 +1,15 @@
 //! The files of a server's pads while it runs: what was answered is noted under the pad's lock, and synced before a reply is
 //! written.
-use block_seq::BlockSeq;
-use log::error;
-use pad_model::{Name, Refusal};
+use log::{Log, error};
 use records::{Record, records_of};
-use shared_pads::{Answered, SharedPad};
-use std::alloc::{AllocError, Global};
+use shared_pads::Answered;
+use std::alloc::Global;
 use std::fs::{File, OpenOptions};
 use std::io;
 use std::io::{ErrorKind, Write};
-use std::sync::{Condvar, Mutex};
-use std::time::{SystemTime, UNIX_EPOCH};
+use std::rt::Files;
+use std::sync::{Condvar, Mutex, Wait};
+use std::time::{Clock, SystemTime, UNIX_EPOCH};
 use store::{header_text, link, record_text};
 
 /// A pad's file, open for appending, and the sum of its last line.
@@ -47,8 +46,8 @@ enum Turn {
 
 /// Keeps the pads of a server in files, one for each pad that has a name.
 #[derive(Drop)]
-pub struct Keeper<'a> {
-    rt: &'a HostRuntime,
+pub struct Keeper<'a, R> {
+    rt: &'a R,
     folder: &'a str,
     replica: u16,
     books: Vec<Mutex<Book>>,
@@ -60,16 +59,16 @@ pub struct Keeper<'a> {
     _lock: File,
 }
 
-impl<'a> Keeper<'a> {
+impl<'a, R> Keeper<'a, R> {
     /// A keeper of these books, one for each cell, with a second handle of each file.
     pub fn new(
-        rt: &'a HostRuntime,
+        rt: &'a R,
         folder: &'a str,
         replica: u16,
         books: Vec<Mutex<Book>>,
         handles: Vec<Mutex<Option<File>>>,
         lock: File,
-    ) -> Keeper<'a> {
+    ) -> Keeper<'a, R> {
         Keeper {
             rt,
             folder,
@@ -87,7 +86,9 @@ impl<'a> Keeper<'a> {
             _lock: lock,
         }
     }
+}
 
+impl<R: Wait + Files<File = File> + Clock + Log> Keeper<'_, R> {
     /// Notes what a request leaves to be kept. A failure is logged, and from then on nothing is settled any more.
     pub fn note(&self, alloc: Global, told: &Answered<'_>) {
         let written = self.write(alloc, told);
@@ -103,69 +104,6 @@ impl<'a> Keeper<'a> {
                 error!(self.rt; "the store {} cannot be written: {cause}", self.folder);
             }
         }
-    }
-
-    /// Waits until all that was noted before is synced, or fails.
-    pub fn settle(&self) -> io::Result<()> {
-        let noted = self.progress.lock(self.rt).noted;
-        match self.turn(noted) {
-            Turn::Done => Ok(()),
-            Turn::Failed => Err(io::Error::from(ErrorKind::Other)),
-            Turn::Leads { noted, dirty } => {
-                let synced = self.sync(dirty);
-                self.finish(noted, synced.is_ok());
-                synced
-            }
-        }
-    }
-
-    // Waits while another thread syncs, until a note is synced or this thread has to do it.
-    fn turn(&self, note: u64) -> Turn {
-        let mut progress = self.settled.wait_while(
-            self.rt,
-            self.progress.lock(self.rt),
-            |progress| progress.settling && progress.settled < note && !progress.failed,
-        );
-        if progress.failed {
-            return Turn::Failed;
-        }
-        if progress.settled >= note {
-            return Turn::Done;
-        }
-        let dirty = progress.dirty;
-        progress.settling = true;
-        progress.dirty = 0;
-        Turn::Leads {
-            noted: progress.noted,
-            dirty,
-        }
-    }
-
-    // Tells all who wait what became of a sync.
-    fn finish(&self, noted: u64, synced: bool) {
-        let mut progress = self.progress.lock(self.rt);
-        progress.settling = false;
-        if synced {
-            progress.settled = noted;
-        } else {
-            progress.failed = true;
-        }
-        self.settled.notify_all();
-    }
-
-    // Syncs the files of these cells.
-    fn sync(&self, dirty: u64) -> io::Result<()> {
-        for (cell, handle) in self.handles.iter().enumerate() {
-            if (dirty >> (cell % 64)) & 1 == 1 {
-                if let Some(file) = &*handle.lock(self.rt) {
-                    if let Err(cause) = file.sync_data() {
-                        error!(self.rt; "the store {} cannot be synced: {cause}", self.folder);
-                        return Err(cause);
-                    }
-                }
-            }
-        }
-        Ok(())
     }
 
     // Appends the records of a request to the pad's file, and says whether there were any.
@@ -249,5 +187,70 @@ impl<'a> Keeper<'a> {
             },
             Err(_) => 0,
         }
+    }
+}
+
+impl<R: Wait + Log> Keeper<'_, R> {
+    /// Waits until all that was noted before is synced, or fails.
+    pub fn settle(&self) -> io::Result<()> {
+        let noted = self.progress.lock(self.rt).noted;
+        match self.turn(noted) {
+            Turn::Done => Ok(()),
+            Turn::Failed => Err(io::Error::from(ErrorKind::Other)),
+            Turn::Leads { noted, dirty } => {
+                let synced = self.sync(dirty);
+                self.finish(noted, synced.is_ok());
+                synced
+            }
+        }
+    }
+
+    // Waits while another thread syncs, until a note is synced or this thread has to do it.
+    fn turn(&self, note: u64) -> Turn {
+        let mut progress = self.settled.wait_while(
+            self.rt,
+            self.progress.lock(self.rt),
+            |progress| progress.settling && progress.settled < note && !progress.failed,
+        );
+        if progress.failed {
+            return Turn::Failed;
+        }
+        if progress.settled >= note {
+            return Turn::Done;
+        }
+        let dirty = progress.dirty;
+        progress.settling = true;
+        progress.dirty = 0;
+        Turn::Leads {
+            noted: progress.noted,
+            dirty,
+        }
+    }
+
+    // Tells all who wait what became of a sync.
+    fn finish(&self, noted: u64, synced: bool) {
+        let mut progress = self.progress.lock(self.rt);
+        progress.settling = false;
+        if synced {
+            progress.settled = noted;
+        } else {
+            progress.failed = true;
+        }
+        self.settled.notify_all();
+    }
+
+    // Syncs the files of these cells.
+    fn sync(&self, dirty: u64) -> io::Result<()> {
+        for (cell, handle) in self.handles.iter().enumerate() {
+            if (dirty >> (cell % 64)) & 1 == 1 {
+                if let Some(file) = &*handle.lock(self.rt) {
+                    if let Err(cause) = file.sync_data() {
+                        error!(self.rt; "the store {} cannot be synced: {cause}", self.folder);
+                        return Err(cause);
+                    }
+                }
+            }
+        }
+        Ok(())
     }
 }

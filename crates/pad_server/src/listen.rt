@@ -1,4 +1,7 @@
 //! The server of many connections over TCP.
+ghost use Rattle.std.specs.Prelude.{◌≤◌};
+ghost use Rattle.server_core.specs.declared.limits.TheConstants.{MAX_CELLS};
+
 use crate::accept::accept_all;
 use crate::accounts::read_accounts;
 use crate::args::Asked;
@@ -7,33 +10,59 @@ use crate::contact::Contact;
 use crate::exchange::{contacts, exchange_all};
 use crate::failure::Failure;
 use crate::keeper::Keeper;
+use crate::stored::{Stored, restore};
 use crate::wake::{Wake, Waker};
 use block_seq::BlockSeq;
 use crossbeam_channel::{Receiver, Sender};
 use log::Log;
 use shared_pads::{Seat, SharedPad};
 use std::alloc::{AllocError, Global};
+use std::fs::File;
 use std::io::Write;
 use std::net::{Net, TcpListener, TcpStream};
-use std::rt::Runtime;
+use std::rt::{Files, Runtime};
 use std::sync::Wait;
 use std::thread::Threads;
 use std::time::Clock;
 use std::{io, thread};
-use workers::{Row, pool, take_all_seats, take_seats};
+use workers::{Row, open_row, pool, take_all_seats, take_seats};
 
-/// Serves connections at an address, until as many as the command line names have ended. Where there is a keeper, each
-/// reply waits until what it tells of is synced.
-pub fn serve_row<'a, R>(
+/// Serves connections at an address, until as many as the command line names have ended. Where there is a store, the pads
+/// come from it, and each reply waits until what it tells of is synced.
+pub fn listen<'a, R>(
     rt: &R,
-    cells: Vec<SharedPad<BlockSeq>>,
-    keeper: Option<&Keeper<'_>>,
     asked: Asked<'a>,
     address: &'a str,
     path: &'a str,
 ) -> Result<(), Failure<'a>>
 where
-    R: Runtime<A = Global>
+    R: Runtime<A = Global, File = File>
+        + Net<Listener = TcpListener, Stream = TcpStream>
+        + Threads
+        + Wait
+        + Sync
+        + Log,
+    requires { (1 ≤ asked.replica) × (asked.cells ≤ MAX_CELLS) }
+{
+    let Some(folder) = asked.store else {
+        let cells = open_row(rt.alloc(), asked.replica, asked.cells)?;
+        return serve_row(rt, cells, None, asked, address, path);
+    };
+    let Stored { cells, keeper } = restore(rt, folder, asked.replica, asked.cells)?;
+    serve_row(rt, cells, Some(&keeper), asked, address, path)
+}
+
+/// Serves connections with the pads of a row.
+fn serve_row<'a, R>(
+    rt: &R,
+    cells: Vec<SharedPad<BlockSeq>>,
+    keeper: Option<&Keeper<'_, R>>,
+    asked: Asked<'a>,
+    address: &'a str,
+    path: &'a str,
+) -> Result<(), Failure<'a>>
+where
+    R: Runtime<A = Global, File = File>
         + Net<Listener = TcpListener, Stream = TcpStream>
         + Threads
         + Wait
@@ -104,12 +133,12 @@ fn announce<R: Print>(rt: &R, listener: &TcpListener) -> io::Result<()> {
 
 /// What the thread that exchanges with peers has, and how it is told that the last connection has ended.
 #[derive(Drop)]
-struct Relaying<'a> {
-    contacts: Vec<Contact<'a>>,
+struct Relaying<'a, R> {
+    contacts: Vec<Contact<'a, R>>,
     seats: Vec<Seat>,
     to: Sender<Wake>,
     wakes: Receiver<Wake>,
-    keeper: Option<&'a Keeper<'a>>,
+    keeper: Option<&'a Keeper<'a, R>>,
 }
 
 /// Accepts connections in a thread of its own, and serves them in as many as there are seats for. One more exchanges with
@@ -119,11 +148,12 @@ fn serve<R>(
     listener: TcpListener,
     connections: Option<u32>,
     crew: &mut [Vec<Seat>],
-    relaying: Relaying<'_>,
+    relaying: Relaying<'_, R>,
 ) -> Result<(), Failure<'static>>
 where
     R: AllocGlobal
         + Net<Listener = TcpListener, Stream = TcpStream>
+        + Files<File = File>
         + Clock
         + Threads
         + Wait

@@ -1,23 +1,25 @@
 //! A writer that writes nothing before the store is synced.
 use crate::keeper::Keeper;
+use log::Log;
 use std::io;
 use std::io::Write;
+use std::sync::Wait;
 
 /// A writer by which a reply goes out only after all that was noted before it is synced.
 #[derive(Drop)]
-pub struct Settled<'a, W> {
+pub struct Settled<'a, W, R> {
     inner: W,
-    keeper: Option<&'a Keeper<'a>>,
+    keeper: Option<&'a Keeper<'a, R>>,
 }
 
-impl<'a, W> Settled<'a, W> {
+impl<'a, W, R> Settled<'a, W, R> {
     /// A writer that waits for this keeper; None: it waits for nothing.
-    pub fn new(inner: W, keeper: Option<&'a Keeper<'a>>) -> Settled<'a, W> {
+    pub fn new(inner: W, keeper: Option<&'a Keeper<'a, R>>) -> Settled<'a, W, R> {
         Settled { inner, keeper }
     }
 }
 
-impl<W: Write> Write for Settled<'_, W> {
+impl<W: Write, R: Wait + Log> Write for Settled<'_, W, R> {
     fn write(&mut self, bytes: &[u8]) -> io::Result<usize> {
         if let Some(keeper) = self.keeper {
             keeper.settle()?;

@@ -4,29 +4,33 @@ ghost use Rattle.std.specs.Prelude.{◌≤◌};
 use crate::failure::Failure;
 use crate::keeper::{Book, Keeper};
 use block_seq::BlockSeq;
-use log::warn;
+use log::{Log, warn};
 use pad_core::Pad;
 use shared_pads::SharedPad;
-use std::alloc::Global;
+use std::alloc::{AllocError, Global};
 use std::fs::{File, OpenOptions};
+use std::rt::Runtime;
 use std::sync::Mutex;
 use std::{fs, io};
 use store::{Damage, load};
 
 /// The row of a server, and who keeps it in files.
 #[derive(Drop)]
-pub struct Stored<'a> {
+pub struct Stored<'a, R> {
     pub cells: Vec<SharedPad<BlockSeq>>,
-    pub keeper: Keeper<'a>,
+    pub keeper: Keeper<'a, R>,
 }
 
 /// Loads the pads of a folder, each from its file, in the order of the files' names. The other cells are free.
-pub fn restore<'a>(
-    rt: &'a HostRuntime,
-    folder: &'a str,
+pub fn restore<'a, 'f, R>(
+    rt: &'a R,
+    folder: &'f str,
     replica: u16,
     count: u32,
-) -> Result<Stored<'a>, Failure<'a>>
+) -> Result<Stored<'a, R>, Failure<'f>>
+where
+    'f: 'a,
+    R: Runtime<A = Global, File = File> + Log,
     requires { 1 ≤ replica }
 {
     let alloc = rt.alloc();
@@ -50,14 +54,13 @@ pub fn restore<'a>(
         }
         load_file(rt, folder, name.as_str(), replica, &mut row)?;
     }
-    for cell in row.cells.len() as u32..count {
-        row.cells
-            .push(SharedPad::new(alloc, Pad::new(alloc, replica)?, cell))?;
-        row.books.push(Mutex::new(Book {
+    while row.cells.len() < count as usize {
+        let pad = Pad::new(alloc, replica)?;
+        let book = Book {
             file: None,
             sum: String::new(alloc),
-        }))?;
-        row.handles.push(Mutex::new(None))?;
+        };
+        row.add(alloc, pad, book, None)?;
     }
     let Loading {
         cells,
@@ -71,14 +74,35 @@ pub fn restore<'a>(
 }
 
 // The pads so far, each with its file.
+#[derive(Drop)]
 struct Loading {
     cells: Vec<SharedPad<BlockSeq>>,
     books: Vec<Mutex<Book>>,
     handles: Vec<Mutex<Option<File>>>,
 }
 
+impl Loading {
+    // One more cell.
+    fn add(
+        &mut self,
+        alloc: Global,
+        pad: Pad<BlockSeq>,
+        book: Book,
+        handle: Option<File>,
+    ) -> Result<(), AllocError> {
+        let cell = self.cells.len() as u32;
+        self.cells.push(SharedPad::new(alloc, pad, cell))?;
+        self.books.push(Mutex::new(book))?;
+        self.handles.push(Mutex::new(handle))?;
+        Ok(())
+    }
+}
+
 // Makes the folder where it is not there, and takes its lock. None: another process has it.
-fn lock_folder(rt: &HostRuntime, folder: &str) -> io::Result<Option<File>> {
+fn lock_folder<R: Runtime<A = Global, File = File>>(
+    rt: &R,
+    folder: &str,
+) -> io::Result<Option<File>> {
     fs::create_dir_all(rt, folder)?;
     let path = format!(in rt.alloc(); "{folder}/lock")?;
     let mut options = OpenOptions::new();
@@ -92,7 +116,7 @@ fn lock_folder(rt: &HostRuntime, folder: &str) -> io::Result<Option<File>> {
 }
 
 // The names of the files of pads, in order.
-fn names_of(rt: &HostRuntime, folder: &str) -> io::Result<Vec<String>> {
+fn names_of<R: Runtime<A = Global, File = File>>(rt: &R, folder: &str) -> io::Result<Vec<String>> {
     let alloc = rt.alloc();
     let mut names = Vec::new(alloc);
     for entry in fs::read_dir(rt, folder)? {
@@ -106,13 +130,15 @@ fn names_of(rt: &HostRuntime, folder: &str) -> io::Result<Vec<String>> {
 }
 
 // Loads one pad. Its file is cut behind its last whole line; a file whose pad was never named is taken away.
-fn load_file<'a>(
-    rt: &'a HostRuntime,
-    folder: &'a str,
+fn load_file<'f, R>(
+    rt: &R,
+    folder: &'f str,
     name: &str,
     replica: u16,
     row: &mut Loading,
-) -> Result<(), Failure<'a>>
+) -> Result<(), Failure<'f>>
+where
+    R: Runtime<A = Global, File = File> + Log,
     requires { 1 ≤ replica }
 {
     let alloc = rt.alloc();
@@ -129,14 +155,11 @@ fn load_file<'a>(
             }
             match open_file(rt, path.as_str(), loaded.whole) {
                 Ok((file, handle)) => {
-                    let cell = row.cells.len() as u32;
-                    row.cells.push(SharedPad::new(alloc, loaded.pad, cell))?;
-                    row.books.push(Mutex::new(Book {
+                    let book = Book {
                         file: Some(file),
                         sum: loaded.sum,
-                    }))?;
-                    row.handles.push(Mutex::new(Some(handle)))?;
-                    Ok(())
+                    };
+                    Ok(row.add(alloc, loaded.pad, book, Some(handle))?)
                 }
                 Err(cause) => Err(Failure::Unopened { folder, cause }),
             }
@@ -157,7 +180,11 @@ fn load_file<'a>(
 }
 
 // Opens a file for appending behind its whole lines, twice.
-fn open_file(rt: &HostRuntime, path: &str, whole: u64) -> io::Result<(File, File)> {
+fn open_file<R: Runtime<A = Global, File = File>>(
+    rt: &R,
+    path: &str,
+    whole: u64,
+) -> io::Result<(File, File)> {
     let mut options = OpenOptions::new();
     options.append(true);
     let file = options.open(rt, path)?;

@@ -1,9 +1,13 @@
 //! Wake-ups for the thread that exchanges with peers.
 use crate::keeper::Keeper;
 use crossbeam_channel::Sender;
+use log::Log;
 use shared_pads::Answered;
 use std::alloc::Global;
+use std::fs::File;
+use std::rt::Files;
 use std::sync::Wait;
+use std::time::Clock;
 use workers::Gate;
 
 /// Why a relay thread is woken.
@@ -21,7 +25,7 @@ pub enum Wake {
 pub struct Waker<'a, R> {
     rt: &'a R,
     to: Option<Sender<Wake>>,
-    keeper: Option<&'a Keeper<'a>>,
+    keeper: Option<&'a Keeper<'a, R>>,
 }
 
 impl<'a, R> Waker<'a, R> {
@@ -29,13 +33,13 @@ impl<'a, R> Waker<'a, R> {
     pub fn new(
         rt: &'a R,
         to: Option<Sender<Wake>>,
-        keeper: Option<&'a Keeper<'a>>,
+        keeper: Option<&'a Keeper<'a, R>>,
     ) -> Waker<'a, R> {
         Waker { rt, to, keeper }
     }
 }
 
-impl<R: Wait> Gate for Waker<'_, R> {
+impl<R: Wait + Files<File = File> + Clock + Log> Gate for Waker<'_, R> {
     fn answered(&self, alloc: Global, told: &Answered<'_>) {
         if let Some(keeper) = self.keeper {
             keeper.note(alloc, told);

@@ -18,7 +18,7 @@ pub fn accept_all<'a, R: Wait + Clock + Log>(
     listener: &TcpListener,
     most: Option<u32>,
     to: &Sender<(u64, Client<'a, R>)>,
-    keeper: Option<&'a Keeper<'a, R>>,
+    keeper: Option<&'a Keeper>,
 ) {
     let mut accepted = 0u64;
     for stream in listener.incoming() {
@@ -44,7 +44,7 @@ fn hand_over<'a, R: Wait + Log>(
     number: u64,
     stream: TcpStream,
     to: &Sender<(u64, Client<'a, R>)>,
-    keeper: Option<&'a Keeper<'a, R>>,
+    keeper: Option<&'a Keeper>,
 ) {
     if let Err(cause) = stream.set_nodelay(true) {
         warn!(rt; "connection {number}: its replies may be late: {cause}");

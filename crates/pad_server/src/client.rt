@@ -15,12 +15,12 @@ use workers::{Connection, Gate, Pads, Served, serve_client};
 pub struct Client<'a, R: Log> {
     rt: &'a R,
     stream: TcpStream,
-    keeper: Option<&'a Keeper<'a, R>>,
+    keeper: Option<&'a Keeper>,
 }
 
 impl<'a, R: Log> Client<'a, R> {
     /// A client whose stream was accepted. Its replies wait for the keeper, if there is one.
-    pub fn new(rt: &'a R, stream: TcpStream, keeper: Option<&'a Keeper<'a, R>>) -> Client<'a, R> {
+    pub fn new(rt: &'a R, stream: TcpStream, keeper: Option<&'a Keeper>) -> Client<'a, R> {
         Client { rt, stream, keeper }
     }
 }
@@ -34,7 +34,7 @@ impl<R: Wait + Log> Connection for Client<'_, R> {
         gate: &G,
     ) -> Result<Served, Fault> {
         let mut input = Watched::new(&self.stream);
-        let mut output = Watched::new(Settled::new(&self.stream, self.keeper));
+        let mut output = Watched::new(Settled::new(self.rt, &self.stream, self.keeper));
         let mut reader = Std::new(&mut input);
         let mut writer = Std::new(&mut output);
         let served = serve_client(alloc, pads, &mut reader, &mut writer, number, gate);

@@ -33,19 +33,19 @@ struct Cause {
 
 /// A peer, and how its last round went.
 #[derive(Drop)]
-pub struct Contact<'a, R> {
+pub struct Contact<'a> {
     peer: &'a Peer,
     /// What has to be synced before a line is written to the peer.
-    keeper: Option<&'a Keeper<'a, R>>,
+    keeper: Option<&'a Keeper>,
     /// How many seconds the next round is put off after a failure; 0 where the last one succeeded.
     pause: u64,
     failed_at: Option<Instant>,
     told: Option<Cause>,
 }
 
-impl<'a, R> Contact<'a, R> {
+impl<'a> Contact<'a> {
     /// A peer without a round yet.
-    pub fn new(peer: &'a Peer, keeper: Option<&'a Keeper<'a, R>>) -> Contact<'a, R> {
+    pub fn new(peer: &'a Peer, keeper: Option<&'a Keeper>) -> Contact<'a> {
         Contact {
             peer,
             keeper,
@@ -73,7 +73,7 @@ impl<'a, R> Contact<'a, R> {
 
     /// Makes a round, and says whether operations came that other peers may lack. A failure is logged with its cause, once
     /// until that changes or a round succeeds.
-    pub fn exchange<P: Pads>(&mut self, rt: &R, alloc: Global, pads: &mut P, own: u16) -> bool
+    pub fn exchange<P: Pads, R>(&mut self, rt: &R, alloc: Global, pads: &mut P, own: u16) -> bool
     where
         R: Net<Listener = TcpListener, Stream = TcpStream> + Clock + Wait + Log,
     {
@@ -92,10 +92,7 @@ impl<'a, R> Contact<'a, R> {
     }
 
     // Puts the next round off, and logs what is new.
-    fn note(&mut self, rt: &R, fault: Fault, error: Option<io::Error>)
-    where
-        R: Clock + Log,
-    {
+    fn note<R: Clock + Log>(&mut self, rt: &R, fault: Fault, error: Option<io::Error>) {
         self.pause = match self.pause {
             0 => FIRST_PAUSE,
             pause => pause.saturating_mul(2).min(LONGEST_PAUSE),
@@ -114,13 +111,13 @@ impl<'a, R> Contact<'a, R> {
 }
 
 // Connects, and makes a round.
-fn make_round<P: Pads, R>(
-    rt: &R,
+fn make_round<'s, P: Pads, R>(
+    rt: &'s R,
     alloc: Global,
     pads: &mut P,
     own: u16,
     peer: &Peer,
-    keeper: Option<&Keeper<'_, R>>,
+    keeper: Option<&'s Keeper>,
 ) -> Result<Relayed, (Fault, Option<io::Error>)>
 where
     R: Net<Listener = TcpListener, Stream = TcpStream> + Wait + Log,
@@ -130,7 +127,7 @@ where
         Err(error) => return Err((Fault::ReadFault, Some(error))),
     };
     let mut input = Watched::new(&stream);
-    let mut output = Watched::new(Settled::new(&stream, keeper));
+    let mut output = Watched::new(Settled::new(rt, &stream, keeper));
     let relayed = match Link::new(alloc, Std::new(&mut input), Std::new(&mut output)) {
         Ok(mut link) => {
             let _session = pads.relay(alloc, peer.number);

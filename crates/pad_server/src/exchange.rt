@@ -30,12 +30,12 @@ enum Turn {
 }
 
 /// The peers that a server exchanges with: all but itself.
-pub fn contacts<'a, R>(
+pub fn contacts<'a>(
     alloc: Global,
     peers: &'a [Peer],
     own: u16,
-    keeper: Option<&'a Keeper<'a, R>>,
-) -> Result<Vec<Contact<'a, R>>, AllocError> {
+    keeper: Option<&'a Keeper>,
+) -> Result<Vec<Contact<'a>>, AllocError> {
     let mut contacts = Vec::new(alloc);
     for peer in peers {
         if peer.number != own {
@@ -50,7 +50,7 @@ pub fn contacts<'a, R>(
 /// asked once more, since others may lack them.
 pub fn exchange_all<S: Sequence, R, G: Gate>(
     row: &Row<'_, S, R, G>,
-    mut contacts: Vec<Contact<'_, R>>,
+    mut contacts: Vec<Contact<'_>>,
     wakes: &Receiver<Wake>,
     seats: Vec<Seat>,
 )
@@ -78,7 +78,7 @@ where
 // One round with each peer that is meant. Says whether operations came.
 fn rounds<P: Pads, R>(
     rt: &R,
-    contacts: &mut Vec<Contact<'_, R>>,
+    contacts: &mut Vec<Contact<'_>>,
     pads: &mut P,
     own: u16,
     turn: Turn,

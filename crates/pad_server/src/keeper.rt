@@ -46,9 +46,8 @@ enum Turn {
 
 /// Keeps the pads of a server in files, one for each pad that has a name.
 #[derive(Drop)]
-pub struct Keeper<'a, R> {
-    rt: &'a R,
-    folder: &'a str,
+pub struct Keeper {
+    folder: String,
     replica: u16,
     books: Vec<Mutex<Book>>,
     // Second handles of the files, by which they are synced while others append.
@@ -59,18 +58,16 @@ pub struct Keeper<'a, R> {
     _lock: File,
 }
 
-impl<'a, R> Keeper<'a, R> {
+impl Keeper {
     /// A keeper of these books, one for each cell, with a second handle of each file.
     pub fn new(
-        rt: &'a R,
-        folder: &'a str,
+        folder: String,
         replica: u16,
         books: Vec<Mutex<Book>>,
         handles: Vec<Mutex<Option<File>>>,
         lock: File,
-    ) -> Keeper<'a, R> {
+    ) -> Keeper {
         Keeper {
-            rt,
             folder,
             replica,
             books,
@@ -86,13 +83,16 @@ impl<'a, R> Keeper<'a, R> {
             _lock: lock,
         }
     }
-}
 
-impl<R: Wait + Files<File = File> + Clock + Log> Keeper<'_, R> {
     /// Notes what a request leaves to be kept. A failure is logged, and from then on nothing is settled any more.
-    pub fn note(&self, alloc: Global, told: &Answered<'_>) {
-        let written = self.write(alloc, told);
-        let mut progress = self.progress.lock(self.rt);
+    pub fn note<R: Wait + Files<File = File> + Clock + Log>(
+        &self,
+        rt: &R,
+        alloc: Global,
+        told: &Answered<'_>,
+    ) {
+        let written = self.write(rt, alloc, told);
+        let mut progress = self.progress.lock(rt);
         match written {
             Ok(false) => {}
             Ok(true) => {
@@ -101,13 +101,18 @@ impl<R: Wait + Files<File = File> + Clock + Log> Keeper<'_, R> {
             }
             Err(cause) => {
                 progress.failed = true;
-                error!(self.rt; "the store {} cannot be written: {cause}", self.folder);
+                error!(rt; "the store {} cannot be written: {cause}", self.folder);
             }
         }
     }
 
     // Appends the records of a request to the pad's file, and says whether there were any.
-    fn write(&self, alloc: Global, told: &Answered<'_>) -> io::Result<bool> {
+    fn write<R: Wait + Files<File = File> + Clock + Log>(
+        &self,
+        rt: &R,
+        alloc: Global,
+        told: &Answered<'_>,
+    ) -> io::Result<bool> {
         let records = records_of(alloc, told.who, told.request, told.answer, told.more)?;
         let Some(first) = records.first() else {
             return Ok(false);
@@ -116,14 +121,14 @@ impl<R: Wait + Files<File = File> + Clock + Log> Keeper<'_, R> {
         if cell >= self.books.len() {
             return Err(io::Error::from(ErrorKind::NotFound));
         }
-        let mut book = self.books[cell].lock(self.rt);
+        let mut book = self.books[cell].lock(rt);
         let mut lines = String::new(alloc);
         if book.file.is_none() {
-            let (file, sum) = self.begin(alloc, cell, first, &mut lines)?;
+            let (file, sum) = self.begin(rt, alloc, cell, first, &mut lines)?;
             book.file = Some(file);
             book.sum = sum;
         }
-        let sum = self.append(alloc, book.sum.as_str(), records.as_slice(), &mut lines)?;
+        let sum = self.append(rt, alloc, book.sum.as_str(), records.as_slice(), &mut lines)?;
         book.sum = sum;
         match &mut book.file {
             Some(file) => file.write_all(lines.as_bytes())?,
@@ -133,14 +138,15 @@ impl<R: Wait + Files<File = File> + Clock + Log> Keeper<'_, R> {
     }
 
     // The lines of records behind a line with this sum, and the sum of the last.
-    fn append(
+    fn append<R: Wait + Files<File = File> + Clock + Log>(
         &self,
+        rt: &R,
         alloc: Global,
         before: &str,
         records: &[Record],
         lines: &mut String,
     ) -> io::Result<String> {
-        let at = self.seconds();
+        let at = self.seconds(rt);
         let mut sum = String::from_str(alloc, before)?;
         for kept in records {
             let text = record_text(alloc, at, kept)?;
@@ -152,8 +158,9 @@ impl<R: Wait + Files<File = File> + Clock + Log> Keeper<'_, R> {
     }
 
     // Makes the file of a pad that was just named, and the first line.
-    fn begin(
+    fn begin<R: Wait + Files<File = File> + Clock + Log>(
         &self,
+        rt: &R,
         alloc: Global,
         cell: usize,
         first: &Record,
@@ -162,16 +169,16 @@ impl<R: Wait + Files<File = File> + Clock + Log> Keeper<'_, R> {
         let Record::Named { name, .. } = first else {
             return Err(io::Error::from(ErrorKind::InvalidData));
         };
-        let folder = self.folder;
+        let folder = self.folder.as_str();
         let pad = name.as_str();
         let path = format!(in alloc; "{folder}/{pad}.pad")?;
         let mut options = OpenOptions::new();
         options.append(true).create_new(true);
-        let file = options.open(self.rt, path.as_str())?;
+        let file = options.open(rt, path.as_str())?;
         if cell < self.handles.len() {
-            *self.handles[cell].lock(self.rt) = Some(file.try_clone()?);
+            *self.handles[cell].lock(rt) = Some(file.try_clone()?);
         }
-        File::open(self.rt, folder)?.sync_all()?;
+        File::open(rt, folder)?.sync_all()?;
         let text = header_text(alloc, name, self.replica)?;
         let linked = link(alloc, "", text.as_str())?;
         lines.push_str(linked.line.as_str())?;
@@ -179,8 +186,8 @@ impl<R: Wait + Files<File = File> + Clock + Log> Keeper<'_, R> {
     }
 
     // The time of day in seconds since 1970, or 0 where the clock does not tell.
-    fn seconds(&self) -> u64 {
-        match SystemTime::now(self.rt) {
+    fn seconds<R: Clock>(&self, rt: &R) -> u64 {
+        match SystemTime::now(rt) {
             Ok(now) => match now.duration_since(UNIX_EPOCH) {
                 Ok(passed) => passed.as_secs(),
                 Err(_) => 0,
@@ -188,28 +195,26 @@ impl<R: Wait + Files<File = File> + Clock + Log> Keeper<'_, R> {
             Err(_) => 0,
         }
     }
-}
 
-impl<R: Wait + Log> Keeper<'_, R> {
     /// Waits until all that was noted before is synced, or fails.
-    pub fn settle(&self) -> io::Result<()> {
-        let noted = self.progress.lock(self.rt).noted;
-        match self.turn(noted) {
+    pub fn settle<R: Wait + Log>(&self, rt: &R) -> io::Result<()> {
+        let noted = self.progress.lock(rt).noted;
+        match self.turn(rt, noted) {
             Turn::Done => Ok(()),
             Turn::Failed => Err(io::Error::from(ErrorKind::Other)),
             Turn::Leads { noted, dirty } => {
-                let synced = self.sync(dirty);
-                self.finish(noted, synced.is_ok());
+                let synced = self.sync(rt, dirty);
+                self.finish(rt, noted, synced.is_ok());
                 synced
             }
         }
     }
 
     // Waits while another thread syncs, until a note is synced or this thread has to do it.
-    fn turn(&self, note: u64) -> Turn {
+    fn turn<R: Wait>(&self, rt: &R, note: u64) -> Turn {
         let mut progress = self.settled.wait_while(
-            self.rt,
-            self.progress.lock(self.rt),
+            rt,
+            self.progress.lock(rt),
             |progress| progress.settling && progress.settled < note && !progress.failed,
         );
         if progress.failed {
@@ -228,8 +233,8 @@ impl<R: Wait + Log> Keeper<'_, R> {
     }
 
     // Tells all who wait what became of a sync.
-    fn finish(&self, noted: u64, synced: bool) {
-        let mut progress = self.progress.lock(self.rt);
+    fn finish<R: Wait>(&self, rt: &R, noted: u64, synced: bool) {
+        let mut progress = self.progress.lock(rt);
         progress.settling = false;
         if synced {
             progress.settled = noted;
@@ -240,12 +245,12 @@ impl<R: Wait + Log> Keeper<'_, R> {
     }
 
     // Syncs the files of these cells.
-    fn sync(&self, dirty: u64) -> io::Result<()> {
+    fn sync<R: Wait + Log>(&self, rt: &R, dirty: u64) -> io::Result<()> {
         for (cell, handle) in self.handles.iter().enumerate() {
             if (dirty >> (cell % 64)) & 1 == 1 {
-                if let Some(file) = &*handle.lock(self.rt) {
+                if let Some(file) = &*handle.lock(rt) {
                     if let Err(cause) = file.sync_data() {
-                        error!(self.rt; "the store {} cannot be synced: {cause}", self.folder);
+                        error!(rt; "the store {} cannot be synced: {cause}", self.folder);
                         return Err(cause);
                     }
                 }

@@ -53,10 +53,10 @@ where
 }
 
 /// Serves connections with the pads of a row.
-fn serve_row<'a, R>(
-    rt: &R,
+fn serve_row<'a, 's, R>(
+    rt: &'s R,
     cells: Vec<SharedPad<BlockSeq>>,
-    keeper: Option<&Keeper<'_, R>>,
+    keeper: Option<&'s Keeper>,
     asked: Asked<'a>,
     address: &'a str,
     path: &'a str,
@@ -133,12 +133,12 @@ fn announce<R: Print>(rt: &R, listener: &TcpListener) -> io::Result<()> {
 
 /// What the thread that exchanges with peers has, and how it is told that the last connection has ended.
 #[derive(Drop)]
-struct Relaying<'a, R> {
-    contacts: Vec<Contact<'a, R>>,
+struct Relaying<'a> {
+    contacts: Vec<Contact<'a>>,
     seats: Vec<Seat>,
     to: Sender<Wake>,
     wakes: Receiver<Wake>,
-    keeper: Option<&'a Keeper<'a, R>>,
+    keeper: Option<&'a Keeper>,
 }
 
 /// Accepts connections in a thread of its own, and serves them in as many as there are seats for. One more exchanges with
@@ -148,7 +148,7 @@ fn serve<R>(
     listener: TcpListener,
     connections: Option<u32>,
     crew: &mut [Vec<Seat>],
-    relaying: Relaying<'_, R>,
+    relaying: Relaying<'_>,
 ) -> Result<(), Failure<'static>>
 where
     R: AllocGlobal

@@ -25,16 +25,12 @@ pub enum Wake {
 pub struct Waker<'a, R> {
     rt: &'a R,
     to: Option<Sender<Wake>>,
-    keeper: Option<&'a Keeper<'a, R>>,
+    keeper: Option<&'a Keeper>,
 }
 
 impl<'a, R> Waker<'a, R> {
     /// A gate that wakes whoever receives, and has what is answered noted; None: nobody.
-    pub fn new(
-        rt: &'a R,
-        to: Option<Sender<Wake>>,
-        keeper: Option<&'a Keeper<'a, R>>,
-    ) -> Waker<'a, R> {
+    pub fn new(rt: &'a R, to: Option<Sender<Wake>>, keeper: Option<&'a Keeper>) -> Waker<'a, R> {
         Waker { rt, to, keeper }
     }
 }
@@ -42,7 +38,7 @@ impl<'a, R> Waker<'a, R> {
 impl<R: Wait + Files<File = File> + Clock + Log> Gate for Waker<'_, R> {
     fn answered(&self, alloc: Global, told: &Answered<'_>) {
         if let Some(keeper) = self.keeper {
-            keeper.note(alloc, told);
+            keeper.note(self.rt, alloc, told);
         }
     }
 

@@ -324,5 +324,5 @@ FUNCTIONS = [
 
 TESTS = [case.test() for case in CASES]
 TESTS += [Test(f"pad_server: listen: {function.__name__.replace('_', ' ')}", function) for function in FUNCTIONS]
-# The server waits for 30 seconds.
-TESTS += [Test("pad_server: listen: a client that reads nothing is not waited for", a_client_that_reads_nothing_is_not_waited_for, 90)]
+# The server waits for 30 seconds at each part of a reply that is taken.
+TESTS += [Test("pad_server: listen: a client that reads nothing is not waited for", a_client_that_reads_nothing_is_not_waited_for, 200)]

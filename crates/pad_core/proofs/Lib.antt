@@ -17,6 +17,7 @@ pub mod Others
 pub mod Pulled
 pub mod Receives
 pub mod Releases
+pub mod Restored
 pub mod Runs
 pub mod SameSet
 pub mod Sessions

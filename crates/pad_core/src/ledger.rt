@@ -1,5 +1,5 @@
 //! The operations that were delivered, and what they show.
-ghost use Rattle.std.specs.Prelude.{◌≡◌, ℕ, ◌+◌, ◌≤◌, [], ◌∷◌, ◌++◌, length, take, filter, slice_get, option_copied, count_by, Option, None, Ok, IsTrue, IfErr, MatchResult};
+ghost use Rattle.std.specs.Prelude.{◌≡◌, ℕ, ◌+◌, ◌≤◌, [], ◌∷◌, ◌++◌, length, take, drop, filter, slice_get, option_copied, count_by, Option, None, Ok, IsTrue, IfErr, MatchResult};
 ghost use Rattle.pad_model.specs.Answers.{Answers};
 ghost use Rattle.pad_model.specs.Checked.{is_checked};
 ghost use Rattle.pad_model.specs.History.{clock_of_characters};
@@ -167,6 +167,13 @@ impl<S: Sequence> Ledger<S> {
         ensures { result.now ≡ entries_of self.now from count }
     {
         self.log.entries(from, count)
+    }
+
+    /// The operations that made the revisions after this one.
+    pub fn since(&self, revision: u64) -> &[Op]
+        ensures { result.now ≡ drop revision self.now }
+    {
+        self.log.since(revision)
     }
 
     /// The operation at a place, from 0.

@@ -20,6 +20,7 @@ mod reads;
 mod recorded;
 mod reply;
 mod request;
+mod restart;
 
 pub use act::{Act, Change};
 pub use admit::session_refusal;

@@ -1,5 +1,5 @@
 //! One pad.
-ghost use Rattle.std.specs.Prelude.{◌≡◌, ◌⊎◌, ℕ, ◌+◌, ◌≤◌, List, [], length, IsTrue, IfOk, OnOk, Some, None, Err, MatchResult, option_map, unwrap_or};
+ghost use Rattle.std.specs.Prelude.{◌≡◌, ◌⊎◌, ℕ, ◌+◌, ◌≤◌, List, [], length, drop, IsTrue, IfOk, OnOk, Some, None, Err, MatchResult, option_map, unwrap_or};
 ghost use Rattle.pad_model.specs.Answers.{Answers};
 ghost use Rattle.pad_model.specs.Checked.{is_name};
 ghost use Rattle.pad_model.specs.declared.limits.TheConstants.{MAX_REPLICA};
@@ -8,6 +8,7 @@ ghost use Rattle.pad_core.specs.Laws.{LastReadsAlike};
 ghost use Rattle.pad_model.specs.declared.who.Who.TheVariants as Who;
 ghost use Rattle.pad_core.specs.declared.act.Act.{Act};
 ghost use Rattle.pad_core.specs.Machine.{IsAdmitted, author_act as author_acted, author_step as author_stepped, claim as claimed, name_of, nobody_present, peer_act as peer_acted, step as machine_step};
+ghost use Rattle.pad_core.specs.Restart.{restore_claim as claim_restored, restore_grant as grant_restored, restore_operation as operation_restored, restore_visit as visit_restored};
 ghost use Rattle.pad_core.specs.Ran.{IsCutShort, Stepped, run as machine_run, Ran, FoundMemory};
 
 use crate::act::Act;
@@ -23,8 +24,10 @@ use crate::presence::{depart, join, leave, put_caret, read_who};
 use crate::push::push;
 use crate::reads::{read_comments, read_entries, read_revs, read_runs, read_text};
 use crate::reply::PadReply;
+use crate::restart::{deliver_again, grant_again, own_again, visit_again};
 use holdback::Hold;
-use pad_model::{Name, Refusal, Sequence, Version, Who};
+use pad_model::{Name, Op, Refusal, Sequence, Version, Who};
+use rights::Right;
 use sessions::PresenceBook;
 use std::alloc::Global;
 use std::marker::Model;
@@ -139,6 +142,63 @@ impl<S: Sequence> Pad<S> {
         if let Who::Author(name) = who {
             self.author_leaves(name, visit);
         }
+    }
+
+    /// The operations that made the revisions after this one.
+    pub fn since(&self, revision: u64) -> &[Op]
+        ensures { result.now ≡ drop revision self.now.log }
+    {
+        self.ledger.since(revision)
+    }
+
+    /// Claims the pad as it was claimed before a restart. The owner's visit has ended.
+    pub fn restore_claim(&mut self, alloc: Global, name: &Name, owner: &Name) -> Result<(), Refusal>
+        ensures { Answers self.old (claim_restored name.now owner.now self.old) result self.new }
+    {
+        if self.owned.is_some() {
+            return Err(Refusal::PadExists);
+        }
+        if !name.is_well_formed() || !owner.is_well_formed() {
+            return Err(Refusal::BadName);
+        }
+        own_again(
+            alloc,
+            &mut self.owned,
+            &mut self.presence,
+            name.as_str(),
+            owner.as_str(),
+        )
+    }
+
+    /// Gives a right, or takes it away (None), as it was done before a restart.
+    pub fn restore_grant(&mut self, author: &Name, right: Option<Right>) -> Result<(), Refusal>
+        ensures { Answers self.old (grant_restored author.now right self.old) result self.new }
+    {
+        if self.owned.is_none() {
+            return Err(Refusal::NoPad);
+        }
+        if !author.is_well_formed() {
+            return Err(Refusal::BadName);
+        }
+        grant_again(&mut self.owned, author, right)
+    }
+
+    /// Counts a visit that began before a restart.
+    pub fn restore_visit(&mut self, alloc: Global) -> Result<(), Refusal>
+        ensures { Answers self.old (visit_restored self.old) result self.new }
+    {
+        let Some(owned) = &self.owned else {
+            return Err(Refusal::NoPad);
+        };
+        visit_again(alloc, &mut self.presence, owned.rights.owner())
+    }
+
+    /// Delivers an operation that was delivered before a restart. 400 where it passes a limit, 403 where it is not the next
+    /// of its origin.
+    pub fn restore_operation(&mut self, alloc: Global, op: Op) -> Result<(), Refusal>
+        ensures { Answers self.old (operation_restored op self.old) result self.new }
+    {
+        deliver_again(alloc, &mut self.ledger, op)
     }
 
     /// Answers a list of events, one after the other.

@@ -26,13 +26,17 @@ connections_rule = number_rule (codes "connections") 1 4294967295
 abbrev pub idle_rule : Rule
 idle_rule = number_rule (codes "idle") 1 4294967295
 
+-- `--store DIR`
+abbrev pub store_rule : Rule
+store_rule = option_rule (codes "store")
+
 -- the options that say what is served, by which server, and for whom
 abbrev pub first_line : App
 first_line = with_rule (with_rule (with_rule (with_rule (new_app (codes "pad_server")) stdin_rule) listen_rule) replica_rule) accounts_rule
 
 -- the command line: clap's words say which words it takes, and what they give under a name
 abbrev pub line : App
-line = with_rule (with_rule (with_rule (with_rule first_line cells_rule) workers_rule) connections_rule) idle_rule
+line = with_rule (with_rule (with_rule (with_rule (with_rule first_line cells_rule) workers_rule) connections_rule) idle_rule) store_rule
 
 -- the words give this: the numbers, the flag and the texts under the names of the options
 pub record AsksFor (words : List (List ℕ)) (asked : Asked) : Type 0 where
@@ -44,3 +48,4 @@ pub record AsksFor (words : List (List ℕ)) (asked : Asked) : Type 0 where
   pub workers : Gives line words (codes "workers") 0 MAX_WORKERS DEFAULT_WORKERS asked.workers
   pub connections : (other : ℕ) → Gives line words (codes "connections") 0 4294967295 other (unwrap_or asked.connections other)
   pub idle : (other : ℕ) → Gives line words (codes "idle") 0 4294967295 other (unwrap_or asked.idle other)
+  pub store : option_map (λ folder. folder.now) asked.store ≡ text_given line words (codes "store")

@@ -1,9 +1,10 @@
 -- The status of a program that does not start, or ends early.
 use Rattle.std.specs.Prelude.{ℕ}
 use Rattle.pad_server.specs.declared.failure.Failure.{Failure}
-use Rattle.pad_server.specs.declared.failure.Failure.TheVariants.{BadAccounts}
+use Rattle.pad_server.specs.declared.failure.Failure.TheVariants.{BadAccounts, OtherReplica}
 
--- 2 after a bad line of the accounts file, else 1
+-- 2 after a bad line of the accounts file and for the store of another server, else 1
 abbrev pub status : Failure → ℕ
 status (BadAccounts line) = 2
+status (OtherReplica folder replica) = 2
 status other = 1

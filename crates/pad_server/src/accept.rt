@@ -1,5 +1,6 @@
 //! Connections are accepted, and handed to the workers.
 use crate::client::Client;
+use crate::keeper::Keeper;
 use crossbeam_channel::Sender;
 use log::{Log, warn};
 use std::net::{TcpListener, TcpStream};
@@ -10,7 +11,7 @@ use std::{io, thread};
 /// For how many milliseconds nothing is accepted after the system refused a connection: it mostly refuses the next too.
 const PAUSE: u64 = 50;
 
-/// For how many seconds a client may leave a reply untaken.
+/// For how many seconds a client may take nothing of a reply.
 const PATIENCE: u64 = 30;
 
 /// How many connections are accepted, and how long they may be silent.
@@ -29,6 +30,7 @@ pub fn accept_all<'a, R: Wait + Clock + Log>(
     listener: &TcpListener,
     limits: Limits,
     to: &Sender<(u64, Client<'a, R>)>,
+    keeper: Option<&'a Keeper>,
 ) {
     let mut accepted = 0u64;
     for stream in listener.incoming() {
@@ -38,7 +40,7 @@ pub fn accept_all<'a, R: Wait + Clock + Log>(
                 if let Err(cause) = prepare(&stream, limits.idle) {
                     warn!(rt; "connection {accepted}: it may be late, or stay for too long: {cause}");
                 }
-                hand_over(rt, accepted, stream, to);
+                hand_over(rt, accepted, stream, to, keeper);
             }
             Err(cause) => {
                 warn!(rt; "no connection is accepted: {cause}");
@@ -70,8 +72,12 @@ fn hand_over<'a, R: Wait + Log>(
     number: u64,
     stream: TcpStream,
     to: &Sender<(u64, Client<'a, R>)>,
+    keeper: Option<&'a Keeper>,
 ) {
-    if to.send(rt, (number, Client::new(rt, stream))).is_err() {
+    if to
+        .send(rt, (number, Client::new(rt, stream, keeper)))
+        .is_err()
+    {
         warn!(rt; "connection {number} is not served: out of memory");
     }
 }

@@ -8,7 +8,7 @@ ghost use Rattle.pad_server.specs.declared.options.TheConstants.{MAX_WORKERS};
 
 use crate::options::{
     connections_of, connections_option, idle_of, idle_option, listen_option, stdin_flag,
-    workers_of, workers_option,
+    store_option, workers_of, workers_option,
 };
 use clap::{Command, Error};
 use command_line::{accounts_option, cells_of, cells_option, replica_of, replica_option};
@@ -33,6 +33,8 @@ pub struct Asked<'a> {
     pub connections: Option<u32>,
     /// For how many seconds a connection may say nothing. None: as long as it likes.
     pub idle: Option<u32>,
+    /// The folder where pads are kept. None: they end with the server.
+    pub store: Option<&'a str>,
 }
 
 const ACCOUNTS_HELP: &str =
@@ -59,7 +61,8 @@ fn command<'a>(alloc: Global) -> Result<Command<'a>, AllocError>
         .arg(cells_option(alloc, cells_help))?
         .arg(workers_option(alloc))?
         .arg(connections_option(alloc))?
-        .arg(idle_option(alloc))
+        .arg(idle_option(alloc))?
+        .arg(store_option(alloc))
 }
 
 /// What the words of the command line give, or what is wrong with them.
@@ -81,5 +84,6 @@ pub fn parse<'a>(alloc: Global, words: &'a [String]) -> Result<Asked<'a>, Error>
         workers: workers_of(&matches),
         connections: connections_of(&matches),
         idle: idle_of(&matches),
+        store: matches.get_str("store"),
     })
 }

@@ -1,11 +1,14 @@
 //! A connection over TCP.
 use crate::failure::Failure;
+use crate::keeper::Keeper;
+use crate::settled::Settled;
 use crate::watched::Watched;
 use log::{Log, warn};
 use std::alloc::Global;
 use std::io;
 use std::io::ErrorKind;
 use std::net::TcpStream;
+use std::sync::Wait;
 use wire_lines::{Fault, Std};
 use workers::{Connection, Gate, Pads, Served, serve_client};
 
@@ -14,12 +17,13 @@ use workers::{Connection, Gate, Pads, Served, serve_client};
 pub struct Client<'a, R: Log> {
     rt: &'a R,
     stream: TcpStream,
+    keeper: Option<&'a Keeper>,
 }
 
 impl<'a, R: Log> Client<'a, R> {
-    /// A client whose stream was accepted.
-    pub fn new(rt: &'a R, stream: TcpStream) -> Client<'a, R> {
-        Client { rt, stream }
+    /// A client whose stream was accepted. Its replies wait for the keeper, if there is one.
+    pub fn new(rt: &'a R, stream: TcpStream, keeper: Option<&'a Keeper>) -> Client<'a, R> {
+        Client { rt, stream, keeper }
     }
 }
 
@@ -28,7 +32,7 @@ fn is_late(cause: io::Error) -> bool {
     matches!(cause.kind(), ErrorKind::WouldBlock | ErrorKind::TimedOut)
 }
 
-impl<R: Log> Connection for Client<'_, R> {
+impl<R: Wait + Log> Connection for Client<'_, R> {
     fn serve<P: Pads, G: Gate>(
         self,
         alloc: Global,
@@ -37,7 +41,7 @@ impl<R: Log> Connection for Client<'_, R> {
         gate: &G,
     ) -> Result<Served, Fault> {
         let mut input = Watched::new(&self.stream);
-        let mut output = Watched::new(&self.stream);
+        let mut output = Watched::new(Settled::new(self.rt, &self.stream, self.keeper));
         let mut reader = Std::new(&mut input);
         let mut writer = Std::new(&mut output);
         let served = serve_client(alloc, pads, &mut reader, &mut writer, number, gate);

@@ -1,5 +1,7 @@
 //! A peer that this server exchanges with, and how its rounds went.
 use crate::failure::Failure;
+use crate::keeper::Keeper;
+use crate::settled::Settled;
 use crate::watched::Watched;
 use log::{Log, warn};
 use relay::{Link, Relayed, relay_round};
@@ -8,6 +10,7 @@ use std::alloc::Global;
 use std::io;
 use std::io::ErrorKind;
 use std::net::{Net, TcpListener, TcpStream, ToSocketAddrs};
+use std::sync::Wait;
 use std::time::{Clock, Duration, Instant};
 use wire_lines::{Fault, Std};
 use workers::Pads;
@@ -58,6 +61,8 @@ impl Broken {
 #[derive(Drop)]
 pub struct Contact<'a> {
     peer: &'a Peer,
+    /// What has to be synced before a line is written to the peer.
+    keeper: Option<&'a Keeper>,
     /// How many seconds the next round is put off after a failure; 0 where the last one succeeded.
     pause: u64,
     failed_at: Option<Instant>,
@@ -66,9 +71,10 @@ pub struct Contact<'a> {
 
 impl<'a> Contact<'a> {
     /// A peer without a round yet.
-    pub fn new(peer: &'a Peer) -> Contact<'a> {
+    pub fn new(peer: &'a Peer, keeper: Option<&'a Keeper>) -> Contact<'a> {
         Contact {
             peer,
+            keeper,
             pause: 0,
             failed_at: None,
             told: None,
@@ -94,9 +100,9 @@ impl<'a> Contact<'a> {
     /// Makes a round. A failure is logged with its cause, once until that changes or a round succeeds.
     pub fn exchange<P: Pads, R>(&mut self, rt: &R, alloc: Global, pads: &mut P, own: u16) -> Brought
     where
-        R: Net<Listener = TcpListener, Stream = TcpStream> + Clock + Log,
+        R: Net<Listener = TcpListener, Stream = TcpStream> + Clock + Wait + Log,
     {
-        match make_round(rt, alloc, pads, own, self.peer) {
+        match make_round(rt, alloc, pads, own, self.peer, self.keeper) {
             Ok(relayed) => {
                 self.pause = 0;
                 self.failed_at = None;
@@ -141,22 +147,23 @@ impl<'a> Contact<'a> {
 }
 
 // Connects, and makes a round.
-fn make_round<P: Pads, R>(
-    rt: &R,
+fn make_round<'s, P: Pads, R>(
+    rt: &'s R,
     alloc: Global,
     pads: &mut P,
     own: u16,
     peer: &Peer,
+    keeper: Option<&'s Keeper>,
 ) -> Result<Relayed, Broken>
 where
-    R: Net<Listener = TcpListener, Stream = TcpStream>,
+    R: Net<Listener = TcpListener, Stream = TcpStream> + Wait + Log,
 {
     let stream = match connect(rt, peer.address.as_str()) {
         Ok(stream) => stream,
         Err(error) => return Err(Broken::Apart(error)),
     };
     let mut input = Watched::new(&stream);
-    let mut output = Watched::new(&stream);
+    let mut output = Watched::new(Settled::new(rt, &stream, keeper));
     let relayed = match Link::new(alloc, Std::new(&mut input), Std::new(&mut output)) {
         Ok(mut link) => {
             let _session = pads.relay(alloc, peer.number);

@@ -1,5 +1,6 @@
 //! The thread that exchanges the operations of the pads with the peers of the accounts file.
 use crate::contact::{Brought, Contact};
+use crate::keeper::Keeper;
 use crate::wake::Wake;
 use crossbeam_channel::{Receiver, RecvTimeoutError};
 use log::Log;
@@ -33,11 +34,12 @@ pub fn contacts<'a>(
     alloc: Global,
     peers: &'a [Peer],
     own: u16,
+    keeper: Option<&'a Keeper>,
 ) -> Result<Vec<Contact<'a>>, AllocError> {
     let mut contacts = Vec::new(alloc);
     for peer in peers {
         if peer.number != own {
-            contacts.push(Contact::new(peer))?;
+            contacts.push(Contact::new(peer, keeper))?;
         }
     }
     Ok(contacts)
@@ -88,7 +90,7 @@ fn rounds<P: Pads, R>(
     turn: Turn,
 ) -> Brought
 where
-    R: AllocGlobal + Net<Listener = TcpListener, Stream = TcpStream> + Clock + Log,
+    R: AllocGlobal + Net<Listener = TcpListener, Stream = TcpStream> + Clock + Wait + Log,
 {
     let mut all = Brought::Nothing;
     for contact in contacts.iter_mut() {

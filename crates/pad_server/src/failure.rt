@@ -20,6 +20,16 @@ pub enum Failure<'a> {
     BadAccounts { line: u64 },
     #[error("cannot listen at {address}: {cause}")]
     Deaf { address: &'a str, cause: io::Error },
+    #[error("the store {folder} cannot be opened: {cause}")]
+    Unopened { folder: &'a str, cause: io::Error },
+    #[error("the store {folder} is in use by another process")]
+    InUse { folder: &'a str },
+    #[error("the store {folder} is damaged")]
+    Damaged { folder: &'a str },
+    #[error("the store {folder} belongs to the server with replica number {replica}")]
+    OtherReplica { folder: &'a str, replica: u64 },
+    #[error("the store {folder} has more pads than there are cells")]
+    Crowded { folder: &'a str },
     #[error("the system makes no thread")]
     Alone,
     #[error("standard output: {0}")]
@@ -50,12 +60,12 @@ impl Failure<'_> {
         }
     }
 
-    /// 2 for a bad line of the accounts file, else 1.
+    /// 2 for a bad line of the accounts file and for the store of another server, else 1.
     pub fn status(self) -> ExitCode
         ensures { exit_status result ≡ status self.entry }
     {
         match self {
-            Failure::BadAccounts { .. } => ExitCode::from(2),
+            Failure::BadAccounts { .. } | Failure::OtherReplica { .. } => ExitCode::from(2),
             _ => ExitCode::FAILURE,
         }
     }

@@ -10,6 +10,8 @@ use crate::contact::Contact;
 use crate::course::Course;
 use crate::exchange::{contacts, exchange_all};
 use crate::failure::Failure;
+use crate::keeper::Keeper;
+use crate::stored::{Stored, restore};
 use crate::turnstile::Turnstile;
 use crate::wake::{Wake, Waker};
 use block_seq::BlockSeq;
@@ -17,16 +19,18 @@ use crossbeam_channel::{Receiver, Sender};
 use log::Log;
 use shared_pads::{Seat, SharedPad};
 use std::alloc::{AllocError, Global};
+use std::fs::File;
 use std::io::Write;
 use std::net::{Net, TcpListener, TcpStream};
-use std::rt::Runtime;
+use std::rt::{Files, Runtime};
 use std::sync::Wait;
 use std::thread::Threads;
 use std::time::Clock;
 use std::{io, thread};
 use workers::{Row, open_row, pool, take_all_seats, take_seats};
 
-/// Serves connections at an address, until as many as the command line names have ended.
+/// Serves connections at an address, until as many as the command line names have ended. Where there is a store, the pads
+/// come from it, and each reply waits until what it tells of is synced.
 pub fn listen<'a, R>(
     rt: &R,
     asked: Asked<'a>,
@@ -34,7 +38,7 @@ pub fn listen<'a, R>(
     path: &'a str,
 ) -> Result<(), Failure<'a>>
 where
-    R: Runtime<A = Global>
+    R: Runtime<A = Global, File = File>
         + Net<Listener = TcpListener, Stream = TcpStream>
         + Threads
         + Wait
@@ -42,21 +46,45 @@ where
         + Log,
     requires { (1 ≤ asked.replica) × (asked.cells ≤ MAX_CELLS) }
 {
+    let Some(folder) = asked.store else {
+        let cells = open_row(rt.alloc(), asked.replica, asked.cells)?;
+        return serve_row(rt, cells, None, asked, address, path);
+    };
+    let Stored { cells, keeper } = restore(rt, folder, asked.replica, asked.cells)?;
+    serve_row(rt, cells, Some(&keeper), asked, address, path)
+}
+
+/// Serves connections with the pads of a row.
+fn serve_row<'a, 's, R>(
+    rt: &'s R,
+    cells: Vec<SharedPad<BlockSeq>>,
+    keeper: Option<&'s Keeper>,
+    asked: Asked<'a>,
+    address: &'a str,
+    path: &'a str,
+) -> Result<(), Failure<'a>>
+where
+    R: Runtime<A = Global, File = File>
+        + Net<Listener = TcpListener, Stream = TcpStream>
+        + Threads
+        + Wait
+        + Sync
+        + Log,
+{
     let alloc = rt.alloc();
     let accounts = read_accounts(rt, path)?;
-    let cells: Vec<SharedPad<BlockSeq>> = open_row(alloc, asked.replica, asked.cells)?;
     let mut crew = Vec::new(alloc);
     take_all_seats(rt, alloc, cells.as_slice(), asked.workers, &mut crew)?;
     let mut seats = Vec::new(alloc);
     take_seats(rt, cells.as_slice(), &mut seats)?;
-    let contacts = contacts(alloc, accounts.peers(), asked.replica)?;
+    let contacts = contacts(alloc, accounts.peers(), asked.replica, keeper)?;
     let (to, wakes) = crossbeam_channel::bounded(alloc, 1)?;
     let waker = Waker::new(if contacts.is_empty() {
         None
     } else {
         Some(to.clone()?)
     });
-    let gate = Course::new(rt, waker, Turnstile::new(alloc)?);
+    let gate = Course::new(rt, waker, Turnstile::new(alloc)?, keeper);
     let row = Row {
         rt,
         cells: cells.as_slice(),
@@ -70,6 +98,7 @@ where
         seats,
         to,
         wakes,
+        keeper,
     };
     serve(
         &row,
@@ -111,6 +140,7 @@ struct Relaying<'a> {
     seats: Vec<Seat>,
     to: Sender<Wake>,
     wakes: Receiver<Wake>,
+    keeper: Option<&'a Keeper>,
 }
 
 /// Accepts connections in a thread of its own, and serves them in as many as there are seats for. One more exchanges with
@@ -125,6 +155,7 @@ fn serve<R>(
 where
     R: AllocGlobal
         + Net<Listener = TcpListener, Stream = TcpStream>
+        + Files<File = File>
         + Clock
         + Threads
         + Wait
@@ -138,13 +169,14 @@ where
         seats,
         to: last,
         wakes,
+        keeper,
     } = relaying;
     thread::scope(thread::scope_env(), rt, |scope| {
         let relay = scope.spawn(move || exchange_all(row, contacts, &wakes, seats));
         if relay.is_err() {
             return Err(Failure::Alone);
         }
-        let acceptor = scope.spawn(move || accept_all(rt, &listener, limits, &to));
+        let acceptor = scope.spawn(move || accept_all(rt, &listener, limits, &to, keeper));
         if acceptor.is_err() {
             let _ended = last.send(rt, Wake::Last);
             return Err(Failure::Alone);

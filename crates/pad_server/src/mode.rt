@@ -26,15 +26,21 @@ pub enum Misuse {
     NotOne,
     #[error("--listen <ADDR> needs --accounts <PATH>")]
     NoAccounts,
+    #[error("--store <DIR> needs --listen <ADDR>")]
+    NoStore,
 }
 
 impl<'a> Asked<'a> {
-    /// What is served. Just one of `--stdin` and `--listen` has to be given, and the second only with `--accounts`.
+    /// What is served. Just one of `--stdin` and `--listen` has to be given: the first without `--store`, the second with
+    /// `--accounts`.
     pub fn mode(self) -> Result<Mode<'a>, Misuse>
         ensures { result ≡ mode_of self.entry }
     {
         match (self.stdin, self.listen) {
-            (true, None) => Ok(Mode::Stdin),
+            (true, None) => match self.store {
+                Some(_) => Err(Misuse::NoStore),
+                None => Ok(Mode::Stdin),
+            },
             (true, Some(_)) | (false, None) => Err(Misuse::NotOne),
             (false, Some(address)) => match self.accounts {
                 Some(accounts) => Ok(Mode::Listen { address, accounts }),

@@ -2,7 +2,7 @@
 ghost use Rattle.std.specs.Prelude.{◌≡◌, ◌≤◌, ℕ, codes, false, unwrap_or};
 ghost use Rattle.clap.specs.Words.{rule_of};
 ghost use Rattle.command_line.specs.Options.{Holds};
-ghost use Rattle.pad_server.specs.CommandLine.{connections_rule, idle_rule, listen_rule, stdin_rule, workers_rule};
+ghost use Rattle.pad_server.specs.CommandLine.{connections_rule, idle_rule, listen_rule, stdin_rule, store_rule, workers_rule};
 
 use clap::{Arg, ArgAction, ArgMatches, value_parser};
 use std::alloc::Global;
@@ -67,6 +67,18 @@ pub fn idle_option<'a>(alloc: Global) -> Arg<'a>
         .value_parser(value_parser!(u32).range(1..))
         .help(
             "Ends a connection that says nothing for so long [without it a connection may be silent]",
+        )
+}
+
+/// `--store DIR`.
+pub fn store_option<'a>(alloc: Global) -> Arg<'a>
+    ensures { (rule_of result ≡ store_rule) × (result.global ≡ false) }
+{
+    Arg::new(alloc, "store")
+        .long("store")
+        .value_name("DIR")
+        .help(
+            "Keeps the pads in this folder, for the next start [without it they end with the server]",
         )
 }
 

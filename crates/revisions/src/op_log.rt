@@ -1,4 +1,4 @@
-ghost use Rattle.std.specs.Prelude.{◌≡◌, ℕ, ◌+◌, ◌-◌, ◌≤◌, [], ◌∷◌, ◌++◌, length, nat_le, ◌&&◌, option_copied, slice_get, IfOk, IfErr, IsOk, OnOk};
+ghost use Rattle.std.specs.Prelude.{◌≡◌, ℕ, ◌+◌, ◌-◌, ◌≤◌, [], ◌∷◌, ◌++◌, length, drop, nat_le, ◌&&◌, option_copied, slice_get, IfOk, IfErr, IsOk, OnOk};
 ghost use Rattle.std.specs.List.{filter, position};
 ghost use Rattle.pad_model.specs.declared.refusal.Refusal.{Refusal};
 ghost use Rattle.revisions.specs.Log.{entries, count_of, has_name, is_missing, missing};
@@ -98,6 +98,14 @@ impl OpLog {
         let start = operations.len().min((from - 1) as usize);
         let rest = &operations[start..];
         &rest[..rest.len().min(count as usize)]
+    }
+
+    /// The operations that make the revisions after this one.
+    pub fn since(&self, revision: u64) -> &[Op]
+        ensures { result.now ≡ drop revision self.now.operations }
+    {
+        let operations = self.operations.as_slice();
+        &operations[operations.len().min(revision as usize)..]
     }
 
     /// Copies of the first `max` operations that `seen` does not cover, in the order of the log. For each of

@@ -48,6 +48,13 @@ impl RightsBook {
         }
     }
 
+    /// The creator.
+    pub fn owner(&self) -> &str
+        ensures { result.now ≡ self.now.owner }
+    {
+        self.owner.as_str()
+    }
+
     /// Whether somebody has a right, or one that includes it.
     pub fn may(&self, name: &Name, right: Right) -> bool
         ensures { result ≡ may self.now name.now right }

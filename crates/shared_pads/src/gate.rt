@@ -1,7 +1,24 @@
-//! Where a server may be held up, for tests and for wake-ups.
+//! Where a server may be held up, for tests and for wake-ups, and what is told to whoever keeps the pads.
+use pad_core::{Reply, Request};
+use pad_model::{Op, Refusal, Who};
+use std::alloc::Global;
+
+/// A request that was answered at a cell.
+#[derive(Clone, Copy, Debug)]
+pub struct Answered<'a> {
+    pub cell: u32,
+    pub who: &'a Who,
+    pub request: &'a Request,
+    pub answer: &'a Result<Option<Reply>, Refusal>,
+    /// The operations that it delivered, in their order.
+    pub more: &'a [Op],
+}
 
 /// What is told of the course of connections.
 pub trait Gate {
+    /// A request was answered at a cell, whose lock is still held: what is told of a cell comes in the order of its steps.
+    fn answered(&self, _alloc: Global, _told: &Answered<'_>) {}
+
     /// A step was made at a cell, whose lock is still held.
     fn inside(&self, cell: u32);
 

@@ -1,5 +1,5 @@
 //! What lies under the lock of a shared pad.
-ghost use Rattle.std.specs.Prelude.{◌≡◌, ◌⊎◌, ◌↔◌, IsTrue, IfOk, IfErr, IfSome, None};
+ghost use Rattle.std.specs.Prelude.{◌≡◌, ◌⊎◌, ◌↔◌, drop, length, IsTrue, IfOk, IfErr, IfSome, None};
 ghost use Rattle.std.specs.List.{AllByRecursion};
 ghost use Rattle.server_core.specs.Rooms.{IsAsked};
 ghost use Rattle.shared_pads.specs.Kept.{Called, Counts, IsClosed, IsKnown, IsOf, seat_after};
@@ -8,7 +8,7 @@ ghost use Rattle.shared_pads.specs.Seats.{uncounted};
 use crate::seat::{MAX_SEATS, Seat, Tally, edit_of};
 use crate::sums::{Sums, are_apart, sums_of};
 use pad_core::{Pad, Reply, Request};
-use pad_model::{Name, Refusal, Sequence, Who};
+use pad_model::{Name, Op, Refusal, Sequence, Who};
 use server_core::request_at;
 use sessions::{Room, Session};
 use std::alloc::Global;
@@ -130,6 +130,20 @@ impl<S: Sequence> Kept<S> {
     {
         let Kept { pad, .. } = self;
         pad
+    }
+
+    /// The revision that the last operation made.
+    pub fn revision(&self) -> u64
+        ensures { result ≡ length self.now.pad.log }
+    {
+        self.pad.revision()
+    }
+
+    /// The operations that made the revisions after this one.
+    pub fn since(&self, revision: u64) -> &[Op]
+        ensures { result.now ≡ drop revision self.now.pad.log }
+    {
+        self.pad.since(revision)
     }
 
     /// Whether a seat is the one that is known here, and one more call can be counted.

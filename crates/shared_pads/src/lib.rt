@@ -9,6 +9,6 @@ mod seat;
 mod shared_pad;
 mod sums;
 
-pub use gate::{Gate, Open};
+pub use gate::{Answered, Gate, Open};
 pub use seat::{LastEdit, MAX_SEATS, Seat, Tally};
 pub use shared_pad::{Closed, SharedPad};

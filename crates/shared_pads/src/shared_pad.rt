@@ -4,7 +4,7 @@ ghost use Rattle.server_core.specs.Rooms.{IsAsked};
 ghost use Rattle.shared_pads.specs.Kept.{Called, HasClosed, seat_after};
 ghost use Rattle.shared_pads.specs.Seats.{uncounted};
 
-use crate::gate::Gate;
+use crate::gate::{Answered, Gate};
 use crate::kept::Kept;
 use crate::seat::Seat;
 use pad_core::{Pad, Reply, Request};
@@ -72,7 +72,16 @@ impl<S: Sequence> SharedPad<S> {
         ensures called { Called seat.old session.old.who request.now session.old.rooms result seat.new session.new.rooms }
     {
         let mut kept = self.kept.lock(rt);
+        let before = kept.revision();
         let answer = kept.call(alloc, seat, session, request);
+        let told = Answered {
+            cell: self.cell,
+            who: session.who(),
+            request,
+            answer: &answer,
+            more: kept.since(before),
+        };
+        gate.answered(alloc, &told);
         gate.inside(self.cell);
         answer
     }

@@ -23,6 +23,7 @@ mod short;
 mod show;
 mod word;
 
+pub use field::{name_field, number_field, str_field};
 pub use op_read::read_op;
 pub use op_write::op_value;
 pub use peer_answer::{
@@ -31,3 +32,5 @@ pub use peer_answer::{
 pub use peer_request::{peer_line, pull_line, push_line, vector_line};
 pub use reply::reply_line;
 pub use request::read_request;
+pub use show::name_value;
+pub use word::{granted_by, right_word};

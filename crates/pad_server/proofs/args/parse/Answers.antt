@@ -33,6 +33,7 @@ returns-clause-asked c =
       workers = gives_number line words m (codes "workers") 0 MAX_WORKERS DEFAULT_WORKERS c.workers_of.result rows c.workers_of.ensures.value;
       connections = λ other. gives_number line words m (codes "connections") 0 4294967295 other _ rows (c.connections_of.ensures other);
       idle = λ other. gives_number line words m (codes "idle") 0 4294967295 other _ rows (c.idle_of.ensures other);
+      store = c.get_str-3.ensures ∙ gives_text line words m (codes "store") rows;
     }
 
 pub returns-clause-refused : goal.returns-clause-refused

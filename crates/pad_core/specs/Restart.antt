@@ -1,0 +1,88 @@
+-- How a pad is put together again after a restart, from what was done on it before.
+use Rattle.std.specs.Prelude.{ℕ, ◌+◌, ◌==◌, Bool, not, ◌&&◌, if◌then◌else◌, List, [], ◌∷◌, ◌++◌, Option, Some, None, Result, Ok, Err}
+use Rattle.pad_model.specs.Checked.{is_checked, is_name}
+use Rattle.pad_model.specs.Seen.{count_in}
+use Rattle.pad_model.specs.declared.op.Op.{Op}
+use Rattle.pad_model.specs.declared.op.OpName.{OpName}
+use Rattle.pad_model.specs.declared.seen.Counted.{Counted}
+use Rattle.pad_model.specs.declared.refusal.Refusal.{Refusal}
+use Rattle.pad_model.specs.declared.refusal.Refusal.TheVariants.{NoPad, PadExists, BadName, BadOp, PeerFault}
+use Rattle.rights.specs.Rights.{Rights, grant}
+use Rattle.rights.specs.declared.right.Right.{Right}
+use Rattle.sessions.specs.Presence.{Presence, join_refusal, joined, left}
+use Rattle.pad_core.specs.Counts.{vector_of}
+use Rattle.pad_core.specs.Delivered.{delivery_refusal}
+use Rattle.pad_core.specs.Machine.{Machine, claim}
+use Rattle.pad_core.specs.declared.owned.Owned.{Owned}
+
+-- the visit that was given last has ended
+abbrev pub ended : Presence → Presence
+ended p = record p { present = left p.given p.present }
+
+-- one more visit, which has ended
+abbrev pub visited : List ℕ → Presence → Result (Unit {0}) Refusal × Presence
+visited author p = unless_refused (join_refusal p)
+  where
+    unless_refused : Option Refusal → Result (Unit {0}) Refusal × Presence
+    unless_refused (Some refusal) = (Err refusal, p)
+    unless_refused None = (Ok tt, ended (joined author p))
+
+-- a pad without a name is claimed, and its owner's visit has ended
+abbrev pub restore_claim : List ℕ → List ℕ → Machine → Result (Unit {0}) Refusal × Machine
+restore_claim name owner m = at m.owned
+  where
+    at : Option Owned → Result (Unit {0}) Refusal × Machine
+    at (Some owned) = (Err PadExists, m)
+    at None =
+        if is_name name && is_name owner
+        then (Ok tt, record m { owned = (claim name owner m).1.owned; presence = ended (claim name owner m).1.presence })
+        else (Err BadName, m)
+
+-- a right is given, or taken away, where a pad has a name
+abbrev pub granted_again : List ℕ → Option Right → Option Owned → Result (Unit {0}) Refusal × Option Owned
+granted_again author right None = (Err NoPad, None)
+granted_again author right (Some owned) = let done = grant owned.rights author right in (done.0, Some (record owned { rights = done.1 }))
+
+-- the same of a pad, to a name that an author can have
+abbrev pub restore_grant : List ℕ → Option Right → Machine → Result (Unit {0}) Refusal × Machine
+restore_grant author right m = at m.owned
+  where
+    at : Option Owned → Result (Unit {0}) Refusal × Machine
+    at None = (Err NoPad, m)
+    at (Some owned) =
+        if not (is_name author) then (Err BadName, m) else (let done = granted_again author right (Some owned) in (done.0, record m { owned = done.1 }))
+
+-- a visit is counted, whose it was
+abbrev pub restore_visit : Machine → Result (Unit {0}) Refusal × Machine
+restore_visit m = at m.owned
+  where
+    at : Option Owned → Result (Unit {0}) Refusal × Machine
+    at None = (Err NoPad, m)
+    at (Some owned) = let done = visited owned.rights.owner m.presence in (done.0, record m { presence = done.1 })
+
+-- whether a name is the next of its origin
+abbrev pub is_next : List Counted → OpName → Bool
+is_next seen name = name.number == count_in seen name.origin + 1
+
+-- why an operation is not delivered again, if so: it passes a limit, it is not the next of its origin, or it would not be delivered now
+abbrev pub restore_refusal : Op → List Op → Option Refusal
+restore_refusal op log =
+    if not (is_checked op) then Some BadOp
+    else if not (is_next (vector_of log) op.name) then Some PeerFault
+    else delivery_refusal op log
+
+-- an operation is delivered, whose own origin may be this server
+abbrev pub delivered_again : Op → List Op → Result (Unit {0}) Refusal × List Op
+delivered_again op log = unless_refused (restore_refusal op log)
+  where
+    unless_refused : Option Refusal → Result (Unit {0}) Refusal × List Op
+    unless_refused (Some refusal) = (Err refusal, log)
+    unless_refused None = (Ok tt, log ++ op ∷ [])
+
+-- the same of a pad
+abbrev pub restore_operation : Op → Machine → Result (Unit {0}) Refusal × Machine
+restore_operation op m = let done = delivered_again op m.log in (done.0, record m { log = done.1 })
+
+-- the pad after a restart: the same name, rights, operations and count of visits. Nobody is present and nothing is held
+abbrev pub restarted : Machine → Machine
+restarted m = record m { held = []; presence = record { given = m.presence.given; present = [] } }

@@ -1,0 +1,265 @@
+//! The files of a server's pads while it runs: what was answered is noted under the pad's lock, and synced before a reply is
+//! written.
+use log::{Log, error};
+use records::{Record, records_of};
+use shared_pads::Answered;
+use std::alloc::Global;
+use std::fs::{File, OpenOptions};
+use std::io;
+use std::io::{ErrorKind, Write};
+use std::rt::Files;
+use std::sync::{Condvar, Mutex, Wait};
+use std::time::{Clock, SystemTime, UNIX_EPOCH};
+use store::{header_text, link, record_text};
+
+/// A pad's file, open for appending, and the sum of its last line.
+#[derive(Drop)]
+pub struct Book {
+    pub file: Option<File>,
+    pub sum: String,
+}
+
+/// How far the files are synced.
+#[derive(Clone, Copy)]
+struct Progress {
+    /// How many notes were made.
+    noted: u64,
+    /// How many of them are synced.
+    settled: u64,
+    /// The cells that have notes which are not, a bit for each.
+    dirty: u64,
+    /// Whether a thread is syncing for all.
+    settling: bool,
+    /// Whether a write or a sync has failed, after which nothing is promised any more.
+    failed: bool,
+}
+
+/// What a thread does that waits for a note to be synced.
+enum Turn {
+    /// It is synced.
+    Done,
+    /// It will not be.
+    Failed,
+    /// It syncs these cells for all.
+    Leads { noted: u64, dirty: u64 },
+}
+
+/// Keeps the pads of a server in files, one for each pad that has a name.
+#[derive(Drop)]
+pub struct Keeper {
+    folder: String,
+    replica: u16,
+    books: Vec<Mutex<Book>>,
+    // Second handles of the files, by which they are synced while others append.
+    handles: Vec<Mutex<Option<File>>>,
+    progress: Mutex<Progress>,
+    settled: Condvar,
+    // Held as long as the server runs.
+    _lock: File,
+}
+
+impl Keeper {
+    /// A keeper of these books, one for each cell, with a second handle of each file.
+    pub fn new(
+        folder: String,
+        replica: u16,
+        books: Vec<Mutex<Book>>,
+        handles: Vec<Mutex<Option<File>>>,
+        lock: File,
+    ) -> Keeper {
+        Keeper {
+            folder,
+            replica,
+            books,
+            handles,
+            progress: Mutex::new(Progress {
+                noted: 0,
+                settled: 0,
+                dirty: 0,
+                settling: false,
+                failed: false,
+            }),
+            settled: Condvar::new(),
+            _lock: lock,
+        }
+    }
+
+    /// Notes what a request leaves to be kept. A failure is logged, and from then on nothing is settled any more.
+    pub fn note<R: Wait + Files<File = File> + Clock + Log>(
+        &self,
+        rt: &R,
+        alloc: Global,
+        told: &Answered<'_>,
+    ) {
+        // What stands behind a line that was not written whole would be damage at the next start.
+        if self.progress.lock(rt).failed {
+            return;
+        }
+        let written = self.write(rt, alloc, told);
+        let mut progress = self.progress.lock(rt);
+        match written {
+            Ok(false) => {}
+            Ok(true) => {
+                progress.noted = progress.noted.saturating_add(1);
+                progress.dirty |= 1u64 << (told.cell % 64);
+            }
+            Err(cause) => {
+                progress.failed = true;
+                error!(rt; "the store {} cannot be written: {cause}", self.folder);
+            }
+        }
+    }
+
+    // Appends the records of a request to the pad's file, and says whether there were any.
+    fn write<R: Wait + Files<File = File> + Clock + Log>(
+        &self,
+        rt: &R,
+        alloc: Global,
+        told: &Answered<'_>,
+    ) -> io::Result<bool> {
+        let records = records_of(alloc, told.who, told.request, told.answer, told.more)?;
+        let Some(first) = records.first() else {
+            return Ok(false);
+        };
+        let cell = told.cell as usize;
+        if cell >= self.books.len() {
+            return Err(io::Error::from(ErrorKind::NotFound));
+        }
+        let mut book = self.books[cell].lock(rt);
+        let mut lines = String::new(alloc);
+        if book.file.is_none() {
+            let (file, sum) = self.begin(rt, alloc, cell, first, &mut lines)?;
+            book.file = Some(file);
+            book.sum = sum;
+        }
+        let sum = self.append(rt, alloc, book.sum.as_str(), records.as_slice(), &mut lines)?;
+        book.sum = sum;
+        match &mut book.file {
+            Some(file) => file.write_all(lines.as_bytes())?,
+            None => return Err(io::Error::from(ErrorKind::NotFound)),
+        }
+        Ok(true)
+    }
+
+    // The lines of records behind a line with this sum, and the sum of the last.
+    fn append<R: Wait + Files<File = File> + Clock + Log>(
+        &self,
+        rt: &R,
+        alloc: Global,
+        before: &str,
+        records: &[Record],
+        lines: &mut String,
+    ) -> io::Result<String> {
+        let at = self.seconds(rt);
+        let mut sum = String::from_str(alloc, before)?;
+        for kept in records {
+            let text = record_text(alloc, at, kept)?;
+            let linked = link(alloc, sum.as_str(), text.as_str())?;
+            lines.push_str(linked.line.as_str())?;
+            sum = linked.sum;
+        }
+        Ok(sum)
+    }
+
+    // Makes the file of a pad that was just named, and the first line.
+    fn begin<R: Wait + Files<File = File> + Clock + Log>(
+        &self,
+        rt: &R,
+        alloc: Global,
+        cell: usize,
+        first: &Record,
+        lines: &mut String,
+    ) -> io::Result<(File, String)> {
+        let Record::Named { name, .. } = first else {
+            return Err(io::Error::from(ErrorKind::InvalidData));
+        };
+        let folder = self.folder.as_str();
+        let pad = name.as_str();
+        let path = format!(in alloc; "{folder}/{pad}.pad")?;
+        let mut options = OpenOptions::new();
+        options.append(true).create_new(true);
+        let file = options.open(rt, path.as_str())?;
+        if cell < self.handles.len() {
+            *self.handles[cell].lock(rt) = Some(file.try_clone()?);
+        }
+        File::open(rt, folder)?.sync_all()?;
+        let text = header_text(alloc, name, self.replica)?;
+        let linked = link(alloc, "", text.as_str())?;
+        lines.push_str(linked.line.as_str())?;
+        Ok((file, linked.sum))
+    }
+
+    // The time of day in seconds since 1970, or 0 where the clock does not tell.
+    fn seconds<R: Clock>(&self, rt: &R) -> u64 {
+        match SystemTime::now(rt) {
+            Ok(now) => match now.duration_since(UNIX_EPOCH) {
+                Ok(passed) => passed.as_secs(),
+                Err(_) => 0,
+            },
+            Err(_) => 0,
+        }
+    }
+
+    /// Waits until all that was noted before is synced, or fails.
+    pub fn settle<R: Wait + Log>(&self, rt: &R) -> io::Result<()> {
+        let noted = self.progress.lock(rt).noted;
+        match self.turn(rt, noted) {
+            Turn::Done => Ok(()),
+            Turn::Failed => Err(io::Error::from(ErrorKind::Other)),
+            Turn::Leads { noted, dirty } => {
+                let synced = self.sync(rt, dirty);
+                self.finish(rt, noted, synced.is_ok());
+                synced
+            }
+        }
+    }
+
+    // Waits while another thread syncs, until a note is synced or this thread has to do it.
+    fn turn<R: Wait>(&self, rt: &R, note: u64) -> Turn {
+        let mut progress = self.settled.wait_while(
+            rt,
+            self.progress.lock(rt),
+            |progress| progress.settling && progress.settled < note && !progress.failed,
+        );
+        if progress.failed {
+            return Turn::Failed;
+        }
+        if progress.settled >= note {
+            return Turn::Done;
+        }
+        let dirty = progress.dirty;
+        progress.settling = true;
+        progress.dirty = 0;
+        Turn::Leads {
+            noted: progress.noted,
+            dirty,
+        }
+    }
+
+    // Tells all who wait what became of a sync.
+    fn finish<R: Wait>(&self, rt: &R, noted: u64, synced: bool) {
+        let mut progress = self.progress.lock(rt);
+        progress.settling = false;
+        if synced {
+            progress.settled = noted;
+        } else {
+            progress.failed = true;
+        }
+        self.settled.notify_all();
+    }
+
+    // Syncs the files of these cells.
+    fn sync<R: Wait + Log>(&self, rt: &R, dirty: u64) -> io::Result<()> {
+        for (cell, handle) in self.handles.iter().enumerate() {
+            if (dirty >> (cell % 64)) & 1 == 1 {
+                if let Some(file) = &*handle.lock(rt) {
+                    if let Err(cause) = file.sync_data() {
+                        error!(rt; "the store {} cannot be synced: {cause}", self.folder);
+                        return Err(cause);
+                    }
+                }
+            }
+        }
+        Ok(())
+    }
+}

@@ -1,0 +1,264 @@
+//! The pads of a store at the start of the server.
+ghost use Rattle.std.specs.Prelude.{◌≤◌};
+
+use crate::failure::Failure;
+use crate::keeper::{Book, Keeper};
+use block_seq::BlockSeq;
+use log::{Log, warn};
+use pad_core::Pad;
+use pad_model::Refusal;
+use shared_pads::SharedPad;
+use std::alloc::{AllocError, Global};
+use std::fs::{File, OpenOptions};
+use std::io::Eprint;
+use std::rt::Runtime;
+use std::sync::Mutex;
+use std::{fs, io};
+use store::{Damage, Loaded, load};
+
+/// The row of a server, and who keeps it in files.
+#[derive(Drop)]
+pub struct Stored {
+    pub cells: Vec<SharedPad<BlockSeq>>,
+    pub keeper: Keeper,
+}
+
+/// Loads the pads of a folder, each from its file, in the order of the files' names. The other cells are free.
+pub fn restore<'f, R>(
+    rt: &R,
+    folder: &'f str,
+    replica: u16,
+    count: u32,
+) -> Result<Stored, Failure<'f>>
+where
+    R: Runtime<A = Global, File = File> + Log,
+    requires { 1 ≤ replica }
+{
+    let kept_in = String::from_str(rt.alloc(), folder)?;
+    let (lock, names) = open_folder(rt, folder)?;
+    let row = load_row(rt, folder, names.as_slice(), replica, count)?;
+    let Loading {
+        cells,
+        books,
+        handles,
+    } = row;
+    Ok(Stored {
+        cells,
+        keeper: Keeper::new(kept_in, replica, books, handles, lock),
+    })
+}
+
+// The lock of the folder, and the names of its files.
+fn open_folder<'f, R>(rt: &R, folder: &'f str) -> Result<(File, Vec<String>), Failure<'f>>
+where
+    R: Runtime<A = Global, File = File>,
+{
+    let lock = match lock_folder(rt, folder) {
+        Ok(Some(lock)) => lock,
+        Ok(None) => return Err(Failure::InUse { folder }),
+        Err(cause) => return Err(Failure::Unopened { folder, cause }),
+    };
+    match names_of(rt, folder) {
+        Ok(names) => Ok((lock, names)),
+        Err(cause) => Err(Failure::Unopened { folder, cause }),
+    }
+}
+
+// The pads of these files, and free cells behind them.
+fn load_row<'f, R>(
+    rt: &R,
+    folder: &'f str,
+    names: &[String],
+    replica: u16,
+    count: u32,
+) -> Result<Loading, Failure<'f>>
+where
+    R: Runtime<A = Global, File = File> + Log,
+    requires { 1 ≤ replica }
+{
+    let alloc = rt.alloc();
+    let mut row = Loading {
+        cells: Vec::new(alloc),
+        books: Vec::new(alloc),
+        handles: Vec::new(alloc),
+    };
+    for name in names {
+        if let Some(loaded) = load_file(rt, folder, name.as_str(), replica)? {
+            if row.cells.len() >= count as usize {
+                return Err(Failure::Crowded { folder });
+            }
+            row.add(alloc, loaded)?;
+        }
+    }
+    let taken = row.cells.len().min(count as usize) as u32;
+    for cell in taken..count {
+        row.add_free(alloc, replica, cell)?;
+    }
+    Ok(row)
+}
+
+// The pads so far, each with its file.
+#[derive(Drop)]
+struct Loading {
+    cells: Vec<SharedPad<BlockSeq>>,
+    books: Vec<Mutex<Book>>,
+    handles: Vec<Mutex<Option<File>>>,
+}
+
+impl Loading {
+    // One more pad.
+    fn add(&mut self, alloc: Global, opened: Opened) -> Result<(), AllocError> {
+        let cell = u32::try_from(self.cells.len()).unwrap_or(u32::MAX);
+        let Opened {
+            pad,
+            sum,
+            file,
+            handle,
+        } = opened;
+        self.cells.push(SharedPad::new(alloc, pad, cell))?;
+        self.books.push(Mutex::new(Book {
+            file: Some(file),
+            sum,
+        }))?;
+        self.handles.push(Mutex::new(Some(handle)))?;
+        Ok(())
+    }
+
+    // One more cell without a pad.
+    fn add_free(&mut self, alloc: Global, replica: u16, cell: u32) -> Result<(), Refusal>
+        requires { 1 ≤ replica }
+    {
+        let pad = Pad::new(alloc, replica)?;
+        self.cells.push(SharedPad::new(alloc, pad, cell))?;
+        self.books.push(Mutex::new(Book {
+            file: None,
+            sum: String::new(alloc),
+        }))?;
+        self.handles.push(Mutex::new(None))?;
+        Ok(())
+    }
+}
+
+// A pad that was loaded, with its file open for appending, twice.
+#[derive(Drop)]
+struct Opened {
+    pad: Pad<BlockSeq>,
+    sum: String,
+    file: File,
+    handle: File,
+}
+
+// Makes the folder where it is not there, and takes its lock. None: another process has it.
+fn lock_folder<R: Runtime<A = Global, File = File>>(
+    rt: &R,
+    folder: &str,
+) -> io::Result<Option<File>> {
+    fs::create_dir_all(rt, folder)?;
+    let path = format!(in rt.alloc(); "{folder}/lock")?;
+    let mut options = OpenOptions::new();
+    options.write(true).create(true);
+    let lock = options.open(rt, path.as_str())?;
+    File::open(rt, folder)?.sync_all()?;
+    match lock.try_lock() {
+        Ok(()) => Ok(Some(lock)),
+        Err(_) => Ok(None),
+    }
+}
+
+// The names of the files of pads, in order.
+fn names_of<R: Runtime<A = Global, File = File>>(rt: &R, folder: &str) -> io::Result<Vec<String>> {
+    let alloc = rt.alloc();
+    let mut names = Vec::new(alloc);
+    for entry in fs::read_dir(rt, folder)? {
+        let entry = entry?;
+        if entry.file_name().ends_with(".pad") {
+            names.push(String::from_str(alloc, entry.file_name())?)?;
+        }
+    }
+    names.sort()?;
+    Ok(names)
+}
+
+// Loads one pad. Its file is cut behind its last whole line; a file whose pad was never named is taken away.
+fn load_file<'f, R>(
+    rt: &R,
+    folder: &'f str,
+    name: &str,
+    replica: u16,
+) -> Result<Option<Opened>, Failure<'f>>
+where
+    R: Runtime<A = Global, File = File> + Log,
+    requires { 1 ≤ replica }
+{
+    let path = format!(in rt.alloc(); "{folder}/{name}")?;
+    let bytes = match fs::read(rt, path.as_str()) {
+        Ok(bytes) => bytes,
+        Err(cause) => return Err(Failure::Unopened { folder, cause }),
+    };
+    match load(rt.alloc(), replica, bytes.as_slice()) {
+        Ok(loaded) => match open_loaded(rt, path.as_str(), loaded) {
+            Ok(opened) => Ok(Some(opened)),
+            Err(cause) => Err(Failure::Unopened { folder, cause }),
+        },
+        Err(Damage::Empty) => match remove(rt, path.as_str()) {
+            Ok(()) => Ok(None),
+            Err(cause) => Err(Failure::Unopened { folder, cause }),
+        },
+        Err(damage) => Err(refuse(rt, folder, path.as_str(), damage)),
+    }
+}
+
+// Why a file is not taken; which line it is, is told at once.
+fn refuse<'f, R: Eprint>(rt: &R, folder: &'f str, path: &str, damage: Damage) -> Failure<'f> {
+    match damage {
+        Damage::OtherReplica { replica } => Failure::OtherReplica { folder, replica },
+        damage => {
+            let _told = eprintln!(rt; "pad_server: {path}: {damage}");
+            Failure::Damaged { folder }
+        }
+    }
+}
+
+// Takes a file away whose pad was never named.
+fn remove<R: Runtime<A = Global, File = File> + Log>(rt: &R, path: &str) -> io::Result<()> {
+    warn!(rt; "{path}: the pad was never named, and its file is taken away");
+    fs::remove_file(rt, path)
+}
+
+// A pad with its file, which is cut behind its last whole line.
+fn open_loaded<R>(rt: &R, path: &str, loaded: Loaded<BlockSeq>) -> io::Result<Opened>
+where
+    R: Runtime<A = Global, File = File> + Log,
+{
+    let Loaded {
+        pad,
+        sum,
+        whole,
+        cut,
+    } = loaded;
+    if cut > 0 {
+        warn!(rt; "{path}: the last line was not whole: {cut} bytes are cut off");
+    }
+    let (file, handle) = open_file(rt, path, whole)?;
+    Ok(Opened {
+        pad,
+        sum,
+        file,
+        handle,
+    })
+}
+
+// Opens a file for appending behind its whole lines, twice.
+fn open_file<R: Runtime<A = Global, File = File>>(
+    rt: &R,
+    path: &str,
+    whole: u64,
+) -> io::Result<(File, File)> {
+    let mut options = OpenOptions::new();
+    options.append(true);
+    let file = options.open(rt, path)?;
+    file.set_len(whole)?;
+    file.sync_all()?;
+    let handle = file.try_clone()?;
+    Ok((file, handle))
+}

@@ -1,0 +1,43 @@
+//! From records to a pad.
+ghost use Rattle.std.specs.Prelude.{◌≡◌, ◌⊎◌, ◌≤◌, Ok, Err, MatchResult};
+ghost use Rattle.pad_model.specs.Answers.{Answers};
+ghost use Rattle.records.specs.Records.{rebuilt, replay as replayed};
+
+use crate::kept_record::Record;
+use pad_core::Pad;
+use pad_model::{Refusal, Sequence};
+use std::alloc::Global;
+
+/// Does on a pad what a record tells, or refuses it and changes nothing.
+pub fn replay<S: Sequence>(alloc: Global, pad: &mut Pad<S>, kept: Record) -> Result<(), Refusal>
+    ensures { Answers pad.old (replayed kept pad.old) result pad.new }
+{
+    match kept {
+        Record::Named { name, owner } => pad.restore_claim(alloc, &name, &owner),
+        Record::Granted { author, right } => pad.restore_grant(&author, right),
+        Record::Visited => pad.restore_visit(alloc),
+        Record::Delivered { op } => pad.restore_operation(alloc, op),
+    }
+}
+
+/// The pad of a server that some records lead to. An error is the first record's refusal, or out of memory.
+pub fn rebuild<S: Sequence>(
+    alloc: Global,
+    replica: u16,
+    records: Vec<Record>,
+) -> Result<Pad<S>, Refusal>
+    requires { 1 ≤ replica }
+    ensures { MatchResult result (λ pad. rebuilt replica records.items ≡ Ok pad) (λ e. (e ≡ Refusal.Memory) ⊎ (rebuilt replica records.items ≡ Err e)) }
+{
+    let mut pad = match Pad::new(alloc, replica) {
+        Ok(pad) => pad,
+        Err(refusal) => return Err(refusal),
+    };
+    for kept in records {
+        match replay(alloc, &mut pad, kept) {
+            Ok(()) => {}
+            Err(refusal) => return Err(refusal),
+        }
+    }
+    Ok(pad)
+}

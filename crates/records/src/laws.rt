@@ -1,0 +1,17 @@
+//! What holds of records and restarts: each law is the contract of a function without parameters.
+ghost use Rattle.records.specs.Laws.{DeparturesLaw, LivesLaw, StepsLaw};
+
+/// The records of a request lead from the restarted pad before it to the restarted pad after it.
+pub fn steps_law()
+    ensures { StepsLaw }
+{}
+
+/// The end of a visit leaves no record, and a restarted pad as it was.
+pub fn departures_law()
+    ensures { DeparturesLaw }
+{}
+
+/// What a pad left in its whole life is never refused, and leads to the restarted pad.
+pub fn lives_law()
+    ensures { LivesLaw }
+{}

@@ -1,0 +1,45 @@
+-- What a record is written as, and read as. The time of day stands beside it, and is not read.
+use Rattle.std.specs.Prelude.{ℕ, List, [], ◌∷◌, codes, bytes_eq, if◌then◌else◌, Option, Some, None, option_map, option_and_then}
+use Rattle.serde_json.specs.Data.{Data, string}
+use Rattle.serde_json.specs.Find.{as_str}
+use Rattle.rights.specs.declared.right.Right.{Right}
+use Rattle.records.specs.declared.kept_record.Record.{Record}
+use Rattle.records.specs.declared.kept_record.Record.TheVariants.{Named, Granted, Visited, Delivered}
+use Rattle.wire_json.specs.Forms.{Field, fields_data, number_data}
+use Rattle.wire_json.specs.Operations.{op_data}
+use Rattle.wire_json.specs.Reading.{field, of_two}
+use Rattle.wire_json.specs.Requests.{op_in}
+use Rattle.wire_json.specs.Words.{granted_by, right_word}
+
+-- the word for a right that is given, or for none
+abbrev pub given_word : Option Right → List ℕ
+given_word None = codes "none"
+given_word (Some right) = right_word right
+
+-- the fields of a record beside its time
+abbrev pub record_fields : Record → List Field
+record_fields (Named name owner) = (codes "kind", string (codes "named")) ∷ (codes "name", string name) ∷ (codes "owner", string owner) ∷ []
+record_fields (Granted author right) = (codes "author", string author) ∷ (codes "kind", string (codes "granted")) ∷ (codes "right", string (given_word right)) ∷ []
+record_fields Visited = (codes "kind", string (codes "visited")) ∷ []
+record_fields (Delivered op) = (codes "kind", string (codes "delivered")) ∷ (codes "op", op_data op) ∷ []
+
+-- a record with the time of day, in seconds since the year 1970
+abbrev pub record_data : ℕ → Record → Data
+record_data at kept = fields_data ((codes "at", number_data at) ∷ record_fields kept)
+
+-- a text of an object
+abbrev pub text_in : List ℕ → Data → Option (List ℕ)
+text_in key d = field as_str key d
+
+-- what a record of a kind says
+abbrev pub record_of : List ℕ → Data → Option Record
+record_of kind d =
+    if bytes_eq kind (codes "named") then of_two Named (text_in (codes "name") d) (text_in (codes "owner") d)
+    else if bytes_eq kind (codes "granted") then of_two Granted (text_in (codes "author") d) (option_and_then granted_by (text_in (codes "right") d))
+    else if bytes_eq kind (codes "visited") then Some Visited
+    else if bytes_eq kind (codes "delivered") then option_map Delivered (field op_in (codes "op") d)
+    else None
+
+-- what a value says as a record
+abbrev pub record_in : Data → Option Record
+record_in d = option_and_then (λ kind. record_of kind d) (text_in (codes "kind") d)

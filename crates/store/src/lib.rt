@@ -1,0 +1,12 @@
+//! The file of a pad: lines that a person can read, each with a sum over all before it.
+#![tactic(auto)]
+
+mod form;
+mod header;
+mod line;
+mod reader;
+
+pub use form::{read_record, record_value};
+pub use header::{FORMAT, Header, header_text, read_header};
+pub use line::{Linked, link, text_of};
+pub use reader::{Damage, Loaded, load, record_text};

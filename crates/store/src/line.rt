@@ -1,0 +1,70 @@
+//! A line: a text, and the sum of all texts up to it.
+ghost use Rattle.std.specs.Prelude.{◌≡◌, ◌∷◌, [], ◌++◌, codes, IfOk, IfSome, string_bytes};
+ghost use Rattle.store.specs.Lines.{line_text, sum_after as sum_behind};
+
+use sha2::{Digest, Sha256};
+use std::alloc::{AllocError, Global};
+
+/// How many bytes a line has beside its text: the brackets, the comma, the quotes and the 64 digits of the sum.
+const AROUND: usize = 69;
+
+/// A line, and the sum that the next one is linked by.
+#[derive(Debug, Drop)]
+pub struct Linked {
+    pub line: String,
+    pub sum: String,
+}
+
+/// The line of a text behind the line with this sum; the first one stands behind no sum.
+pub fn link(alloc: Global, before: &str, text: &str) -> Result<Linked, AllocError>
+    ensures line { IfOk result (λ made. string_bytes made.line ≡ line_text before.now text.now ++ 10 ∷ []) }
+    ensures sum { IfOk result (λ made. string_bytes made.sum ≡ sum_behind before.now text.now) }
+{
+    let sum = sum_after(alloc, before.as_bytes(), text.as_bytes())?;
+    let line = format!(in alloc; "[{text},\"{sum}\"]\n")?;
+    Ok(Linked { line, sum })
+}
+
+/// The text of a line behind this sum, and its own sum. None: it is no such line.
+pub fn text_of<'a>(
+    alloc: Global,
+    before: &str,
+    line: &'a [u8],
+) -> Result<Option<(&'a [u8], String)>, AllocError>
+    ensures { IfOk result (λ found. IfSome found (λ pair. (line.now ≡ line_text before.now pair.0.now) × (string_bytes pair.1 ≡ sum_behind before.now pair.0.now))) }
+{
+    if line.len() < AROUND {
+        return Ok(None);
+    }
+    let text = &line[1..line.len() - (AROUND - 1)];
+    let sum = sum_after(alloc, before.as_bytes(), text)?;
+    let linked = line_bytes(alloc, text, sum.as_bytes())?;
+    if line == linked.as_slice() {
+        Ok(Some((text, sum)))
+    } else {
+        Ok(None)
+    }
+}
+
+/// The bytes of a line without its line feed.
+fn line_bytes(alloc: Global, text: &[u8], sum: &[u8]) -> Result<Vec<u8>, AllocError>
+    ensures { IfOk result (λ bytes. bytes.items ≡ codes "[" ++ text.now ++ codes ",\"" ++ sum.now ++ codes "\"]") }
+{
+    let mut bytes = Vec::new(alloc);
+    bytes.extend_from_slice(b"[")?;
+    bytes.extend_from_slice(text)?;
+    bytes.extend_from_slice(b",\"")?;
+    bytes.extend_from_slice(sum)?;
+    bytes.extend_from_slice(b"\"]")?;
+    Ok(bytes)
+}
+
+/// The sum of a text behind another one.
+fn sum_after(alloc: Global, before: &[u8], text: &[u8]) -> Result<String, AllocError>
+    ensures { IfOk result (λ sum. string_bytes sum ≡ sum_behind before.now text.now) }
+{
+    let mut hasher = Sha256::new();
+    hasher.update(before);
+    hasher.update(text);
+    hex::encode(alloc, hasher.finalize())
+}

@@ -1,0 +1,275 @@
+"""A server with a store: what it answered is there after a restart, also after it was killed at any moment."""
+import hashlib
+import json
+import os
+import random
+import signal
+import subprocess
+import threading
+import time
+
+from harness import Case, Failed, Has, Test, put_files, want
+from sockets import ACCOUNTS, LISTEN, NAMES, Server
+
+STORE = "--store kept"
+ROUNDS = 20
+WRITERS = 8
+
+
+def restarted(more=""):
+    return Server(f"{STORE} {more}")
+
+
+def kill(server):
+    server.process.kill()
+    server.process.wait()
+    server.process.stdout.close()
+
+
+def lines_of(pad):
+    """The lines of a pad's file, each with the sum over the one before and its text, as anybody can compute it."""
+    with open(f"kept/{pad}.pad", "rb") as file:
+        lines = file.read().split(b"\n")
+    want(lines.pop(), b"", "what stands behind the last line feed")
+    before = b""
+    texts = []
+    for line in lines:
+        text = line[1:-68]
+        before = hashlib.sha256(before + text).hexdigest().encode()
+        want(line, b"[" + text + b',"' + before + b'"]', "a line of the file")
+        texts.append(json.loads(text))
+    return texts
+
+
+def entries_of(client):
+    """What made each revision of the pad p, in order: name, author and kind."""
+    found = []
+    while True:
+        some = client.does(do="entries", pad="p", **{"from": len(found) + 1, "count": 1000})["entries"]
+        if not some:
+            return found
+        found += [(tuple(entry["name"]), entry["author"], entry["kind"]) for entry in some]
+
+
+def all_comes_back():
+    server = restarted()
+    ann = server.author("ann")
+    ann.does(do="create", pad="p")
+    ann.does(do="grant", pad="p", name="bob", right="write")
+    ann.does(do="grant", pad="p", name="cid", right="read")
+    bob = server.author("bob", "p")
+    ann.does(do="insert", pad="p", rev=0, at=0, text="one ü 𝄞\n")
+    bob.does(do="insert", pad="p", rev=1, at=0, text="two\"\\")
+    ann.does(do="comment", pad="p", rev=2, at=0, len=3, text="why?")
+    bob.does(do="delete", pad="p", rev=2, at=0, len=1)
+    shown = [ann.does(do=what, pad="p") for what in ("text", "runs", "comments", "revs", "rights")]
+    made = entries_of(ann)
+    kill(server)
+    texts = lines_of("p")
+    want(texts[0], {"format": 1, "pad": "p", "replica": 1}, "the first line")
+    want(
+        [text["kind"] for text in texts[1:]],
+        ["named", "granted", "granted", "visited", "delivered", "delivered", "delivered", "delivered"],
+        "the kinds of the records",
+    )
+    server = restarted()
+    ann = server.author("ann")
+    want(ann.join("p"), 3, "the number of the first visit after the restart")
+    want([ann.does(do=what, pad="p") for what in ("text", "runs", "comments", "revs", "rights")], shown, "what the pad shows")
+    want(entries_of(ann), made, "its entries")
+    cid = server.author("cid", "p")
+    cid.wants({"do": "insert", "pad": "p", "rev": 4, "at": 0, "text": "x"}, {"code": 312, "error": "Denied", "ok": False})
+    answer = ann.does(do="insert", pad="p", rev=4, at=0, text="next")
+    want(answer["name"], [1, 5], "the name of the next operation")
+    kill(server)
+
+
+def several_pads():
+    server = restarted()
+    ann = server.author("ann")
+    for pad in ("c", "a", "b"):
+        ann.does(do="create", pad=pad)
+        ann.does(do="insert", pad=pad, rev=0, at=0, text=f"text of {pad}")
+    ann.wants({"do": "create", "pad": "a"}, {"code": 301, "error": "PadExists", "ok": False})
+    kill(server)
+    server = restarted()
+    ann = server.author("ann")
+    for pad in ("a", "b", "c"):
+        ann.join(pad)
+        want(ann.does(do="text", pad=pad)["text"], f"text of {pad}", f"the text of {pad}")
+    ann.does(do="create", pad="d")
+    kill(server)
+
+
+def torn_line():
+    server = restarted()
+    ann = server.author("ann")
+    ann.does(do="create", pad="p")
+    ann.does(do="insert", pad="p", rev=0, at=0, text="kept")
+    kill(server)
+    whole = os.path.getsize("kept/p.pad")
+    with open("kept/p.pad", "ab") as file:
+        file.write(b'[{"at":1,"kind":"vis')
+    server = restarted()
+    ann = server.author("ann", "p")
+    want(ann.does(do="text", pad="p")["text"], "kept", "the text")
+    kill(server)
+    want(len(lines_of("p")), 4, "the lines after a visit")
+    want(os.path.getsize("kept/p.pad") > whole, True, "that the file has grown")
+
+
+def front_of_the_file():
+    """A file that is cut at any byte behind its first two lines is a pad with the whole lines that are left."""
+    server = restarted()
+    ann = server.author("ann")
+    ann.does(do="create", pad="p")
+    for number in range(8):
+        ann.does(do="insert", pad="p", rev=number, at=number, text=str(number))
+    kill(server)
+    with open("kept/p.pad", "rb") as file:
+        content = file.read()
+    ends = [place + 1 for place, byte in enumerate(content) if byte == 10]
+    for cut in random.Random(5).sample(range(ends[1], len(content)), 12):
+        with open("kept/p.pad", "wb") as file:
+            file.write(content[:cut])
+        server = restarted()
+        ann = server.author("ann", "p")
+        whole = sum(end <= cut for end in ends)
+        want(ann.does(do="text", pad="p")["text"], "01234567"[: whole - 2], f"the text of the first {cut} bytes")
+        kill(server)
+
+
+def refused(status, *parts):
+    process = subprocess.run(
+        [path("pad_server"), *f"{LISTEN} {STORE}".split()], stdin=subprocess.DEVNULL, capture_output=True, timeout=15
+    )
+    want(process.returncode, status, "the status")
+    for part in parts:
+        if part not in process.stderr.decode():
+            raise Failed(f"standard error lacks {part!r}: {process.stderr!r}")
+
+
+def path(program):
+    from harness import path_of
+
+    return path_of(program)
+
+
+def damaged():
+    server = restarted()
+    ann = server.author("ann")
+    ann.does(do="create", pad="p")
+    for number in range(3):
+        ann.does(do="insert", pad="p", rev=number, at=0, text="abc")
+    kill(server)
+    with open("kept/p.pad", "rb") as file:
+        lines = file.read().split(b"\n")
+    for number, changed in (
+        (3, lines[:2] + [lines[2].replace(b"abc", b"abd")] + lines[3:]),
+        (3, lines[:2] + lines[3:]),
+        (4, lines[:3] + [lines[4], lines[3]] + lines[5:]),
+        (1, [b"{}"] + lines[1:]),
+        (2, [lines[0], b"x" * 100] + lines[2:]),
+    ):
+        content = b"\n".join(changed)
+        with open("kept/p.pad", "wb") as file:
+            file.write(content)
+        refused(1, f"p.pad: line {number}:", "is damaged")
+        with open("kept/p.pad", "rb") as file:
+            want(file.read(), content, "the damaged file")
+
+
+def in_use():
+    server = restarted()
+    refused(1, "in use")
+    kill(server)
+
+
+def other_replica():
+    server = restarted()
+    server.author("ann").does(do="create", pad="p")
+    kill(server)
+    process = subprocess.run(
+        [path("pad_server"), *f"{LISTEN} {STORE}".replace("--replica 1", "--replica 2").split()],
+        stdin=subprocess.DEVNULL,
+        capture_output=True,
+        timeout=15,
+    )
+    want(process.returncode, 2, "the status")
+    want(b"replica number 1" in process.stderr, True, "that the number is told")
+
+
+def too_many():
+    server = restarted()
+    ann = server.author("ann")
+    ann.does(do="create", pad="a")
+    ann.does(do="create", pad="b")
+    kill(server)
+    put_files(ACCOUNTS)
+    process = subprocess.run(
+        [path("pad_server"), *f"{LISTEN} {STORE} --cells 1".split()], stdin=subprocess.DEVNULL, capture_output=True, timeout=15
+    )
+    want(process.returncode, 1, "the status")
+    want(b"more pads" in process.stderr, True, "that it is said")
+
+
+def write_until_killed(server, name, kept, number):
+    """Inserts one letter after the other, and keeps the names of the answered ones."""
+    try:
+        client = server.author(name, "p")
+        rev = client.does(do="revs", pad="p")["now"]
+        while True:
+            answer = client.does(do="insert", pad="p", rev=rev, at=0, text=chr(97 + number))
+            kept.append((tuple(answer["name"]), f"{name}@1", "insert"))
+            rev = answer["now"]
+    except (OSError, ValueError, Failed, KeyError):
+        return
+
+
+def killed_under_writers():
+    server = restarted()
+    ann = server.author("ann")
+    ann.does(do="create", pad="p")
+    for name in NAMES[1:]:
+        ann.does(do="grant", pad="p", name=name, right="write")
+    chance = random.Random(7)
+    answered = []
+    for _ in range(ROUNDS):
+        lists = [[] for _ in range(WRITERS)]
+        threads = [
+            threading.Thread(target=write_until_killed, args=(server, NAMES[number], lists[number], number))
+            for number in range(WRITERS)
+        ]
+        for thread in threads:
+            thread.start()
+        time.sleep(chance.uniform(0.02, 0.2))
+        server.process.send_signal(signal.SIGKILL)
+        for thread in threads:
+            thread.join()
+        kill(server)
+        answered += [made for made_by in lists for made in made_by]
+        server = restarted()
+        client = server.author("ann", "p")
+        there = entries_of(client)
+        want(len(set(there)), len(there), "that no name comes twice")
+        missing = set(answered) - set(there)
+        if missing:
+            raise Failed(f"{len(missing)} answered operations are gone: {sorted(missing)[:3]}")
+        want([entry[0] for entry in there], [(1, place + 1) for place in range(len(there))], "the names in order")
+        want(client.does(do="revs", pad="p")["length"], len(there), "the length of the text")
+    want(len(answered) > ROUNDS * WRITERS, True, "that enough was answered")
+    kill(server)
+
+
+TESTS = [
+    Case("a store needs connections", "--stdin --store kept --replica 1", status=2, stderr="error: --store <DIR> needs --listen <ADDR>\n").test(),
+    Test("store: all comes back", all_comes_back),
+    Test("store: several pads", several_pads),
+    Test("store: a torn line", torn_line),
+    Test("store: a front of the file", front_of_the_file, 60),
+    Test("store: damage is told by file and line", damaged),
+    Test("store: another process", in_use),
+    Test("store: another replica number", other_replica),
+    Test("store: more pads than cells", too_many),
+    Test("store: killed twenty times under eight writers", killed_under_writers, 120),
+]

@@ -2,15 +2,16 @@
 use crate::side::{Side, close, listen, make_round, serve_other};
 use crate::stage::{accounts, shown, thread_of};
 use block_seq::BlockSeq;
-use pad_model::Refusal;
+use pad_model::{Refusal, Sequence};
 use relay::Relayed;
 use sessions::Session;
 use shared_pads::{Open, Seat, SharedPad};
 use std::alloc::Global;
-use std::net::{Net, TcpStream};
+use std::net::{Net, TcpListener, TcpStream};
 use std::sync::Wait;
 use std::test::Fail;
 use std::thread;
+use std::thread::Threads;
 use wire_lines::Fault;
 use workers::{Shared, open_row, take_seats};
 
@@ -39,10 +40,10 @@ const SHOWN: &str = concat!(
     "{\"now\":3,\"ok\":true,\"seen\":[[1,2],[2,1]]}\n",
 );
 
-fn seats_of<R: Wait>(
+fn seats_of<S: Sequence, R: Wait>(
     rt: &R,
     alloc: Global,
-    cells: &[SharedPad<BlockSeq>],
+    cells: &[SharedPad<S>],
 ) -> Result<Vec<Seat>, Refusal> {
     let mut seats = Vec::new(alloc);
     take_seats(rt, cells, &mut seats)?;
@@ -50,15 +51,35 @@ fn seats_of<R: Wait>(
 }
 
 // A round of the first server with the second one, which serves no more after it.
-fn exchange<R: Wait + Net<Stream = TcpStream>>(
+fn exchange<S: Sequence, R: Wait + Net<Stream = TcpStream>>(
     alloc: Global,
-    first: &Side<'_, R>,
-    second: &Side<'_, R>,
+    first: &Side<'_, S, R>,
+    second: &Side<'_, S, R>,
     seats: Vec<Seat>,
 ) -> Result<Relayed, Fault> {
     let mut pads = Shared::new(&first.row, seats, Session::new(alloc));
     let relayed = make_round(alloc, first, &mut pads);
     close(second, first);
+    relayed
+}
+
+// The same, while a thread of the second server serves it.
+fn exchange_served<S: Sequence + Send, R>(
+    alloc: Global,
+    first: &Side<'_, S, R>,
+    second: &Side<'_, S, R>,
+    relaying: Vec<Seat>,
+    listener: TcpListener,
+    serving: Vec<Seat>,
+) -> Result<Relayed, Fault>
+where
+    R: Wait + Net<Stream = TcpStream> + Threads + Sync,
+{
+    let (relayed, _seats) = thread::join(
+        first.row.rt,
+        move || exchange(alloc, first, second, relaying),
+        move || serve_other(alloc, second, &listener, serving),
+    );
     relayed
 }
 
@@ -77,11 +98,7 @@ fn one_round_makes_two_servers_the_same(rt: HostRuntime) -> Result<(), Fail> {
     let mut two = thread_of(alloc, &second.row, theirs, &SECOND)?;
     let relaying = seats_of(&rt, alloc, first_cells.as_slice())?;
     let serving = seats_of(&rt, alloc, second_cells.as_slice())?;
-    let (relayed, _seats) = thread::join(
-        &rt,
-        || exchange(alloc, &first, &second, relaying),
-        || serve_other(alloc, &second, &at_second, serving),
-    );
+    let relayed = exchange_served(alloc, &first, &second, relaying, at_second, serving);
     let wanted = Relayed {
         pads: 1,
         pulled: 1,

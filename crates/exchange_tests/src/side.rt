@@ -1,5 +1,5 @@
 //! A server of this process: how it reaches the other one, and how it serves it.
-use block_seq::BlockSeq;
+use pad_model::Sequence;
 use relay::{Link, Relayed, relay_round};
 use sessions::{Accounts, Session};
 use shared_pads::{Open, Seat, SharedPad};
@@ -17,23 +17,23 @@ const PATIENCE: u64 = 30;
 
 /// A server of this process.
 #[derive(Drop)]
-pub struct Side<'a, R: Wait> {
-    pub row: Row<'a, BlockSeq, R, Open>,
+pub struct Side<'a, S: Sequence, R: Wait> {
+    pub row: Row<'a, S, R, Open>,
     /// The port at which the other server accepts connections, on this machine.
     pub other: u16,
     /// Whether the next connection is its last.
     pub is_closing: AtomicBool,
 }
 
-impl<'a, R: Wait> Side<'a, R> {
+impl<'a, S: Sequence, R: Wait> Side<'a, S, R> {
     /// The server with these pads and this number, which reaches the other server at a port.
     pub fn new(
         rt: &'a R,
-        cells: &'a [SharedPad<BlockSeq>],
+        cells: &'a [SharedPad<S>],
         replica: u16,
         accounts: &'a Accounts,
         other: u16,
-    ) -> Side<'a, R> {
+    ) -> Side<'a, S, R> {
         Side {
             row: Row {
                 rt,
@@ -65,9 +65,9 @@ fn connect<R: Net<Stream = TcpStream>>(rt: &R, port: u16) -> io::Result<TcpStrea
 }
 
 /// Makes a round with the other server.
-pub fn make_round<R: Wait + Net<Stream = TcpStream>, P: Pads>(
+pub fn make_round<S: Sequence, R: Wait + Net<Stream = TcpStream>, P: Pads>(
     alloc: Global,
-    side: &Side<'_, R>,
+    side: &Side<'_, S, R>,
     pads: &mut P,
 ) -> Result<Relayed, Fault> {
     let own = side.row.replica;
@@ -80,9 +80,9 @@ pub fn make_round<R: Wait + Net<Stream = TcpStream>, P: Pads>(
 }
 
 /// Serves the other server's connections, one after the other, up to the last one. Its seats are there again at the end.
-pub fn serve_other<R: Wait>(
+pub fn serve_other<S: Sequence, R: Wait>(
     alloc: Global,
-    side: &Side<'_, R>,
+    side: &Side<'_, S, R>,
     listener: &TcpListener,
     seats: Vec<Seat>,
 ) -> Vec<Seat> {
@@ -101,7 +101,10 @@ pub fn serve_other<R: Wait>(
 }
 
 /// Ends the serving of a server, by one more connection.
-pub fn close<R: Wait + Net<Stream = TcpStream>>(served: &Side<'_, R>, by: &Side<'_, R>) {
+pub fn close<S: Sequence, R: Wait + Net<Stream = TcpStream>>(
+    served: &Side<'_, S, R>,
+    by: &Side<'_, S, R>,
+) {
     served.is_closing.store(true, Ordering::SeqCst);
     let _last = connect(by.row.rt, by.other);
 }

@@ -1,7 +1,6 @@
 //! Accounts, requests and replies that the tests share.
-use block_seq::BlockSeq;
 use pad_core::{Act, Reply, Request};
-use pad_model::{Name, Refusal};
+use pad_model::{Name, Refusal, Sequence};
 use sessions::{Accounts, Session};
 use shared_pads::{Open, Seat};
 use std::alloc::Global;
@@ -42,12 +41,12 @@ pub fn act<P: Pads>(alloc: Global, pads: &mut P, act: Act) -> Result<Reply, Refu
 }
 
 /// A thread with these seats, after it has asked these lines.
-pub fn thread_of<'a, R: Wait>(
+pub fn thread_of<'a, S: Sequence, R: Wait>(
     alloc: Global,
-    row: &'a Row<'a, BlockSeq, R, Open>,
+    row: &'a Row<'a, S, R, Open>,
     seats: Vec<Seat>,
     lines: &[&str],
-) -> Result<Shared<'a, BlockSeq, R, Open>, Refusal> {
+) -> Result<Shared<'a, S, R, Open>, Refusal> {
     let mut pads = Shared::new(row, seats, Session::new(alloc));
     ask_all(alloc, &mut pads, lines)?;
     Ok(pads)

@@ -5,7 +5,7 @@ use crate::tally::Tally;
 use crate::writer::write;
 use block_seq::BlockSeq;
 use pad_core::Recorded;
-use pad_model::Refusal;
+use pad_model::{Refusal, Sequence};
 use relay::Relayed;
 use sessions::Session;
 use shared_pads::{Seat, SharedPad};
@@ -110,9 +110,9 @@ fn added(one: Relayed, other: Relayed) -> Relayed {
 }
 
 // Rounds with the other server until all authors of both have ended.
-fn exchange<R: Wait + Net<Stream = TcpStream>, P: Pads>(
+fn exchange<S: Sequence, R: Wait + Net<Stream = TcpStream>, P: Pads>(
     alloc: Global,
-    own: &Side<'_, R>,
+    own: &Side<'_, S, R>,
     pads: &mut P,
     course: &Course,
 ) -> Result<Relayed, Fault> {
@@ -127,10 +127,10 @@ fn exchange<R: Wait + Net<Stream = TcpStream>, P: Pads>(
 }
 
 // Such rounds, and a last one of each server, the first server's first. The other server serves no more then.
-fn relay<R: Wait + Clock + Net<Stream = TcpStream>, P: Pads>(
+fn relay<S: Sequence, R: Wait + Clock + Net<Stream = TcpStream>, P: Pads>(
     alloc: Global,
-    own: &Side<'_, R>,
-    other: &Side<'_, R>,
+    own: &Side<'_, S, R>,
+    other: &Side<'_, S, R>,
     pads: &mut P,
     course: &Course,
 ) -> Result<Relayed, Fault> {
@@ -149,10 +149,10 @@ fn relay<R: Wait + Clock + Net<Stream = TcpStream>, P: Pads>(
     Ok(added(relayed?, last?))
 }
 
-fn work<R: Wait + Clock + Net<Stream = TcpStream>>(
+fn work<S: Sequence, R: Wait + Clock + Net<Stream = TcpStream>>(
     alloc: Global,
-    first: &Side<'_, R>,
-    second: &Side<'_, R>,
+    first: &Side<'_, S, R>,
+    second: &Side<'_, S, R>,
     course: &Course,
     job: Job,
 ) -> Done {
@@ -184,9 +184,9 @@ fn work<R: Wait + Clock + Net<Stream = TcpStream>>(
     }
 }
 
-fn write_as<R: Wait>(
+fn write_as<S: Sequence, R: Wait>(
     alloc: Global,
-    own: &Side<'_, R>,
+    own: &Side<'_, S, R>,
     server: Server,
     course: &Course,
     hello: &str,
@@ -204,12 +204,12 @@ fn write_as<R: Wait>(
 }
 
 // The jobs at one server, each with a seat: the one that serves last, since it ends when the others have.
-fn add_jobs<R: Wait>(
+fn add_jobs<S: Sequence, R: Wait>(
     rt: &R,
     alloc: Global,
     server: Server,
     listener: TcpListener,
-    cells: &[SharedPad<BlockSeq>],
+    cells: &[SharedPad<S>],
     jobs: &mut Vec<Job>,
 ) -> Result<(), Refusal> {
     for hello in HELLOS {
@@ -229,10 +229,10 @@ fn add_jobs<R: Wait>(
     Ok(())
 }
 
-fn seats_of<R: Wait>(
+fn seats_of<S: Sequence, R: Wait>(
     rt: &R,
     alloc: Global,
-    cells: &[SharedPad<BlockSeq>],
+    cells: &[SharedPad<S>],
 ) -> Result<Vec<Seat>, Refusal> {
     let mut seats = Vec::new(alloc);
     take_seats(rt, cells, &mut seats)?;
@@ -267,10 +267,10 @@ fn sum(
 }
 
 // Lets the threads of both servers work.
-fn run<R>(
+fn run<S: Sequence + Send, R>(
     alloc: Global,
-    first: &Side<'_, R>,
-    second: &Side<'_, R>,
+    first: &Side<'_, S, R>,
+    second: &Side<'_, S, R>,
     jobs: Vec<Job>,
 ) -> Result<Ended, Fail>
 where
@@ -303,11 +303,11 @@ where
 }
 
 // Both servers, with these pads, until all their threads have ended.
-fn run_over_loopback<R>(
+fn run_over_loopback<S: Sequence + Send, R>(
     rt: &R,
     alloc: Global,
-    first: &[SharedPad<BlockSeq>],
-    second: &[SharedPad<BlockSeq>],
+    first: &[SharedPad<S>],
+    second: &[SharedPad<S>],
 ) -> Result<Ended, Fail>
 where
     R: Net<Listener = TcpListener, Stream = TcpStream> + Threads + Wait + Clock + Sync,

@@ -7,7 +7,6 @@ use std::alloc::Global;
 use std::fs::File;
 use std::rt::Files;
 use std::sync::Wait;
-use std::time::Clock;
 use workers::Gate;
 
 /// Why a relay thread is woken.
@@ -35,7 +34,7 @@ impl<'a, R> Waker<'a, R> {
     }
 }
 
-impl<R: Wait + Files<File = File> + Clock + Log> Gate for Waker<'_, R> {
+impl<R: Wait> Gate for Waker<'_, R> {
     fn answered(&self, alloc: Global, told: &Answered<'_>) {
         if let Some(keeper) = self.keeper {
             keeper.note(self.rt, alloc, told);

@@ -1,4 +1,6 @@
 //! A connection over TCP.
+ghost use Rattle.workers.specs.Crew.{ServesConnection};
+
 use crate::failure::Failure;
 use crate::keeper::Keeper;
 use crate::settled::Settled;
@@ -40,25 +42,52 @@ impl<R: Wait + Log> Connection for Client<'_, R> {
         number: u64,
         gate: &G,
     ) -> Result<Served, Fault> {
-        let mut input = Watched::new(&self.stream);
-        let mut output = Watched::new(Settled::new(self.rt, &self.stream, self.keeper));
-        let mut reader = Std::new(&mut input);
-        let mut writer = Std::new(&mut output);
-        let served = serve_client(alloc, pads, &mut reader, &mut writer, number, gate);
-        if let Err(fault) = served {
-            match (fault, input.cause(), output.cause()) {
-                (Fault::ReadFault, Some(cause), _) if is_late(cause) => {
-                    warn!(self.rt; "connection {number} ended: it said nothing for too long");
-                }
-                (Fault::WriteFault, _, Some(cause)) if is_late(cause) => {
-                    warn!(self.rt; "connection {number} ended: it took no reply for too long");
-                }
-                (fault, unread, unwritten) => {
-                    let failure = Failure::of(fault, unread, unwritten);
-                    warn!(self.rt; "connection {number} ended: {failure}");
-                }
-            }
+        let Client { rt, stream, keeper } = self;
+        serve_stream(rt, &stream, keeper, alloc, pads, number, gate)
+    }
+}
+
+/// Answers the lines of a stream, and logs why it broke.
+fn serve_stream<'s, R: Wait + Log, P: Pads, G: Gate>(
+    rt: &'s R,
+    stream: &'s TcpStream,
+    keeper: Option<&'s Keeper>,
+    alloc: Global,
+    pads: &mut P,
+    number: u64,
+    gate: &G,
+) -> Result<Served, Fault>
+    ensures { ServesConnection P.calls P.ends pads.old pads.new }
+{
+    let mut input = Watched::new(stream);
+    let mut output = Watched::new(Settled::new(rt, stream, keeper));
+    let mut reader = Std::new(&mut input);
+    let mut writer = Std::new(&mut output);
+    let served = serve_client(alloc, pads, &mut reader, &mut writer, number, gate);
+    if let Err(fault) = served {
+        log_end(rt, number, fault, input.cause(), output.cause());
+    }
+    served
+}
+
+/// Logs why a connection broke, by what its devices said.
+fn log_end<R: Log>(
+    rt: &R,
+    number: u64,
+    fault: Fault,
+    unread: Option<io::Error>,
+    unwritten: Option<io::Error>,
+) {
+    match (fault, unread, unwritten) {
+        (Fault::ReadFault, Some(cause), _) if is_late(cause) => {
+            warn!(rt; "connection {number} ended: it said nothing for too long");
         }
-        served
+        (Fault::WriteFault, _, Some(cause)) if is_late(cause) => {
+            warn!(rt; "connection {number} ended: it took no reply for too long");
+        }
+        (fault, unread, unwritten) => {
+            let failure = Failure::of(fault, unread, unwritten);
+            warn!(rt; "connection {number} ended: {failure}");
+        }
     }
 }

@@ -162,8 +162,21 @@ where
         Ok(stream) => stream,
         Err(error) => return Err(Broken::Apart(error)),
     };
-    let mut input = Watched::new(&stream);
-    let mut output = Watched::new(Settled::new(rt, &stream, keeper));
+    exchange_over(rt, &stream, keeper, alloc, pads, own, peer)
+}
+
+// Makes a round over a connection.
+fn exchange_over<'s, P: Pads, R: Wait + Log>(
+    rt: &'s R,
+    stream: &'s TcpStream,
+    keeper: Option<&'s Keeper>,
+    alloc: Global,
+    pads: &mut P,
+    own: u16,
+    peer: &Peer,
+) -> Result<Relayed, Broken> {
+    let mut input = Watched::new(stream);
+    let mut output = Watched::new(Settled::new(rt, stream, keeper));
     let relayed = match Link::new(alloc, Std::new(&mut input), Std::new(&mut output)) {
         Ok(mut link) => {
             let _session = pads.relay(alloc, peer.number);

@@ -2,13 +2,9 @@
 use crate::keeper::Keeper;
 use crate::turnstile::Turnstile;
 use crate::wake::Waker;
-use log::Log;
 use shared_pads::Answered;
 use std::alloc::Global;
-use std::fs::File;
-use std::rt::Files;
 use std::sync::Wait;
-use std::time::Clock;
 use workers::Gate;
 
 /// Wakes the relay thread before each reply that tells of a delivered operation, and lets one long line at a time be read as
@@ -39,7 +35,7 @@ impl<'a, R> Course<'a, R> {
     }
 }
 
-impl<R: Wait + Files<File = File> + Clock + Log> Gate for Course<'_, R> {
+impl<R: Wait> Gate for Course<'_, R> {
     fn answered(&self, alloc: Global, told: &Answered<'_>) {
         if let Some(keeper) = self.keeper {
             keeper.note(self.rt, alloc, told);

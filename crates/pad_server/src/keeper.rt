@@ -1,15 +1,14 @@
 //! The files of a server's pads while it runs: what was answered is noted under the pad's lock, and synced before a reply is
 //! written.
-use log::{Log, error};
+use log::error;
 use records::{Record, records_of};
 use shared_pads::Answered;
 use std::alloc::Global;
 use std::fs::{File, OpenOptions};
 use std::io;
 use std::io::{ErrorKind, Write};
-use std::rt::Files;
 use std::sync::{Condvar, Mutex, Wait};
-use std::time::{Clock, SystemTime, UNIX_EPOCH};
+use std::time::{SystemTime, UNIX_EPOCH};
 use store::{header_text, link, record_text};
 
 /// A pad's file, open for appending, and the sum of its last line.
@@ -47,6 +46,8 @@ enum Turn {
 /// Keeps the pads of a server in files, one for each pad that has a name.
 #[derive(Drop)]
 pub struct Keeper {
+    // By which files are made, the time is read and faults are logged.
+    files: HostRuntime,
     folder: String,
     replica: u16,
     books: Vec<Mutex<Book>>,
@@ -61,6 +62,7 @@ pub struct Keeper {
 impl Keeper {
     /// A keeper of these books, one for each cell, with a second handle of each file.
     pub fn new(
+        files: HostRuntime,
         folder: String,
         replica: u16,
         books: Vec<Mutex<Book>>,
@@ -68,6 +70,7 @@ impl Keeper {
         lock: File,
     ) -> Keeper {
         Keeper {
+            files,
             folder,
             replica,
             books,
@@ -85,12 +88,7 @@ impl Keeper {
     }
 
     /// Notes what a request leaves to be kept. A failure is logged, and from then on nothing is settled any more.
-    pub fn note<R: Wait + Files<File = File> + Clock + Log>(
-        &self,
-        rt: &R,
-        alloc: Global,
-        told: &Answered<'_>,
-    ) {
+    pub fn note<R: Wait>(&self, rt: &R, alloc: Global, told: &Answered<'_>) {
         // What stands behind a line that was not written whole would be damage at the next start.
         if self.progress.lock(rt).failed {
             return;
@@ -105,18 +103,13 @@ impl Keeper {
             }
             Err(cause) => {
                 progress.failed = true;
-                error!(rt; "the store {} cannot be written: {cause}", self.folder);
+                error!(&self.files; "the store {} cannot be written: {cause}", self.folder);
             }
         }
     }
 
     // Appends the records of a request to the pad's file, and says whether there were any.
-    fn write<R: Wait + Files<File = File> + Clock + Log>(
-        &self,
-        rt: &R,
-        alloc: Global,
-        told: &Answered<'_>,
-    ) -> io::Result<bool> {
+    fn write<R: Wait>(&self, rt: &R, alloc: Global, told: &Answered<'_>) -> io::Result<bool> {
         let records = records_of(alloc, told.who, told.request, told.answer, told.more)?;
         let Some(first) = records.first() else {
             return Ok(false);
@@ -132,7 +125,7 @@ impl Keeper {
             book.file = Some(file);
             book.sum = sum;
         }
-        let sum = self.append(rt, alloc, book.sum.as_str(), records.as_slice(), &mut lines)?;
+        let sum = self.append(alloc, book.sum.as_str(), records.as_slice(), &mut lines)?;
         book.sum = sum;
         match &mut book.file {
             Some(file) => file.write_all(lines.as_bytes())?,
@@ -142,15 +135,14 @@ impl Keeper {
     }
 
     // The lines of records behind a line with this sum, and the sum of the last.
-    fn append<R: Wait + Files<File = File> + Clock + Log>(
+    fn append(
         &self,
-        rt: &R,
         alloc: Global,
         before: &str,
         records: &[Record],
         lines: &mut String,
     ) -> io::Result<String> {
-        let at = self.seconds(rt);
+        let at = self.seconds();
         let mut sum = String::from_str(alloc, before)?;
         for kept in records {
             let text = record_text(alloc, at, kept)?;
@@ -162,7 +154,7 @@ impl Keeper {
     }
 
     // Makes the file of a pad that was just named, and the first line.
-    fn begin<R: Wait + Files<File = File> + Clock + Log>(
+    fn begin<R: Wait>(
         &self,
         rt: &R,
         alloc: Global,
@@ -178,11 +170,11 @@ impl Keeper {
         let path = format!(in alloc; "{folder}/{pad}.pad")?;
         let mut options = OpenOptions::new();
         options.append(true).create_new(true);
-        let file = options.open(rt, path.as_str())?;
+        let file = options.open(&self.files, path.as_str())?;
         if cell < self.handles.len() {
             *self.handles[cell].lock(rt) = Some(file.try_clone()?);
         }
-        File::open(rt, folder)?.sync_all()?;
+        File::open(&self.files, folder)?.sync_all()?;
         let text = header_text(alloc, name, self.replica)?;
         let linked = link(alloc, "", text.as_str())?;
         lines.push_str(linked.line.as_str())?;
@@ -190,8 +182,8 @@ impl Keeper {
     }
 
     // The time of day in seconds since 1970, or 0 where the clock does not tell.
-    fn seconds<R: Clock>(&self, rt: &R) -> u64 {
-        match SystemTime::now(rt) {
+    fn seconds(&self) -> u64 {
+        match SystemTime::now(&self.files) {
             Ok(now) => match now.duration_since(UNIX_EPOCH) {
                 Ok(passed) => passed.as_secs(),
                 Err(_) => 0,
@@ -201,7 +193,7 @@ impl Keeper {
     }
 
     /// Waits until all that was noted before is synced, or fails.
-    pub fn settle<R: Wait + Log>(&self, rt: &R) -> io::Result<()> {
+    pub fn settle<R: Wait>(&self, rt: &R) -> io::Result<()> {
         let noted = self.progress.lock(rt).noted;
         match self.turn(rt, noted) {
             Turn::Done => Ok(()),
@@ -249,12 +241,12 @@ impl Keeper {
     }
 
     // Syncs the files of these cells.
-    fn sync<R: Wait + Log>(&self, rt: &R, dirty: u64) -> io::Result<()> {
+    fn sync<R: Wait>(&self, rt: &R, dirty: u64) -> io::Result<()> {
         for (cell, handle) in self.handles.iter().enumerate() {
             if (dirty >> (cell % 64)) & 1 == 1 {
                 if let Some(file) = &*handle.lock(rt) {
                     if let Err(cause) = file.sync_data() {
-                        error!(rt; "the store {} cannot be synced: {cause}", self.folder);
+                        error!(&self.files; "the store {} cannot be synced: {cause}", self.folder);
                         return Err(cause);
                     }
                 }

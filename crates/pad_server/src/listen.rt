@@ -22,7 +22,7 @@ use std::alloc::{AllocError, Global};
 use std::fs::File;
 use std::io::Write;
 use std::net::{Net, TcpListener, TcpStream};
-use std::rt::{Files, Runtime};
+use std::rt::Runtime;
 use std::sync::Wait;
 use std::thread::Threads;
 use std::time::Clock;
@@ -33,6 +33,7 @@ use workers::{Row, open_row, pool, take_all_seats, take_seats};
 /// come from it, and each reply waits until what it tells of is synced.
 pub fn listen<'a, R>(
     rt: &R,
+    files: HostRuntime,
     asked: Asked<'a>,
     address: &'a str,
     path: &'a str,
@@ -50,7 +51,7 @@ where
         let cells = open_row(rt.alloc(), asked.replica, asked.cells)?;
         return serve_row(rt, cells, None, asked, address, path);
     };
-    let Stored { cells, keeper } = restore(rt, folder, asked.replica, asked.cells)?;
+    let Stored { cells, keeper } = restore(rt, files, folder, asked.replica, asked.cells)?;
     serve_row(rt, cells, Some(&keeper), asked, address, path)
 }
 
@@ -155,7 +156,6 @@ fn serve<R>(
 where
     R: AllocGlobal
         + Net<Listener = TcpListener, Stream = TcpStream>
-        + Files<File = File>
         + Clock
         + Threads
         + Wait

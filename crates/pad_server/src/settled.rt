@@ -1,6 +1,5 @@
 //! A writer that writes nothing before the store is synced.
 use crate::keeper::Keeper;
-use log::Log;
 use std::io;
 use std::io::Write;
 use std::sync::Wait;
@@ -20,7 +19,7 @@ impl<'a, W, R> Settled<'a, W, R> {
     }
 }
 
-impl<W: Write, R: Wait + Log> Write for Settled<'_, W, R> {
+impl<W: Write, R: Wait> Write for Settled<'_, W, R> {
     fn write(&mut self, bytes: &[u8]) -> io::Result<usize> {
         if let Some(keeper) = self.keeper {
             keeper.settle(self.rt)?;

@@ -26,6 +26,7 @@ pub struct Stored {
 /// Loads the pads of a folder, each from its file, in the order of the files' names. The other cells are free.
 pub fn restore<'f, R>(
     rt: &R,
+    files: HostRuntime,
     folder: &'f str,
     replica: u16,
     count: u32,
@@ -44,7 +45,7 @@ where
     } = row;
     Ok(Stored {
         cells,
-        keeper: Keeper::new(kept_in, replica, books, handles, lock),
+        keeper: Keeper::new(files, kept_in, replica, books, handles, lock),
     })
 }
 

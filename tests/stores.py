@@ -45,7 +45,7 @@ def entries_of(client):
     """What made each revision of the pad p, in order: name, author and kind."""
     found = []
     while True:
-        some = client.does(do="entries", pad="p", **{"from": len(found) + 1, "count": 1000})["entries"]
+        some = client.does(do="entries", pad="p", **{"from": len(found) + 1, "count": 100})["entries"]
         if not some:
             return found
         found += [(tuple(entry["name"]), entry["author"], entry["kind"]) for entry in some]

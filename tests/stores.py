@@ -45,7 +45,7 @@ def entries_of(client):
     """What made each revision of the pad p, in order: name, author and kind."""
     found = []
     while True:
-        some = client.does(do="entries", pad="p", **{"from": len(found) + 1, "count": 1000})["entries"]
+        some = client.does(do="entries", pad="p", **{"from": len(found) + 1, "count": 100})["entries"]
         if not some:
             return found
         found += [(tuple(entry["name"]), entry["author"], entry["kind"]) for entry in some]
@@ -55,8 +55,8 @@ def all_comes_back():
     server = restarted()
     ann = server.author("ann")
     ann.does(do="create", pad="p")
-    ann.does(do="grant", pad="p", name="bob", right="write")
-    ann.does(do="grant", pad="p", name="cid", right="read")
+    ann.does(do="grant", pad="p", author="bob", right="write")
+    ann.does(do="grant", pad="p", author="cid", right="read")
     bob = server.author("bob", "p")
     ann.does(do="insert", pad="p", rev=0, at=0, text="one ü 𝄞\n")
     bob.does(do="insert", pad="p", rev=1, at=0, text="two\"\\")
@@ -231,7 +231,7 @@ def killed_under_writers():
     ann = server.author("ann")
     ann.does(do="create", pad="p")
     for name in NAMES[1:]:
-        ann.does(do="grant", pad="p", name=name, right="write")
+        ann.does(do="grant", pad="p", author=name, right="write")
     chance = random.Random(7)
     answered = []
     for _ in range(ROUNDS):

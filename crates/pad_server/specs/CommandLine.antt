@@ -34,9 +34,13 @@ store_rule = option_rule (codes "store")
 abbrev pub first_line : App
 first_line = with_rule (with_rule (with_rule (with_rule (new_app (codes "pad_server")) stdin_rule) listen_rule) replica_rule) accounts_rule
 
+-- with those that say how many pads and connections there are
+abbrev pub second_line : App
+second_line = with_rule (with_rule (with_rule first_line cells_rule) workers_rule) connections_rule
+
 -- the command line: clap's words say which words it takes, and what they give under a name
 abbrev pub line : App
-line = with_rule (with_rule (with_rule (with_rule (with_rule first_line cells_rule) workers_rule) connections_rule) idle_rule) store_rule
+line = with_rule (with_rule second_line idle_rule) store_rule
 
 -- the words give this: the numbers, the flag and the texts under the names of the options
 pub record AsksFor (words : List (List ℕ)) (asked : Asked) : Type 0 where

@@ -3,7 +3,7 @@ ghost use Rattle.std.specs.Prelude.{◌≡◌, ◌≤◌, IfOk, map, string_byte
 ghost use Rattle.clap.specs.Faults.{fault_of};
 ghost use Rattle.clap.specs.Words.{FailsBy, app_of};
 ghost use Rattle.server_core.specs.declared.limits.TheConstants.{MAX_CELLS};
-ghost use Rattle.pad_server.specs.CommandLine.{AsksFor, first_line, line};
+ghost use Rattle.pad_server.specs.CommandLine.{AsksFor, first_line, line, second_line};
 ghost use Rattle.pad_server.specs.declared.options.TheConstants.{MAX_WORKERS};
 
 use crate::options::{
@@ -53,14 +53,21 @@ fn first_options<'a>(alloc: Global) -> Result<Command<'a>, AllocError>
         .arg(accounts_option(alloc, ACCOUNTS_HELP))
 }
 
-fn command<'a>(alloc: Global) -> Result<Command<'a>, AllocError>
-    ensures { IfOk result (λ command. app_of command ≡ line) }
+// How many pads and connections there are.
+fn second_options<'a>(alloc: Global) -> Result<Command<'a>, AllocError>
+    ensures { IfOk result (λ command. app_of command ≡ second_line) }
 {
     let cells_help = "How many pads there is room for, 1 to 64 [default: 64]";
     first_options(alloc)?
         .arg(cells_option(alloc, cells_help))?
         .arg(workers_option(alloc))?
-        .arg(connections_option(alloc))?
+        .arg(connections_option(alloc))
+}
+
+fn command<'a>(alloc: Global) -> Result<Command<'a>, AllocError>
+    ensures { IfOk result (λ command. app_of command ≡ line) }
+{
+    second_options(alloc)?
         .arg(idle_option(alloc))?
         .arg(store_option(alloc))
 }

@@ -4,6 +4,8 @@
 #[cfg(test)]
 mod answers;
 #[cfg(test)]
+mod gates;
+#[cfg(test)]
 mod rounds;
 #[cfg(test)]
 mod stage;

@@ -1,13 +1,12 @@
 //! What a gate is told before each reply.
-use crate::stage::accounts;
 use block_seq::BlockSeq;
 use server_core::Server;
-use shared_pads::Gate;
+use sessions::Accounts;
 use std::alloc::Global;
 use std::sync::atomic::{AtomicU64, Ordering};
 use std::test::Fail;
 use wire_lines::{Input, Output};
-use workers::{Alone, Served, serve_connection};
+use workers::{Alone, Gate, Served, serve_connection};
 
 const LINES: &str = concat!(
     "{\"do\":\"hello\",\"name\":\"a1\",\"token\":\"t\"}\n",
@@ -62,7 +61,8 @@ impl Gate for Heard {
 
 // What a connection with these lines to a server of one pad comes to.
 fn serve(alloc: Global, lines: &str, gate: &Heard) -> Result<Served, Fail> {
-    let mut server: Server<BlockSeq> = Server::new(alloc, 1, 1, accounts(alloc)?)?;
+    let accounts = Accounts::read(alloc, b"author a1 t\n")?;
+    let mut server: Server<BlockSeq> = Server::new(alloc, 1, 1, accounts)?;
     let actor = server.open(alloc)?;
     let mut pads = Alone::new(server, actor);
     let mut reader = Input::new(lines.as_bytes());

@@ -6,6 +6,8 @@ mod answers;
 #[cfg(test)]
 mod gates;
 #[cfg(test)]
+mod loopback;
+#[cfg(test)]
 mod rounds;
 #[cfg(test)]
 mod stage;

@@ -1,0 +1,192 @@
+//! Two servers in one process that are the same after one round over loopback.
+use block_seq::PlainSeq;
+use pad_core::Reply;
+use pad_model::Refusal;
+use relay::{Link, Relayed, relay_round};
+use sessions::{Accounts, Session};
+use shared_pads::{Open, Seat, SharedPad};
+use std::alloc::Global;
+use std::net::{Net, TcpListener, TcpStream};
+use std::sync::Wait;
+use std::test::Fail;
+use std::time::Duration;
+use std::{io, thread};
+use wire_json::{read_request, reply_line};
+use wire_lines::{Fault, Std};
+use workers::{Pads, Row, Served, Shared, open_row, serve_client, take_seats};
+
+// For how many seconds a server waits for the other one's next bytes. The test fails then.
+const PATIENCE: u64 = 30;
+
+const HELLO: &str = r#"{"do":"hello","name":"ann","token":"t"}"#;
+
+const CREATE: &str = r#"{"do":"create","pad":"p"}"#;
+
+const FIRST: [&str; 4] = [
+    HELLO,
+    CREATE,
+    r#"{"at":0,"do":"insert","pad":"p","rev":0,"text":"one"}"#,
+    r#"{"at":0,"do":"comment","len":3,"pad":"p","rev":1,"text":"why?"}"#,
+];
+
+const SECOND: [&str; 3] = [
+    HELLO,
+    CREATE,
+    r#"{"at":0,"do":"insert","pad":"p","rev":0,"text":"two"}"#,
+];
+
+const READINGS: [&str; 3] = [
+    r#"{"do":"text","pad":"p"}"#,
+    r#"{"do":"runs","pad":"p"}"#,
+    r#"{"do":"comments","pad":"p"}"#,
+];
+
+// What both show then: of two runs at one place with equal counters that of the greater replica stands first.
+const SHOWN: &str = concat!(
+    "{\"now\":3,\"ok\":true,\"rev\":3,\"text\":\"twoone\"}\n",
+    "{\"now\":3,\"ok\":true,\"rev\":3,\"runs\":[[\"ann@2\",3],[\"ann@1\",3]]}\n",
+    "{\"comments\":[{\"at\":3,\"author\":\"ann@1\",\"len\":3,\"name\":[1,2],\"resolved\":false,\"text\":\"why?\"}],\"now\":3,\"ok\":true,\"rev\":3}\n",
+    "{\"now\":3,\"ok\":true,\"seen\":[[1,2],[2,1]]}\n",
+);
+
+type PlainRow<'a, R> = Row<'a, PlainSeq, R, Open>;
+
+fn ask<P: Pads>(alloc: Global, pads: &mut P, line: &str) -> Result<Reply, Refusal> {
+    match read_request(alloc, line.as_bytes()) {
+        Ok(request) => pads.call(alloc, &request),
+        Err(refusal) => Err(refusal),
+    }
+}
+
+// Asks lines of which none is to be refused, in a session of its own.
+fn prepare<R: Wait>(alloc: Global, row: &PlainRow<'_, R>, lines: &[&str]) -> Result<(), Refusal> {
+    let mut pads = Shared::new(
+        row,
+        seats_of(row.rt, alloc, row.cells)?,
+        Session::new(alloc),
+    );
+    for line in lines {
+        let _answered = ask(alloc, &mut pads, line)?;
+    }
+    pads.end(alloc);
+    Ok(())
+}
+
+// The reply lines to an author who reads, and to a peer who asks for the vector.
+fn shown<R: Wait>(alloc: Global, row: &PlainRow<'_, R>, peer: u16) -> Result<String, Refusal> {
+    let mut pads = Shared::new(
+        row,
+        seats_of(row.rt, alloc, row.cells)?,
+        Session::new(alloc),
+    );
+    let mut lines = String::new(alloc);
+    let _hello = ask(alloc, &mut pads, HELLO)?;
+    let _joined = ask(alloc, &mut pads, r#"{"do":"join","pad":"p"}"#)?;
+    for reading in READINGS {
+        lines.push_str(&reply_line(alloc, &ask(alloc, &mut pads, reading))?)?;
+    }
+    pads.end(alloc);
+    let _session = pads.relay(alloc, peer)?;
+    let vector = ask(alloc, &mut pads, r#"{"do":"vector","pad":"p"}"#);
+    lines.push_str(&reply_line(alloc, &vector)?)?;
+    Ok(lines)
+}
+
+fn seats_of<R: Wait>(
+    rt: &R,
+    alloc: Global,
+    cells: &[SharedPad<PlainSeq>],
+) -> Result<Vec<Seat>, Refusal> {
+    let mut seats = Vec::new(alloc);
+    take_seats(rt, cells, &mut seats)?;
+    Ok(seats)
+}
+
+fn connect<R: Net<Stream = TcpStream>>(rt: &R, port: u16) -> io::Result<TcpStream> {
+    let stream = TcpStream::connect(rt, ("127.0.0.1", port))?;
+    stream.set_read_timeout(Some(Duration::from_secs(PATIENCE)))?;
+    Ok(stream)
+}
+
+// A round of server 1 with the one that listens at this port.
+fn exchange<R: Wait + Net<Stream = TcpStream>>(
+    alloc: Global,
+    row: &PlainRow<'_, R>,
+    port: u16,
+    seats: Vec<Seat>,
+) -> Result<Relayed, Fault> {
+    let Ok(stream) = connect(row.rt, port) else {
+        return Err(Fault::ReadFault);
+    };
+    let mut pads = Shared::new(row, seats, Session::new(alloc));
+    let mut link = Link::new(alloc, Std::new(&stream), Std::new(&stream))?;
+    let _session = pads.relay(alloc, 2);
+    relay_round(alloc, &mut pads, &mut link, 1, "secret")
+}
+
+// Serves the first connection that comes.
+fn serve<R: Wait>(
+    alloc: Global,
+    row: &PlainRow<'_, R>,
+    listener: TcpListener,
+    seats: Vec<Seat>,
+) -> Result<Served, Fault> {
+    let Ok((stream, _address)) = listener.accept() else {
+        return Err(Fault::ReadFault);
+    };
+    let mut pads = Shared::new(row, seats, Session::new(alloc));
+    let mut reader = Std::new(&stream);
+    let mut writer = Std::new(&stream);
+    serve_client(alloc, &mut pads, &mut reader, &mut writer, 1, &Open)
+}
+
+fn row_of<'a, R: Wait>(
+    rt: &'a R,
+    cells: &'a [SharedPad<PlainSeq>],
+    replica: u16,
+    accounts: &'a Accounts,
+) -> PlainRow<'a, R> {
+    Row {
+        rt,
+        cells,
+        replica,
+        accounts,
+        gate: &Open,
+    }
+}
+
+#[test]
+fn one_round_over_loopback(rt: HostRuntime) -> Result<(), Fail> {
+    let alloc = rt.alloc();
+    let accounts = Accounts::read(
+        alloc,
+        b"author ann t\npeer 1 secret h:1\npeer 2 secret h:2\n",
+    )?;
+    let first_cells: Vec<SharedPad<PlainSeq>> = open_row(alloc, 1, 1)?;
+    let second_cells: Vec<SharedPad<PlainSeq>> = open_row(alloc, 2, 1)?;
+    let first = row_of(&rt, first_cells.as_slice(), 1, &accounts);
+    let second = row_of(&rt, second_cells.as_slice(), 2, &accounts);
+    prepare(alloc, &first, &FIRST)?;
+    prepare(alloc, &second, &SECOND)?;
+    let listener = TcpListener::bind(&rt, "127.0.0.1:0")?;
+    let port = listener.local_addr()?.port();
+    let ours = seats_of(&rt, alloc, first_cells.as_slice())?;
+    let theirs = seats_of(&rt, alloc, second_cells.as_slice())?;
+    let (relayed, served) = thread::join(
+        &rt,
+        || exchange(alloc, &first, port, ours),
+        || serve(alloc, &second, listener, theirs),
+    );
+    let wanted = Relayed {
+        pads: 1,
+        pulled: 1,
+        pushed: 2,
+        refused: 0,
+        unsaid: 0,
+    };
+    assert_eq!(rt; relayed?, wanted);
+    assert_eq!(rt; served?.delivered, 2);
+    assert_eq!(rt; shown(alloc, &first, 2)?.as_str(), SHOWN);
+    assert_eq!(rt; shown(alloc, &second, 1)?.as_str(), SHOWN);
+    Ok(())
+}

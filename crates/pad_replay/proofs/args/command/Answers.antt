@@ -17,4 +17,6 @@ returns c =
     c.in_ok-arg.ensures.shape c.replica_option.ensures.rest.0 ∙ ap₂ with_rule start c.replica_option.ensures.rule in
     let two : app_of c.in_ok-arg-2.field-0 ≡ with_rule (with_rule (new_app (codes "pad_replay")) replica_rule) (mandatory cells_rule) =
     c.in_ok-arg-2.ensures.shape cells_local ∙ ap₂ with_rule one cells_is in
-    IfOk-weaker c.arg-3.result _ _ (λ command added. added.shape path_local ∙ ap₂ with_rule two path_is) c.arg-3.ensures
+    let three : app_of c.in_ok-arg-3.field-0 ≡ with_rule (with_rule (with_rule (new_app (codes "pad_replay")) replica_rule) (mandatory cells_rule)) (mandatory accounts_rule) =
+    c.in_ok-arg-3.ensures.shape path_local ∙ ap₂ with_rule two path_is in
+    IfOk-weaker c.arg-4.result _ _ (λ command added. added.shape c.plain_flag.ensures.1 ∙ ap₂ with_rule three c.plain_flag.ensures.0) c.arg-4.ensures

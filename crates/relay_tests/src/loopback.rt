@@ -58,37 +58,64 @@ fn ask<P: Pads>(alloc: Global, pads: &mut P, line: &str) -> Result<Reply, Refusa
     }
 }
 
-// Asks lines of which none is to be refused, in a session of its own.
-fn prepare<R: Wait>(alloc: Global, row: &PlainRow<'_, R>, lines: &[&str]) -> Result<(), Refusal> {
-    let mut pads = Shared::new(
-        row,
-        seats_of(row.rt, alloc, row.cells)?,
-        Session::new(alloc),
-    );
+// Asks lines of which none is to be refused.
+fn ask_all<P: Pads>(alloc: Global, pads: &mut P, lines: &[&str]) -> Result<(), Refusal> {
     for line in lines {
-        let _answered = ask(alloc, &mut pads, line)?;
+        let _answered = ask(alloc, pads, line)?;
     }
-    pads.end(alloc);
     Ok(())
+}
+
+// The same, in a session of its own.
+fn prepare<R: Wait>(alloc: Global, row: &PlainRow<'_, R>, lines: &[&str]) -> Result<(), Refusal> {
+    let seats = seats_of(row.rt, alloc, row.cells)?;
+    let mut pads = Shared::new(row, seats, Session::new(alloc));
+    let asked = ask_all(alloc, &mut pads, lines);
+    pads.end(alloc);
+    asked
+}
+
+// Adds the reply line to a request.
+fn add_reply<P: Pads>(
+    alloc: Global,
+    pads: &mut P,
+    line: &str,
+    lines: &mut String,
+) -> Result<(), Refusal> {
+    let answer = ask(alloc, pads, line);
+    let reply = reply_line(alloc, &answer)?;
+    lines.push_str(&reply)?;
+    Ok(())
+}
+
+// Adds the reply lines to an author who reads.
+fn add_readings<P: Pads>(alloc: Global, pads: &mut P, lines: &mut String) -> Result<(), Refusal> {
+    ask_all(alloc, pads, &[HELLO, r#"{"do":"join","pad":"p"}"#])?;
+    for reading in READINGS {
+        add_reply(alloc, pads, reading, lines)?;
+    }
+    Ok(())
+}
+
+// Adds the reply line to a peer who asks for the vector.
+fn add_vector<P: Pads>(
+    alloc: Global,
+    pads: &mut P,
+    peer: u16,
+    lines: &mut String,
+) -> Result<(), Refusal> {
+    let _session = pads.relay(alloc, peer)?;
+    add_reply(alloc, pads, r#"{"do":"vector","pad":"p"}"#, lines)
 }
 
 // The reply lines to an author who reads, and to a peer who asks for the vector.
 fn shown<R: Wait>(alloc: Global, row: &PlainRow<'_, R>, peer: u16) -> Result<String, Refusal> {
-    let mut pads = Shared::new(
-        row,
-        seats_of(row.rt, alloc, row.cells)?,
-        Session::new(alloc),
-    );
+    let seats = seats_of(row.rt, alloc, row.cells)?;
+    let mut pads = Shared::new(row, seats, Session::new(alloc));
     let mut lines = String::new(alloc);
-    let _hello = ask(alloc, &mut pads, HELLO)?;
-    let _joined = ask(alloc, &mut pads, r#"{"do":"join","pad":"p"}"#)?;
-    for reading in READINGS {
-        lines.push_str(&reply_line(alloc, &ask(alloc, &mut pads, reading))?)?;
-    }
+    add_readings(alloc, &mut pads, &mut lines)?;
     pads.end(alloc);
-    let _session = pads.relay(alloc, peer)?;
-    let vector = ask(alloc, &mut pads, r#"{"do":"vector","pad":"p"}"#);
-    lines.push_str(&reply_line(alloc, &vector)?)?;
+    add_vector(alloc, &mut pads, peer, &mut lines)?;
     Ok(lines)
 }
 

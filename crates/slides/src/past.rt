@@ -1,0 +1,67 @@
+//! From an old revision to the present.
+ghost use Rattle.std.specs.Prelude.{◌≡◌, ℕ, ◌<◌, List, length, nat_le};
+ghost use Rattle.pad_model.specs.Stamp.{Stamp as StampValue};
+ghost use Rattle.slides.specs.Slides.{since as slides_since, IsCarried, IsSorted, LeadTo, Leads};
+
+use crate::slide::Slide;
+use pad_model::Stamp;
+
+/// What became of a visible character of an old revision.
+#[derive(Clone, Copy, Debug)]
+pub enum Carried {
+    /// It is visible, with so many before it.
+    At(u64),
+    /// It was hidden; this is its stamp.
+    Hidden(Stamp),
+}
+
+/// The slides after a revision, found by bisection.
+pub fn since(slides: &[Slide], rev: u64) -> &[Slide]
+    requires { IsSorted 0 slides.now }
+    ensures { result.now ≡ slides_since rev slides.now }
+{
+    let seen = slides.partition_point(
+        |slide: &Slide| -> bool
+            ensures { result ≡ nat_le slide.now.rev rev }
+        { slide.rev <= rev },
+    );
+    &slides[seen..]
+}
+
+/// How many characters were visible before the slides, of which so many are left visible by them.
+pub fn count_before(slides: &[Slide], many: u64) -> u64
+    requires { LeadTo slides.now many }
+    ensures { (old new : List StampValue) → Leads slides.now old new → length new ≡ many → result ≡ length old }
+{
+    let mut count = many;
+    for i in (0..slides.len()).rev() {
+        let slide = slides[i];
+        if slide.shows {
+            count -= slide.len;
+        } else {
+            count += slide.len;
+        }
+    }
+    count
+}
+
+/// Where the visible character at a place, from 0, was carried by the slides.
+pub fn carry(slides: &[Slide], place: u64) -> Carried
+    requires { (old new : List StampValue) × Leads slides.now old new × (place < length old) }
+    ensures { (old new : List StampValue) → Leads slides.now old new → IsCarried result old place new }
+{
+    let mut at = place;
+    for slide in slides {
+        if at < slide.at {
+            continue;
+        }
+        if slide.shows {
+            at += slide.len;
+        } else if at < slide.at + slide.len {
+            return Carried::Hidden(slide.first.plus(at - slide.at));
+        } else {
+            at -= slide.len;
+        }
+    }
+    Carried::At(at)
+}

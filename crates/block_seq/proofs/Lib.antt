@@ -10,7 +10,9 @@ pub mod RowLists
 pub mod RowNow
 pub mod RowOrder
 pub mod RowParts
+pub mod RowPast
 pub mod RowReads
+pub mod RowSlides
 pub mod RowSteps
 pub mod Fronts
 pub mod Kept

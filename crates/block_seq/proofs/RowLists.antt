@@ -163,7 +163,7 @@ length-stamps : (first : Stamp) (n : ℕ) → length (stamps_from first n) ≡ n
 length-stamps first zero = refl
 length-stamps first (suc n) = ap suc (length-stamps (next first) n)
 
-length-shown_stamps : (rev : ℕ) (b : Block) → length (shown_stamps rev b) ≡ shown_len rev b
+pub length-shown_stamps : (rev : ℕ) (b : Block) → length (shown_stamps rev b) ≡ shown_len rev b
 length-shown_stamps rev b = split (shows rev b) (λ e. rw e (length-stamps b.first b.len)) (λ e. rw e refl)
 
 -- the part of a window that lies in the first of the blocks to come

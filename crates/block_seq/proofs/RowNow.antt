@@ -60,7 +60,7 @@ dated_blocks latest authors text (b ∷ bs) w z h =
     (first_by latest (author_at authors b.author) b.born b.died b.first b.parent (stretch text b) (omega arith) parts.0, dated_blocks latest authors text bs w.1 z.1 parts.1)
 
 -- ---- at a revision that is not before the last, a block shows what is alive
-alive_shown : (born len latest rev : ℕ) (died : Option ℕ) → latest ≤ rev → born ≤ latest → ((d : ℕ) → died ≡ Some d → d ≤ latest) → cond (nat_le born rev && is_after rev died) len 0 ≡ cond (is_none died) len 0
+pub alive_shown : (born len latest rev : ℕ) (died : Option ℕ) → latest ≤ rev → born ≤ latest → ((d : ℕ) → died ≡ Some d → d ≤ latest) → cond (nat_le born rev && is_after rev died) len 0 ≡ cond (is_none died) len 0
 alive_shown born len latest rev None l b d = rw (le-leb born rev (omega arith)) refl
 alive_shown born len latest rev (Some x) l b d =
     let before : x ≤ latest = d x refl in

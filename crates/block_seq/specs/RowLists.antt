@@ -1,5 +1,5 @@
 -- Whose the visible characters of blocks are, which stamps they have, and lists of runs and spans that grow at their end.
-use Rattle.std.specs.Prelude.{ℕ, ◌+◌, List, [], ◌∷◌, replicate, if◌then◌else◌}
+use Rattle.std.specs.Prelude.{◌≡◌, ℕ, ◌+◌, ◌<◌, List, [], ◌∷◌, take, sum_by, slice_get, replicate, if◌then◌else◌, IsSomeAnd}
 use Rattle.pad_model.specs.Operation.{stamps_from}
 use Rattle.pad_model.specs.Stamp.{Stamp, same_stamp}
 use Rattle.pad_model.specs.Visible.{same_author}
@@ -9,7 +9,8 @@ use Rattle.pad_model.specs.declared.who.AuthorRun.{AuthorRun}
 use Rattle.ident_index.specs.Index.{stamp_behind}
 use Rattle.blocks.specs.Cells.{author_at}
 use Rattle.blocks.specs.declared.block.Block.{Block}
-use Rattle.block_seq.specs.Rows.{shows}
+use Rattle.blocks.specs.declared.find.Spot.{Spot}
+use Rattle.block_seq.specs.Rows.{shows, shown_len}
 
 -- the author of each visible character of a block
 abbrev pub shown_by : ℕ → List Author → Block → List Author
@@ -18,6 +19,14 @@ shown_by rev authors b = if shows rev b then replicate b.len (author_at authors 
 -- the stamps of the visible characters of a block
 abbrev pub shown_stamps : ℕ → Block → List Stamp
 shown_stamps rev b = if shows rev b then stamps_from b.first b.len else []
+
+-- the character visible at a place is so far into the block of this rank
+abbrev pub IsSeenAt : ℕ → List Block → ℕ → Spot → Type 0
+IsSeenAt rev bs place spot = IsSomeAnd (slice_get bs spot.rank) (λ b. spot.offset < shown_len rev b) × (place ≡ sum_by (shown_len rev) (take spot.rank bs) + spot.offset)
+
+-- how many visible characters stand before an offset in the block of a rank
+abbrev pub shown_front : ℕ → List Block → ℕ → ℕ → Block → ℕ
+shown_front rev bs rank offset b = sum_by (shown_len rev) (take rank bs) + (if shows rev b then offset else 0)
 
 -- runs with n more characters of an author behind them
 abbrev pub with_more : List AuthorRun → Author → ℕ → List AuthorRun

@@ -1,14 +1,16 @@
 //! Deaths of the blocks that spans name.
-ghost use Rattle.std.specs.Prelude.{◌≡◌, ℕ, ◌+◌, ◌≤◌, ◌<◌, IsTrue, map, sum_by};
+ghost use Rattle.std.specs.Prelude.{◌≡◌, ℕ, ◌+◌, ◌≤◌, ◌<◌, IsTrue, length, map, sum_by, vec_len, vec_capacity};
 ghost use Rattle.std.specs.List.{AllByRecursion, list_all};
 ghost use Rattle.pad_model.specs.Checked.{is_span};
 ghost use Rattle.ident_index.specs.Index.{stamp_behind};
 ghost use Rattle.blocks.specs.Blocks.{IsKept, IsEdge};
-ghost use Rattle.block_seq.specs.Rows.{IsCutOut, killed, hidden_len, span_from};
+ghost use Rattle.block_seq.specs.RowSlides.{IsSlid, live_blocks};
+ghost use Rattle.block_seq.specs.Rows.{IsCutOut, IsDated, killed, hidden_len, span_from};
 
 use blocks::{Block, find_block, kill};
 use ident_index::IdentIndex;
 use pad_model::{Span, Stamp};
+use slides::Slide;
 use weight_tree::WeightTree;
 
 /// How many stamps a step along a span has passed, and how many characters have died there.
@@ -18,12 +20,24 @@ struct Passed {
     hidden: u64,
 }
 
-/// Marks the death of the block that begins with a stamp, if it is alive. It passes the stamps of that block, or this one
-/// stamp where no block holds it.
-fn kill_from(tree: &mut WeightTree<Block>, index: &IdentIndex, stamp: Stamp, rev: u64) -> Passed
+/// Marks the death of the block that begins with a stamp, if it is alive, and keeps a slide of it in room that was made
+/// before. It passes the stamps of that block, or this one stamp where no block holds it.
+fn kill_from(
+    tree: &mut WeightTree<Block>,
+    index: &IdentIndex,
+    slides: &mut Vec<Slide>,
+    stamp: Stamp,
+    rev: u64,
+) -> Passed
     requires kept { IsKept index.now tree.old.items }
     requires begins { IsEdge index.now stamp }
+    requires slid { IsSlid slides.old.items tree.old.items }
+    requires dated { AllByRecursion (IsDated rev) tree.old.items }
+    requires room { vec_len slides.old + live_blocks tree.old.items ≤ vec_capacity slides.old }
     ensures kept { IsKept index.now tree.new.items }
+    ensures slid { IsSlid slides.new.items tree.new.items }
+    ensures dated { AllByRecursion (IsDated rev) tree.new.items }
+    ensures room { vec_len slides.new + live_blocks tree.new.items ≤ vec_capacity slides.new }
     ensures some { 0 < result.len }
     ensures items { tree.new.items ≡ map (killed rev (span_from stamp result.len)) tree.old.items }
     ensures hidden { result.hidden ≡ sum_by (hidden_len (span_from stamp result.len)) tree.old.items }
@@ -38,23 +52,43 @@ fn kill_from(tree: &mut WeightTree<Block>, index: &IdentIndex, stamp: Stamp, rev
     if block.died.is_some() {
         return Passed { len, hidden: 0 };
     }
+    let at = tree.before(spot.rank);
+    slides.push_reserved(Slide {
+        rev,
+        at,
+        first: block.first,
+        len,
+        shows: false,
+    });
     kill(tree, index, spot.rank, rev);
     Passed { len, hidden: len }
 }
 
 /// Marks the death of each block of a span that is alive, and answers how many characters die.
-fn kill_span(tree: &mut WeightTree<Block>, index: &IdentIndex, span: &Span, rev: u64) -> u64
+fn kill_span(
+    tree: &mut WeightTree<Block>,
+    index: &IdentIndex,
+    slides: &mut Vec<Slide>,
+    span: &Span,
+    rev: u64,
+) -> u64
     requires kept { IsKept index.now tree.old.items }
     requires checked { IsTrue (is_span span.now) }
     requires cut { IsCutOut index.now span.now }
+    requires slid { IsSlid slides.old.items tree.old.items }
+    requires dated { AllByRecursion (IsDated rev) tree.old.items }
+    requires room { vec_len slides.old + live_blocks tree.old.items ≤ vec_capacity slides.old }
     ensures kept { IsKept index.now tree.new.items }
+    ensures slid { IsSlid slides.new.items tree.new.items }
+    ensures dated { AllByRecursion (IsDated rev) tree.new.items }
+    ensures room { vec_len slides.new + live_blocks tree.new.items ≤ vec_capacity slides.new }
     ensures items { tree.new.items ≡ map (killed rev (span_from span.now.first span.now.len)) tree.old.items }
     ensures hidden { result ≡ sum_by (hidden_len (span_from span.now.first span.now.len)) tree.old.items }
 {
     let mut hidden = 0;
     let mut done = 0;
     while done < span.len {
-        let passed = kill_from(tree, index, span.first.plus(done), rev);
+        let passed = kill_from(tree, index, slides, span.first.plus(done), rev);
         hidden += passed.hidden;
         done += passed.len;
     }
@@ -62,18 +96,28 @@ fn kill_span(tree: &mut WeightTree<Block>, index: &IdentIndex, span: &Span, rev:
 }
 
 /// Marks the death of each block that begins with a stamp of the spans and is alive, and answers how many characters die.
-/// It looks at no other block.
-pub fn kill_named(tree: &mut WeightTree<Block>, index: &IdentIndex, spans: &[Span], rev: u64) -> u64
+/// It looks at no other block. Each of them gets a slide, in room that was made before.
+pub fn kill_named(
+    tree: &mut WeightTree<Block>,
+    index: &IdentIndex,
+    slides: &mut Vec<Slide>,
+    spans: &[Span],
+    rev: u64,
+) -> u64
     requires kept { IsKept index.now tree.old.items }
     requires checked { IsTrue (list_all is_span spans.now) }
     requires cut { AllByRecursion (IsCutOut index.now) spans.now }
+    requires slid { IsSlid slides.old.items tree.old.items }
+    requires dated { AllByRecursion (IsDated rev) tree.old.items }
+    requires room { 0 < length spans.now → vec_len slides.old + live_blocks tree.old.items ≤ vec_capacity slides.old }
     ensures kept { IsKept index.now tree.new.items }
+    ensures slid { IsSlid slides.new.items tree.new.items }
     ensures items { tree.new.items ≡ map (killed rev spans.now) tree.old.items }
     ensures hidden { result ≡ sum_by (hidden_len spans.now) tree.old.items }
 {
     let mut hidden = 0;
     for span in spans {
-        hidden += kill_span(tree, index, span, rev);
+        hidden += kill_span(tree, index, slides, span, rev);
     }
     hidden
 }

@@ -65,7 +65,7 @@ fn continues(span: &Span, first: Stamp) -> bool
 }
 
 /// Adds stamps from a first one on behind those of the spans.
-fn add_span(spans: &mut Vec<Span>, first: Stamp, len: u64) -> Result<(), AllocError>
+pub fn add_span(spans: &mut Vec<Span>, first: Stamp, len: u64) -> Result<(), AllocError>
     requires { sum_by (λ s. s.len) spans.old.items + len ≤ MAX_CHARACTERS }
     ensures { OnOk result (spans.new.items ≡ with_stamps spans.old.items first len) }
 {
@@ -77,34 +77,6 @@ fn add_span(spans: &mut Vec<Span>, first: Stamp, len: u64) -> Result<(), AllocEr
     }
     spans.push(Span { first, len })?;
     Ok(())
-}
-
-/// The stamps of `len` visible characters from a place on, in the longest spans.
-pub fn read_spans(
-    alloc: Global,
-    tree: &WeightTree<Block>,
-    rev: u64,
-    at: u64,
-    len: u64,
-) -> Result<Vec<Span>, AllocError>
-    requires sized { AllByRecursion IsSized tree.now.items }
-    requires small { sum_by (λ b. b.len) tree.now.items ≤ MAX_CHARACTERS }
-    ensures { IfOk result (λ spans. spans.items ≡ spans_of_stamps (take len (drop at (flat_map (shown_stamps rev) tree.now.items)))) }
-{
-    let mut spans = Vec::new(alloc);
-    let mut skip = at;
-    let mut left = len;
-    for block in tree.iter() {
-        let shown = visible_len(block, rev);
-        let before = skip.min(shown);
-        let more = (shown - before).min(left);
-        if more > 0 {
-            add_span(&mut spans, block.first.plus(before), more)?;
-        }
-        skip -= before;
-        left -= more;
-    }
-    Ok(spans)
 }
 
 /// The character of a block behind so many others.

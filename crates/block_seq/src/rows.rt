@@ -1,11 +1,9 @@
 //! The sequence of blocks: a balanced tree of them, an index of their stamps, and one text that they only add to.
-ghost use Rattle.std.specs.Prelude.{◌≡◌, List, ◌+◌, ◌≤◌, ◌++◌, [], IsTrue, IfErr, MatchResult, Ok, OnOk, count_by, length, map, sum_by, vec_len, vec_capacity, slice_get};
+ghost use Rattle.std.specs.Prelude.{◌≡◌, List, ◌+◌, ◌≤◌, [], IsTrue, IfErr, MatchResult, Ok, OnOk, count_by, length, map, sum_by};
 ghost use Rattle.std.specs.List.{AllByRecursion, list_all};
 ghost use Rattle.pad_model.specs.Answers.{Answers};
-ghost use Rattle.pad_model.specs.Cell.{IsBy, before_at, is_before, through_at, clock_of, IsInOrder, cells_at, cell_stamp_at, runs_at, spans_at as cells_spans, text_at as cells_text, character_of, delete_spans as delete_cells, insert_run as insert_cells, is_hidden_by, last_of as greatest_of, with_run, without_spans};
-ghost use Rattle.pad_model.specs.Legal.{has_stamp};
+ghost use Rattle.pad_model.specs.Cell.{IsBy, character_of, is_hidden_by, with_run, without_spans};
 ghost use Rattle.pad_model.specs.Log.{has_spans as holds_spans, run_may_join};
-ghost use Rattle.pad_model.specs.Parts.{apply as apply_parts, part_fits};
 ghost use Rattle.block_seq.specs.RowParts.{AllJoin, with_all};
 ghost use Rattle.blocks.specs.Blocks.{IsKept};
 ghost use Rattle.blocks.specs.declared.block.Block.{Block as BlockValue};
@@ -13,25 +11,28 @@ ghost use Rattle.ident_index.specs.Index.{Index};
 ghost use Rattle.block_seq.specs.Rows.{IsRowOf};
 ghost use Rattle.blocks.specs.Cells.{cells_of};
 ghost use Rattle.pad_model.specs.declared.limits.TheConstants.{MAX_CHARACTERS};
-ghost use Rattle.pad_model.specs.Checked.{are_parts, is_edit, is_run, is_span};
-ghost use Rattle.pad_model.specs.Views.{IsViewOf};
+ghost use Rattle.pad_model.specs.Checked.{is_run, is_span};
 
 use crate::authors::place_author;
 use crate::parts::count_inserted;
 use crate::row_copy::copy_blocks;
 use crate::row_erase::{cut_spans, has_spans};
 use crate::row_kills::kill_named;
-use crate::row_lists::{find_cell, read_authors, read_spans};
+use crate::row_lists::{find_cell, read_authors};
 use crate::row_parts::{list_runs, list_spans, parts_fit};
-use crate::row_readers::{count_before, count_visible, find_visible, is_at_most, read_text};
+use crate::row_past::{PastRow, count_front, count_visible, find_visible, read_spans};
+use crate::row_readers::{is_at_most, read_text};
+use crate::row_slides::{count_kills, push_shown};
+use crate::row_text::push_text;
 use crate::row_view::KeptRow;
 use crate::run_place::{has_character, place_run, run_fits};
-use blocks::{Block, find_block, put_block};
+use blocks::{Block, Spot, find_block, put_block};
 use ident_index::IdentIndex;
 use pad_model::{
     Author, AuthorRun, CellView, MAX_CHARACTERS, Part, Refusal, Row, Run, Sequence, Span, Stamp,
     Text,
 };
+use slides::Slide;
 use std::alloc::Global;
 use std::marker::Model;
 use weight_tree::WeightTree;
@@ -43,6 +44,8 @@ pub struct BlockSeq {
     index: IdentIndex,
     text: Vec<char>,
     authors: Vec<Author>,
+    /// What came and went, in the order in which it did.
+    slides: Vec<Slide>,
     /// The last revision that changed something.
     latest: u64,
     /// The greatest counter of any character, or 0.
@@ -56,21 +59,11 @@ impl Model for BlockSeq {
     ghost Value = { List Cell };
 
     ghost use Rattle.blocks.specs.Cells.{cells_of};
-    ghost use Rattle.block_seq.specs.Rows.{IsBlockSeq};
+    ghost use Rattle.block_seq.specs.RowSlides.{IsSlidRow};
 
     ghost view = { λ s. cells_of s.authors.items s.text.items s.tree.items };
 
-    ghost invariant = { λ s. IsBlockSeq s.latest s.clock s.authors.items s.text.items s.index s.tree.items };
-}
-
-/// Adds characters in room that was made before.
-fn push_text(text: &mut Vec<char>, more: &[char])
-    requires { vec_len text.old + length more.now ≤ vec_capacity text.old }
-    ensures { text.new.items ≡ text.old.items ++ more.now }
-{
-    for character in more {
-        text.push_reserved(*character);
-    }
+    ghost invariant = { λ s. IsSlidRow s.latest s.clock s.authors.items s.text.items s.slides.items s.index s.tree.items };
 }
 
 impl BlockSeq {
@@ -123,12 +116,16 @@ impl BlockSeq {
         requires run { IsTrue (is_run author.now.origin run.now) }
         requires fits { IsTrue (run_may_join character_of self.old run.now.first run.now.after) }
         requires room { length self.old + length run.now.text ≤ MAX_CHARACTERS }
+        requires latest { AllByRecursion (IsBy rev) self.old }
         ensures { Answers self.old (Ok (count_by (is_hidden_by spans.now) self.old), with_run rev run.now author.now (without_spans rev spans.now self.old)) result self.new }
     {
         cut_spans(alloc, &mut self.tree, &mut self.index, spans)?;
         let author = place_author(&mut self.authors, author)?;
         self.text.reserve(run.text.len())?;
         let rank = place_run(alloc, &mut self.tree, &mut self.index, run.first, run.after)?;
+        let kills = count_kills(&self.tree, spans);
+        self.slides.reserve(kills + 2)?;
+        let at = self.tree.before(rank);
         let block = Block {
             first: run.first,
             parent: run.after,
@@ -141,7 +138,8 @@ impl BlockSeq {
         };
         put_block(alloc, &mut self.tree, &mut self.index, rank, block)?;
         push_text(&mut self.text, run.text.as_slice());
-        let hidden = kill_named(&mut self.tree, &self.index, spans, rev);
+        push_shown(&mut self.slides, rev, at, run);
+        let hidden = kill_named(&mut self.tree, &self.index, &mut self.slides, spans, rev);
         let last = run.first.counter() + (run.text.len() as u64 - 1);
         self.clock = self.clock.max(last);
         self.latest = self.latest.max(rev);
@@ -153,12 +151,11 @@ impl BlockSeq {
         requires run { IsTrue (is_run author.now.origin run.now) }
         requires fits { IsTrue (run_may_join character_of self.old run.now.first run.now.after) }
         requires room { length self.old + length run.now.text ≤ MAX_CHARACTERS }
+        requires latest { AllByRecursion (IsBy rev) self.old }
         ensures { Answers self.old (Ok tt, with_run rev run.now author.now self.old) result self.new }
     {
-        match self.change(alloc, &[], run, author, rev) {
-            Ok(_) => Ok(()),
-            Err(error) => Err(error),
-        }
+        self.change(alloc, &[], run, author, rev)?;
+        Ok(())
     }
 
     /// Puts runs at their places, one after the other. Where memory is refused, some of them are put.
@@ -172,15 +169,13 @@ impl BlockSeq {
         requires runs { IsTrue (list_all (λ run. is_run author.now.origin run.now) runs.now) }
         requires join { AllJoin rev author.now self.old (map (λ run. run.now) runs.now) }
         requires room { length self.old + sum_by (λ run. length run.now.text) runs.now ≤ MAX_CHARACTERS }
+        requires latest { AllByRecursion (IsBy rev) self.old }
         ensures ok { OnOk result (self.new ≡ with_all rev author.now self.old (map (λ run. run.now) runs.now)) }
         ensures memory { IfErr result (λ e. e ≡ Refusal.Memory) }
     {
         let _text = &self.text;
         for run in runs {
-            match self.put(alloc, run, author, rev) {
-                Ok(()) => {}
-                Err(error) => return Err(error),
-            }
+            self.put(alloc, run, author, rev)?;
         }
         Ok(())
     }
@@ -200,20 +195,12 @@ impl BlockSeq {
         requires runs { IsTrue (list_all (λ run. is_run author.now.origin run.now) runs.now) }
         requires join { AllJoin rev author.now (without_spans rev spans.now self.old) (map (λ run. run.now) runs.now) }
         requires room { length self.old + sum_by (λ run. length run.now.text) runs.now ≤ MAX_CHARACTERS }
+        requires latest { AllByRecursion (IsBy rev) self.old }
         ensures { Answers self.old (Ok (count_by (is_hidden_by spans.now) self.old), with_all rev author.now (without_spans rev spans.now self.old) (map (λ run. run.now) runs.now)) result self.new }
     {
-        let mut copy = match self.copy(alloc) {
-            Ok(copy) => copy,
-            Err(error) => return Err(error),
-        };
-        let hidden = match copy.erase(alloc, spans, rev) {
-            Ok(hidden) => hidden,
-            Err(error) => return Err(error),
-        };
-        match copy.put_all(alloc, runs, author, rev) {
-            Ok(()) => {}
-            Err(error) => return Err(error),
-        }
+        let mut copy = self.copy(alloc)?;
+        let hidden = copy.erase(alloc, spans, rev)?;
+        copy.put_all(alloc, runs, author, rev)?;
         *self = copy;
         Ok(hidden)
     }
@@ -224,12 +211,14 @@ impl BlockSeq {
     {
         let text = self.text.clone()?;
         let authors = self.authors.clone()?;
+        let slides = self.slides.clone()?;
         let (tree, index) = copy_blocks(alloc, &self.tree, &self.index)?;
         Ok(BlockSeq {
             tree,
             index,
             text,
             authors,
+            slides,
             latest: self.latest,
             clock: self.clock,
         })
@@ -239,10 +228,13 @@ impl BlockSeq {
     fn erase(&mut self, alloc: Global, spans: &[Span], rev: u64) -> Result<u64, Refusal>
         requires checked { IsTrue (list_all is_span spans.now) }
         requires there { IsTrue (holds_spans character_of self.old spans.now) }
+        requires latest { AllByRecursion (IsBy rev) self.old }
         ensures { Answers self.old (Ok (count_by (is_hidden_by spans.now) self.old), without_spans rev spans.now self.old) result self.new }
     {
         cut_spans(alloc, &mut self.tree, &mut self.index, spans)?;
-        let hidden = kill_named(&mut self.tree, &self.index, spans, rev);
+        let kills = count_kills(&self.tree, spans);
+        self.slides.reserve(kills)?;
+        let hidden = kill_named(&mut self.tree, &self.index, &mut self.slides, spans, rev);
         self.latest = self.latest.max(rev);
         Ok(hidden)
     }
@@ -257,6 +249,7 @@ impl Sequence for BlockSeq {
             index: IdentIndex::new(alloc),
             text: Vec::new(alloc),
             authors: Vec::new(alloc),
+            slides: Vec::new(alloc),
             latest: 0,
             clock: 0,
         })
@@ -318,12 +311,12 @@ impl Sequence for BlockSeq {
 
     fn len_at(&self, rev: u64) -> u64 {
         let _text = &self.text;
-        count_visible(&self.tree, self.latest, rev)
+        count_visible(&self.tree, self.slides.as_slice(), rev)
     }
 
     fn stamp_at(&self, rev: u64, place: u64) -> Option<Stamp> {
         let _text = &self.text;
-        find_visible(&self.tree, self.latest, rev, place)
+        find_visible(&self.tree, self.slides.as_slice(), rev, place)
     }
 
     fn text_at(&self, alloc: Global, rev: u64) -> Result<Text, Refusal> {
@@ -337,18 +330,36 @@ impl Sequence for BlockSeq {
     }
 
     fn spans_at(&self, alloc: Global, rev: u64, at: u64, len: u64) -> Result<Row<Span>, Refusal> {
-        let _text = &self.text;
-        Ok(Row::from_vec(read_spans(alloc, &self.tree, rev, at, len)?))
+        let row = PastRow {
+            tree: &self.tree,
+            index: &self.index,
+            slides: self.slides.as_slice(),
+            latest: self.latest,
+        };
+        Ok(Row::from_vec(read_spans(alloc, row, rev, at, len)?))
     }
 
     fn before(&self, stamp: Stamp, rev: u64) -> Option<u64> {
         let spot = find_block(&self.tree, &self.index, stamp)?;
-        Some(count_before(&self.tree, self.latest, spot.rank, spot.offset, rev))
+        let row = PastRow {
+            tree: &self.tree,
+            index: &self.index,
+            slides: self.slides.as_slice(),
+            latest: self.latest,
+        };
+        Some(count_front(row, spot, rev))
     }
 
     fn through(&self, stamp: Stamp, rev: u64) -> Option<u64> {
         let spot = find_block(&self.tree, &self.index, stamp)?;
-        Some(count_before(&self.tree, self.latest, spot.rank, spot.offset + 1, rev))
+        let offset = spot.offset + 1;
+        let row = PastRow {
+            tree: &self.tree,
+            index: &self.index,
+            slides: self.slides.as_slice(),
+            latest: self.latest,
+        };
+        Some(count_front(row, Spot { offset, ..spot }, rev))
     }
 
     fn stands_before(&self, a: Stamp, b: Stamp) -> Option<bool> {

@@ -1,4 +1,9 @@
-use Rattle.std.proofs.Common.{◌≡◌, ◌≤◌, sym, ap, ◌∙◌, arith}
+use Rattle.std.proofs.Common.{◌≡◌, ◌≤◌, false, [], ◌∷◌, ◌++◌, Some, None, refl, sym, ap, ◌∙◌, subst, arith, slice_set}
+use Rattle.std.specs.List.{AllByRecursion}
+use Rattle.slides.specs.declared.slide.Slide.{Slide}
+use Rattle.block_seq.specs.Rows.{IsDated}
+use Rattle.block_seq.specs.RowSlides.{IsSlid, live_blocks}
+use Rattle.block_seq.proofs.RowSlides.{slid_killed, fewer_alive, none_of}
 use Rattle.std.proofs.lemmas.Option.{slice_get_within}
 use Rattle.blocks.specs.Blocks.{IsSized}
 use Rattle.blocks.specs.declared.block.Block.{Block}
@@ -8,7 +13,7 @@ use Rattle.block_seq.proofs.BlockCells.{spot_block}
 use Rattle.block_seq.proofs.RowKills.{none_killed, none_hidden, none_named, edge_behind, edge_behind_none, no_edge_inside, dead_block, alive_block}
 use Rattle.block_seq.specs.Rows.{span_from}
 use Rattle.block_seq.proofs.row_kills.kill_from.Goals as goal
-use Rattle.block_seq.proofs.row_kills.kill_from.Goals.{In-Some, After-get-block}
+use Rattle.block_seq.proofs.row_kills.kill_from.Goals.{In-Some, After-get-block, After-kill}
 
 pub returns-in_default-clause-items : goal.returns-in_default-clause-items
 returns-in_default-clause-items c =
@@ -91,3 +96,38 @@ pub returns-clause-whole : goal.returns-clause-whole
 returns-clause-whole c = λ k lo hi.
     no_edge_inside c.args.index.now c.args.tree.now.items c.in-Some.ensures.sound c.requires.kept.listed c.in-Some.spot.rank c.get-block.result.now c.args.stamp k c.get-block.ensures.item
     (begins (goal.at.returns-clause-whole c).After-get-block) lo hi
+
+-- the death of the block, by its slide
+died : (c : After-kill) → c.get-block.result.now.died ≡ None
+died c = none_of c.get-block.result.now.died (sym c.is_some.ensures ∙ c.if-is_some.false)
+
+pub push_reserved-requires : goal.push_reserved-requires
+push_reserved-requires c =
+    let fewer = fewer_alive c.args.tree.now.items c.in-Some.spot.rank c.args.rev c.get-block.result.now c.get-block.ensures.item (none_of c.get-block.result.now.died (sym c.is_some.ensures ∙ c.if-is_some.false)) in
+    omega (arith, fewer, c.requires.room)
+
+killed : (c : After-kill) → IsSlid c.push_reserved.new.self.items c.kill.new.tree.items × AllByRecursion (IsDated c.args.rev) c.kill.new.tree.items
+killed c =
+    let bs = c.args.tree.now.items in
+    let b = c.get-block.result.now in
+    let s : Slide = record { rev = c.args.rev; at = c.before-at.result; first = b.first; len = b.len; shows = false } in
+    let done = slid_killed c.args.slides.now.items s bs c.in-Some.spot.rank b c.get-block.ensures.item c.requires.slid c.requires.dated (died c) c.before-at.ensures.sum refl refl refl
+    (each_get IsSized bs c.in-Some.spot.rank b c.requires.kept.listed.sized c.get-block.ensures.item) c.requires.kept.listed.small
+    in
+    let items = c.kill.ensures.dead b c.get-block.ensures.item in
+    (subst (λ l. IsSlid l c.kill.new.tree.items) (sym c.push_reserved.ensures.items) (subst (IsSlid (c.args.slides.now.items ++ s ∷ [])) (sym items) done.0), subst (AllByRecursion (IsDated c.args.rev)) (sym items) done.1)
+
+pub returns-clause-slid : goal.returns-clause-slid
+returns-clause-slid c = (killed (goal.at.returns-clause-slid c).After-kill).0
+
+pub returns-clause-dated : goal.returns-clause-dated
+returns-clause-dated c = (killed (goal.at.returns-clause-dated c).After-kill).1
+
+pub returns-clause-room : goal.returns-clause-room
+returns-clause-room c =
+    let bs = c.args.tree.now.items in
+    let rank = c.in-Some.spot.rank in
+    let b = c.get-block.result.now in
+    let fewer = fewer_alive bs rank c.args.rev b c.get-block.ensures.item (died (goal.at.returns-clause-room c).After-kill) in
+    let same : live_blocks c.kill.new.tree.items ≡ live_blocks (slice_set bs rank (record b { died = Some c.args.rev })) = ap live_blocks (c.kill.ensures.dead b c.get-block.ensures.item) in
+    omega (arith, fewer, same, c.requires.room, c.push_reserved.ensures.len, c.push_reserved.ensures.capacity)

@@ -16,6 +16,9 @@ loop-done-init c =
       kept = c.requires.kept;
       within = omega arith;
       begins = subst (IsEdge c.args.index.now) (sym (behind_none first)) c.requires.cut.0;
+      slid = c.requires.slid;
+      dated = c.requires.dated;
+      room = c.requires.room;
       items = none_killed c.args.rev (span_from first 0) bs (λ i b e. nothing_named first b.first);
       hidden = none_hidden (span_from first 0) bs (λ i b e. nothing_named first b.first);
     }
@@ -51,6 +54,9 @@ loop-done-preserved c =
       kept = c.kill_from-passed.ensures.kept;
       within = fewer g;
       begins = subst (IsEdge c.args.index.now) (step_ends c.args.span.now.first c.plus.result c.loop-done.done c.kill_from-passed.result.len c.plus.ensures) c.kill_from-passed.ensures.ends;
+      slid = c.kill_from-passed.ensures.slid;
+      dated = c.kill_from-passed.ensures.dated;
+      room = c.kill_from-passed.ensures.room;
       items = span_step c.args.rev c.args.span.now.first c.plus.result c.loop-done.done c.kill_from-passed.result.len c.args.tree.now.items c.loop-done.tree.items c.kill_from-passed.new.tree.items
           c.plus.ensures c.loop-done.invariant.items c.kill_from-passed.ensures.items;
       hidden = sum g;

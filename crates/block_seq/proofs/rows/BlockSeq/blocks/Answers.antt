@@ -2,4 +2,4 @@ use Rattle.block_seq.proofs.rows.BlockSeq.blocks.Goals as goal
 
 pub returns : goal.returns
 returns c =
-    (c.self.inside.index, c.self.inside.tree.items, record { authors = c.self.inside.authors.items; text = c.self.inside.text.items; kept = c.self.invariant.kept; same = c.self.view_is }, c.len.ensures.len)
+    (c.self.inside.index, c.self.inside.tree.items, record { authors = c.self.inside.authors.items; text = c.self.inside.text.items; kept = c.self.invariant.row.kept; same = c.self.view_is }, c.len.ensures.len)

@@ -1,20 +1,48 @@
 use Rattle.std.proofs.Common.{max, arith, ◌≡◌, inr, Ok, sym, ap, ap₂, ◌∙◌, subst, count_by}
-use Rattle.pad_model.specs.Cell.{is_hidden_by, without_spans}
+use Rattle.std.specs.List.{AllByRecursion}
+use Rattle.pad_model.specs.Cell.{IsBy, is_hidden_by, without_spans}
 use Rattle.blocks.specs.Cells.{cells_of}
 use Rattle.block_seq.specs.Rows.{IsBlockSeq}
+use Rattle.block_seq.specs.RowSlides.{IsSlid}
+use Rattle.block_seq.proofs.RowNow.{dated_blocks}
+use Rattle.block_seq.proofs.RowSlides.{slid_cut}
 use Rattle.block_seq.proofs.RowErase.{all_aligned, killed_count, row_killed}
 use Rattle.block_seq.proofs.RowSteps.{same_cells_kept}
 use Rattle.block_seq.proofs.rows.BlockSeq.erase.Goals as goal
-use Rattle.block_seq.proofs.rows.BlockSeq.erase.Goals.{After-kill_named-hidden}
+use Rattle.block_seq.proofs.rows.BlockSeq.erase.Goals.{After-cut_spans, After-kill_named-hidden}
+
+-- what the cuts leave
+row : (c : After-cut_spans) → IsBlockSeq c.self.inside.latest c.self.inside.clock c.self.inside.authors.items c.self.inside.text.items c.cut_spans.new.index c.cut_spans.new.tree.items
+row c = (same_cells_kept c.self.inside.authors.items c.self.inside.text.items c.self.inside.index c.cut_spans.new.index c.self.inside.tree.items c.cut_spans.new.tree.items c.self.invariant.row c.cut_spans.ensures.kept c.cut_spans.ensures.cells).0
+
+slid : (c : After-cut_spans) → IsSlid c.self.inside.slides.items c.cut_spans.new.tree.items
+slid c =
+    slid_cut c.self.inside.slides.items c.self.inside.authors.items c.self.inside.text.items c.self.inside.index c.cut_spans.new.index c.self.inside.tree.items c.cut_spans.new.tree.items c.self.invariant.row c.cut_spans.ensures.kept c.cut_spans.ensures.cells
+    c.self.invariant.slid
 
 pub invariant_of-self : goal.invariant_of-self
-invariant_of-self c = (same_cells_kept c.self.inside.authors.items c.self.inside.text.items c.self.inside.index c.cut_spans.new.index c.self.inside.tree.items c.cut_spans.new.tree.items c.self.invariant c.cut_spans.ensures.kept c.cut_spans.ensures.cells).0
+invariant_of-self c = let g = goal.at.invariant_of-self c in record { row = row g.After-cut_spans; slid = slid g.After-cut_spans }
+
+pub invariant_of-self-in_err-reserve : goal.invariant_of-self-in_err-reserve
+invariant_of-self-in_err-reserve c =
+    let g = goal.at.invariant_of-self-in_err-reserve c in
+    record { row = row g.After-cut_spans; slid = subst (λ l. IsSlid l c.cut_spans.new.tree.items) (sym c.reserve.ensures.items) (slid g.After-cut_spans) }
+
+pub kill_named-hidden-requires-clause-slid : goal.kill_named-hidden-requires-clause-slid
+kill_named-hidden-requires-clause-slid c =
+    subst (λ l. IsSlid l c.cut_spans.new.tree.items) (sym c.reserve.ensures.items) (slid (goal.at.kill_named-hidden-requires-clause-slid c).After-cut_spans)
+
+pub kill_named-hidden-requires-clause-dated : goal.kill_named-hidden-requires-clause-dated
+kill_named-hidden-requires-clause-dated c =
+    let cut = row (goal.at.kill_named-hidden-requires-clause-dated c).After-cut_spans in
+    let cells = c.cut_spans.ensures.cells.cells c.self.inside.authors.items c.self.inside.text.items c.self.invariant.row.within ∙ c.self.view_is in
+    dated_blocks c.args.rev c.self.inside.authors.items c.self.inside.text.items c.cut_spans.new.tree.items cut.within cut.kept.listed.sized (subst (AllByRecursion (IsBy c.args.rev)) (sym cells) c.requires.latest)
 
 done : (c : After-kill_named-hidden) → (IsBlockSeq (max c.self.inside.latest c.args.rev) c.self.inside.clock c.self.inside.authors.items c.self.inside.text.items c.cut_spans.new.index c.kill_named-hidden.new.tree.items
     × (cells_of c.self.inside.authors.items c.self.inside.text.items c.kill_named-hidden.new.tree.items ≡ without_spans c.args.rev c.args.spans.now c.args.self.now))
     × (c.kill_named-hidden.result ≡ count_by (is_hidden_by c.args.spans.now) c.args.self.now)
 done c =
-    let cut = same_cells_kept c.self.inside.authors.items c.self.inside.text.items c.self.inside.index c.cut_spans.new.index c.self.inside.tree.items c.cut_spans.new.tree.items c.self.invariant c.cut_spans.ensures.kept c.cut_spans.ensures.cells in
+    let cut = same_cells_kept c.self.inside.authors.items c.self.inside.text.items c.self.inside.index c.cut_spans.new.index c.self.inside.tree.items c.cut_spans.new.tree.items c.self.invariant.row c.cut_spans.ensures.kept c.cut_spans.ensures.cells in
     let is = cut.1 ∙ c.self.view_is in (
       row_killed (max c.self.inside.latest c.args.rev) c.args.rev c.args.spans.now c.self.inside.authors.items c.self.inside.text.items c.cut_spans.new.index c.cut_spans.new.tree.items c.kill_named-hidden.new.tree.items c.args.self.now (omega arith) (omega arith) cut.0 is c.in_ok-cut_spans.ensures.cut c.kill_named-hidden.ensures.kept c.kill_named-hidden.ensures.items,
       c.kill_named-hidden.ensures.hidden
@@ -23,9 +51,11 @@ done c =
     )
 
 pub invariant_of-self-2 : goal.invariant_of-self-2
-invariant_of-self-2 c =
-    subst (λ n. IsBlockSeq n c.self.inside.clock c.self.inside.authors.items c.self.inside.text.items c.cut_spans.new.index c.kill_named-hidden.new.tree.items) (sym c.max-self-inside.ensures)
-    (done (goal.at.invariant_of-self-2 c).After-kill_named-hidden).0.0
+invariant_of-self-2 c = record {
+  row = subst (λ n. IsBlockSeq n c.self.inside.clock c.self.inside.authors.items c.self.inside.text.items c.cut_spans.new.index c.kill_named-hidden.new.tree.items) (sym c.max-self-inside.ensures)
+      (done (goal.at.invariant_of-self-2 c).After-kill_named-hidden).0.0;
+  slid = c.kill_named-hidden.ensures.slid;
+}
 
 pub returns : goal.returns
 returns c =

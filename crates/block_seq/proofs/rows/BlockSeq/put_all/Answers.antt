@@ -1,4 +1,7 @@
 use Rattle.std.proofs.Common.{◌+◌, ◌∷◌, inl, inr, map, drop, sym, ap, ◌∙◌, subst, arith}
+use Rattle.std.specs.List.{AllByRecursion}
+use Rattle.pad_model.specs.Cell.{IsBy}
+use Rattle.block_seq.proofs.RowNow.{run_by}
 use Rattle.pad_model.specs.declared.limits.TheConstants.{MAX_CHARACTERS}
 use Rattle.block_seq.specs.RowParts.{with_all}
 use Rattle.block_seq.proofs.RowChange.{PutNext, put_next, lent_from, lent_checked, lent_sizes}
@@ -22,8 +25,8 @@ loop-run-preserved c =
     let next : PutNext c.args.rev origin MAX_CHARACTERS c.args.author.now c.loop-run.self (with_all c.args.rev c.args.author.now c.args.self.now (map (λ run. run.now) runs)) (c.run-item.result.now ∷ map (λ run. run.now) (drop (i + 1) runs)) =
     subst (PutNext c.args.rev origin MAX_CHARACTERS c.args.author.now c.loop-run.self (with_all c.args.rev c.args.author.now c.args.self.now (map (λ run. run.now) runs))) from so_far in
     let after = lent_sizes (λ run. run.now) (drop (i + 1) runs) in
-    elim c.put.ensures [
-      | inl failed ↦ absurd (cc (failed.0, c.in-Ok.is))
+    elim c.in_ok-put.ensures [
+      | inl failed ↦ absurd (let e = failed.0 in cc e)
       | inr made ↦
           let done = put_next c.args.rev origin MAX_CHARACTERS c.args.author.now c.loop-run.self c.put.new.self (with_all c.args.rev c.args.author.now c.args.self.now (map (λ run. run.now) runs)) c.run-item.result.now (map (λ run. run.now) (drop (i + 1) runs)) next (sym (ap (λ p. p.1) made)) in
           record {
@@ -32,5 +35,6 @@ loop-run-preserved c =
             all = done.whole;
             room = (let room = done.room in omega (arith, after, room));
             order = done.order;
+            dated = subst (AllByRecursion (IsBy c.args.rev)) (ap (λ p. p.1) made) (run_by c.args.rev c.args.rev c.run-item.result.now c.args.author.now c.loop-run.self (omega arith) inv.order inv.dated next.join.0);
           }
     ]

@@ -1,6 +1,6 @@
 use Rattle.std.proofs.Common.{◌≡◌, ◌+◌, ◌≤◌, true, length, map, drop, sum_by}
-use Rattle.std.specs.List.{list_all}
-use Rattle.pad_model.specs.Cell.{IsInOrder}
+use Rattle.std.specs.List.{AllByRecursion, list_all}
+use Rattle.pad_model.specs.Cell.{IsBy, IsInOrder}
 use Rattle.pad_model.specs.Checked.{is_run}
 use Rattle.pad_model.specs.declared.limits.TheConstants.{MAX_CHARACTERS}
 use Rattle.block_seq.specs.RowParts.{AllJoin, with_all}
@@ -14,4 +14,5 @@ invariant-loop-run l = record {
   all : with_all l.rev l.author l.self (map (λ run. run.now) (drop l.run-index l.runs)) ≡ with_all l.rev l.author l.initial.self (map (λ run. run.now) l.runs);
   room : length l.self + sum_by (λ run. length run.now.text) (drop l.run-index l.runs) ≤ MAX_CHARACTERS;
   order : IsInOrder l.self;
+  dated : AllByRecursion (IsBy l.rev) l.self;
 }

@@ -25,11 +25,11 @@ use Rattle.block_seq.proofs.rows.BlockSeqSequence.apply.Goals.{After-parts_fit, 
 fit : (c : After-parts_fit) (b : Bool) → c.parts_fit.result ≡ b → list_all (part_fits character_of c.args.self.now) c.args.parts.now ≡ b
 fit c b e =
     ap (λ l. list_all (part_fits character_of l) c.args.parts.now) (sym c.self.view_is)
-    ∙ sym (c.parts_fit.ensures c.self.inside.authors.items c.self.inside.text.items c.self.invariant.within) ∙ e
+    ∙ sym (c.parts_fit.ensures c.self.inside.authors.items c.self.inside.text.items c.self.invariant.row.within) ∙ e
 
 -- the cells fill the text
 size : (c : After-parts_fit) → length c.args.self.now ≡ length c.self.inside.text.items
-size c = ap length (sym c.self.view_is) ∙ length-cells c.self.inside.authors.items c.self.inside.text.items c.self.inside.tree.items c.self.invariant.within ∙ sym c.self.invariant.full
+size c = ap length (sym c.self.view_is) ∙ length-cells c.self.inside.authors.items c.self.inside.text.items c.self.inside.tree.items c.self.invariant.row.within ∙ sym c.self.invariant.row.full
 
 pub parts_fit-requires-clause-checked : goal.parts_fit-requires-clause-checked
 parts_fit-requires-clause-checked c = spans_checked c.args.author.now.origin c.args.parts.now c.requires.checked
@@ -68,7 +68,7 @@ room c s fits = omega (arith, s, fits, c.count_inserted-more.ensures.value)
 facts : (c : In_ok-runs) (spans : List Span) → spans ≡ c.in_ok-spans.spans.items → list_all (part_fits character_of c.args.self.now) c.args.parts.now ≡ true → length c.args.self.now + sum_by inserted_size c.args.parts.now ≤ MAX_CHARACTERS
     → PartsMade c.args.rev c.args.author.now c.args.parts.now c.args.self.now spans (map (λ run. run.now) c.in_ok-runs.runs.items)
 facts c spans is fits small =
-    parts_made c.args.rev c.args.author.now c.args.parts.now c.args.self.now spans (map (λ run. run.now) c.in_ok-runs.runs.items) (subst IsInOrder c.self.view_is c.self.invariant.order) c.requires.checked fits small
+    parts_made c.args.rev c.args.author.now c.args.parts.now c.args.self.now spans (map (λ run. run.now) c.in_ok-runs.runs.items) (subst IsInOrder c.self.view_is c.self.invariant.row.order) c.requires.checked fits small
     (is ∙ c.in_ok-spans.ensures) c.in_ok-runs.ensures
 
 pub erase-requires-clause-checked : goal.erase-requires-clause-checked

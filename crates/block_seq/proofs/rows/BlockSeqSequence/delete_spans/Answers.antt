@@ -9,7 +9,7 @@ use Rattle.block_seq.proofs.rows.BlockSeqSequence.delete_spans.Goals.{After-has_
 
 there : (c : After-has_spans) (b : Bool) → c.has_spans.result ≡ b → has_spans character_of c.args.self.now c.args.spans.now ≡ b
 there c b e =
-    ap (λ l. has_spans character_of l c.args.spans.now) (sym c.self.view_is) ∙ sym (c.has_spans.ensures c.self.inside.authors.items c.self.inside.text.items c.self.invariant.within) ∙ e
+    ap (λ l. has_spans character_of l c.args.spans.now) (sym c.self.view_is) ∙ sym (c.has_spans.ensures c.self.inside.authors.items c.self.inside.text.items c.self.invariant.row.within) ∙ e
 
 pub returns-then-not-has_spans : goal.returns-then-not-has_spans
 returns-then-not-has_spans c = inr (delete-fault c.args.rev c.args.spans.now c.args.self.now (there (goal.at.returns-then-not-has_spans c).After-has_spans false c.if-not-has_spans.true))

@@ -1,9 +1,12 @@
 use Rattle.std.proofs.Common.{ap}
 use Rattle.weight_tree.specs.ItemsAndHeight.{ItemsAndHeight}
 use Rattle.blocks.specs.declared.block.Block.{Block}
+use Rattle.block_seq.proofs.RowSlides.{slid_nothing}
 use Rattle.block_seq.proofs.RowSteps.{nothing_kept}
 use Rattle.block_seq.proofs.rows.BlockSeqSequence.empty.Goals as goal
 
 pub invariant_of-result : goal.invariant_of-result
-invariant_of-result c =
-    nothing_kept c.new-4.result.items c.new-3.result.items c.new-2.result c.new.result.items (ap (λ (t : ItemsAndHeight Block). t.items) c.new.ensures.empty) c.new-3.ensures.items c.new-2.ensures
+invariant_of-result c = record {
+  row = nothing_kept c.new-4.result.items c.new-3.result.items c.new-2.result c.new.result.items (ap (λ (t : ItemsAndHeight Block). t.items) c.new.ensures.empty) c.new-3.ensures.items c.new-2.ensures;
+  slid = slid_nothing c.new-5.result.items c.new.result.items c.new-5.ensures.items (ap (λ (t : ItemsAndHeight Block). t.items) c.new.ensures.empty);
+}

@@ -5,5 +5,5 @@ use Rattle.block_seq.proofs.rows.BlockSeqSequence.has.Goals as goal
 
 pub returns : goal.returns
 returns c =
-    c.has_character.ensures c.self.inside.authors.items c.self.inside.text.items c.self.invariant.within
+    c.has_character.ensures c.self.inside.authors.items c.self.inside.text.items c.self.invariant.row.within
     ∙ ap (λ l. has_stamp character_of l c.args.stamp) c.self.view_is

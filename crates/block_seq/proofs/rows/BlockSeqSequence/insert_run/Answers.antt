@@ -11,11 +11,11 @@ use Rattle.block_seq.proofs.rows.BlockSeqSequence.insert_run.Goals.{After-run_fi
 fit : (c : After-run_fits) (b : Bool) → c.run_fits.result ≡ b → run_may_join character_of c.args.self.now c.args.run.now.first c.args.run.now.after ≡ b
 fit c b e =
     ap (λ l. run_may_join character_of l c.args.run.now.first c.args.run.now.after) (sym c.self.view_is)
-    ∙ sym (c.run_fits.ensures c.self.inside.authors.items c.self.inside.text.items c.self.invariant.within) ∙ e
+    ∙ sym (c.run_fits.ensures c.self.inside.authors.items c.self.inside.text.items c.self.invariant.row.within) ∙ e
 
 -- the cells fill the text
 size : (c : After-run_fits) → length c.args.self.now ≡ length c.self.inside.text.items
-size c = ap length (sym c.self.view_is) ∙ length-cells c.self.inside.authors.items c.self.inside.text.items c.self.inside.tree.items c.self.invariant.within ∙ sym c.self.invariant.full
+size c = ap length (sym c.self.view_is) ∙ length-cells c.self.inside.authors.items c.self.inside.text.items c.self.inside.tree.items c.self.invariant.row.within ∙ sym c.self.invariant.row.full
 
 pub returns-then-not-run_fits : goal.returns-then-not-run_fits
 returns-then-not-run_fits c =

@@ -6,8 +6,6 @@ use Rattle.pad_model.specs.Stamp.{Stamp}
 use Rattle.pad_model.specs.Visible.{shown_through}
 use Rattle.ident_index.specs.Index.{stamp_behind}
 use Rattle.blocks.specs.declared.block.Block.{Block}
-use Rattle.blocks.specs.Blocks.{IsSized}
-use Rattle.blocks.proofs.Entries.{each_get}
 use Rattle.blocks.proofs.Parts.{some_block, holds_here}
 use Rattle.block_seq.proofs.BlockCells.{none_held, held_cell, spot_block}
 use Rattle.block_seq.proofs.BlockScan.{one_rank}
@@ -21,27 +19,18 @@ returns-in_err-spot c =
     rw c.from_residual.ensures
     (unless_has false (has_stamp character_of c.args.self.now c.args.stamp) _
     (ap (λ l. has_stamp character_of l c.args.stamp) (sym c.self.view_is)
-    ∙ none_held c.self.inside.authors.items c.self.inside.text.items c.self.inside.index c.self.inside.tree.items c.args.stamp c.self.invariant.kept.listed c.self.invariant.within c.in_err-spot.ensures.spot) refl)
+    ∙ none_held c.self.inside.authors.items c.self.inside.text.items c.self.inside.index c.self.inside.tree.items c.args.stamp c.self.invariant.row.kept.listed c.self.invariant.row.within c.in_err-spot.ensures.spot) refl)
 
-pub count_before-requires-clause-within : goal.count_before-requires-clause-within
-count_before-requires-clause-within c =
+pub count_front-requires-clause-within : goal.count_front-requires-clause-within
+count_front-requires-clause-within c =
     let found = spot_block c.self.inside.tree.items c.args.stamp c.in_ok-spot.spot.rank c.in_ok-spot.spot.offset c.in_ok-spot.ensures.spot in
     slice_get_within c.self.inside.tree.items c.in_ok-spot.spot.rank found.0 found.1
-
-pub count_before-requires-clause-inside : goal.count_before-requires-clause-inside
-count_before-requires-clause-inside c =
-    let bs = c.self.inside.tree.items in
-    let found = some_block (slice_get bs c.in_ok-spot.spot.rank) (λ (x : Block). (c.args.stamp ≡ stamp_behind x.first c.in_ok-spot.spot.offset) × (c.in_ok-spot.spot.offset < x.len)) c.in_ok-spot.ensures.spot in
-    let sized = each_get IsSized bs c.in_ok-spot.spot.rank found.0 c.self.invariant.kept.listed.sized found.1 in
-    let small = sized.2 in
-    let inside = found.2.1 in
-    omega arith
 
 pub returns : goal.returns
 returns c =
     let bs = c.self.inside.tree.items in
     let rank = c.in_ok-spot.spot.rank in
-    let k = c.self.invariant.kept.listed in
+    let k = c.self.invariant.row.kept.listed in
     let place = some_block (slice_get bs rank) (λ (x : Block). (c.args.stamp ≡ stamp_behind x.first c.in_ok-spot.spot.offset) × (c.in_ok-spot.spot.offset < x.len)) c.in_ok-spot.ensures.spot in
     let b = place.0 in
     let is = place.2.0 in
@@ -49,12 +38,12 @@ returns c =
     let counter = ap (λ (x : Stamp). x.counter) is in
     let replica = ap (λ (x : Stamp). x.replica) is in
     let held = holds_here c.self.inside.index bs rank b c.args.stamp k place.1 (sym replica, omega arith, omega arith) in
-    where_has true (has_stamp character_of c.args.self.now c.args.stamp) c.count_before.result (shown_through character_of (shown_at c.args.rev) c.args.self.now c.args.stamp)
-    (ap (λ l. has_stamp character_of l c.args.stamp) (sym c.self.view_is) ∙ held_cell c.self.inside.authors.items c.self.inside.text.items c.self.inside.index bs c.args.stamp b.first k c.self.invariant.within held) refl
-    (c.count_before.ensures b place.1
-    ∙ sym (through-blocks c.args.rev c.self.inside.authors.items c.self.inside.text.items bs rank c.in_ok-spot.spot.offset b c.args.stamp c.self.invariant.within place.1 is inside
+    where_has true (has_stamp character_of c.args.self.now c.args.stamp) c.count_front.result (shown_through character_of (shown_at c.args.rev) c.args.self.now c.args.stamp)
+    (ap (λ l. has_stamp character_of l c.args.stamp) (sym c.self.view_is) ∙ held_cell c.self.inside.authors.items c.self.inside.text.items c.self.inside.index bs c.args.stamp b.first k c.self.invariant.row.within held) refl
+    (c.count_front.ensures b place.1
+    ∙ sym (through-blocks c.args.rev c.self.inside.authors.items c.self.inside.text.items bs rank c.in_ok-spot.spot.offset b c.args.stamp c.self.invariant.row.within place.1 is inside
     (λ i x l f cov. one_rank bs i rank x b k.apart f place.1 l (c.in_ok-spot.ensures.sound.apart c.args.stamp x.first b.first (holds_here c.self.inside.index bs i x c.args.stamp k f cov) held)))
     ∙ ap (λ l. shown_through character_of (shown_at c.args.rev) l c.args.stamp) c.self.view_is)
 
-pub count_before-requires-clause-dated : goal.count_before-requires-clause-dated
-count_before-requires-clause-dated c = dated_blocks c.self.inside.latest c.self.inside.authors.items c.self.inside.text.items c.self.inside.tree.items c.self.invariant.within c.self.invariant.kept.listed.sized c.self.invariant.dated
+pub count_front-requires-clause-dated : goal.count_front-requires-clause-dated
+count_front-requires-clause-dated c = dated_blocks c.self.inside.latest c.self.inside.authors.items c.self.inside.text.items c.self.inside.tree.items c.self.invariant.row.within c.self.invariant.row.kept.listed.sized c.self.invariant.row.dated

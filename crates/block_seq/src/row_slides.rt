@@ -1,0 +1,33 @@
+//! Slides of a row of blocks: how many may come, and the one of a run.
+ghost use Rattle.std.specs.Prelude.{◌≡◌, ◌+◌, ◌≤◌, ◌<◌, ◌++◌, ◌∷◌, [], true, length, vec_len, vec_capacity};
+ghost use Rattle.slides.specs.declared.slide.Slide.{Slide as SlideValue};
+ghost use Rattle.block_seq.specs.RowSlides.{live_blocks, slide_of};
+
+use blocks::Block;
+use pad_model::{Run, Span};
+use slides::Slide;
+use weight_tree::WeightTree;
+
+/// How many slides a deletion by these spans adds at most.
+pub fn count_kills(tree: &WeightTree<Block>, spans: &[Span]) -> usize
+    ensures enough { 0 < length spans.now → live_blocks tree.now.items ≤ result }
+    ensures few { result ≤ length tree.now.items }
+{
+    if spans.is_empty() { 0 } else { tree.len() }
+}
+
+/// Keeps the slide of a run, in room that was made before. It stands behind `at` visible characters.
+pub fn push_shown(slides: &mut Vec<Slide>, rev: u64, at: u64, run: &Run)
+    requires { vec_len slides.old < vec_capacity slides.old }
+    ensures items { slides.new.items ≡ slides.old.items ++ slide_of rev at run.now ∷ [] }
+    ensures len { vec_len slides.new ≡ vec_len slides.old + 1 }
+    ensures capacity { vec_capacity slides.new ≡ vec_capacity slides.old }
+{
+    slides.push_reserved(Slide {
+        rev,
+        at,
+        first: run.first,
+        len: run.text.len() as u64,
+        shows: true,
+    });
+}

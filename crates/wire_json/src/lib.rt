@@ -9,6 +9,7 @@ mod act;
 mod answer;
 mod deed;
 mod field;
+mod fixed;
 mod form;
 pub mod laws;
 mod line;
@@ -24,6 +25,7 @@ mod show;
 mod word;
 
 pub use field::{name_field, number_field, str_field};
+pub use fixed::{memory_line, too_long_line};
 pub use op_read::read_op;
 pub use op_write::op_value;
 pub use peer_answer::{

@@ -1,12 +1,12 @@
 -- Which fault ends a connection.
-use Rattle.std.proofs.Common.{◌≡◌, ◌⊎◌, inl, inr, ℕ, zero, suc, ◌+◌, Option, None, Some, Result, Ok, Err, IsErrAnd, refl, sym, ap, ◌∙◌, subst, arith}
+use Rattle.std.proofs.Common.{◌≡◌, inl, inr, ℕ, zero, suc, ◌+◌, List, Option, None, Some, Result, Ok, Err, IsErrAnd, refl, sym, ap, ◌∙◌, subst, arith}
 use Rattle.std.specs.Option.{IfNone}
 use Rattle.std.proofs.lemmas.Result.{err_from_is_err_and}
-use Rattle.wire_lines.specs.Causes.{AreCounted, HasCause, most_reads, with_more}
+use Rattle.wire_lines.specs.Causes.{AreCounted, HasCause, with_more}
 use Rattle.wire_lines.specs.Device.{one_more}
 use Rattle.wire_lines.specs.declared.fault.Fault.{Fault}
 use Rattle.wire_lines.specs.declared.fault.Fault.TheVariants.{ReadFault, WriteFault, PeerReply, Memory}
-use Rattle.workers.specs.Connection.{HasFaultCause, HasWriteCause}
+use Rattle.workers.specs.Connection.{HasFaultCause, HasWriteCause, TellsFault}
 
 -- reads in two parts
 with_more-add : (made counted count : ℕ) → with_more (with_more made counted) count ≡ with_more made (counted + count)
@@ -32,13 +32,32 @@ search_failed X Y Z WriteFault None start unread unread_then first made made_the
 search_failed X Y Z PeerReply None start unread unread_then first made made_then counted counted_then unwritten unwritten_then none cause count same so kept = absurd cause
 search_failed X Y Z Memory None start unread unread_then first made made_then counted counted_then unwritten unwritten_then none cause count same so kept = (cause ∙ same, kept)
 
+-- and whose fault was told
+pub search_told : (X Y Z : Type 0) (fault told : Fault) (before : Option Fault) (start unread unread_then first made made_then counted counted_then unwritten between unwritten_then : ℕ) (old new : Option (List ℕ)) → before ≡ None →
+    IfNone before (HasCause {X = Y} (Err fault) unread unread_then counted_then) → IfNone before (AreCounted {X = Z} (Err fault) made made_then counted counted_then) → unread ≡ start → made ≡ with_more first counted → between ≡ unwritten →
+    TellsFault fault told between unwritten_then old new → HasFaultCause {X = X} (Err told) start unread_then first made_then unwritten unwritten_then
+search_told X Y Z ReadFault told before start unread unread_then first made made_then counted counted_then unwritten between unwritten_then old new none cause count same so kept tells =
+    subst (λ f. HasFaultCause {X = X} (Err f) start unread_then first made_then unwritten unwritten_then) (sym tells.0)
+    (search_failed X Y Z ReadFault before start unread unread_then first made made_then counted counted_then unwritten unwritten_then none cause count same so (tells.1 ∙ kept))
+search_told X Y Z WriteFault told before start unread unread_then first made made_then counted counted_then unwritten between unwritten_then old new none cause count same so kept tells =
+    subst (λ f. HasFaultCause {X = X} (Err f) start unread_then first made_then unwritten unwritten_then) (sym tells.0)
+    (search_failed X Y Z WriteFault before start unread unread_then first made made_then counted counted_then unwritten unwritten_then none cause count same so (tells.1 ∙ kept))
+search_told X Y Z PeerReply told before start unread unread_then first made made_then counted counted_then unwritten between unwritten_then old new none cause count same so kept tells =
+    subst (λ f. HasFaultCause {X = X} (Err f) start unread_then first made_then unwritten unwritten_then) (sym tells.0)
+    (search_failed X Y Z PeerReply before start unread unread_then first made made_then counted counted_then unwritten unwritten_then none cause count same so (tells.1 ∙ kept))
+search_told X Y Z Memory told (Some other) start unread unread_then first made made_then counted counted_then unwritten between unwritten_then old new none cause count same so kept tells = absurd (cc)
+search_told X Y Z Memory told None start unread unread_then first made made_then counted counted_then unwritten between unwritten_then old new none cause count same so kept (inl memory, part, wrote) =
+    subst (λ f. HasFaultCause {X = X} (Err f) start unread_then first made_then unwritten unwritten_then) (sym memory.0) (cause ∙ same, memory.1 ∙ kept)
+search_told X Y Z Memory told None start unread unread_then first made made_then counted counted_then unwritten between unwritten_then old new none cause count same so kept (inr failed, part, wrote) =
+    subst (λ f. HasFaultCause {X = X} (Err f) start unread_then first made_then unwritten unwritten_then) (sym failed.0) (cause ∙ same, failed.1 ∙ ap one_more kept)
+
 -- an answer that was not written
 pub write_failed : (X Y : Type 0) (fault : Fault) (start unread first made before unwritten unwritten_then : ℕ) → unread ≡ start → unwritten ≡ before → HasWriteCause {X = Y} (Err fault) unwritten unwritten_then →
     HasFaultCause {X = X} (Err fault) start unread first made before unwritten_then
 write_failed X Y ReadFault start unread first made before unwritten unwritten_then same kept cause = absurd cause
 write_failed X Y WriteFault start unread first made before unwritten unwritten_then same kept cause = (same, cause ∙ ap one_more kept)
 write_failed X Y PeerReply start unread first made before unwritten unwritten_then same kept cause = absurd cause
-write_failed X Y Memory start unread first made before unwritten unwritten_then same kept cause = (same, cause ∙ kept)
+write_failed X Y Memory start unread first made before unwritten unwritten_then same kept cause = absurd cause
 
 -- the same of what a `?` hands on
 pub search_fails : {X : Type 0} (Y Z : Type 0) (r : Result X Fault) (fault : Fault) (before : Option Fault) (start unread unread_then first made made_then counted counted_then unwritten unwritten_then : ℕ) → IsErrAnd r (λ e. e ≡ fault) → before ≡ None →

@@ -1,18 +1,21 @@
 -- A connection as far as it has come, and how it ends.
-use Rattle.std.proofs.Common.{◌≡◌, ◌⊎◌, inl, inr, ℕ, ◌+◌, Bool, true, false, cond, eqb, List, [], ◌∷◌, ◌++◌, length, take, Option, None, Some, Result, Ok, Err, refl, sym, ap, ◌∙◌, subst, append-nil, append_assoc, arith, length-append}
+use Rattle.std.proofs.Common.{◌≡◌, inl, inr, ℕ, ◌+◌, cond, List, [], ◌∷◌, ◌++◌, length, take, Option, None, Some, Err, refl, sym, ap, ◌∙◌, subst, append-nil, append_assoc, arith, length-append}
 use Rattle.std.specs.Io.KnownBytes.{Appends, Keeps, prepend_known}
 use Rattle.std.proofs.KnownBytes.{Appends-nil, Appends-trans}
 use Rattle.std.proofs.Math.Seq.{take-append-add, take-length}
 use Rattle.pad_model.specs.declared.refusal.Refusal.TheVariants.{TooLong}
+use Rattle.pad_model.specs.declared.refusal.Refusal.TheVariants as Refusal
 use Rattle.pad_core.specs.declared.request.Request.{Request}
 use Rattle.wire_json.specs.Replies.{line_of}
 use Rattle.wire_lines.specs.Lines.{line_end}
-use Rattle.wire_lines.specs.Buffer.{Reading, ahead, Finds, Shows}
+use Rattle.wire_lines.specs.declared.fault.Fault.{Fault}
+use Rattle.wire_lines.specs.declared.fault.Fault.TheVariants.{ReadFault, WriteFault, PeerReply, Memory}
+use Rattle.wire_lines.specs.Buffer.{Finds}
 use Rattle.wire_lines.specs.Served.{lines, is_cut}
 use Rattle.wire_lines.specs.declared.buffer.Found.TheVariants as found
 use Rattle.wire_lines.proofs.InOrder.{lines_in_order}
-use Rattle.workers.specs.Session.{Answer, Serves, ServesSome, texts, cut_answers, IsWhole, IsFront, IsBefore}
-use Rattle.workers.specs.Connection.{ServesOne, ServesAll, BreaksOff, ServesRead}
+use Rattle.workers.specs.Session.{Answer, Serves, ServesSome, texts, no_memory, IsWhole, IsFront, IsBefore}
+use Rattle.workers.specs.Connection.{ServesOne, ServesAll, BreaksOff, ServesRead, TellsFault}
 use Rattle.std.specs.Prelude.{sum_by}
 use Rattle.std.proofs.lemmas.List.Sums.{sum_by-append}
 use Rattle.workers.specs.Delivered.{IsCount, Tells, counted, delivered_of, up_to}
@@ -98,10 +101,17 @@ front_left None left asked stays = inl refl
 front_left (Some bytes) None asked stays = absurd stays
 front_left (Some bytes) (Some more) asked stays = (lines more, stays.0, inl refl)
 
+-- there is no memory for a line
+front_told : (known left : Option (List ℕ)) (asked : List (List ℕ)) → IsBefore known asked left → IsFront known asked no_memory
+front_told None left asked stays = inr (inr refl)
+front_told (Some bytes) None asked stays = absurd stays
+front_told (Some bytes) (Some more) asked stays = (lines more, stays.0, inr (inr refl))
+
 -- all lines were answered
 front_whole : (known : Option (List ℕ)) (asked : List (List ℕ)) (tail : List Answer) → IsWhole known asked tail → IsFront known asked tail
-front_whole None asked tail whole = whole
-front_whole (Some bytes) asked tail whole = ([], sym (append-nil asked ∙ whole.0), inr (refl, whole.1))
+front_whole None asked tail (inl none) = inl none
+front_whole None asked tail (inr cut) = inr (inl cut)
+front_whole (Some bytes) asked tail whole = ([], sym (append-nil asked ∙ whole.0), inr (inl (refl, whole.1)))
 
 -- some of the next line and those behind it stay
 front_some : (known rest : Option (List ℕ)) (asked some more : List (List ℕ)) (line : List ℕ) → line ∷ [] ≡ some ++ more → IsBefore known (asked ++ line ∷ []) rest → IsFront known (asked ++ some) []
@@ -114,11 +124,11 @@ front_some (Some bytes) (Some rest) asked some more line parts stays = (
 )
 
 -- all of a text
-whole_text : (text : List ℕ) (before after : Option (List ℕ)) → Appends before after text → Appends before after (take (length text) text)
+pub whole_text : (text : List ℕ) (before after : Option (List ℕ)) → Appends before after text → Appends before after (take (length text) text)
 whole_text text before after wrote = subst (Appends before after) (sym (take-length text)) wrote
 
 -- a text, and then a front of another
-front_text : (text other : List ℕ) (count : ℕ) (a b c : Option (List ℕ)) → Appends a b text → Appends b c (take count other) → Appends a c (take (length text + count) (text ++ other))
+pub front_text : (text other : List ℕ) (count : ℕ) (a b c : Option (List ℕ)) → Appends a b text → Appends b c (take count other) → Appends a c (take (length text + count) (text ++ other))
 front_text text other count a b c first then = subst (Appends a c) (sym (take-append-add text other count)) (Appends-trans a b c text (take count other) first then)
 
 module _ {P : Type 0} (calls : P → Request → Answer → P → Type 0) (old now : P) (known left : Option (List ℕ)) (served : Served) (before after : Option (List ℕ)) (so : IsServing calls old now known left served before after) where
@@ -171,6 +181,22 @@ module _ {P : Type 0} (calls : P → Request → Answer → P → Type 0) (old n
     so.serves,
     front_left known left so.asked so.stays,
     subst (λ l. Appends before after (take (length (texts so.answers)) (texts l))) (sym (append-nil so.answers)) (whole_text (texts so.answers) before after so.written),
+  )
+
+  -- no line is found, and that is told where it is for want of memory
+  pub told_off : (fault told : Fault) (failed failed_then : ℕ) (last : Option (List ℕ)) → TellsFault fault told failed failed_then after last → BreaksOff calls old known before last now
+  told_off ReadFault told failed failed_then last tells = subst (λ l. BreaksOff calls old known before l now) (sym tells.2) breaks_off
+  told_off WriteFault told failed failed_then last tells = subst (λ l. BreaksOff calls old known before l now) (sym tells.2) breaks_off
+  told_off PeerReply told failed failed_then last tells = subst (λ l. BreaksOff calls old known before l now) (sym tells.2) breaks_off
+  told_off Memory told failed failed_then last tells = (
+    so.asked,
+    so.answers,
+    no_memory,
+    length (texts so.answers) + tells.1,
+    so.serves,
+    front_told known left so.asked so.stays,
+    subst (λ t. Appends before last (take (length (texts so.answers) + tells.1) t)) (sym (texts-append so.answers no_memory ∙ ap (λ t. texts so.answers ++ t) (text_of_one (Err Refusal.Memory))))
+        (front_text (texts so.answers) (line_of (Err Refusal.Memory)) tells.1 before after last so.written tells.2),
   )
 
   -- no line is found in what was read

@@ -1,15 +1,12 @@
 -- One line, and one line after another.
-use Rattle.std.proofs.Common.{◌≡◌, ◌⊎◌, inl, inr, ℕ, ◌+◌, Bool, true, false, eqb, List, [], ◌∷◌, ◌++◌, length, take, Option, None, Some, Result, Ok, Err, refl, sym, ap, ◌∙◌, subst, append-nil, append_assoc, arith}
-use Rattle.std.specs.Prelude.{flat_map}
+use Rattle.std.proofs.Common.{◌≡◌, ℕ, false, eqb, List, [], ◌∷◌, ◌++◌, length, take, Option, Some, Result, Ok, Err, refl, sym, ap, ◌∙◌, subst, append-nil, append_assoc}
 use Rattle.std.specs.Result.{OnErr}
 use Rattle.std.specs.Io.KnownBytes.{Appends}
-use Rattle.std.proofs.KnownBytes.{Appends-nil, Appends-trans}
 use Rattle.pad_core.specs.declared.request.Request.{Request}
 use Rattle.wire_json.specs.Lines.{request}
 use Rattle.wire_json.specs.Replies.{line_of}
-use Rattle.workers.specs.Session.{Answer, Answers, Serves, ServesSome, texts}
-use Rattle.workers.specs.Connection.{ServesOne}
-use Rattle.workers.specs.Delivered.{delivered_of}
+use Rattle.workers.specs.Session.{Answer, Hears, TellsLine, Serves, ServesSome, texts}
+use Rattle.workers.specs.Connection.{ServesOne, WritesAnswer, WritesPart}
 
 -- what holds in any case holds of an error
 pub of_error : {X E : Type 0} (r : Result X E) (Q : Type 0) → Q → OnErr r Q
@@ -22,31 +19,27 @@ text_of_one answer = append-nil (line_of answer)
 
 module _ {P : Type 0} (calls : P → Request → Answer → P → Type 0) where
   -- a line that is not empty has an answer
-  pub one_answered : (old new : P) (line : List ℕ) (answer : Answer) → eqb (length line) 0 ≡ false → Answers calls old (request line) answer new
-      → Serves calls old (line ∷ []) (answer ∷ []) new
-  one_answered old new [] answer some answered = cc
-  one_answered old new (byte ∷ line) answer some answered = (new, answered, refl)
+  pub one_answered : (old new : P) (line : List ℕ) (told : Answer) → eqb (length line) 0 ≡ false → TellsLine calls old (request line) told new
+      → Serves calls old (line ∷ []) (told ∷ []) new
+  one_answered old new [] told some answered = cc
+  one_answered old new (byte ∷ line) told some answered = (new, answered, refl)
 
-  pub one_written : (old new : P) (line : List ℕ) (answer : Answer) (count : ℕ) (before after : Option (List ℕ)) → count ≡ delivered_of answer → eqb (length line) 0 ≡ false → Answers calls old (request line) answer new
-      → Appends before after (line_of answer) → ServesOne calls old line (Some count) before after new
-  one_written old new line answer count before after told some answered wrote =
-      (answer ∷ [], one_answered old new line answer some answered, (answer, refl, told), subst (Appends before after) (sym (text_of_one answer)) wrote)
-
-  -- no memory was found to read the line
-  pub none_answered : (old new : P) (line : List ℕ) (known : Option (List ℕ)) → new ≡ old → ServesSome calls old (line ∷ []) known known new
-  none_answered old new line known same = ([], line ∷ [], [], 0, refl, same, Appends-nil known)
+  pub one_written : (old new : P) (line : List ℕ) (answer : Answer) (count : ℕ) (before after : Option (List ℕ)) → eqb (length line) 0 ≡ false → Hears calls old (request line) answer new
+      → WritesAnswer answer count before after → ServesOne calls old line (Some count) before after new
+  one_written old new line answer count before after some heard (told, is, tells, wrote) =
+      (told ∷ [], one_answered old new line told some (answer, heard, is), (told, refl, tells), subst (Appends before after) (sym (text_of_one told)) wrote)
 
   -- the answer was written in part
-  pub part_written : (old new : P) (line : List ℕ) (answer : Answer) (before after : Option (List ℕ)) → eqb (length line) 0 ≡ false → Answers calls old (request line) answer new
-      → (count : ℕ) × Appends before after (take count (line_of answer)) → ServesSome calls old (line ∷ []) before after new
-  part_written old new line answer before after some answered wrote = (
+  pub part_written : (old new : P) (line : List ℕ) (answer : Answer) (before after : Option (List ℕ)) → eqb (length line) 0 ≡ false → Hears calls old (request line) answer new
+      → WritesPart answer before after → ServesSome calls old (line ∷ []) before after new
+  part_written old new line answer before after some heard (told, count, is, wrote) = (
     line ∷ [],
     [],
-    answer ∷ [],
-    wrote.0,
+    told ∷ [],
+    count,
     refl,
-    one_answered old new line answer some answered,
-    subst (λ text. Appends before after (take wrote.0 text)) (sym (text_of_one answer)) wrote.1,
+    one_answered old new line told some (answer, heard, is),
+    subst (λ text. Appends before after (take count text)) (sym (text_of_one told)) wrote,
   )
 
   -- lines that are answered, and then more

@@ -1,15 +1,17 @@
 -- What a connection comes to.
 use Rattle.std.specs.Prelude.{◌≡◌, ◌⊎◌, ℕ, List, [], ◌∷◌, ◌++◌, length, take, Option, Result, Ok, Err}
 use Rattle.std.specs.Io.KnownBytes.{Appends, prepend_known}
+use Rattle.pad_model.specs.declared.refusal.Refusal.TheVariants as Refusal
 use Rattle.pad_core.specs.declared.request.Request.{Request}
+use Rattle.wire_json.specs.Replies.{line_of}
 use Rattle.wire_lines.specs.Causes.{most_reads, with_more}
 use Rattle.wire_lines.specs.Device.{one_more}
 use Rattle.wire_lines.specs.declared.fault.Fault.{Fault}
 use Rattle.wire_lines.specs.declared.fault.Fault.TheVariants.{ReadFault, WriteFault, PeerReply, Memory}
 use Rattle.wire_lines.specs.Lines.{line_end}
-use Rattle.workers.specs.Delivered.{IsCount, Tells}
+use Rattle.workers.specs.Delivered.{IsCount, Tells, delivered_of}
 use Rattle.workers.specs.declared.connection.Served.{Served}
-use Rattle.workers.specs.Session.{Answer, texts, Serves, IsWhole, IsFront, IsBefore}
+use Rattle.workers.specs.Session.{Answer, IsTold, texts, Serves, IsWhole, IsFront, IsBefore}
 
 -- a writer failed where the fault is its, and else it has not
 abbrev pub HasWriteCause : {X : Type 0} → Result X Fault → ℕ → ℕ → Type 0
@@ -17,7 +19,7 @@ HasWriteCause (Ok x) old new = new ≡ old
 HasWriteCause (Err ReadFault) old new = ⊥
 HasWriteCause (Err WriteFault) old new = new ≡ one_more old
 HasWriteCause (Err PeerReply) old new = ⊥
-HasWriteCause (Err Memory) old new = new ≡ old
+HasWriteCause (Err Memory) old new = ⊥
 
 -- a connection ends in a fault by what its devices did: the reader failed, or all reads that may be made were made; the writer failed; or none failed, and it was out of memory
 abbrev pub HasFaultCause : {X : Type 0} → Result X Fault → ℕ → ℕ → ℕ → ℕ → ℕ → ℕ → Type 0
@@ -27,6 +29,20 @@ HasFaultCause (Err ReadFault) unread unread_then made made_then unwritten unwrit
 HasFaultCause (Err WriteFault) unread unread_then made made_then unwritten unwritten_then = (unread_then ≡ unread) × (unwritten_then ≡ one_more unwritten)
 HasFaultCause (Err PeerReply) unread unread_then made made_then unwritten unwritten_then = ⊥
 HasFaultCause (Err Memory) unread unread_then made made_then unwritten unwritten_then = (unread_then ≡ unread) × (unwritten_then ≡ unwritten)
+
+-- a fault is told where it is want of memory; it stays the fault, unless the writer fails
+abbrev pub TellsFault : Fault → Fault → ℕ → ℕ → Option (List ℕ) → Option (List ℕ) → Type 0
+TellsFault Memory told old new before after =
+    (((told ≡ Memory) × (new ≡ old)) ⊎ ((told ≡ WriteFault) × (new ≡ one_more old))) × (count : ℕ) × Appends before after (take count (line_of (Err Refusal.Memory)))
+TellsFault fault told old new before after = (told ≡ fault) × (new ≡ old) × (after ≡ before)
+
+-- an answer was told so, whole, and tells of so many operations
+abbrev pub WritesAnswer : Answer → ℕ → Option (List ℕ) → Option (List ℕ) → Type 0
+WritesAnswer answer count before after = (told : Answer) × IsTold answer told × (count ≡ delivered_of told) × Appends before after (line_of told)
+
+-- a front of what is told was written
+abbrev pub WritesPart : Answer → Option (List ℕ) → Option (List ℕ) → Type 0
+WritesPart answer before after = (told : Answer) × (count : ℕ) × IsTold answer told × Appends before after (take count (line_of told))
 
 -- what was reached is ended
 abbrev pub ThenEnds : {P : Type 0} → (P → Type 0) → (P → P → Type 0) → P → Type 0

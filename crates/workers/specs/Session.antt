@@ -1,13 +1,12 @@
 -- What a session answers to its lines, and what is written.
-use Rattle.std.specs.Prelude.{◌≡◌, ◌⊎◌, ℕ, Bool, if◌then◌else◌, List, [], ◌∷◌, ◌++◌, length, take, flat_map, Option, None, Some, Result, Ok, Err}
+use Rattle.std.specs.Prelude.{◌≡◌, ◌⊎◌, ℕ, if◌then◌else◌, List, [], ◌∷◌, ◌++◌, take, flat_map, Option, None, Some, Result, Ok, Err}
 use Rattle.std.specs.Io.KnownBytes.{Appends}
 use Rattle.pad_model.specs.declared.refusal.Refusal.{Refusal}
-use Rattle.pad_model.specs.declared.refusal.Refusal.TheVariants.{TooLong}
+use Rattle.pad_model.specs.declared.refusal.Refusal.TheVariants.{Memory, TooLong}
 use Rattle.pad_core.specs.declared.reply.Reply.{Reply}
 use Rattle.pad_core.specs.declared.request.Request.{Request}
 use Rattle.wire_json.specs.Lines.{request}
 use Rattle.wire_json.specs.Replies.{line_of}
-use Rattle.wire_lines.specs.Lines.{line_end}
 use Rattle.wire_lines.specs.Served.{lines, is_cut}
 
 -- an answer: a reply, or why there is none
@@ -18,20 +17,32 @@ Answer = Result Reply Refusal
 abbrev pub texts : List Answer → List ℕ
 texts answers = flat_map line_of answers
 
+-- what a line is told: its answer, or out of memory in the answer's place
+abbrev pub IsTold : Answer → Answer → Type 0
+IsTold answer told = (told ≡ answer) ⊎ (told ≡ Err Memory)
+
 module _ {P : Type 0} (calls : P → Request → Answer → P → Type 0) where
   -- what is no request is refused, and a request is answered by a call
   abbrev pub Answers : P → Result Request Refusal → Answer → P → Type 0
   Answers old (Err refusal) answer new = (answer ≡ Err refusal) × (new ≡ old)
   Answers old (Ok asked) answer new = calls old asked answer new
 
-  -- the lines are answered one after the other; an empty line has no answer
+  -- a line is answered, or there was no memory to read it as a request
+  abbrev pub Hears : P → Result Request Refusal → Answer → P → Type 0
+  Hears old asked answer new = Answers old asked answer new ⊎ ((answer ≡ Err Memory) × (new ≡ old))
+
+  -- a line is answered, and the answer told, or out of memory in its place
+  abbrev pub TellsLine : P → Result Request Refusal → Answer → P → Type 0
+  TellsLine old asked told new = (answer : Answer) × Hears old asked answer new × IsTold answer told
+
+  -- the lines are answered one after the other, and the answers told; an empty line has no answer
   abbrev pub Serves : P → List (List ℕ) → List Answer → P → Type 0
   Serves old [] [] new = new ≡ old
   Serves old [] (answer ∷ answers) new = ⊥
   Serves old ([] ∷ lines) answers new = Serves old lines answers new
   Serves old ((byte ∷ line) ∷ lines) [] new = ⊥
   Serves old ((byte ∷ line) ∷ lines) (answer ∷ answers) new =
-      (mid : P) × Answers old (request (byte ∷ line)) answer mid × Serves mid lines answers new
+      (mid : P) × TellsLine old (request (byte ∷ line)) answer mid × Serves mid lines answers new
 
   -- some first of the lines were answered, and a front of the answers was written
   abbrev pub ServesSome : P → List (List ℕ) → Option (List ℕ) → Option (List ℕ) → P → Type 0
@@ -48,11 +59,15 @@ abbrev pub IsWhole : Option (List ℕ) → List (List ℕ) → List Answer → T
 IsWhole None asked tail = (tail ≡ []) ⊎ (tail ≡ Err TooLong ∷ [])
 IsWhole (Some bytes) asked tail = (asked ≡ lines bytes) × (tail ≡ cut_answers bytes)
 
--- the lines that were answered are the first of the bytes, where they are known
+-- that there is no memory for a line
+abbrev pub no_memory : List Answer
+no_memory = Err Memory ∷ []
+
+-- the lines that were answered are the first of the bytes, where they are known; then there may have been no memory for a line
 abbrev pub IsFront : Option (List ℕ) → List (List ℕ) → List Answer → Type 0
-IsFront None asked tail = (tail ≡ []) ⊎ (tail ≡ Err TooLong ∷ [])
+IsFront None asked tail = (tail ≡ []) ⊎ (tail ≡ Err TooLong ∷ []) ⊎ (tail ≡ no_memory)
 IsFront (Some bytes) asked tail =
-    (more : List (List ℕ)) × (lines bytes ≡ asked ++ more) × ((tail ≡ []) ⊎ ((more ≡ []) × (tail ≡ cut_answers bytes)))
+    (more : List (List ℕ)) × (lines bytes ≡ asked ++ more) × ((tail ≡ []) ⊎ ((more ≡ []) × (tail ≡ cut_answers bytes)) ⊎ (tail ≡ no_memory))
 
 -- the lines that were answered are those before some bytes that stay, where the bytes are known
 abbrev pub IsBefore : Option (List ℕ) → List (List ℕ) → Option (List ℕ) → Type 0

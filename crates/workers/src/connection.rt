@@ -1,13 +1,10 @@
 //! One connection: each line is answered before the next is read.
-ghost use Rattle.std.specs.Prelude.{◌≡◌, ℕ, [], ◌∷◌, take, Err, IfOk, IfErr, OnOk, OnErr};
-ghost use Rattle.std.specs.Io.KnownBytes.{Appends};
+ghost use Rattle.std.specs.Prelude.{◌≡◌, [], ◌∷◌, Err, IfOk, OnErr};
 ghost use Rattle.wire_json.specs.Lines.{request};
 ghost use Rattle.wire_json.specs.Reading.{IsLine};
-ghost use Rattle.wire_json.specs.Replies.{line_of};
-ghost use Rattle.wire_lines.specs.declared.fault.Fault.TheVariants.{ReadFault, Memory};
-ghost use Rattle.workers.specs.Session.{Answers, ServesSome};
-ghost use Rattle.workers.specs.Delivered.{delivered_of};
-ghost use Rattle.workers.specs.Connection.{ServesAll, ServesOne, BreaksOff, ServesRead, HasFaultCause, HasWriteCause, ThenEnds};
+ghost use Rattle.wire_lines.specs.declared.fault.Fault.TheVariants.{ReadFault};
+ghost use Rattle.workers.specs.Session.{Hears, ServesSome};
+ghost use Rattle.workers.specs.Connection.{ServesAll, ServesOne, BreaksOff, ServesRead, HasFaultCause, HasWriteCause, TellsFault, ThenEnds, WritesAnswer, WritesPart};
 
 use crate::delivered::delivered_by;
 use crate::pads::Pads;
@@ -15,7 +12,7 @@ use pad_core::{Reply, Request};
 use pad_model::Refusal;
 use shared_pads::Gate;
 use std::alloc::Global;
-use wire_json::{read_request, reply_line};
+use wire_json::{memory_line, read_request, reply_line, too_long_line};
 use wire_lines::{Fault, Found, LineBuffer, Sink, Source, write_all};
 
 /// The bytes of a line from which on it is long: a gate is told before it is read, and after.
@@ -101,16 +98,24 @@ fn serve_lines<P: Pads, R: Source, W: Sink, G: Gate>(
     ensures cause { HasFaultCause result (R.failures reader.old) (R.failures reader.new) (R.reads reader.old) (R.reads reader.new)
         (W.failures writer.old) (W.failures writer.new) }
 {
-    let mut buffer = LineBuffer::new(alloc)?;
+    let mut buffer = match LineBuffer::new(alloc) {
+        Ok(buffer) => buffer,
+        Err(fault) => return Err(tell_fault(writer, connection, gate, fault)),
+    };
     let mut served = Served {
         lines: 0,
         delivered: 0,
     };
     loop {
-        match buffer.find_line(reader)? {
+        let found = match buffer.find_line(reader) {
+            Ok(found) => found,
+            Err(fault) => return Err(tell_fault(writer, connection, gate, fault)),
+        };
+        match found {
             Found::End => return Ok(served),
             Found::TooLong => {
-                write_answer(alloc, writer, connection, gate, &Err(Refusal::TooLong))?;
+                gate.before_reply(connection, false);
+                write_all(writer, too_long_line())?;
                 return Ok(served.with(Some(0)));
             }
             Found::Text => {
@@ -118,6 +123,22 @@ fn serve_lines<P: Pads, R: Source, W: Sink, G: Gate>(
                 served = served.with(written);
             }
         }
+    }
+}
+
+// Tells that there is no memory for a line, if that is the fault, and says which fault ends the connection.
+fn tell_fault<W: Sink, G: Gate>(writer: &mut W, connection: u64, gate: &G, fault: Fault) -> Fault
+    ensures { TellsFault fault result (W.failures writer.old) (W.failures writer.new) (W.contents writer.old) (W.contents writer.new) }
+{
+    match fault {
+        Fault::Memory => {
+            gate.before_reply(connection, false);
+            match write_all(writer, memory_line()) {
+                Ok(()) => Fault::Memory,
+                Err(failed) => failed,
+            }
+        }
+        other => other,
     }
 }
 
@@ -139,7 +160,7 @@ fn serve_line<P: Pads, W: Sink, G: Gate>(
     if line.is_empty() {
         return Ok(None);
     }
-    let answer = answer_line(alloc, pads, line, connection, gate)?;
+    let answer = answer_line(alloc, pads, line, connection, gate);
     let delivered = write_answer(alloc, writer, connection, gate, &answer)?;
     Ok(Some(delivered))
 }
@@ -151,14 +172,12 @@ fn answer_line<P: Pads, G: Gate>(
     line: &[u8],
     connection: u64,
     gate: &G,
-) -> Result<Result<Reply, Refusal>, Fault>
-    ensures ok { IfOk result (λ answer. Answers P.calls pads.old (request line.now) answer pads.new) }
-    ensures err { IfErr result (λ fault. (fault ≡ Memory) × (pads.new ≡ pads.old)) }
+) -> Result<Reply, Refusal>
+    ensures { Hears P.calls pads.old (request line.now) result pads.new }
 {
     match read_line(alloc, line, connection, gate) {
-        Ok(request) => Ok(pads.call(alloc, &request)),
-        Err(Refusal::Memory) => Err(Fault::Memory),
-        Err(refusal) => Ok(Err(refusal)),
+        Ok(request) => pads.call(alloc, &request),
+        Err(refusal) => Err(refusal),
     }
 }
 
@@ -180,7 +199,7 @@ fn read_line<G: Gate>(
     asked
 }
 
-// Writes an answer, and says how many operations it tells of as delivered.
+// Writes an answer, or that there is no memory for it, and says how many operations that tells of as delivered.
 fn write_answer<W: Sink, G: Gate>(
     alloc: Global,
     writer: &mut W,
@@ -188,17 +207,21 @@ fn write_answer<W: Sink, G: Gate>(
     gate: &G,
     answer: &Result<Reply, Refusal>,
 ) -> Result<u64, Fault>
-    ensures whole { OnOk result (Appends (W.contents writer.old) (W.contents writer.new) (line_of answer.now)) }
-    ensures count { IfOk result (λ count. count ≡ delivered_of answer.now) }
-    ensures front { OnErr result ((count : ℕ)
-        × Appends (W.contents writer.old) (W.contents writer.new) (take count (line_of answer.now))) }
+    ensures whole { IfOk result (λ count. WritesAnswer answer.now count (W.contents writer.old) (W.contents writer.new)) }
+    ensures front { OnErr result (WritesPart answer.now (W.contents writer.old) (W.contents writer.new)) }
     ensures cause { HasWriteCause result (W.failures writer.old) (W.failures writer.new) }
 {
-    let Ok(line) = reply_line(alloc, answer) else {
-        return Err(Fault::Memory);
-    };
     let delivered = delivered_by(answer);
+    let line = reply_line(alloc, answer);
     gate.before_reply(connection, delivered > 0);
-    write_all(writer, line.as_bytes())?;
-    Ok(delivered)
+    match line {
+        Ok(line) => {
+            write_all(writer, line.as_bytes())?;
+            Ok(delivered)
+        }
+        Err(_) => {
+            write_all(writer, memory_line())?;
+            Ok(0)
+        }
+    }
 }

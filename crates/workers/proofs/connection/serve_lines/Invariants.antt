@@ -5,8 +5,8 @@ use Rattle.workers.proofs.Serving.{IsServing}
 use Rattle.workers.proofs.connection.serve_lines.Given as goal
 
 -- the lines so far are answered, and no call has failed
-abbrev pub invariant-loop-buffer : goal.invariant-loop-buffer
-invariant-loop-buffer g l = record {
+abbrev pub invariant-loop-found : goal.invariant-loop-found
+invariant-loop-found g l = record {
   so : IsServing g.P.Pads.calls l.fn.pads l.pads (g.R.Source.remaining l.fn.reader) (ahead l.buffer (g.R.Source.remaining l.reader)) l.served
       (g.W.Sink.contents l.fn.writer) (g.W.Sink.contents l.writer);
   fault : l.buffer.fault ≡ None;
@@ -16,5 +16,5 @@ invariant-loop-buffer g l = record {
 }
 
 -- the bytes and reads that are left
-abbrev pub decreases-loop-buffer : goal.decreases-loop-buffer
-decreases-loop-buffer g l = budget l.buffer
+abbrev pub decreases-loop-found : goal.decreases-loop-found
+decreases-loop-found g l = budget l.buffer

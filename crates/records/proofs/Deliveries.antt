@@ -83,6 +83,14 @@ all_again o replica log (op ∷ more) given d =
     ∙ (all_again o replica (log ++ op ∷ []) more given (subst IsDelivered (sym (append_assoc log (op ∷ []) more)) d)
     ∙ ap (λ (l : List Op). Ok (bare o replica l given)) (append_assoc log (op ∷ []) more))
 
+-- and the first of them alone
+pub front_again : (o : Option Owned) (replica : ℕ) (log first rest : List Op) (given : ℕ) → IsDelivered (log ++ (first ++ rest)) → replay_all (map Delivered first) (bare o replica log given) ≡ Ok (bare o replica (log ++ first) given)
+front_again o replica log [] rest given d = ap (λ (l : List Op). Ok (bare o replica l given)) (sym (append-nil log))
+front_again o replica log (op ∷ first) rest given d =
+    ap (λ (m : Result Machine Refusal). fold replayed m (map Delivered first)) (one_again o replica log given op (again_at log op (first ++ rest) d))
+    ∙ (front_again o replica (log ++ op ∷ []) first rest given (subst IsDelivered (sym (append_assoc log (op ∷ []) (first ++ rest))) d)
+    ∙ ap (λ (l : List Op). Ok (bare o replica l given)) (append_assoc log (op ∷ []) first))
+
 -- where nothing but the log and those present has changed
 pub quiet : (old after : Machine) (more : List Op) → after.owned ≡ old.owned → after.replica ≡ old.replica → after.presence.given ≡ old.presence.given → after.log ≡ old.log ++ more → IsDelivered after.log →
     replay_all (map Delivered more) (restarted old) ≡ Ok (restarted after)

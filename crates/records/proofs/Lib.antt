@@ -1,3 +1,4 @@
 pub mod Deliveries
+pub mod Fronts
 pub mod Replays
 pub mod Steps

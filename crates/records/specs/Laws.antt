@@ -1,5 +1,5 @@
 -- What holds of records and restarts.
-use Rattle.std.specs.Prelude.{◌≡◌, ℕ, ◌++◌, List, [], Some, Ok}
+use Rattle.std.specs.Prelude.{◌≡◌, ℕ, ◌++◌, List, [], map, take, Some, Ok}
 use Rattle.pad_model.specs.declared.op.Op.{Op}
 use Rattle.pad_model.specs.declared.who.Who.{Who}
 use Rattle.sessions.specs.Session.{IsNamed}
@@ -14,6 +14,7 @@ use Rattle.server_core.specs.Rooms.{IsAsked}
 use Rattle.server_core.specs.Served.{Visited}
 use Rattle.records.specs.Records.{Answer, rebuilt, records_of, replay_all, unnamed}
 use Rattle.records.specs.declared.kept_record.Record.{Record}
+use Rattle.records.specs.declared.kept_record.Record.TheVariants.{Delivered}
 
 -- a request at a cell was answered so, and its pad delivered these operations
 pub record Left (who : Who) (request : Request) (cell : ℕ) (rooms : List Room) (old : Machine) (answer : Answer) (new : List Room) (after : Machine) (more : List Op) : Type 0 where
@@ -43,3 +44,20 @@ pub data Life (replica : ℕ) : List Record → Machine → Type 0 where
 -- what a pad left is never refused, and leads to the restarted pad
 abbrev pub LivesLaw : Type 0
 LivesLaw = (replica : ℕ) (records : List Record) (m : Machine) → Life replica records m → rebuilt replica records ≡ Ok (restarted m)
+
+-- a state that a pad had in a life that left some records and led to a pad, with the records that it had left by then: before and after each request, and within a request between the operations that it delivered
+pub data Had (replica : ℕ) : List Record → Machine → List Record → Machine → Type 0 where
+  last : (records : List Record) (m : Machine) → Life replica records m → Had replica records m records m
+  within : (records : List Record) (who : Who) (request : Request) (cell : ℕ) (rooms : List Room) (old : Machine) (answer : Answer) (new : List Room) (after : Machine) (first rest : List Op) →
+      Life replica records old → Left who request cell rooms old answer new after (first ++ rest) →
+      Had replica (records ++ records_of who request answer (first ++ rest)) after (records ++ map Delivered first) (record old { log = old.log ++ first })
+  earlier : (records : List Record) (who : Who) (request : Request) (cell : ℕ) (rooms : List Room) (old : Machine) (answer : Answer) (new : List Room) (after : Machine) (more : List Op) (before : List Record) (m : Machine) →
+      Had replica records old before m → Left who request cell rooms old answer new after more → Had replica (records ++ records_of who request answer more) after before m
+  unended : (records : List Record) (name : List ℕ) (who : Who) (visit : ℕ) (old : Machine) (before : List Record) (m : Machine) →
+      Had replica records old before m → Had replica records (step name who (Some visit) Leave old).1 before m
+
+-- the first records of a pad's life, however many, are never refused, and lead to the restarted pad that it was when it had left just these
+abbrev pub FrontsLaw : Type 0
+FrontsLaw =
+    (replica : ℕ) (records : List Record) (m : Machine) (count : ℕ) → Life replica records m →
+    (had : Machine) × Had replica records m (take count records) had × (rebuilt replica (take count records) ≡ Ok (restarted had))

@@ -1,5 +1,5 @@
 //! What holds of records and restarts: each law is the contract of a function without parameters.
-ghost use Rattle.records.specs.Laws.{DeparturesLaw, LivesLaw, StepsLaw};
+ghost use Rattle.records.specs.Laws.{DeparturesLaw, FrontsLaw, LivesLaw, StepsLaw};
 
 /// The records of a request lead from the restarted pad before it to the restarted pad after it.
 pub fn steps_law()
@@ -14,4 +14,9 @@ pub fn departures_law()
 /// What a pad left in its whole life is never refused, and leads to the restarted pad.
 pub fn lives_law()
     ensures { LivesLaw }
+{}
+
+/// The records that are left where the last ones are lost lead to the restarted pad that it was before those.
+pub fn fronts_law()
+    ensures { FrontsLaw }
 {}

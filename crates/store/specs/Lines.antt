@@ -1,5 +1,5 @@
 -- The lines of a pad's file, and the sums that link them.
-use Rattle.std.specs.Prelude.{ℕ, List, [], ◌∷◌, ◌++◌, codes}
+use Rattle.std.specs.Prelude.{ℕ, ◌-◌, ◌==◌, nat_lt, if◌then◌else◌, Bool, List, [], ◌∷◌, ◌++◌, length, take, drop, codes, bytes_eq, Option, Some, None}
 use Rattle.hex.specs.Hex.{encode_lower}
 use Rattle.sha2.specs.Sha256.{sha256}
 
@@ -10,3 +10,34 @@ sum_after before text = encode_lower (sha256 (before ++ text))
 -- the line of a text behind a sum: a list of the text and its own sum
 abbrev pub line_text : List ℕ → List ℕ → List ℕ
 line_text before text = codes "[" ++ text ++ codes ",\"" ++ sum_after before text ++ codes "\"]"
+
+-- the text of a line behind a sum, if it is one
+abbrev pub text_behind : List ℕ → List ℕ → Option (List ℕ)
+text_behind before line =
+    if nat_lt (length line) 69 then None
+    else if bytes_eq line (line_text before (take (length line - 69) (drop 1 line))) then Some (take (length line - 69) (drop 1 line))
+    else None
+
+-- the lines of some texts, one behind the other, the first behind a sum
+abbrev pub lines_behind : List ℕ → List (List ℕ) → List (List ℕ)
+lines_behind before [] = []
+lines_behind before (text ∷ texts) = line_text before text ∷ lines_behind (sum_after before text) texts
+
+-- whether a byte is a line feed
+abbrev pub is_feed : ℕ → Bool
+is_feed byte = byte == 10
+
+-- what a file has, each line with its line feed
+abbrev pub bytes_of : List (List ℕ) → List ℕ
+bytes_of [] = []
+bytes_of (line ∷ lines) = line ++ 10 ∷ bytes_of lines
+
+-- the lines with one more byte in front, which belongs to the first one; where none is whole, it belongs to no whole line
+abbrev pub with_byte : ℕ → List (List ℕ) → List (List ℕ)
+with_byte byte [] = []
+with_byte byte (line ∷ lines) = (byte ∷ line) ∷ lines
+
+-- the whole lines of a file, without their line feeds: what stands behind the last line feed belongs to none
+abbrev pub whole_lines : List ℕ → List (List ℕ)
+whole_lines [] = []
+whole_lines (byte ∷ bytes) = if is_feed byte then [] ∷ whole_lines bytes else with_byte byte (whole_lines bytes)

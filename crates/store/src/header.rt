@@ -1,4 +1,8 @@
-//! The first line of a pad's file.
+//! The first line of a pad's file, and each from which on another server wrote.
+ghost use Rattle.serde_json.specs.View.{view};
+ghost use Rattle.wire_json.specs.Reading.{IsRead};
+ghost use Rattle.store.specs.Entries.{header_in};
+
 use pad_model::{Name, Refusal};
 use serde_json::{Map, Value, put};
 use std::alloc::{AllocError, Global};
@@ -14,7 +18,7 @@ pub struct Header {
     pub replica: u64,
 }
 
-/// The text of the first line.
+/// The text of such a line.
 pub fn header_text(alloc: Global, pad: &Name, replica: u16) -> Result<String, AllocError> {
     let mut fields = Map::new(alloc);
     put(&mut fields, alloc, "format", Value::from(FORMAT))?;
@@ -29,7 +33,9 @@ pub fn header_text(alloc: Global, pad: &Name, replica: u16) -> Result<String, Al
 }
 
 /// What a value says as a header; 102 where it is none, or of another form.
-pub fn read_header(alloc: Global, value: &Value) -> Result<Header, Refusal> {
+pub fn read_header(alloc: Global, value: &Value) -> Result<Header, Refusal>
+    ensures { IsRead (header_in (view value.now)) result }
+{
     if number_field(value, "format")? != FORMAT {
         return Err(Refusal::NotRequest);
     }

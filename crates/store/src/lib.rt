@@ -1,11 +1,14 @@
 //! The file of a pad: lines that a person can read, each with a sum over all before it.
 #![tactic(auto)]
 
+mod entry;
 mod form;
 mod header;
+pub mod laws;
 mod line;
 mod reader;
 
+pub use entry::{Entry, read_entry};
 pub use form::{read_record, record_value};
 pub use header::{FORMAT, Header, header_text, read_header};
 pub use line::{Linked, link, text_of};

@@ -1,6 +1,6 @@
 //! A line: a text, and the sum of all texts up to it.
-ghost use Rattle.std.specs.Prelude.{◌≡◌, ◌∷◌, [], ◌++◌, codes, IfOk, IfSome, string_bytes};
-ghost use Rattle.store.specs.Lines.{line_text, sum_after as sum_behind};
+ghost use Rattle.std.specs.Prelude.{◌≡◌, ◌∷◌, [], ◌++◌, codes, IfOk, IfSome, option_map, string_bytes};
+ghost use Rattle.store.specs.Lines.{line_text, sum_after as sum_behind, text_behind};
 
 use sha2::{Digest, Sha256};
 use std::alloc::{AllocError, Global};
@@ -31,7 +31,9 @@ pub fn text_of<'a>(
     before: &str,
     line: &'a [u8],
 ) -> Result<Option<(&'a [u8], String)>, AllocError>
-    ensures { IfOk result (λ found. IfSome found (λ pair. (line.now ≡ line_text before.now pair.0.now) × (string_bytes pair.1 ≡ sum_behind before.now pair.0.now))) }
+    ensures text { IfOk result (λ found. text_behind before.now line.now ≡ option_map (λ pair. pair.0.now) found) }
+    ensures line { IfOk result (λ found. IfSome found (λ pair. line.now ≡ line_text before.now pair.0.now)) }
+    ensures sum { IfOk result (λ found. IfSome found (λ pair. string_bytes pair.1 ≡ sum_behind before.now pair.0.now)) }
 {
     if line.len() < AROUND {
         return Ok(None);

@@ -1,0 +1,129 @@
+-- The first records of a pad's life lead to the restarted pad that it was by then.
+use Rattle.std.proofs.Common.{◌≡◌, ◌⊎◌, inl, inr, ℕ, ◌+◌, ◌-◌, ◌≤◌, ◌<◌, nat_le, true, false, List, [], ◌∷◌, ◌++◌, length, map, take, drop, fold, Option, Some, None, Result, Ok, Err, refl, sym, ap, ◌∙◌, subst, arith}
+use Rattle.std.proofs.lemmas.Bool.Decides.{leb_tells}
+use Rattle.std.proofs.lemmas.List.{length-append, take-append-drop, take-append-le, take-map, take_all}
+use Rattle.std.proofs.lemmas.List.Sums.{fold-append}
+use Rattle.std.proofs.Math.Seq.{take-append-add, take-nil}
+use Rattle.pad_model.specs.declared.op.Op.{Op}
+use Rattle.pad_model.specs.declared.refusal.Refusal.{Refusal}
+use Rattle.pad_model.specs.declared.who.Who.{Who}
+use Rattle.pad_model.specs.declared.who.Who.TheVariants as who
+use Rattle.sessions.specs.declared.session.Room.{Room}
+use Rattle.pad_core.specs.Delivered.{IsDelivered}
+use Rattle.pad_core.specs.Machine.{Machine}
+use Rattle.pad_core.specs.Restart.{restarted}
+use Rattle.pad_core.specs.declared.act.Act.{Act}
+use Rattle.pad_core.specs.declared.act.Act.TheVariants as act
+use Rattle.pad_core.specs.declared.request.Request.{Request}
+use Rattle.pad_core.specs.declared.request.Request.TheVariants as request
+use Rattle.records.specs.Laws.{Had, Left, Life}
+use Rattle.records.specs.Laws.Had.{last, within, earlier, unended}
+use Rattle.records.specs.Laws.Life.{begins, asked, left}
+use Rattle.records.specs.Records.{Answer, act_records, claim_records, rebuilt, records_of, replayed, unnamed}
+use Rattle.records.specs.declared.kept_record.Record.{Record}
+use Rattle.records.specs.declared.kept_record.Record.TheVariants.{Delivered}
+use Rattle.records.proofs.Deliveries.{front_again}
+use Rattle.records.proofs.Steps.{life_again}
+
+-- some records lead to a pad that was there on the way
+abbrev Found : ℕ → List Record → Machine → List Record → Type 0
+Found replica records m front = (had : Machine) × Had replica records m front had × (rebuilt replica front ≡ Ok (restarted had))
+
+-- one record at most, or one for each operation
+abbrev IsFew : List Record → List Op → Type 0
+IsFew records more = (length records ≤ 1) ⊎ (records ≡ map Delivered more)
+
+few_of_claim : (w : Who) (name : List ℕ) (answer : Answer) (more : List Op) → IsFew (claim_records w name answer) more
+few_of_claim who.Nobody name answer more = inl (omega arith)
+few_of_claim (who.Peer number version) name answer more = inl (omega arith)
+few_of_claim (who.Author owner) name (Ok (Some reply)) more = inl (omega arith)
+few_of_claim (who.Author owner) name (Ok None) more = inl (omega arith)
+few_of_claim (who.Author owner) name (Err e) more = inl (omega arith)
+
+few_of_act : (this : Act) (answer : Answer) (more : List Op) → IsFew (act_records this answer more) more
+few_of_act act.Join (Ok (Some reply)) more = inl (omega arith)
+few_of_act act.Join (Ok None) more = inr refl
+few_of_act act.Join (Err e) more = inr refl
+few_of_act (act.Grant author right) (Ok (Some reply)) more = inl (omega arith)
+few_of_act (act.Grant author right) (Ok None) more = inr refl
+few_of_act (act.Grant author right) (Err e) more = inr refl
+few_of_act act.Leave answer more = inr refl
+few_of_act (act.Insert rev at text) answer more = inr refl
+few_of_act (act.Delete rev at len) answer more = inr refl
+few_of_act (act.Edit rev changes) answer more = inr refl
+few_of_act (act.Comment rev at len text) answer more = inr refl
+few_of_act (act.Resolve resolved) answer more = inr refl
+few_of_act (act.Text rev) answer more = inr refl
+few_of_act (act.Runs rev) answer more = inr refl
+few_of_act (act.Comments rev) answer more = inr refl
+few_of_act act.Revs answer more = inr refl
+few_of_act (act.Entries from count) answer more = inr refl
+few_of_act (act.Caret rev at) answer more = inr refl
+few_of_act act.Who answer more = inr refl
+few_of_act act.Rights answer more = inr refl
+few_of_act act.Vector answer more = inr refl
+few_of_act (act.Push op) answer more = inr refl
+few_of_act (act.Pull seen max) answer more = inr refl
+
+few : (w : Who) (this : Request) (answer : Answer) (more : List Op) → IsFew (records_of w this answer more) more
+few w (request.On name this) answer more = few_of_act this answer more
+few w (request.Create name) answer more = few_of_claim w name answer more
+few w (request.Hello name token) answer more = inl (omega arith)
+few w (request.Peer number token version) answer more = inl (omega arith)
+
+whole : (replica : ℕ) (records : List Record) (m : Machine) → Life replica records m → Found replica records m records
+whole replica records m life = (m, last records m life, life_again replica records m life)
+
+-- the operations that a request delivered first are delivered again
+part_again : (replica : ℕ) (records : List Record) (old : Machine) (first rest : List Op) → Life replica records old → IsDelivered (old.log ++ (first ++ rest)) →
+    rebuilt replica (records ++ map Delivered first) ≡ Ok (restarted (record old { log = old.log ++ first }))
+part_again replica records old first rest life d =
+    fold-append replayed (Ok (unnamed replica)) records (map Delivered first)
+    ∙ (ap (λ (r : Result Machine Refusal). fold replayed r (map Delivered first)) (life_again replica records old life)
+    ∙ front_again old.owned old.replica old.log first rest old.presence.given d)
+
+-- within a request
+part : (replica : ℕ) (records : List Record) (w : Who) (this : Request) (cell : ℕ) (rooms : List Room) (old : Machine) (answer : Answer) (new : List Room) (after : Machine) (more first rest : List Op) →
+    first ++ rest ≡ more → Life replica records old → Left w this cell rooms old answer new after more → Found replica (records ++ records_of w this answer more) after (records ++ map Delivered first)
+part replica records w this cell rooms old answer new after more first rest is life l =
+    subst (λ (all : List Op). Found replica (records ++ records_of w this answer all) after (records ++ map Delivered first)) is
+    (record old { log = old.log ++ first }, within records w this cell rooms old answer new after first rest life parted, part_again replica records old first rest life delivered)
+  where
+    parted : Left w this cell rooms old answer new after (first ++ rest)
+    parted = subst (Left w this cell rooms old answer new after) (sym is) l
+
+    delivered : IsDelivered (old.log ++ (first ++ rest))
+    delivered = subst IsDelivered parted.grown parted.delivered
+
+-- a front of what a request leaves
+asked_front : (replica : ℕ) (records : List Record) (w : Who) (this : Request) (cell : ℕ) (rooms : List Room) (old : Machine) (answer : Answer) (new : List Room) (after : Machine) (more : List Op) (n : ℕ) →
+    Life replica records old → Left w this cell rooms old answer new after more → 1 ≤ n → Found replica (records ++ records_of w this answer more) after (records ++ take n (records_of w this answer more))
+asked_front replica records w this cell rooms old answer new after more n life l some = at (few w this answer more)
+  where
+    at : IsFew (records_of w this answer more) more → Found replica (records ++ records_of w this answer more) after (records ++ take n (records_of w this answer more))
+    at (inl one) =
+        subst (λ (rs : List Record). Found replica (records ++ records_of w this answer more) after (records ++ rs)) (sym (take_all n (records_of w this answer more) (omega arith)))
+        (whole replica (records ++ records_of w this answer more) after (asked records w this cell rooms old answer new after more life l))
+    at (inr is) =
+        subst (λ (rs : List Record). Found replica (records ++ records_of w this answer more) after (records ++ rs)) (sym (ap (take n) is ∙ take-map Delivered n more))
+        (part replica records w this cell rooms old answer new after more (take n more) (drop n more) (take-append-drop n more) life l)
+
+pub front : (replica : ℕ) (records : List Record) (m : Machine) (count : ℕ) → Life replica records m → Found replica records m (take count records)
+front replica records m count begins = subst (Found replica [] (unnamed replica)) (sym (take-nil count)) (whole replica [] (unnamed replica) begins)
+front replica records m count (asked before w this cell rooms old answer new after more life l) = at (leb_tells count (length before)) (front replica before old count life)
+  where
+    at : ((nat_le count (length before) ≡ true) × (count ≤ length before)) ⊎ ((nat_le count (length before) ≡ false) × (length before < count)) → Found replica before old (take count before) →
+        Found replica (before ++ records_of w this answer more) after (take count (before ++ records_of w this answer more))
+    at (inl (_, low)) (had, there, is) =
+        subst (Found replica (before ++ records_of w this answer more) after) (sym (take-append-le count before (records_of w this answer more) low))
+        (had, earlier before w this cell rooms old answer new after more (take count before) had there l, is)
+    at (inr (_, high)) found = past (count - length before) (omega arith) (omega arith)
+      where
+        past : (n : ℕ) → count ≡ length before + n → 1 ≤ n → Found replica (before ++ records_of w this answer more) after (take count (before ++ records_of w this answer more))
+        past n is some =
+            subst (Found replica (before ++ records_of w this answer more) after) (sym (ap (λ k. take k (before ++ records_of w this answer more)) is ∙ take-append-add before (records_of w this answer more) n))
+            (asked_front replica before w this cell rooms old answer new after more n life l some)
+front replica records m count (left before name w visit old life) = at (front replica before old count life)
+  where
+    at : Found replica before old (take count before) → Found replica before m (take count before)
+    at (had, there, is) = (had, unended before name w visit old (take count before) had there, is)

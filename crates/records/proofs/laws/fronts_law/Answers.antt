@@ -1,0 +1,5 @@
+use Rattle.records.proofs.Fronts.{front}
+use Rattle.records.proofs.laws.fronts_law.Goals as goal
+
+pub returns : goal.returns
+returns c replica records m count life = front replica records m count life

@@ -1,0 +1,143 @@
+-- What a crash leaves of a pad's file leads to a restarted state that the pad had.
+use Rattle.std.proofs.Common.{◌≡◌, ℕ, zero, suc, ◌+◌, ◌≤◌, ◌<◌, true, List, [], ◌∷◌, length, map, take, fold, bytes_eq, Option, Some, None, option_map, option_and_then, Result, Ok, Err, refl, sym, ap, ◌∙◌, subst, arith}
+use Rattle.std.specs.List.{AllByRecursion}
+use Rattle.std.proofs.lemmas.Bool.{cond-true}
+use Rattle.std.proofs.lemmas.List.{take-map}
+use Rattle.std.proofs.lemmas.Slice.Eq.{bytes_eq-Decides}
+use Rattle.pad_model.specs.declared.refusal.Refusal.{Refusal}
+use Rattle.pad_core.specs.Machine.{Machine}
+use Rattle.pad_core.specs.Restart.{restarted}
+use Rattle.records.specs.Laws.{Had, Life}
+use Rattle.records.specs.Records.{rebuilt, replay, replay_all, replayed, unnamed}
+use Rattle.records.specs.declared.kept_record.Record.{Record}
+use Rattle.records.proofs.Fronts.{front as records_front}
+use Rattle.store.specs.Entries.{Read, begun, entered, entry_behind, entry_said, file_read, read_line, read_lines, unless_refused}
+use Rattle.store.specs.Laws.{Disk, IsLine, MayLeave, Say, entries_of, file_of}
+use Rattle.store.specs.Lines.{line_text, lines_behind, sum_after, text_behind, whole_lines}
+use Rattle.store.specs.declared.entry.Entry.{Entry}
+use Rattle.store.specs.declared.entry.Entry.TheVariants as entry
+use Rattle.store.specs.declared.header.Header.{Header}
+use Rattle.store.proofs.Fronts.{front, text_found}
+
+front_length : (n : ℕ) (bytes : List ℕ) → length (take n bytes) ≤ n
+front_length zero bytes = omega arith
+front_length (suc n) [] = omega arith
+front_length (suc n) (b ∷ bytes) = let h = front_length n bytes in omega (arith, h)
+
+-- what the line of a text says
+said_behind : (before text : List ℕ) (said : Entry) → entry_said text ≡ Some said → entry_behind before (line_text before text) ≡ Some (said, sum_after before text)
+said_behind before text said is =
+    ap (option_and_then (λ t. option_map (λ (e : Entry). (let p : Entry × List ℕ = (e, sum_after before t) in p)) (entry_said t))) (text_found before text)
+    ∙ ap (option_map (λ (e : Entry). (let p : Entry × List ℕ = (e, sum_after before text) in p))) is
+
+-- the first texts say the first of it
+say_front : (n : ℕ) (says : List Entry) (texts : List (List ℕ)) → Say says texts → Say (take n says) (take n texts)
+say_front zero says texts h = tt
+say_front (suc n) [] [] h = tt
+say_front (suc n) [] (text ∷ texts) h = absurd h
+say_front (suc n) (said ∷ says) [] h = absurd h
+say_front (suc n) (said ∷ says) (text ∷ texts) (plain, is, rest) = (plain, is, say_front n says texts rest)
+
+plain_texts : (says : List Entry) (texts : List (List ℕ)) → Say says texts → AllByRecursion IsLine texts
+plain_texts [] [] h = tt
+plain_texts [] (text ∷ texts) h = absurd h
+plain_texts (said ∷ says) [] h = absurd h
+plain_texts (said ∷ says) (text ∷ texts) (plain, is, rest) = (plain, plain_texts says texts rest)
+
+say_length : (says : List Entry) (texts : List (List ℕ)) → Say says texts → length texts ≡ length says
+say_length [] [] h = refl
+say_length [] (text ∷ texts) h = absurd h
+say_length (said ∷ says) [] h = absurd h
+say_length (said ∷ says) (text ∷ texts) (plain, is, rest) = ap suc (say_length says texts rest)
+
+refused_stays : (records : List Record) (e : Refusal) → fold replayed (Err e) records ≡ Err e
+refused_stays [] e = refl
+refused_stays (x ∷ records) e = refused_stays records e
+
+err_is_no_ok : (e : Refusal) (m : Machine) → (let r : Result Machine Refusal = Err e in r) ≡ Ok m → ⊥
+err_is_no_ok e m h = cc
+
+-- lines that say records lead where the records lead
+pub records_read : (name : List ℕ) (records : List Record) (texts : List (List ℕ)) (before : Read) (m : Machine) → Say (map entry.Record records) texts → replay_all records before.pad ≡ Ok m →
+    option_map (λ (read : Read). read.pad) (read_lines name (Some before) (lines_behind before.sum texts)) ≡ Some m
+records_read name [] [] before m says leads = ap Some (same leads)
+  where
+    same : (let r : Result Machine Refusal = Ok before.pad in r) ≡ Ok m → before.pad ≡ m
+    same e = cc
+records_read name [] (text ∷ texts) before m says leads = absurd says
+records_read name (kept ∷ records) [] before m says leads = absurd says
+records_read name (kept ∷ records) (text ∷ texts) before m (plain, is, says) leads =
+    ap (λ (r : Option Read). option_map (λ (read : Read). read.pad) (read_lines name r (lines_behind (sum_after before.sum text) texts)))
+    (ap (option_and_then (entered name before)) (said_behind before.sum text (entry.Record kept) is))
+    ∙ at (replay kept before.pad) leads (λ next. records_read name records texts (record before { pad = next; sum = sum_after before.sum text }) m says)
+  where
+    at : (done : Result (Unit {0}) Refusal × Machine) → fold replayed (Rattle.records.specs.Records.unless_refused done) records ≡ Ok m →
+        ((next : Machine) → replay_all records next ≡ Ok m → option_map (λ (read : Read). read.pad) (read_lines name (Some (record before { pad = next; sum = sum_after before.sum text })) (lines_behind (sum_after before.sum text) texts)) ≡ Some m) →
+        option_map (λ (read : Read). read.pad) (read_lines name (unless_refused (sum_after before.sum text) before done) (lines_behind (sum_after before.sum text) texts)) ≡ Some m
+    at (Ok done, next) leads more = more next leads
+    at (Err e, next) leads more = absurd (err_is_no_ok e m (sym (refused_stays records e) ∙ leads))
+
+map_length : (records : List Record) → length (map entry.Record records) ≡ length records
+map_length [] = refl
+map_length (kept ∷ records) = ap suc (map_length records)
+
+-- what is claimed of the lines that are left
+abbrev Again : ℕ → List ℕ → List Record → Machine → List (List ℕ) → ℕ → List (List ℕ) → Type 0
+Again replica name records m texts synced lines =
+    (count : ℕ) × (had : Machine) × Had replica records m (take count records) had
+    × (option_map (λ (read : Read). read.pad) (file_read replica name lines) ≡ Some (restarted had))
+    × ((whole : ℕ) → whole ≤ length records → length (file_of (take (suc whole) texts)) ≤ synced → whole ≤ count)
+
+-- the first line is a header, and those behind it records
+file_again : (replica : ℕ) (name : List ℕ) (records : List Record) (text : List ℕ) (texts : List (List ℕ)) (had : Machine) →
+    entry_said text ≡ Some (entry.Header (record { pad = name; replica = replica })) → Say (map entry.Record records) texts → rebuilt replica records ≡ Ok (restarted had) →
+    option_map (λ (read : Read). read.pad) (file_read replica name (lines_behind [] (text ∷ texts))) ≡ Some (restarted had)
+file_again replica name records text texts had is says leads =
+    ap (λ (r : Option Read). option_map (λ (read : Read). read.pad) (read_lines name r (lines_behind (sum_after [] text) texts)))
+    (ap (option_and_then (begun replica name)) (said_behind [] text (entry.Header (record { pad = name; replica = replica })) is)
+    ∙ cond-true (bytes_eq name name) (Some first) None ((bytes_eq-Decides name name).1 refl))
+    ∙ records_read name records texts first (restarted had) says leads
+  where
+    first : Read
+    first = record { pad = unnamed replica; header = record { pad = name; replica = replica }; sum = sum_after [] text }
+
+pub left_again : (replica : ℕ) (name : List ℕ) (records : List Record) (m : Machine) (texts : List (List ℕ)) (disk : Disk) (bytes : List ℕ) →
+    Life replica records m → Say (entries_of replica name records) texts → disk.written ≡ file_of texts → MayLeave disk bytes → length (file_of (take 1 texts)) ≤ length bytes →
+    Again replica name records m texts disk.synced (whole_lines bytes)
+left_again replica name records m [] disk bytes life says written left first = absurd says
+left_again replica name records m (text ∷ texts) disk bytes life (plain, is, says) written (n, synced, cut) first =
+    at (front [] (text ∷ texts) n (plain, plain_texts (map entry.Record records) texts says))
+  where
+    lines_left : whole_lines bytes ≡ whole_lines (take n (file_of (text ∷ texts)))
+    lines_left = ap whole_lines (cut ∙ ap (take n) written)
+
+    far : length (file_of (take 1 (text ∷ texts))) ≤ n
+    far = let cut_length : length bytes ≤ n = subst (λ (bs : List ℕ). length bs ≤ n) (sym cut) (front_length n disk.written) in omega (arith, first, cut_length)
+
+    at : ((count : ℕ) × (whole_lines (take n (file_of (text ∷ texts))) ≡ lines_behind [] (take count (text ∷ texts)))
+        × ((whole : ℕ) → whole ≤ length (text ∷ texts) → length (file_of (take whole (text ∷ texts))) ≤ n → whole ≤ count)) →
+        Again replica name records m (text ∷ texts) disk.synced (whole_lines bytes)
+    at (zero, lines, least) = absurd (none (least 1 (omega arith) far))
+      where
+        none : 1 ≤ 0 → ⊥
+        none h = omega arith
+    at (suc k, lines, least) = found (records_front replica records m k life)
+      where
+        found : ((had : Machine) × Had replica records m (take k records) had × (rebuilt replica (take k records) ≡ Ok (restarted had))) → Again replica name records m (text ∷ texts) disk.synced (whole_lines bytes)
+        found (had, there, leads) = (
+          k,
+          had,
+          there,
+          ap (λ ls. option_map (λ (read : Read). read.pad) (file_read replica name ls)) (lines_left ∙ lines)
+              ∙ file_again replica name (take k records) text (take k texts) had is (subst (λ (es : List Entry). Say es (take k texts)) (take-map entry.Record k records) (say_front k (map entry.Record records) texts says)) leads,
+          most,
+        )
+          where
+            most : (whole : ℕ) → whole ≤ length records → length (file_of (take (suc whole) (text ∷ texts))) ≤ disk.synced → whole ≤ k
+            most whole few short = omega (arith, least (suc whole) (counted few (say_length (map entry.Record records) texts says) (map_length records)) (reach short synced))
+              where
+                counted : whole ≤ length records → length texts ≡ length (map entry.Record records) → length (map entry.Record records) ≡ length records → suc whole ≤ length (text ∷ texts)
+                counted a b c = omega arith
+
+                reach : length (file_of (take (suc whole) (text ∷ texts))) ≤ disk.synced → disk.synced ≤ n → length (file_of (take (suc whole) (text ∷ texts))) ≤ n
+                reach a b = omega arith

@@ -1,0 +1,29 @@
+//! What a line says.
+ghost use Rattle.serde_json.specs.View.{view};
+ghost use Rattle.wire_json.specs.Reading.{IsRead};
+ghost use Rattle.store.specs.Entries.{entry_in};
+
+use crate::form::read_record;
+use crate::header::{Header, read_header};
+use pad_model::Refusal;
+use records::Record;
+use serde_json::Value;
+use std::alloc::Global;
+
+/// What a line says: whose file it is, or what was done on its pad.
+#[derive(Debug, Drop)]
+pub enum Entry {
+    /// The first line, and one from which on another server wrote.
+    Header(Header),
+    Record(Record),
+}
+
+/// What a value says as a line; 102 where it says nothing.
+pub fn read_entry(alloc: Global, value: &Value) -> Result<Entry, Refusal>
+    ensures { IsRead (entry_in (view value.now)) result }
+{
+    match value.get("format") {
+        Some(_) => Ok(Entry::Header(read_header(alloc, value)?)),
+        None => Ok(Entry::Record(read_record(alloc, value)?)),
+    }
+}

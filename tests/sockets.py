@@ -20,9 +20,10 @@ WAIT = 15  # seconds, for an answer
 class Server:
     """A server that listens at a free port of this machine. It is killed with the test, if it has not ended."""
 
-    def __init__(self, more="", **streams):
+    def __init__(self, more="", number=1, **streams):
         put_files(ACCOUNTS)
-        self.process = start("pad_server", f"{LISTEN} {more}", stdin=subprocess.DEVNULL, stdout=subprocess.PIPE, **streams)
+        listen = LISTEN.replace("--replica 1", f"--replica {number}")
+        self.process = start("pad_server", f"{listen} {more}", stdin=subprocess.DEVNULL, stdout=subprocess.PIPE, **streams)
         line = self.process.stdout.readline().decode()
         if not line.startswith("listening on 127.0.0.1:"):
             raise Failed(f"the server's first line: {line!r}")

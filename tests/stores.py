@@ -3,6 +3,7 @@ import hashlib
 import json
 import os
 import random
+import resource
 import signal
 import subprocess
 import threading
@@ -18,6 +19,11 @@ WRITERS = 8
 
 def restarted(more=""):
     return Server(f"{STORE} {more}")
+
+
+def restarted_told(**streams):
+    """The same, and what it says on standard error is kept."""
+    return Server(STORE, stderr=subprocess.PIPE, **streams)
 
 
 def kill(server):
@@ -179,6 +185,33 @@ def damaged():
             want(file.read(), content, "the damaged file")
 
 
+def copied():
+    """The file of a pad under another pad's name is told, and nothing is changed."""
+    server = restarted()
+    ann = server.author("ann")
+    ann.does(do="create", pad="p")
+    kill(server)
+    with open("kept/p.pad", "rb") as file:
+        content = file.read()
+    for name, copy, told in (
+        ("q", content, "it is the file of another pad"),
+        ("q", content[: content.index(b"\n") + 1], "it is the file of another pad"),
+        ("q", b"notes of mine", "line 1: it was changed"),
+    ):
+        with open(f"kept/{name}.pad", "wb") as file:
+            file.write(copy)
+        refused(1, f"{name}.pad: {told}", "is damaged")
+        with open(f"kept/{name}.pad", "rb") as file:
+            want(file.read(), copy, "the copy")
+    for front in (b"", b"[{", b'[{"format":1,"pad":"q"'):
+        with open("kept/q.pad", "wb") as file:
+            file.write(front)
+        server = restarted()
+        server.author("ann", "p")
+        kill(server)
+        want(os.path.exists("kept/q.pad"), False, "that a file whose first write was cut off is taken away")
+
+
 def in_use():
     server = restarted()
     refused(1, "in use")
@@ -197,6 +230,82 @@ def other_replica():
     )
     want(process.returncode, 2, "the status")
     want(b"replica number 1" in process.stderr, True, "that the number is told")
+    want(b"--new-replica" in process.stderr, True, "that the flag is told")
+
+
+def start_again(number, *more):
+    """A start of the store by another number, which ends at once where it is refused."""
+    words = f"{LISTEN} {STORE}".replace("--replica 1", f"--replica {number}").split()
+    return subprocess.run([path("pad_server"), *words, *more], stdin=subprocess.DEVNULL, capture_output=True, timeout=15)
+
+
+def new_replica():
+    """A store goes on under a new number, and from then on is that number's."""
+    server = restarted()
+    ann = server.author("ann")
+    ann.does(do="create", pad="p")
+    ann.does(do="insert", pad="p", rev=0, at=0, text="one")
+    kill(server)
+    for _ in range(2):
+        server = Server(STORE.replace("--store", "--new-replica --store"), number=2)
+        ann = server.connect()
+        ann.wants({"do": "hello", "name": "ann", "token": "tann"}, {"author": "ann@2", "ok": True})
+        ann.join("p")
+        now = ann.does(do="revs", pad="p")["now"]
+        answer = ann.does(do="insert", pad="p", rev=now, at=0, text="two")
+        want(answer["name"], [2, now], "the name of the next operation")
+        kill(server)
+    texts = lines_of("p")
+    headers = [text for text in texts if "format" in text]
+    want(headers, [{"format": 1, "pad": "p", "replica": number} for number in (1, 2)], "the headers")
+    for number, more, told in (
+        (1, (), b"replica number 2"),
+        (3, (), b"replica number 2"),
+        (1, ("--new-replica",), b"has operations of a server with replica number 1"),
+    ):
+        process = start_again(number, *more)
+        want(process.returncode, 2, f"the status with number {number} and {more}")
+        want(told in process.stderr, True, f"that {told} stands in {process.stderr}")
+
+
+def ended(server):
+    """The server ends by itself with status 1, and says which store failed."""
+    want(server.process.wait(), 1, "the status")
+    want(b"the store kept failed" in server.process.stderr.read(), True, "that the store is told")
+
+
+def write_fails():
+    """After a write that fails, no connection gets a reply, and the server ends, silent clients or not."""
+    server = restarted_told()
+    ann = server.author("ann")
+    ann.does(do="create", pad="p")
+    silent = server.author("bob")
+    os.mkdir("kept/q.pad")
+    ann.send('{"do":"create","pad":"q"}\n')
+    want(ann.replies.readline(), b"", "the reply of a pad whose file cannot be made")
+    want(silent.replies.readline(), b"", "what a silent client reads")
+    ended(server)
+    os.rmdir("kept/q.pad")
+    server = restarted()
+    server.author("ann", "p")
+    kill(server)
+
+
+def append_fails():
+    """The same where a line cannot be appended. What was answered before is there after a restart."""
+    server = restarted_told(preexec_fn=lambda: signal.signal(signal.SIGXFSZ, signal.SIG_IGN))
+    ann = server.author("ann")
+    ann.does(do="create", pad="p")
+    ann.does(do="insert", pad="p", rev=0, at=0, text="kept")
+    size = os.path.getsize("kept/p.pad")
+    resource.prlimit(server.process.pid, resource.RLIMIT_FSIZE, (size + 20, size + 20))
+    ann.send('{"do":"insert","pad":"p","rev":1,"at":0,"text":"lost"}\n')
+    want(ann.replies.readline(), b"", "the reply of an edit that cannot be kept")
+    ended(server)
+    server = restarted()
+    ann = server.author("ann", "p")
+    want(ann.does(do="text", pad="p")["text"], "kept", "the text")
+    kill(server)
 
 
 def too_many():
@@ -268,8 +377,12 @@ TESTS = [
     Test("store: a torn line", torn_line),
     Test("store: a front of the file", front_of_the_file, 60),
     Test("store: damage is told by file and line", damaged),
+    Test("store: a file under another name", copied),
     Test("store: another process", in_use),
     Test("store: another replica number", other_replica),
+    Test("store: a new replica number", new_replica),
+    Test("store: a write that fails", write_fails),
+    Test("store: an append that fails", append_fails),
     Test("store: more pads than cells", too_many),
     Test("store: killed twenty times under eight writers", killed_under_writers, 120),
 ]

@@ -30,6 +30,10 @@ idle_rule = number_rule (codes "idle") 1 4294967295
 abbrev pub store_rule : Rule
 store_rule = option_rule (codes "store")
 
+-- `--new-replica`
+abbrev pub new_replica_rule : Rule
+new_replica_rule = flag_rule (codes "new-replica")
+
 -- the options that say what is served, by which server, and for whom
 abbrev pub first_line : App
 first_line = with_rule (with_rule (with_rule (with_rule (new_app (codes "pad_server")) stdin_rule) listen_rule) replica_rule) accounts_rule
@@ -40,7 +44,7 @@ second_line = with_rule (with_rule (with_rule first_line cells_rule) workers_rul
 
 -- the command line: clap's words say which words it takes, and what they give under a name
 abbrev pub line : App
-line = with_rule (with_rule second_line idle_rule) store_rule
+line = with_rule (with_rule (with_rule second_line idle_rule) store_rule) new_replica_rule
 
 -- the words give this: the numbers, the flag and the texts under the names of the options
 pub record AsksFor (words : List (List ℕ)) (asked : Asked) : Type 0 where
@@ -53,3 +57,4 @@ pub record AsksFor (words : List (List ℕ)) (asked : Asked) : Type 0 where
   pub connections : (other : ℕ) → Gives line words (codes "connections") 0 4294967295 other (unwrap_or asked.connections other)
   pub idle : (other : ℕ) → Gives line words (codes "idle") 0 4294967295 other (unwrap_or asked.idle other)
   pub store : option_map (λ folder. folder.now) asked.store ≡ text_given line words (codes "store")
+  pub new_replica : IsFlag (one_of (codes "new-replica") (matches_of line words)) asked.new_replica

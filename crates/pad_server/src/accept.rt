@@ -1,6 +1,6 @@
 //! Connections are accepted, and handed to the workers.
 use crate::client::Client;
-use crate::keeper::Keeper;
+use crate::stop::Guard;
 use crossbeam_channel::Sender;
 use log::{Log, warn};
 use std::net::{TcpListener, TcpStream};
@@ -23,24 +23,27 @@ pub struct Limits {
     pub idle: Option<u32>,
 }
 
-/// Accepts connections until there were so many, and hands them to the workers. A connection that the system refuses is
-/// logged, and not counted.
+/// Accepts connections until there were so many or the server has stopped, and hands them to the workers. A connection
+/// that the system refuses is logged, and not counted.
 pub fn accept_all<'a, R: Wait + Clock + Log>(
     rt: &'a R,
     listener: &TcpListener,
     limits: Limits,
     to: &Sender<(u64, Client<'a, R>)>,
-    keeper: Option<&'a Keeper>,
+    guard: Option<Guard<'a>>,
 ) {
     let mut accepted = 0u64;
     for stream in listener.incoming() {
+        if guard.is_some_and(|guard| guard.has_stopped(rt)) {
+            return;
+        }
         match stream {
             Ok(stream) => {
                 accepted = accepted.saturating_add(1);
                 if let Err(cause) = prepare(&stream, limits.idle) {
                     warn!(rt; "connection {accepted}: it may be late, or stay for too long: {cause}");
                 }
-                hand_over(rt, accepted, stream, to, keeper);
+                hand_over(rt, accepted, stream, to, guard);
             }
             Err(cause) => {
                 warn!(rt; "no connection is accepted: {cause}");
@@ -72,10 +75,10 @@ fn hand_over<'a, R: Wait + Log>(
     number: u64,
     stream: TcpStream,
     to: &Sender<(u64, Client<'a, R>)>,
-    keeper: Option<&'a Keeper>,
+    guard: Option<Guard<'a>>,
 ) {
     if to
-        .send(rt, (number, Client::new(rt, stream, keeper)))
+        .send(rt, (number, Client::new(rt, stream, guard)))
         .is_err()
     {
         warn!(rt; "connection {number} is not served: out of memory");

@@ -7,8 +7,8 @@ ghost use Rattle.pad_server.specs.CommandLine.{AsksFor, first_line, line, second
 ghost use Rattle.pad_server.specs.declared.options.TheConstants.{MAX_WORKERS};
 
 use crate::options::{
-    connections_of, connections_option, idle_of, idle_option, listen_option, stdin_flag,
-    store_option, workers_of, workers_option,
+    connections_of, connections_option, idle_of, idle_option, listen_option, new_replica_flag,
+    stdin_flag, store_option, workers_of, workers_option,
 };
 use clap::{Command, Error};
 use command_line::{accounts_option, cells_of, cells_option, replica_of, replica_option};
@@ -35,6 +35,8 @@ pub struct Asked<'a> {
     pub idle: Option<u32>,
     /// The folder where pads are kept. None: they end with the server.
     pub store: Option<&'a str>,
+    /// Whether no server had the replica number before, so that the store may be that of another one.
+    pub new_replica: bool,
 }
 
 const ACCOUNTS_HELP: &str =
@@ -69,7 +71,8 @@ fn command<'a>(alloc: Global) -> Result<Command<'a>, AllocError>
 {
     second_options(alloc)?
         .arg(idle_option(alloc))?
-        .arg(store_option(alloc))
+        .arg(store_option(alloc))?
+        .arg(new_replica_flag(alloc))
 }
 
 /// What the words of the command line give, or what is wrong with them.
@@ -92,5 +95,6 @@ pub fn parse<'a>(alloc: Global, words: &'a [String]) -> Result<Asked<'a>, Error>
         connections: connections_of(&matches),
         idle: idle_of(&matches),
         store: matches.get_str("store"),
+        new_replica: matches.get_flag("new-replica"),
     })
 }

@@ -4,12 +4,13 @@ ghost use Rattle.workers.specs.Crew.{ServesConnection};
 use crate::failure::Failure;
 use crate::keeper::Keeper;
 use crate::settled::Settled;
+use crate::stop::Guard;
 use crate::watched::Watched;
 use log::{Log, warn};
 use std::alloc::Global;
 use std::io;
 use std::io::ErrorKind;
-use std::net::TcpStream;
+use std::net::{Net, TcpListener, TcpStream};
 use std::sync::Wait;
 use wire_lines::{Fault, Std};
 use workers::{Connection, Gate, Pads, Served, serve_client};
@@ -19,13 +20,13 @@ use workers::{Connection, Gate, Pads, Served, serve_client};
 pub struct Client<'a, R: Log> {
     rt: &'a R,
     stream: TcpStream,
-    keeper: Option<&'a Keeper>,
+    guard: Option<Guard<'a>>,
 }
 
 impl<'a, R: Log> Client<'a, R> {
-    /// A client whose stream was accepted. Its replies wait for the keeper, if there is one.
-    pub fn new(rt: &'a R, stream: TcpStream, keeper: Option<&'a Keeper>) -> Client<'a, R> {
-        Client { rt, stream, keeper }
+    /// A client whose stream was accepted. Its replies wait for the store, if there is one.
+    pub fn new(rt: &'a R, stream: TcpStream, guard: Option<Guard<'a>>) -> Client<'a, R> {
+        Client { rt, stream, guard }
     }
 }
 
@@ -34,7 +35,10 @@ fn is_late(cause: io::Error) -> bool {
     matches!(cause.kind(), ErrorKind::WouldBlock | ErrorKind::TimedOut)
 }
 
-impl<R: Wait + Log> Connection for Client<'_, R> {
+impl<R> Connection for Client<'_, R>
+where
+    R: Net<Listener = TcpListener, Stream = TcpStream> + Wait + Log,
+{
     fn serve<P: Pads, G: Gate>(
         self,
         alloc: Global,
@@ -42,8 +46,14 @@ impl<R: Wait + Log> Connection for Client<'_, R> {
         number: u64,
         gate: &G,
     ) -> Result<Served, Fault> {
-        let Client { rt, stream, keeper } = self;
-        serve_stream(rt, &stream, keeper, alloc, pads, number, gate)
+        let Client { rt, stream, guard } = self;
+        let Some(guard) = guard else {
+            return serve_stream(rt, &stream, None, alloc, pads, number, gate);
+        };
+        guard.enter(rt, number, &stream);
+        let served = serve_stream(rt, &stream, Some(guard.keeper), alloc, pads, number, gate);
+        guard.leave(rt, number);
+        served
     }
 }
 

@@ -2,6 +2,7 @@
 use crate::failure::Failure;
 use crate::keeper::Keeper;
 use crate::settled::Settled;
+use crate::stop::Guard;
 use crate::watched::Watched;
 use log::{Log, warn};
 use relay::{Link, Relayed, relay_round};
@@ -20,6 +21,9 @@ const PATIENCE: u64 = 30;
 
 /// The pause after a failed round, in seconds. After each further one it is twice as long.
 const FIRST_PAUSE: u64 = 1;
+
+/// Under which number the socket to a peer is entered: connections that are accepted are counted from 1.
+const RELAYING: u64 = 0;
 
 /// The longest pause, in seconds.
 const LONGEST_PAUSE: u64 = 60;
@@ -62,7 +66,7 @@ impl Broken {
 pub struct Contact<'a> {
     peer: &'a Peer,
     /// What has to be synced before a line is written to the peer.
-    keeper: Option<&'a Keeper>,
+    guard: Option<Guard<'a>>,
     /// How many seconds the next round is put off after a failure; 0 where the last one succeeded.
     pause: u64,
     failed_at: Option<Instant>,
@@ -71,10 +75,10 @@ pub struct Contact<'a> {
 
 impl<'a> Contact<'a> {
     /// A peer without a round yet.
-    pub fn new(peer: &'a Peer, keeper: Option<&'a Keeper>) -> Contact<'a> {
+    pub fn new(peer: &'a Peer, guard: Option<Guard<'a>>) -> Contact<'a> {
         Contact {
             peer,
-            keeper,
+            guard,
             pause: 0,
             failed_at: None,
             told: None,
@@ -102,7 +106,7 @@ impl<'a> Contact<'a> {
     where
         R: Net<Listener = TcpListener, Stream = TcpStream> + Clock + Wait + Log,
     {
-        match make_round(rt, alloc, pads, own, self.peer, self.keeper) {
+        match make_round(rt, alloc, pads, own, self.peer, self.guard) {
             Ok(relayed) => {
                 self.pause = 0;
                 self.failed_at = None;
@@ -153,7 +157,7 @@ fn make_round<'s, P: Pads, R>(
     pads: &mut P,
     own: u16,
     peer: &Peer,
-    keeper: Option<&'s Keeper>,
+    guard: Option<Guard<'s>>,
 ) -> Result<Relayed, Broken>
 where
     R: Net<Listener = TcpListener, Stream = TcpStream> + Wait + Log,
@@ -162,7 +166,13 @@ where
         Ok(stream) => stream,
         Err(error) => return Err(Broken::Apart(error)),
     };
-    exchange_over(rt, &stream, keeper, alloc, pads, own, peer)
+    let Some(guard) = guard else {
+        return exchange_over(rt, &stream, None, alloc, pads, own, peer);
+    };
+    guard.enter(rt, RELAYING, &stream);
+    let relayed = exchange_over(rt, &stream, Some(guard.keeper), alloc, pads, own, peer);
+    guard.leave(rt, RELAYING);
+    relayed
 }
 
 // Makes a round over a connection.

@@ -1,6 +1,6 @@
 //! The thread that exchanges the operations of the pads with the peers of the accounts file.
 use crate::contact::{Brought, Contact};
-use crate::keeper::Keeper;
+use crate::stop::Guard;
 use crate::wake::Wake;
 use crossbeam_channel::{Receiver, RecvTimeoutError};
 use log::Log;
@@ -34,12 +34,12 @@ pub fn contacts<'a>(
     alloc: Global,
     peers: &'a [Peer],
     own: u16,
-    keeper: Option<&'a Keeper>,
+    guard: Option<Guard<'a>>,
 ) -> Result<Vec<Contact<'a>>, AllocError> {
     let mut contacts = Vec::new(alloc);
     for peer in peers {
         if peer.number != own {
-            contacts.push(Contact::new(peer, keeper))?;
+            contacts.push(Contact::new(peer, guard))?;
         }
     }
     Ok(contacts)
@@ -49,12 +49,13 @@ pub fn contacts<'a>(
 /// pause. Wake-ups that come before a round begins are served by that round. Where a peer gave operations, or its round
 /// broke off and may have brought some, all peers are asked once more, since others may lack them. After the last
 /// connection only operations that are known to have come bring another round, so that a peer that breaks off each time
-/// keeps no server from ending.
+/// keeps no server from ending. Where the store has failed, no further round begins.
 pub fn exchange_all<S: Sequence, R, G: Gate>(
     row: &Row<'_, S, R, G>,
     mut contacts: Vec<Contact<'_>>,
     wakes: &Receiver<Wake>,
     seats: Vec<Seat>,
+    guard: Option<Guard<'_>>,
 )
 where
     R: AllocGlobal + Net<Listener = TcpListener, Stream = TcpStream> + Clock + Wait + Log,
@@ -72,6 +73,9 @@ where
         } else {
             wait(rt, wakes, contacts.iter().any(Contact::has_failed))
         };
+        if guard.is_some_and(|guard| guard.has_stopped(rt)) {
+            return;
+        }
         is_last = is_last || matches!(turn, Turn::Last | Turn::Gone);
         has_come = match rounds(rt, &mut contacts, &mut pads, row.replica, turn) {
             Brought::Nothing => false,

@@ -26,10 +26,14 @@ pub enum Failure<'a> {
     InUse { folder: &'a str },
     #[error("the store {folder} is damaged")]
     Damaged { folder: &'a str },
-    #[error("the store {folder} belongs to the server with replica number {replica}")]
+    #[error("the store {folder} belongs to the server with replica number {replica}; another number has to be one that no server had, and is told by --new-replica")]
     OtherReplica { folder: &'a str, replica: u64 },
+    #[error("the store {folder} has operations of a server with replica number {number}")]
+    UsedReplica { folder: &'a str, number: u16 },
     #[error("the store {folder} has more pads than there are cells")]
     Crowded { folder: &'a str },
+    #[error("the store {folder} failed")]
+    Failed { folder: &'a str },
     #[error("the system makes no thread")]
     Alone,
     #[error("standard output: {0}")]
@@ -60,12 +64,14 @@ impl Failure<'_> {
         }
     }
 
-    /// 2 for a bad line of the accounts file and for the store of another server, else 1.
+    /// 2 for a bad line of the accounts file, for the store of another server and for a number that is not new, else 1.
     pub fn status(self) -> ExitCode
         ensures { exit_status result ≡ status self.entry }
     {
         match self {
-            Failure::BadAccounts { .. } | Failure::OtherReplica { .. } => ExitCode::from(2),
+            Failure::BadAccounts { .. }
+            | Failure::OtherReplica { .. }
+            | Failure::UsedReplica { .. } => ExitCode::from(2),
             _ => ExitCode::FAILURE,
         }
     }

@@ -192,6 +192,11 @@ impl Keeper {
         }
     }
 
+    /// Whether a write or a sync has failed, after which nothing is settled any more.
+    pub fn has_failed<R: Wait>(&self, rt: &R) -> bool {
+        self.progress.lock(rt).failed
+    }
+
     /// Waits until all that was noted before is synced, or fails.
     pub fn settle<R: Wait>(&self, rt: &R) -> io::Result<()> {
         let noted = self.progress.lock(rt).noted;

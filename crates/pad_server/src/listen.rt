@@ -10,18 +10,19 @@ use crate::contact::Contact;
 use crate::course::Course;
 use crate::exchange::{contacts, exchange_all};
 use crate::failure::Failure;
-use crate::keeper::Keeper;
-use crate::stored::{Stored, restore};
+use crate::stop::{Guard, Stop};
+use crate::stored::{Owner, Stored, restore};
 use crate::turnstile::Turnstile;
 use crate::wake::{Wake, Waker};
 use block_seq::BlockSeq;
 use crossbeam_channel::{Receiver, Sender};
 use log::Log;
+use sessions::Accounts;
 use shared_pads::{Seat, SharedPad};
 use std::alloc::{AllocError, Global};
 use std::fs::File;
 use std::io::Write;
-use std::net::{Net, TcpListener, TcpStream};
+use std::net::{Net, SocketAddr, TcpListener, TcpStream};
 use std::rt::Runtime;
 use std::sync::Wait;
 use std::thread::Threads;
@@ -30,7 +31,7 @@ use std::{io, thread};
 use workers::{Row, open_row, pool, take_all_seats, take_seats};
 
 /// Serves connections at an address, until as many as the command line names have ended. Where there is a store, the pads
-/// come from it, and each reply waits until what it tells of is synced.
+/// come from it, each reply waits until what it tells of is synced, and the server stops when the store fails.
 pub fn listen<'a, R>(
     rt: &R,
     files: HostRuntime,
@@ -47,22 +48,38 @@ where
         + Log,
     requires { (1 ≤ asked.replica) × (asked.cells ≤ MAX_CELLS) }
 {
+    let accounts = read_accounts(rt, path)?;
     let Some(folder) = asked.store else {
         let cells = open_row(rt.alloc(), asked.replica, asked.cells)?;
-        return serve_row(rt, cells, None, asked, address, path);
+        let (listener, _) = bind(rt, address)?;
+        return serve_row(rt, cells, None, asked, listener, &accounts);
     };
-    let Stored { cells, keeper } = restore(rt, files, folder, asked.replica, asked.cells)?;
-    serve_row(rt, cells, Some(&keeper), asked, address, path)
+    let owner = Owner {
+        replica: asked.replica,
+        is_new: asked.new_replica,
+    };
+    let Stored { cells, keeper } = restore(rt, files, folder, owner, asked.cells)?;
+    let (listener, local) = bind(rt, address)?;
+    let stop = Stop::new(rt.alloc(), local);
+    let guard = Guard {
+        keeper: &keeper,
+        stop: &stop,
+    };
+    serve_row(rt, cells, Some(guard), asked, listener, &accounts)?;
+    if keeper.has_failed(rt) {
+        return Err(Failure::Failed { folder });
+    }
+    Ok(())
 }
 
 /// Serves connections with the pads of a row.
 fn serve_row<'a, 's, R>(
     rt: &'s R,
     cells: Vec<SharedPad<BlockSeq>>,
-    keeper: Option<&'s Keeper>,
+    guard: Option<Guard<'s>>,
     asked: Asked<'a>,
-    address: &'a str,
-    path: &'a str,
+    listener: TcpListener,
+    accounts: &Accounts,
 ) -> Result<(), Failure<'a>>
 where
     R: Runtime<A = Global, File = File>
@@ -73,33 +90,35 @@ where
         + Log,
 {
     let alloc = rt.alloc();
-    let accounts = read_accounts(rt, path)?;
     let mut crew = Vec::new(alloc);
     take_all_seats(rt, alloc, cells.as_slice(), asked.workers, &mut crew)?;
     let mut seats = Vec::new(alloc);
     take_seats(rt, cells.as_slice(), &mut seats)?;
-    let contacts = contacts(alloc, accounts.peers(), asked.replica, keeper)?;
+    let contacts = contacts(alloc, accounts.peers(), asked.replica, guard)?;
     let (to, wakes) = crossbeam_channel::bounded(alloc, 1)?;
     let waker = Waker::new(if contacts.is_empty() {
         None
     } else {
         Some(to.clone()?)
     });
+    let keeper = match guard {
+        Some(guard) => Some(guard.keeper),
+        None => None,
+    };
     let gate = Course::new(rt, waker, Turnstile::new(alloc)?, keeper);
     let row = Row {
         rt,
         cells: cells.as_slice(),
         replica: asked.replica,
-        accounts: &accounts,
+        accounts,
         gate: &gate,
     };
-    let listener = bind(rt, address)?;
     let relaying = Relaying {
         contacts,
         seats,
         to,
         wakes,
-        keeper,
+        guard,
     };
     serve(
         &row,
@@ -113,8 +132,8 @@ where
     )
 }
 
-/// A listener at an address. The one that the system chose is printed, where the port is 0.
-fn bind<'a, R>(rt: &R, address: &'a str) -> Result<TcpListener, Failure<'a>>
+/// A listener at an address, and that address with the port that the system chose where it was 0, which is printed.
+fn bind<'a, R>(rt: &R, address: &'a str) -> Result<(TcpListener, SocketAddr), Failure<'a>>
 where
     R: Net<Listener = TcpListener, Stream = TcpStream> + Print,
 {
@@ -123,15 +142,17 @@ where
         Err(cause) => return Err(Failure::Deaf { address, cause }),
     };
     match announce(rt, &listener) {
-        Ok(()) => Ok(listener),
+        Ok(local) => Ok((listener, local)),
         Err(cause) => Err(Failure::Untold(cause)),
     }
 }
 
-fn announce<R: Print>(rt: &R, listener: &TcpListener) -> io::Result<()> {
+fn announce<R: Print>(rt: &R, listener: &TcpListener) -> io::Result<SocketAddr> {
+    let local = listener.local_addr()?;
     let mut output = io::writer(rt);
-    writeln!(output, "listening on {}", listener.local_addr()?)?;
-    output.flush()
+    writeln!(output, "listening on {local}")?;
+    output.flush()?;
+    Ok(local)
 }
 
 /// What the thread that exchanges with peers has, and how it is told that the last connection has ended.
@@ -141,7 +162,7 @@ struct Relaying<'a> {
     seats: Vec<Seat>,
     to: Sender<Wake>,
     wakes: Receiver<Wake>,
-    keeper: Option<&'a Keeper>,
+    guard: Option<Guard<'a>>,
 }
 
 /// Accepts connections in a thread of its own, and serves them in as many as there are seats for. One more exchanges with
@@ -169,14 +190,14 @@ where
         seats,
         to: last,
         wakes,
-        keeper,
+        guard,
     } = relaying;
     thread::scope(thread::scope_env(), rt, |scope| {
-        let relay = scope.spawn(move || exchange_all(row, contacts, &wakes, seats));
+        let relay = scope.spawn(move || exchange_all(row, contacts, &wakes, seats, guard));
         if relay.is_err() {
             return Err(Failure::Alone);
         }
-        let acceptor = scope.spawn(move || accept_all(rt, &listener, limits, &to, keeper));
+        let acceptor = scope.spawn(move || accept_all(rt, &listener, limits, &to, guard));
         if acceptor.is_err() {
             let _ended = last.send(rt, Wake::Last);
             return Err(Failure::Alone);

@@ -2,7 +2,7 @@
 ghost use Rattle.std.specs.Prelude.{◌≡◌, ◌≤◌, ℕ, codes, false, unwrap_or};
 ghost use Rattle.clap.specs.Words.{rule_of};
 ghost use Rattle.command_line.specs.Options.{Holds};
-ghost use Rattle.pad_server.specs.CommandLine.{connections_rule, idle_rule, listen_rule, stdin_rule, store_rule, workers_rule};
+ghost use Rattle.pad_server.specs.CommandLine.{connections_rule, idle_rule, listen_rule, new_replica_rule, stdin_rule, store_rule, workers_rule};
 
 use clap::{Arg, ArgAction, ArgMatches, value_parser};
 use std::alloc::Global;
@@ -80,6 +80,16 @@ pub fn store_option<'a>(alloc: Global) -> Arg<'a>
         .help(
             "Keeps the pads in this folder, for the next start [without it they end with the server]",
         )
+}
+
+/// `--new-replica`.
+pub fn new_replica_flag<'a>(alloc: Global) -> Arg<'a>
+    ensures { (rule_of result ≡ new_replica_rule) × (result.global ≡ false) }
+{
+    Arg::new(alloc, "new-replica")
+        .long("new-replica")
+        .action(ArgAction::SetTrue)
+        .help("No server had this replica number before: the store may be that of another number")
 }
 
 /// What `--workers` holds; 16 where it holds no such number.

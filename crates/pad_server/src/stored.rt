@@ -10,11 +10,19 @@ use pad_model::Refusal;
 use shared_pads::SharedPad;
 use std::alloc::{AllocError, Global};
 use std::fs::{File, OpenOptions};
-use std::io::Eprint;
+use std::io::{Eprint, Write};
 use std::rt::Runtime;
 use std::sync::Mutex;
 use std::{fs, io};
-use store::{Damage, Loaded, load};
+use store::{Damage, Header, Loaded, header_text, link, load};
+
+/// The number of a server that opens a store.
+#[derive(Clone, Copy)]
+pub struct Owner {
+    pub replica: u16,
+    /// Whether the number is new, so that the store may be that of another one.
+    pub is_new: bool,
+}
 
 /// The row of a server, and who keeps it in files.
 #[derive(Drop)]
@@ -28,16 +36,16 @@ pub fn restore<'f, R>(
     rt: &R,
     files: HostRuntime,
     folder: &'f str,
-    replica: u16,
+    owner: Owner,
     count: u32,
 ) -> Result<Stored, Failure<'f>>
 where
     R: Runtime<A = Global, File = File> + Log,
-    requires { 1 ≤ replica }
+    requires { 1 ≤ owner.replica }
 {
     let kept_in = String::from_str(rt.alloc(), folder)?;
     let (lock, names) = open_folder(rt, folder)?;
-    let row = load_row(rt, folder, names.as_slice(), replica, count)?;
+    let row = load_row(rt, folder, names.as_slice(), owner, count)?;
     let Loading {
         cells,
         books,
@@ -45,7 +53,7 @@ where
     } = row;
     Ok(Stored {
         cells,
-        keeper: Keeper::new(files, kept_in, replica, books, handles, lock),
+        keeper: Keeper::new(files, kept_in, owner.replica, books, handles, lock),
     })
 }
 
@@ -70,12 +78,12 @@ fn load_row<'f, R>(
     rt: &R,
     folder: &'f str,
     names: &[String],
-    replica: u16,
+    owner: Owner,
     count: u32,
 ) -> Result<Loading, Failure<'f>>
 where
     R: Runtime<A = Global, File = File> + Log,
-    requires { 1 ≤ replica }
+    requires { 1 ≤ owner.replica }
 {
     let alloc = rt.alloc();
     let mut row = Loading {
@@ -84,7 +92,7 @@ where
         handles: Vec::new(alloc),
     };
     for name in names {
-        if let Some(loaded) = load_file(rt, folder, name.as_str(), replica)? {
+        if let Some(loaded) = load_file(rt, folder, name.as_str(), owner)? {
             if row.cells.len() >= count as usize {
                 return Err(Failure::Crowded { folder });
             }
@@ -93,7 +101,7 @@ where
     }
     let taken = row.cells.len().min(count as usize) as u32;
     for cell in taken..count {
-        row.add_free(alloc, replica, cell)?;
+        row.add_free(alloc, owner.replica, cell)?;
     }
     Ok(row)
 }
@@ -185,22 +193,26 @@ fn load_file<'f, R>(
     rt: &R,
     folder: &'f str,
     name: &str,
-    replica: u16,
+    owner: Owner,
 ) -> Result<Option<Opened>, Failure<'f>>
 where
     R: Runtime<A = Global, File = File> + Log,
-    requires { 1 ≤ replica }
+    requires { 1 ≤ owner.replica }
 {
     let path = format!(in rt.alloc(); "{folder}/{name}")?;
     let bytes = match fs::read(rt, path.as_str()) {
         Ok(bytes) => bytes,
         Err(cause) => return Err(Failure::Unopened { folder, cause }),
     };
-    match load(rt.alloc(), replica, bytes.as_slice()) {
-        Ok(loaded) => match open_loaded(rt, path.as_str(), loaded) {
-            Ok(opened) => Ok(Some(opened)),
-            Err(cause) => Err(Failure::Unopened { folder, cause }),
-        },
+    let pad = name.strip_suffix(".pad").unwrap_or(name);
+    match load(rt.alloc(), owner.replica, pad, bytes.as_slice()) {
+        Ok(loaded) => {
+            check_owner(folder, owner, &loaded)?;
+            match open_loaded(rt, path.as_str(), owner.replica, loaded) {
+                Ok(opened) => Ok(Some(opened)),
+                Err(cause) => Err(Failure::Unopened { folder, cause }),
+            }
+        }
         Err(Damage::Empty) => match remove(rt, path.as_str()) {
             Ok(()) => Ok(None),
             Err(cause) => Err(Failure::Unopened { folder, cause }),
@@ -209,15 +221,35 @@ where
     }
 }
 
+// Whether a pad's file is this server's, or may become so: where the number is new, no operation has it.
+fn check_owner<'f>(
+    folder: &'f str,
+    owner: Owner,
+    loaded: &Loaded<BlockSeq>,
+) -> Result<(), Failure<'f>> {
+    let replica = loaded.header.replica;
+    if replica == u64::from(owner.replica) {
+        return Ok(());
+    }
+    if !owner.is_new {
+        return Err(Failure::OtherReplica { folder, replica });
+    }
+    let number = owner.replica;
+    if loaded
+        .pad
+        .since(0)
+        .iter()
+        .any(|op| op.name.origin == number)
+    {
+        return Err(Failure::UsedReplica { folder, number });
+    }
+    Ok(())
+}
+
 // Why a file is not taken; which line it is, is told at once.
 fn refuse<'f, R: Eprint>(rt: &R, folder: &'f str, path: &str, damage: Damage) -> Failure<'f> {
-    match damage {
-        Damage::OtherReplica { replica } => Failure::OtherReplica { folder, replica },
-        damage => {
-            let _told = eprintln!(rt; "pad_server: {path}: {damage}");
-            Failure::Damaged { folder }
-        }
-    }
+    let _told = eprintln!(rt; "pad_server: {path}: {damage}");
+    Failure::Damaged { folder }
 }
 
 // Takes a file away whose pad was never named.
@@ -226,13 +258,14 @@ fn remove<R: Runtime<A = Global, File = File> + Log>(rt: &R, path: &str) -> io::
     fs::remove_file(rt, path)
 }
 
-// A pad with its file, which is cut behind its last whole line.
-fn open_loaded<R>(rt: &R, path: &str, loaded: Loaded<BlockSeq>) -> io::Result<Opened>
+// A pad with its file, which is cut behind its last whole line. A server with a new number begins with a header.
+fn open_loaded<R>(rt: &R, path: &str, replica: u16, loaded: Loaded<BlockSeq>) -> io::Result<Opened>
 where
     R: Runtime<A = Global, File = File> + Log,
 {
     let Loaded {
         pad,
+        header,
         sum,
         whole,
         cut,
@@ -240,13 +273,33 @@ where
     if cut > 0 {
         warn!(rt; "{path}: the last line was not whole: {cut} bytes are cut off");
     }
-    let (file, handle) = open_file(rt, path, whole)?;
+    let (mut file, handle) = open_file(rt, path, whole)?;
+    let sum = if header.replica == u64::from(replica) {
+        sum
+    } else {
+        begin_again(rt.alloc(), &mut file, &header, replica, sum.as_str())?
+    };
     Ok(Opened {
         pad,
         sum,
         file,
         handle,
     })
+}
+
+// Appends the header of a server with another number, and answers its sum.
+fn begin_again(
+    alloc: Global,
+    file: &mut File,
+    header: &Header,
+    replica: u16,
+    before: &str,
+) -> io::Result<String> {
+    let text = header_text(alloc, &header.pad, replica)?;
+    let linked = link(alloc, before, text.as_str())?;
+    file.write_all(linked.line.as_bytes())?;
+    file.sync_all()?;
+    Ok(linked.sum)
 }
 
 // Opens a file for appending behind its whole lines, twice.

@@ -20,6 +20,7 @@ returns-clause-asked c =
     let m = c.in-Ok.matches in
     let rows = rows_found c.in_ok-command.field-0 line words m c.in_ok-command.ensures is_simple_line c.in-Ok.ensures.matches in
     let flag = one_text-rows (found_of m) (codes "stdin") ∙ ap (one_of (codes "stdin")) rows in
+    let renewed = one_text-rows (found_of m) (codes "new-replica") ∙ ap (one_of (codes "new-replica")) rows in
     record {
       replica = gives_number line words m (codes "replica") 1 65535 1 c.replica_of.result rows c.replica_of.ensures.value;
       cells = gives_number line words m (codes "cells") 0 MAX_CELLS MAX_CELLS c.cells_of.result rows c.cells_of.ensures.value;
@@ -34,6 +35,11 @@ returns-clause-asked c =
       connections = λ other. gives_number line words m (codes "connections") 0 4294967295 other _ rows (c.connections_of.ensures other);
       idle = λ other. gives_number line words m (codes "idle") 0 4294967295 other _ rows (c.idle_of.ensures other);
       store = c.get_str-3.ensures ∙ gives_text line words m (codes "store") rows;
+      new_replica = record {
+        absent = λ e. c.get_flag-2.ensures.none (renewed ∙ e);
+        set = λ e. c.get_flag-2.ensures.value (renewed ∙ e);
+        unset = λ e. c.get_flag-2.ensures.other (renewed ∙ e);
+      };
     }
 
 pub returns-clause-refused : goal.returns-clause-refused

@@ -1,6 +1,5 @@
 //! What no clause says: worked lines as a client sees them, and devices that cut and fail.
-ghost use Rattle.std.specs.Prelude.{◌≤◌, None};
-ghost use Rattle.wire_lines.specs.Device.{one_more};
+ghost use Rattle.std.specs.Prelude.{◌≤◌};
 
 use block_seq::PlainSeq;
 use pad_core::Request;
@@ -8,9 +7,8 @@ use pad_model::{Name, Refusal};
 use server_core::Server;
 use sessions::{Accounts, Word};
 use std::alloc::Global;
-use std::cell::Cell;
 use std::test::Fail;
-use wire_lines::{Fault, Input, Output, ReadError, Sink, Source, WriteError};
+use wire_lines::{Fault, Input, Output, Sink, Source};
 use workers::{Alone, Open, Pads, Served, serve_connection};
 
 fn hello(alloc: Global) -> Result<Request, Refusal> {
@@ -45,7 +43,7 @@ fn solo(alloc: Global) -> Result<Alone<PlainSeq>, Fail> {
 }
 
 // How a connection to a fresh server ends.
-fn serve<R: Source, W: Sink>(
+pub fn serve<R: Source, W: Sink>(
     alloc: Global,
     reader: &mut R,
     writer: &mut W,
@@ -61,7 +59,7 @@ const CREATED: &str = "{\"now\":0,\"ok\":true,\"visit\":1}\n";
 const NOBODY: &str = "{\"code\":200,\"error\":\"NoSession\",\"ok\":false}\n";
 
 // The lines of a first session, with what is answered.
-const SESSION: [(&str, &str); 9] = [
+pub const SESSION: [(&str, &str); 9] = [
     (CREATE, CREATED),
     (
         "{\"do\":\"text\",\"pad\":\"p\"}\n",
@@ -168,7 +166,7 @@ fn lines_after_a_fault(alloc: Global, taken: usize) -> Result<u64, Fail> {
 }
 
 #[test]
-fn after_a_fault_the_session_is_nobodys(rt: HostRuntime) -> Result<(), Fail> {
+fn after_a_fault_the_session_is_unauthenticated(rt: HostRuntime) -> Result<(), Fail> {
     for taken in [10, 0] {
         assert!(rt; lines_after_a_fault(rt.alloc(), taken)? == 1);
     }
@@ -293,7 +291,7 @@ fn is_named(
     }
 }
 
-// After the end the session is nobody's, and its pads stay.
+// After the end the session is unauthenticated, and its pads stay.
 #[test]
 fn the_session_is_ended(rt: HostRuntime) -> Result<(), Fail> {
     let mut pads = solo(rt.alloc())?;
@@ -302,87 +300,6 @@ fn the_session_is_ended(rt: HostRuntime) -> Result<(), Fail> {
     assert!(rt; pads.cells() == 64);
     assert!(rt; is_named(rt.alloc(), &mut pads, 0, Some("p"))?);
     assert!(rt; is_named(rt.alloc(), &mut pads, 1, None)?);
-    Ok(())
-}
-
-// A client that gives a line only once it has the replies to those before, and fails if it is asked earlier.
-#[derive(Drop)]
-struct Client<'a> {
-    lines: &'a [&'a str],
-    given: usize,
-    replies: &'a Cell<usize>,
-    failures: u64,
-    reads: u64,
-}
-
-impl Source for Client<'_> {
-    ghost remaining = { λ _. None };
-
-    ghost failures = { λ c. c.failures };
-
-    ghost reads = { λ c. c.reads };
-
-    fn read(&mut self, buffer: &mut [u8]) -> Result<usize, ReadError> {
-        self.reads = self.reads.saturating_add(1);
-        let line = match self.lines.get(self.given) {
-            None => return Ok(0),
-            Some(line) => line.as_bytes(),
-        };
-        if self.replies.get() < self.given || buffer.len() < line.len() {
-            self.failures = self.failures.saturating_add(1);
-            return Err(ReadError::Failed);
-        }
-        let end = line.len();
-        buffer[..end].copy_from_slice(line);
-        self.given = self.given.saturating_add(1);
-        Ok(end)
-    }
-}
-
-// What the client is sent.
-#[derive(Drop)]
-struct Sent<'a> {
-    output: Output,
-    replies: &'a Cell<usize>,
-}
-
-impl Sink for Sent<'_> {
-    ghost contents = { λ _. None };
-
-    ghost failures = { λ s. ⟦<Output as Sink>⟧.failures s.output };
-
-    fn write(&mut self, bytes: &[u8]) -> Result<usize, WriteError> {
-        self.output.write(bytes)
-    }
-
-    fn flush(&mut self) -> Result<(), WriteError> {
-        self.replies.set(self.replies.get().saturating_add(1));
-        self.output.flush()
-    }
-}
-
-// Each reply is sent before the next line is asked for.
-#[test]
-fn a_client_that_waits(rt: HostRuntime) -> Result<(), Fail> {
-    let alloc = rt.alloc();
-    let replies = Cell::new(0);
-    let mut client = Client {
-        lines: &[SESSION[0].0, SESSION[1].0, SESSION[2].0],
-        given: 0,
-        replies: &replies,
-        failures: 0,
-        reads: 0,
-    };
-    let mut sent = Sent {
-        output: Output::new(alloc),
-        replies: &replies,
-    };
-    let served = serve(alloc, &mut client, &mut sent)?;
-    let all = Served {
-        lines: 3,
-        delivered: 1,
-    };
-    assert!(rt; served == Ok(all));
     Ok(())
 }
 

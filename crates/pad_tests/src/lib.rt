@@ -22,4 +22,6 @@ mod scan;
 #[cfg(test)]
 mod seeded;
 #[cfg(test)]
+mod waiting_client;
+#[cfg(test)]
 mod wire;

@@ -13,6 +13,8 @@ mod grants;
 #[cfg(test)]
 mod held;
 #[cfg(test)]
+mod held_seeded;
+#[cfg(test)]
 mod index;
 #[cfg(test)]
 mod log;

@@ -52,7 +52,10 @@ pub fn pull(size: u32, times: u32) -> String {
     for _ in 0..times {
         for op in &log {
             let copy = std::hint::black_box(op.clone());
-            let number = copy.number.wrapping_mul(3).wrapping_add(u64::from(copy.origin));
+            let number = copy
+                .number
+                .wrapping_mul(3)
+                .wrapping_add(u64::from(copy.origin));
             operations += 1;
             check = check.wrapping_mul(31).wrapping_add(number);
         }

@@ -3,6 +3,7 @@
 mod dice;
 mod index;
 mod log;
+mod slides;
 mod tree;
 mod typing;
 
@@ -19,6 +20,7 @@ fn trace(work: &str) -> Option<Trace> {
         "stale1" => Trace::Stale(1),
         "stale4" => Trace::Stale(4),
         "stale64" => Trace::Stale(64),
+        "stale1000" => Trace::Stale(1_000),
         _ => return None,
     })
 }

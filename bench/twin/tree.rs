@@ -110,6 +110,17 @@ impl<T: Weigh> Tree<T> {
         branch.right.find(offset - weight)
     }
 
+    /// The weight of the items before a rank.
+    pub fn before(&self, rank: usize) -> u64 {
+        let Some(branch) = &self.root else { return 0 };
+        let left = branch.left.len();
+        if rank <= left {
+            branch.left.before(rank)
+        } else {
+            branch.left.weight() + branch.item.weight() + branch.right.before(rank - left - 1)
+        }
+    }
+
     /// How many items in front are below a place.
     pub fn rank_by(&self, below: impl Fn(&T) -> bool + Copy) -> usize {
         let Some(branch) = &self.root else { return 0 };

@@ -2,6 +2,7 @@
 //! scan and the same labels.
 use crate::dice::Dice;
 use crate::index::{Entry, Index, Stamp};
+use crate::slides::{carry, count_before, since, Carried, Slide};
 use crate::tree::{Tree, Weigh};
 
 const REPLICA: u16 = 1;
@@ -12,7 +13,6 @@ const LAST_LABEL: u64 = u64::MAX;
 struct Block {
     first: Stamp,
     parent: Option<Stamp>,
-    born: u64,
     died: Option<u64>,
     label: u64,
     start: usize,
@@ -21,14 +21,11 @@ struct Block {
 
 impl Weigh for Block {
     fn weight(&self) -> u64 {
-        if self.died.is_some() { 0 } else { self.len }
-    }
-}
-
-impl Block {
-    fn shown_len(&self, rev: u64) -> u64 {
-        let is_shown = self.born <= rev && self.died.is_none_or(|died| rev < died);
-        if is_shown { self.len } else { 0 }
+        if self.died.is_some() {
+            0
+        } else {
+            self.len
+        }
     }
 }
 
@@ -45,6 +42,7 @@ struct Row {
     tree: Tree<Block>,
     index: Index,
     text: Vec<char>,
+    slides: Vec<Slide>,
     rev: u64,
     clock: u64,
     /// How many labels were written.
@@ -57,6 +55,7 @@ impl Row {
             tree: Tree::new(),
             index: Index::new(),
             text: Vec::new(),
+            slides: Vec::new(),
             rev: 0,
             clock: 0,
             writes: 0,
@@ -72,25 +71,21 @@ impl Row {
     }
 
     fn len_at(&self, rev: u64) -> u64 {
-        if rev >= self.rev {
-            return self.tree.weight();
-        }
-        self.tree.iter().map(|block| block.shown_len(rev)).sum()
+        count_before(since(&self.slides, rev), self.tree.weight())
     }
 
-    fn stamp_at(&self, rev: u64, mut place: u64) -> Option<Stamp> {
-        if rev >= self.rev {
-            let (block, offset) = self.tree.find(place)?;
-            return Some(block.first.plus(offset));
+    fn stamp_at(&self, rev: u64, place: u64) -> Option<Stamp> {
+        let recent = since(&self.slides, rev);
+        if count_before(recent, self.tree.weight()) <= place {
+            return None;
         }
-        for block in self.tree.iter() {
-            let len = block.shown_len(rev);
-            if place < len {
-                return Some(block.first.plus(place));
+        match carry(recent, place) {
+            Carried::Hidden(stamp) => Some(stamp),
+            Carried::At(now) => {
+                let (block, offset) = self.tree.find(now)?;
+                Some(block.first.plus(offset))
             }
-            place -= len;
         }
-        None
     }
 
     fn label_before(&self, rank: usize) -> u64 {
@@ -214,10 +209,16 @@ impl Row {
         let len = text.len() as u64;
         self.rev += 1;
         let start = self.text.len();
+        self.slides.push(Slide {
+            rev: self.rev,
+            at: self.tree.before(rank),
+            first,
+            len,
+            shows: true,
+        });
         let block = Block {
             first,
             parent,
-            born: self.rev,
             died: None,
             label,
             start,
@@ -242,6 +243,13 @@ impl Row {
         };
         let block = *self.tree.get(rank);
         if block.died.is_none() {
+            self.slides.push(Slide {
+                rev: self.rev,
+                at: self.tree.before(rank),
+                first: block.first,
+                len: block.len,
+                shows: false,
+            });
             self.tree.replace(
                 rank,
                 Block {

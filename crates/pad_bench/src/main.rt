@@ -40,6 +40,7 @@ fn counts(alloc: Global, line: &str) -> Result<Option<String>, Refusal> {
         "stale1" => typing::edits(alloc, Trace::Stale(1), size, times),
         "stale4" => typing::edits(alloc, Trace::Stale(4), size, times),
         "stale64" => typing::edits(alloc, Trace::Stale(64), size, times),
+        "stale1000" => typing::edits(alloc, Trace::Stale(1_000), size, times),
         "wire" => wire::wire(alloc, size, times),
         "json" => wire::json(alloc, size, times),
         _ => return Ok(None),

@@ -34,7 +34,7 @@ THOUSAND = "".join(f"author a{number} t\n" for number in range(999)) + "peer 2 p
 
 CASES = [
     session("an author and a peer", TWO, HELLO, ANN),
-    session("a connection begins as nobody's", TWO, '{"do":"create","pad":"p"}\n', NO_SESSION),
+    session("a connection begins unauthenticated", TWO, '{"do":"create","pad":"p"}\n', NO_SESSION),
     session("another token", TWO, hello("ann", "t9"), BAD_TOKEN),
     session("an unknown name", TWO, hello("bob", "t1"), BAD_TOKEN),
     session("a name that nobody can have", TWO, hello("Ann", "t1"), BAD_TOKEN),

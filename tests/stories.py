@@ -182,14 +182,14 @@ STORIES = [
         ("old", pull("[[1,1]]", 1), OLD_PEER),
     ),
     story("one room", BEGIN, ("ann", '{"do":"create","pad":"q"}', refusal(302, "NoSlot")), args=ARGS.replace("cells 2", "cells 1")),
-    story("a connection begins as nobody's", ("eve", CREATE, NO_SESSION), BEGIN),
+    story("a connection begins unauthenticated", ("eve", CREATE, NO_SESSION), BEGIN),
     run(
         "a title begins with a new server and no session",
         f"=== one\na\t{HELLO['ann']}\na\t{CREATE}\n=== two replica 300\na\t{CREATE}\na\t{HELLO['ann']}\na\t{CREATE}\n=== three\na\t{HELLO['ann']}\n",
         f"=== one\na\t{welcome('ann')}\na\t{CREATED}\n=== two replica 300\na\t{NO_SESSION}\na\t{welcome('ann', 300)}\na\t{CREATED}\n=== three\na\t{welcome('ann')}\n",
     ),
     run(
-        "an ended session is nobody's, and has left its pads",
+        "an ended session is unauthenticated, and has left its pads",
         f"a\t{HELLO['ann']}\na\t{CREATE}\n!a\na\t{CREATE}\na\t{HELLO['ann']}\na\t{read('text')}\na\t{JOIN}\n",
         f"a\t{welcome('ann')}\na\t{CREATED}\na\t{NO_SESSION}\na\t{welcome('ann')}\na\t{refusal(310, 'NotJoined')}\na\t" + '{"now":0,"ok":true,"visit":2}\n',
     ),

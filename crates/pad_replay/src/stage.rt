@@ -79,7 +79,7 @@ impl<S: Sequence> Stage<S> {
         Ok(reply_line(alloc, &reply)?)
     }
 
-    /// Ends a session. It is nobody's then.
+    /// Ends a session. It is unauthenticated then.
     pub fn end(&mut self, alloc: Global, name: &[u8]) -> Result<(), Fault> {
         let _ended = self.answer(alloc, name, &Step::End)?;
         Ok(())

@@ -10,8 +10,4 @@ mod loopback;
 #[cfg(test)]
 mod rounds;
 #[cfg(test)]
-mod sides;
-#[cfg(test)]
 mod stage;
-#[cfg(test)]
-mod stress;

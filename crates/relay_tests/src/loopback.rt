@@ -49,9 +49,9 @@ const SHOWN: &str = concat!(
     "{\"now\":3,\"ok\":true,\"seen\":[[1,2],[2,1]]}\n",
 );
 
-pub type PlainRow<'a, R> = Row<'a, PlainSeq, R, Open>;
+type PlainRow<'a, R> = Row<'a, PlainSeq, R, Open>;
 
-pub fn ask<P: Pads>(alloc: Global, pads: &mut P, line: &str) -> Result<Reply, Refusal> {
+fn ask<P: Pads>(alloc: Global, pads: &mut P, line: &str) -> Result<Reply, Refusal> {
     match read_request(alloc, line.as_bytes()) {
         Ok(request) => pads.call(alloc, &request),
         Err(refusal) => Err(refusal),
@@ -59,7 +59,7 @@ pub fn ask<P: Pads>(alloc: Global, pads: &mut P, line: &str) -> Result<Reply, Re
 }
 
 // Asks lines of which none is to be refused.
-pub fn ask_all<P: Pads>(alloc: Global, pads: &mut P, lines: &[&str]) -> Result<(), Refusal> {
+fn ask_all<P: Pads>(alloc: Global, pads: &mut P, lines: &[&str]) -> Result<(), Refusal> {
     for line in lines {
         let _answered = ask(alloc, pads, line)?;
     }
@@ -89,11 +89,7 @@ fn add_reply<P: Pads>(
 }
 
 // Adds the reply lines to an author who reads.
-pub fn add_readings<P: Pads>(
-    alloc: Global,
-    pads: &mut P,
-    lines: &mut String,
-) -> Result<(), Refusal> {
+fn add_readings<P: Pads>(alloc: Global, pads: &mut P, lines: &mut String) -> Result<(), Refusal> {
     ask_all(alloc, pads, &[HELLO, r#"{"do":"join","pad":"p"}"#])?;
     for reading in READINGS {
         add_reply(alloc, pads, reading, lines)?;
@@ -102,7 +98,7 @@ pub fn add_readings<P: Pads>(
 }
 
 // Adds the reply line to a peer who asks for the vector.
-pub fn add_vector<P: Pads>(
+fn add_vector<P: Pads>(
     alloc: Global,
     pads: &mut P,
     peer: u16,
@@ -123,7 +119,7 @@ fn shown<R: Wait>(alloc: Global, row: &PlainRow<'_, R>, peer: u16) -> Result<Str
     Ok(lines)
 }
 
-pub fn seats_of<R: Wait>(
+fn seats_of<R: Wait>(
     rt: &R,
     alloc: Global,
     cells: &[SharedPad<PlainSeq>],
@@ -133,7 +129,7 @@ pub fn seats_of<R: Wait>(
     Ok(seats)
 }
 
-pub fn connect<R: Net<Stream = TcpStream>>(rt: &R, port: u16) -> io::Result<TcpStream> {
+fn connect<R: Net<Stream = TcpStream>>(rt: &R, port: u16) -> io::Result<TcpStream> {
     let stream = TcpStream::connect(rt, ("127.0.0.1", port))?;
     stream.set_read_timeout(Some(Duration::from_secs(PATIENCE)))?;
     Ok(stream)
@@ -171,7 +167,7 @@ fn serve<R: Wait>(
     serve_client(alloc, &mut pads, &mut reader, &mut writer, 1, &Open)
 }
 
-pub fn row_of<'a, R: Wait>(
+fn row_of<'a, R: Wait>(
     rt: &'a R,
     cells: &'a [SharedPad<PlainSeq>],
     replica: u16,

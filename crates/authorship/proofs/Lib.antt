@@ -4,5 +4,7 @@ pub mod Changes
 pub mod Cuts
 pub mod Fewest
 pub mod Known
+pub mod Marks
 pub mod Puts
+pub mod Spread
 pub mod Takes

@@ -1,3 +1,4 @@
 pub mod Authors
 pub mod Cut
 pub mod Kept
+pub mod Places

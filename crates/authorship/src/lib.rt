@@ -5,6 +5,7 @@ mod delete;
 mod find;
 mod insert;
 mod kept;
+mod places;
 mod run_list;
 mod table;
 

@@ -4,6 +4,7 @@ pub mod ByRevision
 pub mod BlockScan
 pub mod RowChange
 pub mod RowCopy
+pub mod RowCounts
 pub mod RowErase
 pub mod RowKills
 pub mod RowLists

@@ -1,5 +1,5 @@
 -- Lists of runs and spans that grow at their end, and what the blocks show of authors and stamps.
-use Rattle.std.proofs.Common.{◌≡◌, ℕ, zero, suc, ◌+◌, ◌-◌, ◌≤◌, ◌<◌, inl, inr, Bool, true, false, cond, ◌&&◌, min, List, [], ◌∷◌, ◌++◌, length, take, drop, map, flat_map, sum_by, replicate, Option, Some, None, refl, sym, ap, ap₂, ◌∙◌, subst, arith, slice_get, slice_set, get_or, append_assoc, nat_le, eq-eqb}
+use Rattle.std.proofs.Common.{◌≡◌, ℕ, zero, suc, ◌+◌, ◌-◌, ◌≤◌, ◌<◌, true, false, min, List, [], ◌∷◌, ◌++◌, length, take, drop, map, flat_map, sum_by, replicate, Option, Some, refl, sym, ap, ap₂, ◌∙◌, arith, slice_get, slice_set, get_or, append_assoc, eq-eqb}
 use Rattle.std.specs.List.{AllByRecursion}
 use Rattle.std.proofs.lemmas.Bool.{and_from}
 use Rattle.std.proofs.lemmas.List.{map-append, take-map, drop-map}
@@ -18,11 +18,12 @@ use Rattle.ident_index.specs.Index.{stamp_behind}
 use Rattle.ident_index.proofs.Order.{same_stamps}
 use Rattle.blocks.specs.declared.block.Block.{Block}
 use Rattle.blocks.specs.Cells.{author_at, run_cells, stretch, block_cells, cells_of, IsWithin}
+use Rattle.slides.proofs.Carrying.{get_front, get_back, length-stamps}
 use Rattle.block_seq.specs.Rows.{shows, shown_len}
 use Rattle.block_seq.specs.RowLists.{shown_by, shown_stamps, with_more, with_stamps}
 use Rattle.block_seq.proofs.BlockCells.{length-stretch, length-run_cells}
 use Rattle.block_seq.proofs.Fronts.{same_author-true}
-use Rattle.block_seq.proofs.RowReads.{shown_cells, cells_at-blocks, get_front, get_back}
+use Rattle.block_seq.proofs.RowReads.{shown_cells, cells_at-blocks}
 
 same_author-refl : (a : Author) → same_author a a ≡ true
 same_author-refl a = and_from _ _ ((bytes_eq-Decides a.name a.name).1 refl) (eq-eqb a.origin a.origin refl)
@@ -158,10 +159,6 @@ stamps_window first (suc n) zero (suc more) h =
 stamps_window first zero (suc before) more h = absurd (omega arith)
 stamps_window first (suc n) (suc before) more h =
     stamps_window (next first) n before more (omega arith) ∙ ap (λ (k : Stamp). stamps_from k more) (let same : stamp_behind (next first) before ≡ stamp_behind first (suc before) = same_stamps _ _ (omega arith) refl in same)
-
-length-stamps : (first : Stamp) (n : ℕ) → length (stamps_from first n) ≡ n
-length-stamps first zero = refl
-length-stamps first (suc n) = ap suc (length-stamps (next first) n)
 
 pub length-shown_stamps : (rev : ℕ) (b : Block) → length (shown_stamps rev b) ≡ shown_len rev b
 length-shown_stamps rev b = split (shows rev b) (λ e. rw e (length-stamps b.first b.len)) (λ e. rw e refl)

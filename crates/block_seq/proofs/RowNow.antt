@@ -1,5 +1,5 @@
 -- What the last revision that changed something and the greatest counter tell of the blocks.
-use Rattle.std.proofs.Common.{◌≡◌, ℕ, zero, suc, ◌+◌, ◌-◌, ◌≤◌, ◌<◌, true, cond, ◌&&◌, max, List, [], ◌∷◌, ◌++◌, length, take, map, fold, sum_by, Option, Some, None, is_none, refl, sym, ap, ap₂, ◌∙◌, arith, slice_get, nat_le, le-leb, le-ltb, lt-ltb}
+use Rattle.std.proofs.Common.{◌≡◌, ℕ, zero, suc, ◌+◌, ◌-◌, ◌≤◌, true, cond, ◌&&◌, max, List, [], ◌∷◌, ◌++◌, length, take, map, fold, sum_by, Option, Some, None, is_none, refl, sym, ap₂, ◌∙◌, arith, nat_le, le-leb, le-ltb}
 use Rattle.std.specs.List.{AllByRecursion}
 use Rattle.std.proofs.lemmas.List.Sums.{sum_by-cons}
 use Rattle.std.proofs.lemmas.List.Sorted.{IsPermutation-sym}
@@ -15,11 +15,10 @@ use Rattle.pad_model.proofs.Each.{each-append, each-imply, each-permutation}
 use Rattle.pad_model.proofs.Members.{order-permutation}
 use Rattle.pad_model.proofs.Newer.{split}
 use Rattle.pad_model.proofs.Runs.{IsTree-run}
-use Rattle.ident_index.specs.Index.{stamp_behind}
 use Rattle.blocks.specs.declared.block.Block.{Block}
 use Rattle.blocks.specs.Blocks.{IsSized, weight_of}
 use Rattle.blocks.specs.Cells.{author_at, run_cells, stretch, block_cells, cells_of, IsWithin}
-use Rattle.block_seq.specs.Rows.{IsDated, shown_len, stamp_in}
+use Rattle.block_seq.specs.Rows.{IsDated, shown_len}
 use Rattle.block_seq.proofs.BlockCells.{length-stretch}
 
 -- ---- dates of cells
@@ -69,39 +68,12 @@ alive_shown born len latest rev (Some x) l b d =
 pub shown_now : (latest rev : ℕ) (b : Block) → latest ≤ rev → IsDated latest b → shown_len rev b ≡ weight_of b
 shown_now latest rev b l d = alive_shown b.born b.len latest rev b.died l d.0 d.1
 
-pub sum_now : (latest rev : ℕ) (bs : List Block) → latest ≤ rev → AllByRecursion (IsDated latest) bs → sum_by (shown_len rev) bs ≡ sum_by weight_of bs
-sum_now latest rev [] l d = refl
-sum_now latest rev (b ∷ bs) l d = sum_by-cons (shown_len rev) b bs ∙ ap₂ (λ m n. m + n) (shown_now latest rev b l d.0) (sum_now latest rev bs l d.1) ∙ sym (sum_by-cons weight_of b bs)
-
 pub front_now : (latest rev : ℕ) (bs : List Block) (i : ℕ) → latest ≤ rev → AllByRecursion (IsDated latest) bs → sum_by (shown_len rev) (take i bs) ≡ sum_by weight_of (take i bs)
 front_now latest rev [] zero l d = refl
 front_now latest rev [] (suc i) l d = refl
 front_now latest rev (b ∷ bs) zero l d = refl
 front_now latest rev (b ∷ bs) (suc i) l d =
     sum_by-cons (shown_len rev) b (take i bs) ∙ ap₂ (λ m n. m + n) (shown_now latest rev b l d.0) (front_now latest rev bs i l d.1) ∙ sym (sum_by-cons weight_of b (take i bs))
-
--- the stamp at a place, by the block that it falls in
-pub stamp_now : (latest rev : ℕ) (bs : List Block) (i rank offset : ℕ) (b : Block) → latest ≤ rev → AllByRecursion (IsDated latest) bs → sum_by weight_of (take rank bs) + offset ≡ i → offset < weight_of b → slice_get bs rank ≡ Some b
-    → stamp_in rev bs i ≡ Some (stamp_behind b.first offset)
-stamp_now latest rev [] i rank offset b l d e h is = absurd (cc)
-stamp_now latest rev (x ∷ bs) i zero offset b l d e h is =
-    let same : x ≡ b = cc in
-    let size = shown_now latest rev x l d.0 in
-    let weight : weight_of x ≡ weight_of b = ap weight_of same in
-    let at : offset ≡ i = omega (arith, e) in
-    rw (lt-ltb i (shown_len rev x) (omega (arith, at, h, size, weight))) (ap₂ (λ (y : Block) n. Some (stamp_behind y.first n)) same (sym at))
-stamp_now latest rev (x ∷ bs) i (suc rank) offset b l d e h is =
-    let size = shown_now latest rev x l d.0 in
-    let sum = sum_by-cons weight_of x (take rank bs) in
-    rw (le-ltb i (shown_len rev x) (omega (arith, e, size, sum)))
-    (stamp_now latest rev bs (i - shown_len rev x) rank offset b l d.1 (omega (arith, e, size, sum)) h is)
-
-pub none_now : (latest rev : ℕ) (bs : List Block) (i : ℕ) → latest ≤ rev → AllByRecursion (IsDated latest) bs → sum_by weight_of bs ≤ i → stamp_in rev bs i ≡ None
-none_now latest rev [] i l d h = refl
-none_now latest rev (x ∷ bs) i l d h =
-    let size = shown_now latest rev x l d.0 in
-    let sum = sum_by-cons weight_of x bs in
-    rw (le-ltb i (shown_len rev x) (omega (arith, h, size, sum))) (none_now latest rev bs (i - shown_len rev x) l d.1 (omega (arith, h, size, sum)))
 
 -- ---- the greatest counter
 clock_bound : (most low : ℕ) (cells : List Cell) → low ≤ most → AllByRecursion (λ c. c.stamp.counter ≤ most) cells → fold (λ m (c : Cell). max m c.stamp.counter) low cells ≤ most

@@ -1,5 +1,5 @@
 -- What the cells of blocks show at a revision.
-use Rattle.std.proofs.Common.{◌≡◌, ℕ, zero, suc, ◌+◌, ◌-◌, ◌≤◌, ◌<◌, inl, inr, Bool, true, false, cond, ◌&&◌, ltb, List, [], ◌∷◌, ◌++◌, length, take, drop, map, filter, flat_map, sum_by, Option, Some, None, refl, sym, ap, ap₂, ◌∙◌, subst, arith, slice_get, option_map, length-append, nat_le, lt-ltb, le-ltb, fold, max, get_or, drop-cons, add-one}
+use Rattle.std.proofs.Common.{◌≡◌, ℕ, zero, suc, ◌+◌, ◌-◌, ◌≤◌, ◌<◌, inl, inr, Bool, true, false, cond, ◌&&◌, List, [], ◌∷◌, ◌++◌, length, take, drop, map, filter, flat_map, sum_by, Option, Some, refl, sym, ap, ap₂, ◌∙◌, subst, arith, slice_get, option_map, length-append, nat_le, lt-ltb, le-ltb, fold, max, get_or, drop-cons, add-one}
 use Rattle.std.specs.List.{AllByRecursion, list_all}
 use Rattle.std.proofs.lemmas.Bool.{cases_lt}
 use Rattle.std.proofs.lemmas.List.{map-append}
@@ -16,6 +16,7 @@ use Rattle.ident_index.proofs.Order.{same_stamps}
 use Rattle.blocks.specs.declared.block.Block.{Block}
 use Rattle.blocks.specs.Blocks.{IsSized}
 use Rattle.blocks.specs.Cells.{author_at, run_cells, stretch, block_cells, cells_of, IsWithin}
+use Rattle.slides.proofs.Carrying.{get_front, get_back}
 use Rattle.block_seq.specs.Rows.{shows, shown_len, shown_stretch, stamp_in}
 use Rattle.block_seq.proofs.BlockCells.{length-run_cells, length-stretch}
 
@@ -77,16 +78,6 @@ text-at rev authors text bs = ap (map (λ c. c.character)) (cells_at-blocks rev 
         (texts bs)
 
 -- ---- the stamp at a place
-pub get_front : {A : Type 0} (xs ys : List A) (i : ℕ) → i < length xs → slice_get (xs ++ ys) i ≡ slice_get xs i
-get_front [] ys i h = absurd (omega arith)
-get_front (x ∷ xs) ys zero h = refl
-get_front (x ∷ xs) ys (suc i) h = get_front xs ys i (omega arith)
-
-pub get_back : {A : Type 0} (xs ys : List A) (i j : ℕ) → i ≡ length xs + j → slice_get (xs ++ ys) i ≡ slice_get ys j
-get_back [] ys i j e = ap (slice_get ys) (let same : i ≡ j = omega (arith, e) in same)
-get_back (x ∷ xs) ys zero j e = absurd (omega arith)
-get_back (x ∷ xs) ys (suc i) j e = get_back xs ys i j (omega arith)
-
 stamp-run : (author : Author) (born : ℕ) (died : Option ℕ) (first : Stamp) (p : Option Stamp) (text : List ℕ) (i : ℕ) → i < length text → option_map (λ c. c.stamp) (slice_get (run_cells author born died first p text) i) ≡ Some (stamp_behind first i)
 stamp-run author born died first p [] i h = absurd (omega arith)
 stamp-run author born died first p (c ∷ text) zero h = ap Some (let same : first ≡ stamp_behind first 0 = same_stamps _ _ (omega arith) refl in same)
@@ -140,22 +131,6 @@ passes_one f xs i x h is pass so_far =
     sym (ap (list_all f) (drop-cons xs i x h) ∙ (let first : f (get_or xs i x) ≡ true = ap f (sym is) ∙ pass in rw (first, add-one i) refl)) ∙ so_far
 
 -- ---- what stands before a character
-pub sum_take : {A : Type 0} (g : A → ℕ) (xs : List A) (i : ℕ) (x : A) → slice_get xs i ≡ Some x → sum_by g (take (i + 1) xs) ≡ sum_by g (take i xs) + g x
-sum_take g [] i x e = absurd (cc)
-sum_take g (y ∷ xs) zero x e = let same : y ≡ x = cc in sum_by-cons g y [] ∙ (let gs = ap g same in omega (arith, gs))
-sum_take g (y ∷ xs) (suc i) x e =
-    let rest = sum_take g xs i x e in
-    rw Rattle.std.proofs.Common.suc-add (rw (sum_by-cons g y (take (i + 1) xs), sum_by-cons g y (take i xs)) (omega (arith, rest)))
-
-pub front_small : (rev : ℕ) (bs : List Block) (i : ℕ) → sum_by (shown_len rev) (take i bs) ≤ sum_by (λ b. b.len) bs
-front_small rev [] zero = omega arith
-front_small rev [] (suc i) = omega arith
-front_small rev (b ∷ bs) zero = omega arith
-front_small rev (b ∷ bs) (suc i) =
-    let rest = front_small rev bs i in
-    let here : shown_len rev b ≤ b.len = split (shows rev b) (λ e. rw e (omega arith)) (λ e. rw e (omega arith)) in
-    rw (sum_by-cons (shown_len rev) b (take i bs), sum_by-cons (λ (x : Block). x.len) b bs) (omega (arith, rest, here))
-
 module _ (rev : ℕ) (author : Author) (born : ℕ) (died : Option ℕ) (a : Stamp) (rest : List Cell) where
   pub apart_from : (s : Stamp) (n : ℕ) → (Covers s (suc n) a → ⊥) → same_stamp s a ≡ false
   apart_from s n none = split (same_stamp s a)

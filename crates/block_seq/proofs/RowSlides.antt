@@ -1,5 +1,5 @@
 -- How the slides of a row grow: by an insertion, by a death, and not at all where no character changes.
-use Rattle.std.proofs.Common.{◌≡◌, ◌⊎◌, inl, inr, ℕ, zero, suc, ◌+◌, ◌-◌, ◌≤◌, ◌<◌, Bool, true, false, cond, ◌&&◌, List, [], ◌∷◌, ◌++◌, length, take, drop, map, flat_map, sum_by, count_by, Option, Some, None, is_none, refl, sym, ap, ap₂, ◌∙◌, subst, arith, slice_get, slice_set, append_assoc, nat_le, le-leb, le-ltb, lt-ltb, length-append}
+use Rattle.std.proofs.Common.{◌≡◌, ℕ, zero, suc, ◌+◌, ◌-◌, ◌≤◌, ◌<◌, true, false, cond, ◌&&◌, List, [], ◌∷◌, ◌++◌, length, take, drop, map, flat_map, sum_by, Option, Some, None, is_none, refl, sym, ap, ap₂, ◌∙◌, subst, arith, slice_get, slice_set, nat_le, le-leb, le-ltb, lt-ltb, length-append}
 use Rattle.std.specs.List.{AllByRecursion, insert}
 use Rattle.std.proofs.lemmas.Bool.{lt-leb}
 use Rattle.std.proofs.lemmas.List.{take-append-drop, take-map, drop-map, map-append}
@@ -20,6 +20,7 @@ use Rattle.blocks.specs.Blocks.{IsKept, IsSized, weight_of, without_labels, unla
 use Rattle.blocks.specs.Cells.{author_at, run_cells, stretch, block_cells, cells_of, SameCells}
 use Rattle.slides.specs.Slides.{Leads, Moves, since}
 use Rattle.slides.specs.declared.slide.Slide.{Slide}
+use Rattle.slides.proofs.Carrying.{length-stamps}
 use Rattle.slides.proofs.Slides.{leads-then, since-later, since-none, sorted-then}
 use Rattle.block_seq.specs.Rows.{IsBlockSeq, IsDated}
 use Rattle.block_seq.specs.RowLists.{shown_stamps}
@@ -48,10 +49,6 @@ stamps_now rev (b ∷ bs) d = ap₂ (λ x y. x ++ y) (list_now b.born rev b.died
 
 pub dated_later : (rev later : ℕ) (bs : List Block) → rev ≤ later → AllByRecursion (IsDated rev) bs → AllByRecursion (IsDated later) bs
 dated_later rev later bs l h = each-imply (IsDated rev) (IsDated later) (λ b k. (let x : b.born ≤ rev = k.0 in omega arith, λ died e. (let x : died ≤ rev = k.1 died e in omega arith))) bs h
-
-length-stamps : (first : Stamp) (n : ℕ) → length (stamps_from first n) ≡ n
-length-stamps first zero = refl
-length-stamps first (suc n) = ap suc (length-stamps (Rattle.pad_model.specs.Character.next first) n)
 
 length-live : (first : Stamp) (n : ℕ) (died : Option ℕ) → length (cond (is_none died) (stamps_from first n) []) ≡ cond (is_none died) n 0
 length-live first n None = length-stamps first n

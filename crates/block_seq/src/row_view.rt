@@ -1,4 +1,12 @@
 //! What a sequence of blocks lends of itself.
+ghost use Rattle.std.specs.Prelude.{◌≡◌, List, length, sum_by};
+ghost use Rattle.ident_index.specs.Index.{Index};
+ghost use Rattle.blocks.specs.Blocks.{IsKept};
+ghost use Rattle.blocks.specs.Cells.{cells_of};
+ghost use Rattle.blocks.specs.declared.block.Block.{Block as BlockValue};
+ghost use Rattle.block_seq.specs.Rows.{IsRowOf};
+
+use crate::rows::BlockSeq;
 use blocks::Block;
 use ident_index::IdentIndex;
 use pad_model::Author;
@@ -12,4 +20,44 @@ pub struct KeptRow<'a> {
     pub index: &'a IdentIndex,
     pub text: &'a [char],
     pub authors: &'a [Author],
+}
+
+impl BlockSeq {
+    /// What the sequence keeps, for measures and tests: how it is cut into blocks, and their labels, are promised to nobody.
+    pub fn kept(&self) -> KeptRow<'_>
+        ensures index { IsKept result.index.now result.tree.now.items }
+        ensures full { length result.text.now ≡ sum_by (λ b. b.len) result.tree.now.items }
+        ensures blocks { length result.tree.now.items ≡ self.now.blocks }
+        ensures cells { cells_of result.authors.now result.text.now result.tree.now.items ≡ self.now.cells }
+    {
+        KeptRow {
+            tree: &self.tree,
+            index: &self.index,
+            text: self.text.as_slice(),
+            authors: self.authors.as_slice(),
+        }
+    }
+
+    /// The blocks, in the order of the text.
+    pub fn tree(&self) -> &WeightTree<Block>
+        ensures row { (m : Index) × IsRowOf self.now.cells m result.now.items }
+        ensures blocks { length result.now.items ≡ self.now.blocks }
+    {
+        &self.tree
+    }
+
+    /// Where the blocks are found by the stamps of their characters.
+    pub fn index(&self) -> &IdentIndex
+        ensures { (bs : List BlockValue) × IsRowOf self.now.cells result.now bs }
+    {
+        &self.index
+    }
+
+    /// How many blocks there are. An edit adds at most two for each insertion and each span of a deletion.
+    pub fn blocks(&self) -> u64
+        ensures row { (m : Index) × (bs : List BlockValue) × IsRowOf self.now.cells m bs × (result ≡ length bs) }
+        ensures number { result ≡ self.now.blocks }
+    {
+        self.tree.len() as u64
+    }
 }

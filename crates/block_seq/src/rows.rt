@@ -1,17 +1,13 @@
 //! The sequence of blocks: a balanced tree of them, an index of their stamps, and one text that they only add to.
-ghost use Rattle.std.specs.Prelude.{◌≡◌, List, ◌+◌, ◌≤◌, [], IsTrue, IfErr, MatchResult, Ok, OnOk, count_by, length, map, sum_by};
+ghost use Rattle.std.specs.Prelude.{◌≡◌, ◌+◌, ◌*◌, ◌≤◌, [], IsTrue, IfErr, MatchResult, Ok, OnOk, count_by, length, map, sum_by};
 ghost use Rattle.std.specs.List.{AllByRecursion, list_all};
 ghost use Rattle.pad_model.specs.Answers.{Answers};
-ghost use Rattle.pad_model.specs.Cell.{IsBy, character_of, is_hidden_by, with_run, without_spans};
+ghost use Rattle.pad_model.specs.Cell.{IsBy, character_of, delete_spans as delete_cells, insert_run as insert_cells, is_hidden_by, with_run, without_spans};
+ghost use Rattle.pad_model.specs.Checked.{are_parts, is_edit, is_run, is_span};
 ghost use Rattle.pad_model.specs.Log.{has_spans as holds_spans, run_may_join};
-ghost use Rattle.block_seq.specs.RowParts.{AllJoin, with_all};
-ghost use Rattle.blocks.specs.Blocks.{IsKept};
-ghost use Rattle.blocks.specs.declared.block.Block.{Block as BlockValue};
-ghost use Rattle.ident_index.specs.Index.{Index};
-ghost use Rattle.block_seq.specs.Rows.{IsRowOf};
-ghost use Rattle.blocks.specs.Cells.{cells_of};
+ghost use Rattle.pad_model.specs.Parts.{apply as apply_parts};
 ghost use Rattle.pad_model.specs.declared.limits.TheConstants.{MAX_CHARACTERS};
-ghost use Rattle.pad_model.specs.Checked.{is_run, is_span};
+ghost use Rattle.block_seq.specs.RowParts.{AllJoin, count_changes, with_all};
 
 use crate::authors::place_author;
 use crate::parts::count_inserted;
@@ -24,7 +20,6 @@ use crate::row_past::{PastRow, count_front, count_visible, find_visible, read_sp
 use crate::row_readers::{is_at_most, read_text};
 use crate::row_slides::{count_kills, push_shown};
 use crate::row_text::push_text;
-use crate::row_view::KeptRow;
 use crate::run_place::{has_character, place_run, run_fits};
 use blocks::{Block, Spot, find_block, put_block};
 use ident_index::IdentIndex;
@@ -40,10 +35,10 @@ use weight_tree::WeightTree;
 /// A text in blocks.
 #[derive(Drop)]
 pub struct BlockSeq {
-    tree: WeightTree<Block>,
-    index: IdentIndex,
-    text: Vec<char>,
-    authors: Vec<Author>,
+    pub(crate) tree: WeightTree<Block>,
+    pub(crate) index: IdentIndex,
+    pub(crate) text: Vec<char>,
+    pub(crate) authors: Vec<Author>,
     /// What came and went, in the order in which it did.
     slides: Vec<Slide>,
     /// The last revision that changed something.
@@ -53,55 +48,18 @@ pub struct BlockSeq {
 }
 
 impl Model for BlockSeq {
-    ghost use Rattle.std.specs.Prelude.{List};
-    ghost use Rattle.pad_model.specs.Cell.{Cell};
+    ghost use Rattle.block_seq.specs.Rows.{CellsInBlocks, cells_in};
 
-    ghost Value = { List Cell };
+    ghost Value = { CellsInBlocks };
 
-    ghost use Rattle.blocks.specs.Cells.{cells_of};
     ghost use Rattle.block_seq.specs.RowSlides.{IsSlidRow};
 
-    ghost view = { λ s. cells_of s.authors.items s.text.items s.tree.items };
+    ghost view = { λ s. cells_in s.authors.items s.text.items s.tree.items };
 
     ghost invariant = { λ s. IsSlidRow s.latest s.clock s.authors.items s.text.items s.slides.items s.index s.tree.items };
 }
 
 impl BlockSeq {
-    /// What the sequence keeps, for measures and tests: how it is cut into blocks, and their labels, are promised to nobody.
-    pub fn kept(&self) -> KeptRow<'_>
-        ensures index { IsKept result.index.now result.tree.now.items }
-        ensures full { length result.text.now ≡ sum_by (λ b. b.len) result.tree.now.items }
-        ensures cells { cells_of result.authors.now result.text.now result.tree.now.items ≡ self.now }
-    {
-        KeptRow {
-            tree: &self.tree,
-            index: &self.index,
-            text: self.text.as_slice(),
-            authors: self.authors.as_slice(),
-        }
-    }
-
-    /// The blocks, in the order of the text.
-    pub fn tree(&self) -> &WeightTree<Block>
-        ensures { (m : Index) × IsRowOf self.now m result.now.items }
-    {
-        &self.tree
-    }
-
-    /// Where the blocks are found by the stamps of their characters.
-    pub fn index(&self) -> &IdentIndex
-        ensures { (bs : List BlockValue) × IsRowOf self.now result.now bs }
-    {
-        &self.index
-    }
-
-    /// How many blocks there are. An insertion adds two at most, and a deletion two for each span.
-    pub fn blocks(&self) -> u64
-        ensures { (m : Index) × (bs : List BlockValue) × IsRowOf self.now m bs × (result ≡ length bs) }
-    {
-        self.tree.len() as u64
-    }
-
     /// Erases the characters of the spans and puts a run at its place, or changes nothing.
     fn change(
         &mut self,
@@ -112,12 +70,13 @@ impl BlockSeq {
         rev: u64,
     ) -> Result<u64, Refusal>
         requires spans { IsTrue (list_all is_span spans.now) }
-        requires there { IsTrue (holds_spans character_of self.old spans.now) }
+        requires there { IsTrue (holds_spans character_of self.old.cells spans.now) }
         requires run { IsTrue (is_run author.now.origin run.now) }
-        requires fits { IsTrue (run_may_join character_of self.old run.now.first run.now.after) }
-        requires room { length self.old + length run.now.text ≤ MAX_CHARACTERS }
-        requires latest { AllByRecursion (IsBy rev) self.old }
-        ensures { Answers self.old (Ok (count_by (is_hidden_by spans.now) self.old), with_run rev run.now author.now (without_spans rev spans.now self.old)) result self.new }
+        requires fits { IsTrue (run_may_join character_of self.old.cells run.now.first run.now.after) }
+        requires room { length self.old.cells + length run.now.text ≤ MAX_CHARACTERS }
+        requires latest { AllByRecursion (IsBy rev) self.old.cells }
+        ensures answers { Answers self.old.cells (Ok (count_by (is_hidden_by spans.now) self.old.cells), with_run rev run.now author.now (without_spans rev spans.now self.old.cells)) result self.new.cells }
+        ensures rises { self.new.blocks ≤ self.old.blocks + 2 * (1 + length spans.now) }
     {
         cut_spans(alloc, &mut self.tree, &mut self.index, spans)?;
         let author = place_author(&mut self.authors, author)?;
@@ -149,10 +108,11 @@ impl BlockSeq {
     /// Puts a run at its place in the preorder, or changes nothing.
     fn put(&mut self, alloc: Global, run: &Run, author: &Author, rev: u64) -> Result<(), Refusal>
         requires run { IsTrue (is_run author.now.origin run.now) }
-        requires fits { IsTrue (run_may_join character_of self.old run.now.first run.now.after) }
-        requires room { length self.old + length run.now.text ≤ MAX_CHARACTERS }
-        requires latest { AllByRecursion (IsBy rev) self.old }
-        ensures { Answers self.old (Ok tt, with_run rev run.now author.now self.old) result self.new }
+        requires fits { IsTrue (run_may_join character_of self.old.cells run.now.first run.now.after) }
+        requires room { length self.old.cells + length run.now.text ≤ MAX_CHARACTERS }
+        requires latest { AllByRecursion (IsBy rev) self.old.cells }
+        ensures answers { Answers self.old.cells (Ok tt, with_run rev run.now author.now self.old.cells) result self.new.cells }
+        ensures rises { self.new.blocks ≤ self.old.blocks + 2 }
     {
         self.change(alloc, &[], run, author, rev)?;
         Ok(())
@@ -167,11 +127,12 @@ impl BlockSeq {
         rev: u64,
     ) -> Result<(), Refusal>
         requires runs { IsTrue (list_all (λ run. is_run author.now.origin run.now) runs.now) }
-        requires join { AllJoin rev author.now self.old (map (λ run. run.now) runs.now) }
-        requires room { length self.old + sum_by (λ run. length run.now.text) runs.now ≤ MAX_CHARACTERS }
-        requires latest { AllByRecursion (IsBy rev) self.old }
-        ensures ok { OnOk result (self.new ≡ with_all rev author.now self.old (map (λ run. run.now) runs.now)) }
+        requires join { AllJoin rev author.now self.old.cells (map (λ run. run.now) runs.now) }
+        requires room { length self.old.cells + sum_by (λ run. length run.now.text) runs.now ≤ MAX_CHARACTERS }
+        requires latest { AllByRecursion (IsBy rev) self.old.cells }
+        ensures ok { OnOk result (self.new.cells ≡ with_all rev author.now self.old.cells (map (λ run. run.now) runs.now)) }
         ensures memory { IfErr result (λ e. e ≡ Refusal.Memory) }
+        ensures rises { self.new.blocks ≤ self.old.blocks + 2 * length runs.now }
     {
         let _text = &self.text;
         for run in runs {
@@ -191,12 +152,13 @@ impl BlockSeq {
         rev: u64,
     ) -> Result<u64, Refusal>
         requires spans { IsTrue (list_all is_span spans.now) }
-        requires there { IsTrue (holds_spans character_of self.old spans.now) }
+        requires there { IsTrue (holds_spans character_of self.old.cells spans.now) }
         requires runs { IsTrue (list_all (λ run. is_run author.now.origin run.now) runs.now) }
-        requires join { AllJoin rev author.now (without_spans rev spans.now self.old) (map (λ run. run.now) runs.now) }
-        requires room { length self.old + sum_by (λ run. length run.now.text) runs.now ≤ MAX_CHARACTERS }
-        requires latest { AllByRecursion (IsBy rev) self.old }
-        ensures { Answers self.old (Ok (count_by (is_hidden_by spans.now) self.old), with_all rev author.now (without_spans rev spans.now self.old) (map (λ run. run.now) runs.now)) result self.new }
+        requires join { AllJoin rev author.now (without_spans rev spans.now self.old.cells) (map (λ run. run.now) runs.now) }
+        requires room { length self.old.cells + sum_by (λ run. length run.now.text) runs.now ≤ MAX_CHARACTERS }
+        requires latest { AllByRecursion (IsBy rev) self.old.cells }
+        ensures answers { Answers self.old.cells (Ok (count_by (is_hidden_by spans.now) self.old.cells), with_all rev author.now (without_spans rev spans.now self.old.cells) (map (λ run. run.now) runs.now)) result self.new.cells }
+        ensures rises { self.new.blocks ≤ self.old.blocks + 2 * (length runs.now + length spans.now) }
     {
         let mut copy = self.copy(alloc)?;
         let hidden = copy.erase(alloc, spans, rev)?;
@@ -227,9 +189,10 @@ impl BlockSeq {
     /// Erases the characters of the spans.
     fn erase(&mut self, alloc: Global, spans: &[Span], rev: u64) -> Result<u64, Refusal>
         requires checked { IsTrue (list_all is_span spans.now) }
-        requires there { IsTrue (holds_spans character_of self.old spans.now) }
-        requires latest { AllByRecursion (IsBy rev) self.old }
-        ensures { Answers self.old (Ok (count_by (is_hidden_by spans.now) self.old), without_spans rev spans.now self.old) result self.new }
+        requires there { IsTrue (holds_spans character_of self.old.cells spans.now) }
+        requires latest { AllByRecursion (IsBy rev) self.old.cells }
+        ensures answers { Answers self.old.cells (Ok (count_by (is_hidden_by spans.now) self.old.cells), without_spans rev spans.now self.old.cells) result self.new.cells }
+        ensures rises { self.new.blocks ≤ self.old.blocks + 2 * length spans.now }
     {
         cut_spans(alloc, &mut self.tree, &mut self.index, spans)?;
         let kills = count_kills(&self.tree, spans);
@@ -241,7 +204,7 @@ impl BlockSeq {
 }
 
 impl Sequence for BlockSeq {
-    ghost cells = { λ s. s };
+    ghost cells = { λ s. s.cells };
 
     fn empty(alloc: Global) -> Result<BlockSeq, Refusal> {
         Ok(BlockSeq {
@@ -261,7 +224,12 @@ impl Sequence for BlockSeq {
         run: &Run,
         author: &Author,
         rev: u64,
-    ) -> Result<(), Refusal> {
+    ) -> Result<(), Refusal>
+        requires checked { IsTrue (is_run author.now.origin run.now) }
+        requires latest { AllByRecursion (IsBy rev) self.old.cells }
+        ensures answers { Answers self.old.cells (insert_cells rev run.now author.now self.old.cells) result self.new.cells }
+        ensures rises { self.new.blocks ≤ self.old.blocks + 2 }
+    {
         if !run_fits(&self.tree, &self.index, run.first, run.after) {
             return Err(Refusal::PeerFault);
         }
@@ -271,7 +239,12 @@ impl Sequence for BlockSeq {
         self.put(alloc, run, author, rev)
     }
 
-    fn delete_spans(&mut self, spans: &[Span], rev: u64) -> Result<u64, Refusal> {
+    fn delete_spans(&mut self, spans: &[Span], rev: u64) -> Result<u64, Refusal>
+        requires checked { IsTrue (list_all is_span spans.now) }
+        requires latest { AllByRecursion (IsBy rev) self.old.cells }
+        ensures answers { Answers self.old.cells (delete_cells rev spans.now self.old.cells) result self.new.cells }
+        ensures rises { self.new.blocks ≤ self.old.blocks + 2 * length spans.now }
+    {
         if !has_spans(&self.tree, &self.index, spans) {
             return Err(Refusal::PeerFault);
         }
@@ -285,7 +258,13 @@ impl Sequence for BlockSeq {
         parts: &[Part],
         author: &Author,
         rev: u64,
-    ) -> Result<u64, Refusal> {
+    ) -> Result<u64, Refusal>
+        requires checked { IsTrue (are_parts author.now.origin parts.now) }
+        requires edits { IsTrue (list_all is_edit parts.now) }
+        requires latest { AllByRecursion (IsBy rev) self.old.cells }
+        ensures answers { Answers self.old.cells (apply_parts rev parts.now author.now self.old.cells) result self.new.cells }
+        ensures rises { self.new.blocks ≤ self.old.blocks + 2 * count_changes parts.now }
+    {
         if !parts_fit(&self.tree, &self.index, parts) {
             return Err(Refusal::PeerFault);
         }

@@ -12,7 +12,7 @@ pub fn between(a: u64, b: u64) -> Option<u64>
     Some(a + (b - a) / 2)
 }
 
-/// The label of the `i`th of `n` blocks that are labelled anew, counted from 1: they lie evenly
+/// The label of the `i`th of `n` blocks that get new labels, counted from 1: they lie evenly
 /// between 0 and the greatest number, and leave room on both sides.
 pub fn spaced(i: u64, n: u64) -> u64
     requires first { 1 ≤ i }

@@ -8,6 +8,7 @@ use Rattle.block_seq.proofs.RowNow.{dated_blocks}
 use Rattle.block_seq.proofs.RowSlides.{slid_cut}
 use Rattle.block_seq.proofs.RowErase.{all_aligned, killed_count, row_killed}
 use Rattle.block_seq.proofs.RowSteps.{same_cells_kept}
+use Rattle.block_seq.proofs.RowCounts.{cells_seen}
 use Rattle.block_seq.proofs.rows.BlockSeq.erase.Goals as goal
 use Rattle.block_seq.proofs.rows.BlockSeq.erase.Goals.{After-cut_spans, After-kill_named-hidden}
 
@@ -35,16 +36,16 @@ kill_named-hidden-requires-clause-slid c =
 pub kill_named-hidden-requires-clause-dated : goal.kill_named-hidden-requires-clause-dated
 kill_named-hidden-requires-clause-dated c =
     let cut = row (goal.at.kill_named-hidden-requires-clause-dated c).After-cut_spans in
-    let cells = c.cut_spans.ensures.cells.cells c.self.inside.authors.items c.self.inside.text.items c.self.invariant.row.within ∙ c.self.view_is in
+    let cells = c.cut_spans.ensures.cells.cells c.self.inside.authors.items c.self.inside.text.items c.self.invariant.row.within ∙ (cells_seen c.self.view_is) in
     dated_blocks c.args.rev c.self.inside.authors.items c.self.inside.text.items c.cut_spans.new.tree.items cut.within cut.kept.listed.sized (subst (AllByRecursion (IsBy c.args.rev)) (sym cells) c.requires.latest)
 
 done : (c : After-kill_named-hidden) → (IsBlockSeq (max c.self.inside.latest c.args.rev) c.self.inside.clock c.self.inside.authors.items c.self.inside.text.items c.cut_spans.new.index c.kill_named-hidden.new.tree.items
-    × (cells_of c.self.inside.authors.items c.self.inside.text.items c.kill_named-hidden.new.tree.items ≡ without_spans c.args.rev c.args.spans.now c.args.self.now))
-    × (c.kill_named-hidden.result ≡ count_by (is_hidden_by c.args.spans.now) c.args.self.now)
+    × (cells_of c.self.inside.authors.items c.self.inside.text.items c.kill_named-hidden.new.tree.items ≡ without_spans c.args.rev c.args.spans.now c.args.self.now.cells))
+    × (c.kill_named-hidden.result ≡ count_by (is_hidden_by c.args.spans.now) c.args.self.now.cells)
 done c =
     let cut = same_cells_kept c.self.inside.authors.items c.self.inside.text.items c.self.inside.index c.cut_spans.new.index c.self.inside.tree.items c.cut_spans.new.tree.items c.self.invariant.row c.cut_spans.ensures.kept c.cut_spans.ensures.cells in
-    let is = cut.1 ∙ c.self.view_is in (
-      row_killed (max c.self.inside.latest c.args.rev) c.args.rev c.args.spans.now c.self.inside.authors.items c.self.inside.text.items c.cut_spans.new.index c.cut_spans.new.tree.items c.kill_named-hidden.new.tree.items c.args.self.now (omega arith) (omega arith) cut.0 is c.in_ok-cut_spans.ensures.cut c.kill_named-hidden.ensures.kept c.kill_named-hidden.ensures.items,
+    let is = cut.1 ∙ (cells_seen c.self.view_is) in (
+      row_killed (max c.self.inside.latest c.args.rev) c.args.rev c.args.spans.now c.self.inside.authors.items c.self.inside.text.items c.cut_spans.new.index c.cut_spans.new.tree.items c.kill_named-hidden.new.tree.items c.args.self.now.cells (omega arith) (omega arith) cut.0 is c.in_ok-cut_spans.ensures.cut c.kill_named-hidden.ensures.kept c.kill_named-hidden.ensures.items,
       c.kill_named-hidden.ensures.hidden
           ∙ sym (killed_count c.args.spans.now c.self.inside.authors.items c.self.inside.text.items c.cut_spans.new.tree.items cut.0.within (all_aligned c.cut_spans.new.index c.cut_spans.new.tree.items c.args.spans.now cut.0.kept.listed c.in_ok-cut_spans.ensures.cut))
           ∙ ap (count_by (is_hidden_by c.args.spans.now)) is,
@@ -57,7 +58,7 @@ invariant_of-self-2 c = record {
   slid = c.kill_named-hidden.ensures.slid;
 }
 
-pub returns : goal.returns
-returns c =
-    let d = done (goal.at.returns c).After-kill_named-hidden in
+pub returns-clause-answers : goal.returns-clause-answers
+returns-clause-answers c =
+    let d = done (goal.at.returns-clause-answers c).After-kill_named-hidden in
     inr (ap₂ (λ n l. (Ok n, l)) (sym d.1) (sym d.0.1))

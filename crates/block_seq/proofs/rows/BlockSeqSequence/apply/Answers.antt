@@ -18,57 +18,58 @@ use Rattle.pad_model.proofs.Parts.{part_fits-erased}
 use Rattle.block_seq.specs.RowParts.{AllJoin, with_all}
 use Rattle.block_seq.proofs.RowLists.{get_here}
 use Rattle.block_seq.proofs.RowChange.{lent_checked, lent_sizes, no_run, one_run, one_room}
+use Rattle.block_seq.proofs.RowCounts.{cells_seen}
 use Rattle.block_seq.proofs.rows.BlockSeqSequence.apply.Goals as goal
 use Rattle.block_seq.proofs.rows.BlockSeqSequence.apply.Goals.{After-parts_fit, After-count_inserted-more, In_ok-runs}
 
 -- whether the parts fit the cells
-fit : (c : After-parts_fit) (b : Bool) → c.parts_fit.result ≡ b → list_all (part_fits character_of c.args.self.now) c.args.parts.now ≡ b
+fit : (c : After-parts_fit) (b : Bool) → c.parts_fit.result ≡ b → list_all (part_fits character_of c.args.self.now.cells) c.args.parts.now ≡ b
 fit c b e =
-    ap (λ l. list_all (part_fits character_of l) c.args.parts.now) (sym c.self.view_is)
+    ap (λ l. list_all (part_fits character_of l) c.args.parts.now) (sym (cells_seen c.self.view_is))
     ∙ sym (c.parts_fit.ensures c.self.inside.authors.items c.self.inside.text.items c.self.invariant.row.within) ∙ e
 
 -- the cells fill the text
-size : (c : After-parts_fit) → length c.args.self.now ≡ length c.self.inside.text.items
-size c = ap length (sym c.self.view_is) ∙ length-cells c.self.inside.authors.items c.self.inside.text.items c.self.inside.tree.items c.self.invariant.row.within ∙ sym c.self.invariant.row.full
+size : (c : After-parts_fit) → length c.args.self.now.cells ≡ length c.self.inside.text.items
+size c = ap length (sym (cells_seen c.self.view_is)) ∙ length-cells c.self.inside.authors.items c.self.inside.text.items c.self.inside.tree.items c.self.invariant.row.within ∙ sym c.self.invariant.row.full
 
 pub parts_fit-requires-clause-checked : goal.parts_fit-requires-clause-checked
 parts_fit-requires-clause-checked c = spans_checked c.args.author.now.origin c.args.parts.now c.requires.checked
 
-pub returns-then-not-parts_fit : goal.returns-then-not-parts_fit
-returns-then-not-parts_fit c = inr (apply-fault c.args.rev c.args.parts.now c.args.author.now c.args.self.now c.requires.checked (fit (goal.at.returns-then-not-parts_fit c).After-parts_fit false c.if-not-parts_fit.true))
+pub returns-then-not-parts_fit-clause-answers : goal.returns-then-not-parts_fit-clause-answers
+returns-then-not-parts_fit-clause-answers c = inr (apply-fault c.args.rev c.args.parts.now c.args.author.now c.args.self.now.cells c.requires.checked (fit (goal.at.returns-then-not-parts_fit-clause-answers c).After-parts_fit false c.if-not-parts_fit.true))
 
-pub returns-then-len-more-gt-MAX_CHARACTERS : goal.returns-then-len-more-gt-MAX_CHARACTERS
-returns-then-len-more-gt-MAX_CHARACTERS c =
-    let a = (goal.at.returns-then-len-more-gt-MAX_CHARACTERS c).After-parts_fit in
+pub returns-then-len-more-gt-MAX_CHARACTERS-clause-answers : goal.returns-then-len-more-gt-MAX_CHARACTERS-clause-answers
+returns-then-len-more-gt-MAX_CHARACTERS-clause-answers c =
+    let a = (goal.at.returns-then-len-more-gt-MAX_CHARACTERS-clause-answers c).After-parts_fit in
     let s = size a in
     let inserts = length-inserts_in c.args.author.now c.args.parts.now in
-    inr (apply-full c.args.rev c.args.parts.now c.args.author.now c.args.self.now c.requires.checked (fit a true c.if-not-parts_fit.false) (omega (arith, s, inserts, c.self.inside.text.ok.0, c.count_inserted-more.ensures.value)))
+    inr (apply-full c.args.rev c.args.parts.now c.args.author.now c.args.self.now.cells c.requires.checked (fit a true c.if-not-parts_fit.false) (omega (arith, s, inserts, c.self.inside.text.ok.0, c.count_inserted-more.ensures.value)))
 
-pub returns-in_err-spans : goal.returns-in_err-spans
-returns-in_err-spans c =
-    let a = (goal.at.returns-in_err-spans c).After-parts_fit in
+pub returns-in_err-spans-clause-answers : goal.returns-in_err-spans-clause-answers
+returns-in_err-spans-clause-answers c =
+    let a = (goal.at.returns-in_err-spans-clause-answers c).After-parts_fit in
     let s = size a in
     let inserts = length-inserts_in c.args.author.now c.args.parts.now in
     answers_memory c.from_residual.result c.from_residual.ensures.1 refl
-    (is_answered (apply-ok c.args.rev c.args.parts.now c.args.author.now c.args.self.now c.requires.checked (fit a true c.if-not-parts_fit.false) (omega (arith, s, inserts, c.self.inside.text.ok.0, c.count_inserted-more.ensures.value))))
+    (is_answered (apply-ok c.args.rev c.args.parts.now c.args.author.now c.args.self.now.cells c.requires.checked (fit a true c.if-not-parts_fit.false) (omega (arith, s, inserts, c.self.inside.text.ok.0, c.count_inserted-more.ensures.value))))
 
-pub returns-in_err-runs : goal.returns-in_err-runs
-returns-in_err-runs c =
-    let a = (goal.at.returns-in_err-runs c).After-parts_fit in
+pub returns-in_err-runs-clause-answers : goal.returns-in_err-runs-clause-answers
+returns-in_err-runs-clause-answers c =
+    let a = (goal.at.returns-in_err-runs-clause-answers c).After-parts_fit in
     let s = size a in
     let inserts = length-inserts_in c.args.author.now c.args.parts.now in
     answers_memory c.from_residual-in_err-runs.result c.from_residual-in_err-runs.ensures.1 refl
-    (is_answered (apply-ok c.args.rev c.args.parts.now c.args.author.now c.args.self.now c.requires.checked (fit a true c.if-not-parts_fit.false) (omega (arith, s, inserts, c.self.inside.text.ok.0, c.count_inserted-more.ensures.value))))
+    (is_answered (apply-ok c.args.rev c.args.parts.now c.args.author.now c.args.self.now.cells c.requires.checked (fit a true c.if-not-parts_fit.false) (omega (arith, s, inserts, c.self.inside.text.ok.0, c.count_inserted-more.ensures.value))))
 
 -- there is room for what the parts insert
-room : (c : After-count_inserted-more) → length c.args.self.now ≡ length c.self.inside.text.items → length c.self.inside.text.items + c.count_inserted-more.result ≤ MAX_CHARACTERS → length c.args.self.now + sum_by inserted_size c.args.parts.now ≤ MAX_CHARACTERS
+room : (c : After-count_inserted-more) → length c.args.self.now.cells ≡ length c.self.inside.text.items → length c.self.inside.text.items + c.count_inserted-more.result ≤ MAX_CHARACTERS → length c.args.self.now.cells + sum_by inserted_size c.args.parts.now ≤ MAX_CHARACTERS
 room c s fits = omega (arith, s, fits, c.count_inserted-more.ensures.value)
 
 -- what the parts leave, by their spans and runs
-facts : (c : In_ok-runs) (spans : List Span) → spans ≡ c.in_ok-spans.spans.items → list_all (part_fits character_of c.args.self.now) c.args.parts.now ≡ true → length c.args.self.now + sum_by inserted_size c.args.parts.now ≤ MAX_CHARACTERS
-    → PartsMade c.args.rev c.args.author.now c.args.parts.now c.args.self.now spans (map (λ run. run.now) c.in_ok-runs.runs.items)
+facts : (c : In_ok-runs) (spans : List Span) → spans ≡ c.in_ok-spans.spans.items → list_all (part_fits character_of c.args.self.now.cells) c.args.parts.now ≡ true → length c.args.self.now.cells + sum_by inserted_size c.args.parts.now ≤ MAX_CHARACTERS
+    → PartsMade c.args.rev c.args.author.now c.args.parts.now c.args.self.now.cells spans (map (λ run. run.now) c.in_ok-runs.runs.items)
 facts c spans is fits small =
-    parts_made c.args.rev c.args.author.now c.args.parts.now c.args.self.now spans (map (λ run. run.now) c.in_ok-runs.runs.items) (subst IsInOrder c.self.view_is c.self.invariant.row.order) c.requires.checked fits small
+    parts_made c.args.rev c.args.author.now c.args.parts.now c.args.self.now.cells spans (map (λ run. run.now) c.in_ok-runs.runs.items) (subst IsInOrder (cells_seen c.self.view_is) c.self.invariant.row.order) c.requires.checked fits small
     (is ∙ c.in_ok-spans.ensures) c.in_ok-runs.ensures
 
 pub erase-requires-clause-checked : goal.erase-requires-clause-checked
@@ -85,14 +86,14 @@ erase-requires-clause-there c =
     let f = facts g.In_ok-runs c.as_slice.result.now c.as_slice.ensures.value (fit g.After-parts_fit true c.if-not-parts_fit.false) small in
     f.there
 
-pub returns-then-is_empty : goal.returns-then-is_empty
-returns-then-is_empty c =
-    let g = goal.at.returns-then-is_empty c in
+pub returns-then-is_empty-clause-answers : goal.returns-then-is_empty-clause-answers
+returns-then-is_empty-clause-answers c =
+    let g = goal.at.returns-then-is_empty-clause-answers c in
     let small = room g.After-count_inserted-more (size g.After-parts_fit) (omega (arith, c.self.inside.text.ok.0, c.if-len-more-gt-MAX_CHARACTERS.false)) in
     let f = facts g.In_ok-runs c.as_slice.result.now c.as_slice.ensures.value (fit g.After-parts_fit true c.if-not-parts_fit.false) small in
     let none = no_run (λ run. run.now) c.in_ok-runs.runs.items (sym c.in_ok-runs.runs.ok.0 ∙ eqb-true (vec_len c.in_ok-runs.runs) 0 (sym c.is_empty.ensures ∙ c.if-is_empty.true)) in
-    subst (λ x. Answers c.args.self.now x c.erase.result c.erase.new.self)
-    (sym (f.made ∙ ap (λ l. (Ok (count_by (is_hidden_by c.as_slice.result.now) c.args.self.now), with_all c.args.rev c.args.author.now (without_spans c.args.rev c.as_slice.result.now c.args.self.now) l)) none)) c.erase.ensures
+    subst (λ x. Answers c.args.self.now.cells x c.erase.result c.erase.new.self.cells)
+    (sym (f.made ∙ ap (λ l. (Ok (count_by (is_hidden_by c.as_slice.result.now) c.args.self.now.cells), with_all c.args.rev c.args.author.now (without_spans c.args.rev c.as_slice.result.now c.args.self.now.cells) l)) none)) c.erase.ensures.answers
 
 pub change-requires-clause-spans : goal.change-requires-clause-spans
 change-requires-clause-spans c =
@@ -126,8 +127,8 @@ change-requires-clause-fits c =
     let len = c.in_ok-runs.runs.ok.0 in
     let some = get_here c.in_ok-runs.runs.items 0 c.index.result.now (omega (arith, len, c.len-2.ensures, c.if-len-eq1.true)) c.index.ensures in
     let one = one_run (λ run. run.now) c.in_ok-runs.runs.items c.index.result.now (omega (arith, len, c.len-2.ensures, c.if-len-eq1.true)) some in
-    let join = subst (AllJoin c.args.rev c.args.author.now (without_spans c.args.rev c.as_slice-then-len-eq1.result.now c.args.self.now)) one f.join in
-    sym (part_fits-erased c.args.rev c.as_slice-then-len-eq1.result.now c.args.self.now (Insert c.index.result.now.now)) ∙ join.0
+    let join = subst (AllJoin c.args.rev c.args.author.now (without_spans c.args.rev c.as_slice-then-len-eq1.result.now c.args.self.now.cells)) one f.join in
+    sym (part_fits-erased c.args.rev c.as_slice-then-len-eq1.result.now c.args.self.now.cells (Insert c.index.result.now.now)) ∙ join.0
 
 pub change-requires-clause-room : goal.change-requires-clause-room
 change-requires-clause-room c =
@@ -137,20 +138,20 @@ change-requires-clause-room c =
     let len = c.in_ok-runs.runs.ok.0 in
     let some = get_here c.in_ok-runs.runs.items 0 c.index.result.now (omega (arith, len, c.len-2.ensures, c.if-len-eq1.true)) c.index.ensures in
     let one = one_run (λ run. run.now) c.in_ok-runs.runs.items c.index.result.now (omega (arith, len, c.len-2.ensures, c.if-len-eq1.true)) some in
-    let all = subst (λ l. length c.args.self.now + sum_by (λ run. length run.text) l ≤ MAX_CHARACTERS) one f.room in
+    let all = subst (λ l. length c.args.self.now.cells + sum_by (λ run. length run.text) l ≤ MAX_CHARACTERS) one f.room in
     let single = one_room c.index.result.now.now in
     omega (arith, all, single)
 
-pub returns-then-len-eq1 : goal.returns-then-len-eq1
-returns-then-len-eq1 c =
-    let g = goal.at.returns-then-len-eq1 c in
+pub returns-then-len-eq1-clause-answers : goal.returns-then-len-eq1-clause-answers
+returns-then-len-eq1-clause-answers c =
+    let g = goal.at.returns-then-len-eq1-clause-answers c in
     let small = room g.After-count_inserted-more (size g.After-parts_fit) (omega (arith, c.self.inside.text.ok.0, c.if-len-more-gt-MAX_CHARACTERS.false)) in
     let f = facts g.In_ok-runs c.as_slice-then-len-eq1.result.now c.as_slice-then-len-eq1.ensures.value (fit g.After-parts_fit true c.if-not-parts_fit.false) small in
     let len = c.in_ok-runs.runs.ok.0 in
     let some = get_here c.in_ok-runs.runs.items 0 c.index.result.now (omega (arith, len, c.len-2.ensures, c.if-len-eq1.true)) c.index.ensures in
     let one = one_run (λ run. run.now) c.in_ok-runs.runs.items c.index.result.now (omega (arith, len, c.len-2.ensures, c.if-len-eq1.true)) some in
-    subst (λ x. Answers c.args.self.now x c.change.result c.change.new.self)
-    (sym (f.made ∙ ap (λ l. (Ok (count_by (is_hidden_by c.as_slice-then-len-eq1.result.now) c.args.self.now), with_all c.args.rev c.args.author.now (without_spans c.args.rev c.as_slice-then-len-eq1.result.now c.args.self.now) l)) one)) c.change.ensures
+    subst (λ x. Answers c.args.self.now.cells x c.change.result c.change.new.self.cells)
+    (sym (f.made ∙ ap (λ l. (Ok (count_by (is_hidden_by c.as_slice-then-len-eq1.result.now) c.args.self.now.cells), with_all c.args.rev c.args.author.now (without_spans c.args.rev c.as_slice-then-len-eq1.result.now c.args.self.now.cells) l)) one)) c.change.ensures.answers
 
 pub change_aside-requires-clause-spans : goal.change_aside-requires-clause-spans
 change_aside-requires-clause-spans c =
@@ -178,7 +179,7 @@ change_aside-requires-clause-join c =
     let g = goal.at.change_aside-requires-clause-join c in
     let small = room g.After-count_inserted-more (size g.After-parts_fit) (omega (arith, c.self.inside.text.ok.0, c.if-len-more-gt-MAX_CHARACTERS.false)) in
     let f = facts g.In_ok-runs c.as_slice-2.result.now c.as_slice-2.ensures.value (fit g.After-parts_fit true c.if-not-parts_fit.false) small in
-    subst (λ l. AllJoin c.args.rev c.args.author.now (without_spans c.args.rev c.as_slice-2.result.now c.args.self.now) (map (λ run. run.now) l)) (sym c.as_slice-3.ensures.value) f.join
+    subst (λ l. AllJoin c.args.rev c.args.author.now (without_spans c.args.rev c.as_slice-2.result.now c.args.self.now.cells) (map (λ run. run.now) l)) (sym c.as_slice-3.ensures.value) f.join
 
 pub change_aside-requires-clause-room : goal.change_aside-requires-clause-room
 change_aside-requires-clause-room c =
@@ -189,10 +190,10 @@ change_aside-requires-clause-room c =
     let sizes = ap (sum_by (λ run. length run.now.text)) c.as_slice-3.ensures.value ∙ lent_sizes (λ run. run.now) c.in_ok-runs.runs.items in
     omega (arith, all, sizes)
 
-pub returns : goal.returns
-returns c =
-    let g = goal.at.returns c in
+pub returns-clause-answers : goal.returns-clause-answers
+returns-clause-answers c =
+    let g = goal.at.returns-clause-answers c in
     let small = room g.After-count_inserted-more (size g.After-parts_fit) (omega (arith, c.self.inside.text.ok.0, c.if-len-more-gt-MAX_CHARACTERS.false)) in
     let f = facts g.In_ok-runs c.as_slice-2.result.now c.as_slice-2.ensures.value (fit g.After-parts_fit true c.if-not-parts_fit.false) small in
-    subst (λ x. Answers c.args.self.now x c.change_aside.result c.change_aside.new.self)
-    (sym (f.made ∙ ap (λ l. (Ok (count_by (is_hidden_by c.as_slice-2.result.now) c.args.self.now), with_all c.args.rev c.args.author.now (without_spans c.args.rev c.as_slice-2.result.now c.args.self.now) (map (λ run. run.now) l))) (sym c.as_slice-3.ensures.value))) c.change_aside.ensures
+    subst (λ x. Answers c.args.self.now.cells x c.change_aside.result c.change_aside.new.self.cells)
+    (sym (f.made ∙ ap (λ l. (Ok (count_by (is_hidden_by c.as_slice-2.result.now) c.args.self.now.cells), with_all c.args.rev c.args.author.now (without_spans c.args.rev c.as_slice-2.result.now c.args.self.now.cells) (map (λ run. run.now) l))) (sym c.as_slice-3.ensures.value))) c.change_aside.ensures.answers

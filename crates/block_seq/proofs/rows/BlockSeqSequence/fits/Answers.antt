@@ -3,6 +3,7 @@ use Rattle.std.specs.List.{list_all}
 use Rattle.pad_model.specs.Cell.{character_of}
 use Rattle.pad_model.specs.Parts.{part_fits}
 use Rattle.block_seq.proofs.Applied.{spans_checked}
+use Rattle.block_seq.proofs.RowCounts.{cells_seen}
 use Rattle.block_seq.proofs.rows.BlockSeqSequence.fits.Goals as goal
 
 pub parts_fit-requires-clause-checked : goal.parts_fit-requires-clause-checked
@@ -10,4 +11,4 @@ parts_fit-requires-clause-checked c = spans_checked c.args._origin c.args.parts.
 
 pub returns : goal.returns
 returns c =
-    c.parts_fit.ensures c.self.inside.authors.items c.self.inside.text.items c.self.invariant.row.within ∙ ap (λ l. list_all (part_fits character_of l) c.args.parts.now) c.self.view_is
+    c.parts_fit.ensures c.self.inside.authors.items c.self.inside.text.items c.self.invariant.row.within ∙ ap (λ l. list_all (part_fits character_of l) c.args.parts.now) (cells_seen c.self.view_is)

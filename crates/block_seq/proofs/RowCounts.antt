@@ -1,0 +1,30 @@
+-- How many blocks there are after a step of an edit.
+use Rattle.std.proofs.Common.{◌≡◌, ℕ, ◌+◌, ◌≤◌, List, length, ap, ap₂, sym, ◌∙◌}
+use Rattle.std.specs.List.{insert}
+use Rattle.std.proofs.lemmas.List.Edits.{length-insert}
+use Rattle.pad_model.specs.Cell.{Cell}
+use Rattle.blocks.specs.declared.block.Block.{Block}
+use Rattle.blocks.specs.Blocks.{unlabelled, without_labels}
+use Rattle.blocks.proofs.Cells.{length-without_labels}
+use Rattle.block_seq.specs.Rows.{CellsInBlocks}
+
+-- the cells of one view are those of another that equals it
+pub cells_seen : {v w : CellsInBlocks} → v ≡ w → v.cells ≡ w.cells
+cells_seen e = ap (λ (x : CellsInBlocks). x.cells) e
+
+-- and so are its blocks
+pub blocks_seen : {v w : CellsInBlocks} → v ≡ w → v.blocks ≡ w.blocks
+blocks_seen e = ap (λ (x : CellsInBlocks). x.blocks) e
+
+-- what has the cells and the number of blocks of a view equals it
+pub seen_as : (v : CellsInBlocks) (cells : List Cell) (blocks : ℕ) → cells ≡ v.cells → blocks ≡ v.blocks → (let it : CellsInBlocks = record { cells = cells; blocks = blocks } in it) ≡ v
+seen_as v cells blocks e f = ap₂ (λ l n. let it : CellsInBlocks = record { cells = l; blocks = n } in it) e f
+
+-- other labels, and as many blocks
+pub same_number : (old new : List Block) → without_labels new ≡ without_labels old → length new ≡ length old
+same_number old new e = sym (length-without_labels new) ∙ ap length e ∙ length-without_labels old
+
+-- one block is put among others
+pub one_more_block : (mid after : List Block) (k : ℕ) (b : Block) → k ≤ length mid → without_labels after ≡ insert (without_labels mid) k (unlabelled b) → length after ≡ length mid + 1
+one_more_block mid after k b h put =
+    sym (length-without_labels after) ∙ ap length put ∙ length-insert (without_labels mid) k (unlabelled b) (rw (length-without_labels mid) h) ∙ ap (λ n. n + 1) (length-without_labels mid)

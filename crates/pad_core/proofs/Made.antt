@@ -1,5 +1,5 @@
 -- The operation of changes that are not refused is in the limits, and fits its log.
-use Rattle.std.proofs.Common.{◌≡◌, inl, inr, ℕ, zero, suc, ◌+◌, ◌<◌, ◌≤◌, true, false, ◌&&◌, leb, List, [], ◌∷◌, ◌++◌, length, take, sum_by, count_by, Option, Some, None, Result, Ok, Err, refl, sym, ap, ap₂, ◌∙◌, arith, flat_map, append-nil, append_assoc, length-append, le-ltb, le-leb, eq-eqb, ltb-false}
+use Rattle.std.proofs.Common.{◌≡◌, inl, inr, ℕ, zero, suc, ◌+◌, ◌<◌, ◌≤◌, true, false, ◌&&◌, leb, List, [], ◌∷◌, ◌++◌, length, take, sum_by, count_by, Option, Some, None, Result, Ok, Err, refl, sym, ap, ap₂, ◌∙◌, subst, arith, flat_map, append-nil, append_assoc, length-append, le-ltb, le-leb, eq-eqb, ltb-false}
 use Rattle.std.proofs.lemmas.Bool.{and_from, or_right, lt-leb}
 use Rattle.std.proofs.lemmas.List.Sums.{sum_by-cons}
 use Rattle.std.specs.List.{list_all, list_any, AllByRecursion}
@@ -27,9 +27,9 @@ use Rattle.pad_model.proofs.Growth.{IsTree-history, IsHistory-take}
 use Rattle.pad_model.proofs.Local.{stamp_at-inserted, has_parent-take, newest_joins}
 use Rattle.pad_model.proofs.Parts.{inserts_differ}
 use Rattle.pad_model.proofs.Stretch.{has_spans-stretch, spans_of-checked, spans_of-len, spans_of-some}
-use Rattle.pad_core.specs.Counts.{characters_at, vector_of, next_name, op_of}
+use Rattle.pad_core.specs.Counts.{characters_at, vector_of, op_of}
 use Rattle.pad_core.specs.Delivered.{delivery_refusal}
-use Rattle.pad_core.specs.Edits.{before_place, is_outside, size_of, growth_of, is_blank, edit_refusal, edited, part_from, parts_from, made_parts}
+use Rattle.pad_core.specs.Edits.{before_place, is_outside, size_of, growth_of, is_blank, edit_refusal, appended, edited, part_from, parts_from, made_parts}
 use Rattle.pad_core.specs.declared.act.Change.{Change}
 use Rattle.pad_core.specs.declared.act.Change.TheVariants.{Insert, Delete}
 use Rattle.pad_core.specs.declared.edit.Edited.{Edited}
@@ -193,32 +193,31 @@ edit_fits own rev author changes log none h =
     (and_from _ _ (parts_valid own from log rev changes h (omega arith)) (inserts_differ who 0 (made_parts own rev changes log) (parts_rise own 0 from log rev changes (omega arith))))
     (omega arith) a.grows.short (ap (λ b. b && leb MAX_COMMENTS (count_by is_comment log)) (no_comment (made_parts own rev changes log) (parts_edit own from log rev changes)))
 
+no_memory : (n : ℕ) → (let r : Result ℕ Refusal = Ok n in r) ≡ Err Memory → ⊥
+no_memory n q = cc
+
 -- the answer of a ledger as an edit's
 abbrev answered : OpName → Result ℕ Refusal × List Op → Result Edited Refusal × List Op
 answered name (Ok hidden, log) = (Ok (record { name = name; hidden = hidden }), log)
 answered name (Err refusal, log) = (Err refusal, log)
 
-no_memory : (n : ℕ) → (let r : Result ℕ Refusal = Ok n in r) ≡ Err Memory → ⊥
-no_memory n q = cc
-
--- where nothing is refused, the operation is made
-pub edit_made : (own rev : ℕ) (author : List ℕ) (changes : List Change) (log : List Op) → edit_refusal rev changes log ≡ None →
-    edited own author rev changes log ≡ answered (next_name own log) (Ok (hidden_by (erased_by (op_of own author (made_parts own rev changes log) log)) (characters_in log)), log ++ op_of own author (made_parts own rev changes log) log ∷ [])
-edit_made own rev author changes log none = rw none refl
+-- what a ledger answers to the next operation of an author
+pub appended_answers : (own : ℕ) (author : List ℕ) (parts : List Part) (log new : List Op) (op : Op) (hidden : ℕ) → op ≡ op_of own author parts log →
+    Answers log (Ok (hidden_by (erased_by op) (characters_in log)), log ++ op ∷ []) (Ok hidden) new → Answers log (appended own author parts log) (Ok (record { name = op.name; hidden = hidden })) new
+appended_answers own author parts log new op hidden is (inl h) = absurd (no_memory hidden h.0)
+appended_answers own author parts log new op hidden is (inr h) =
+    inr (ap (λ (o : Op). answered o.name (Ok (hidden_by (erased_by o) (characters_in log)), log ++ o ∷ [])) (sym is) ∙ ap (answered op.name) h)
 
 -- what is refused is not made
 pub edit_refused : (own rev : ℕ) (author : List ℕ) (changes : List Change) (log : List Op) (refusal : Refusal) → edit_refusal rev changes log ≡ Some refusal → edited own author rev changes log ≡ (Err refusal, log)
 edit_refused own rev author changes log refusal e = rw e refl
 
--- the operation of the parts that are made
-pub op_made : (own rev : ℕ) (author : List ℕ) (changes : List Change) (log : List Op) (parts : List Part) (op : Op) → parts ≡ made_parts own rev changes log → op ≡ op_of own author parts log → op ≡ op_of own author (made_parts own rev changes log) log
-op_made own rev author changes log parts op made is = is ∙ ap (λ (ps : List Part). op_of own author ps log) made
+-- where nothing is refused, the operation is made
+pub edit_made : (own rev : ℕ) (author : List ℕ) (changes : List Change) (log : List Op) → edit_refusal rev changes log ≡ None → edited own author rev changes log ≡ appended own author (made_parts own rev changes log) log
+edit_made own rev author changes log none = rw none refl
 
--- what a ledger answers to the operation is what the edit answers
-pub edit_answers : (own rev : ℕ) (author : List ℕ) (changes : List Change) (log new : List Op) (op : Op) (hidden : ℕ) → edit_refusal rev changes log ≡ None → op ≡ op_of own author (made_parts own rev changes log) log →
-    Answers log (Ok (hidden_by (erased_by op) (characters_in log)), log ++ op ∷ []) (Ok hidden) new → Answers log (edited own author rev changes log) (Ok (record { name = op.name; hidden = hidden })) new
-edit_answers own rev author changes log new op hidden none made (inl h) = absurd (no_memory hidden h.0)
-edit_answers own rev author changes log new op hidden none made (inr h) =
-    inr (edit_made own rev author changes log none
-    ∙ ap (λ (o : Op). answered o.name (Ok (hidden_by (erased_by o) (characters_in log)), log ++ o ∷ [])) (sym made)
-    ∙ ap (answered op.name) h)
+-- and answered
+pub edit_answers : (own rev : ℕ) (author : List ℕ) (changes : List Change) (parts : List Part) (log new : List Op) (result : Result Edited Refusal) → edit_refusal rev changes log ≡ None → parts ≡ made_parts own rev changes log →
+    Answers log (appended own author parts log) result new → Answers log (edited own author rev changes log) result new
+edit_answers own rev author changes parts log new result none made h =
+    subst (λ answer. Answers log answer result new) (ap (λ (ps : List Part). appended own author ps log) made ∙ sym (edit_made own rev author changes log none)) h

@@ -74,15 +74,19 @@ parts_from counter own set (change ∷ changes) = part_from counter own set chan
 abbrev pub made_parts : ℕ → ℕ → List Change → List Op → List Part
 made_parts own rev changes log = parts_from (clock_of_characters (characters_in log).inserted + 1) own (characters_at rev log) changes
 
+-- the next operation of an author is made and delivered: its name, and how many visible characters it hides
+abbrev pub appended : ℕ → List ℕ → List Part → List Op → Result Edited Refusal × List Op
+appended own author parts log =
+    let op = op_of own author parts log in
+    (Ok (record { name = next_name own log; hidden = hidden_by (erased_by op) (characters_in log) }), log ++ op ∷ [])
+
 -- one operation of all changes, or none; with its name, and how many visible characters it hides
 abbrev pub edited : ℕ → List ℕ → ℕ → List Change → List Op → Result Edited Refusal × List Op
 edited own author rev changes log = unless_refused (edit_refusal rev changes log)
   where
     unless_refused : Option Refusal → Result Edited Refusal × List Op
     unless_refused (Some refusal) = (Err refusal, log)
-    unless_refused None =
-        let op = op_of own author (made_parts own rev changes log) log in
-        (Ok (record { name = next_name own log; hidden = hidden_by (erased_by op) (characters_in log) }), log ++ op ∷ [])
+    unless_refused None = appended own author (made_parts own rev changes log) log
 
 -- the reply that tells what an edit hides
 abbrev pub told_hidden : Result Edited Refusal × List Op → Result PadReply Refusal × List Op

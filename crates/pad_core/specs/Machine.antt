@@ -91,7 +91,7 @@ need_refusal book p name visit PeerSession = Some NotPeer
 abbrev pub author_refusal : Rights → Presence → List ℕ → Option ℕ → Act → Option Refusal
 author_refusal book p name visit act = if names_badly act then Some BadName else need_refusal book p name visit (need_of act)
 
--- what nobody is refused with
+-- what an unauthenticated session is refused with
 abbrev pub nobody_refusal : Need → Refusal
 nobody_refusal NewVisit = NoSession
 nobody_refusal AnyVisit = NoSession

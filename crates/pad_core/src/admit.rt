@@ -59,7 +59,7 @@ pub fn author_refusal(
     refuse_need(rights, presence, name, visit, need_of(act))
 }
 
-/// What nobody is refused with.
+/// What an unauthenticated session is refused with.
 pub fn nobody_refusal(need: Need) -> Refusal
     ensures { result ≡ nobody_refused need }
 {

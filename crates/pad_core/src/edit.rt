@@ -1,26 +1,23 @@
 //! What authors insert and erase.
-ghost use Rattle.std.specs.Prelude.{◌≡◌, ℕ, ◌+◌, ◌≤◌, ◌<◌, ◌||◌, ◌==◌, nat_lt, false, [], ◌∷◌, length, sum_by, min, IfOk, IsTrue, None, MatchResult};
-ghost use Rattle.std.specs.List.{list_any, list_all};
+ghost use Rattle.std.specs.Prelude.{◌≡◌, ◌+◌, ◌≤◌, ◌||◌, ◌==◌, nat_lt, ◌∷◌, [], length, sum_by, min, IsTrue, None, MatchResult};
+ghost use Rattle.std.specs.List.{list_any};
 ghost use Rattle.pad_model.specs.Answers.{Answers};
-ghost use Rattle.pad_model.specs.Checked.{is_name};
-ghost use Rattle.pad_model.specs.History.{clock_of_characters};
-ghost use Rattle.pad_model.specs.Operation.{characters_in};
-ghost use Rattle.pad_model.specs.Stamp.{IsInLimits};
-ghost use Rattle.pad_model.specs.Visible.{visible};
-ghost use Rattle.pad_model.specs.declared.limits.TheConstants.{MAX_COUNTER, MAX_PARTS, MAX_REPLICA, MAX_TEXT};
-ghost use Rattle.pad_core.specs.Counts.{characters_at, op_of, next_name as name_next};
-ghost use Rattle.pad_core.specs.Delivered.{IsDelivered};
+ghost use Rattle.pad_model.specs.Checked.{is_checked, is_name};
+ghost use Rattle.pad_model.specs.declared.limits.TheConstants.{MAX_PARTS, MAX_TEXT};
+ghost use Rattle.pad_core.specs.Counts.{op_of, next_name as name_next};
+ghost use Rattle.pad_core.specs.Delivered.{IsDelivered, delivery_refusal};
 ghost use Rattle.pad_core.specs.declared.act.Change.TheVariants.{Insert};
-ghost use Rattle.pad_core.specs.Edits.{before_place, delete as deleted, edit as many_edited, edit_refusal, edited, growth_refusal, part_from, growth_of as change_growth, insert as inserted, is_outside as lies_outside, is_blank as does_nothing, made_parts, size_of as change_size};
+ghost use Rattle.pad_core.specs.Edits.{appended, delete as deleted, edit as many_edited, edit_refusal, edited, growth_refusal, growth_of as change_growth, insert as inserted, is_outside as lies_outside, is_blank as does_nothing, size_of as change_size};
 
 use crate::act::Change;
 use crate::ledger::Ledger;
+use crate::make::{make_insertion, make_parts};
 use crate::reply::PadReply;
 use pad_model::{
     MAX_CHARACTERS, MAX_COUNTER, MAX_OPERATIONS, MAX_PARTS, MAX_TEXT, Name, Op, OpName, Part,
-    Refusal, Row, Run, Sequence, Stamp, Text,
+    Refusal, Row, Sequence, Text,
 };
-use std::alloc::{AllocError, Global};
+use std::alloc::Global;
 
 /// An edit that was made: its name, and how many visible characters it hides.
 #[derive(Clone, Copy)]
@@ -46,9 +43,11 @@ pub fn insert<S: Sequence>(
     if let Some(refusal) = refuse_insert(ledger, rev, at, text) {
         return Err(refusal);
     }
-    let text = text.clone()?;
-    let changes = [Change::Insert { at, text }];
-    match make_allowed(alloc, ledger, replica, author, rev, changes.as_slice()) {
+    let parts = match make_insertion(alloc, ledger, replica, rev, at, text) {
+        Ok(parts) => parts,
+        Err(refusal) => return Err(refusal),
+    };
+    match append_parts(alloc, ledger, replica, author, parts) {
         Ok(edit) => Ok(PadReply::Made {
             now: ledger.len(),
             name: edit.name,
@@ -114,28 +113,24 @@ fn make_edit<S: Sequence>(
     if let Some(refusal) = refuse_edit(ledger, rev, changes) {
         return Err(refusal);
     }
-    make_allowed(alloc, ledger, replica, author, rev, changes)
+    match make_parts(alloc, ledger, replica, rev, changes) {
+        Ok(parts) => append_parts(alloc, ledger, replica, author, parts),
+        Err(refusal) => Err(refusal),
+    }
 }
 
-/// Makes the operation of some changes that nothing speaks against, and delivers it.
-fn make_allowed<S: Sequence>(
+/// Delivers the next operation of an author, which nothing speaks against.
+fn append_parts<S: Sequence>(
     alloc: Global,
     ledger: &mut Ledger<S>,
     replica: u16,
     author: &Name,
-    rev: u64,
-    changes: &[Change],
+    parts: Row<Part>,
 ) -> Result<Edited, Refusal>
-    requires replica { 1 ≤ replica }
-    requires author { IsTrue (is_name author.now) }
-    requires sound { IsDelivered ledger.old }
-    requires allowed { edit_refusal rev changes.now ledger.old ≡ None }
-    ensures { Answers ledger.old (edited replica author.now rev changes.now ledger.old) result ledger.new }
+    requires checked { IsTrue (is_checked (op_of replica author.now parts ledger.old)) }
+    requires allowed { delivery_refusal (op_of replica author.now parts ledger.old) ledger.old ≡ None }
+    ensures { Answers ledger.old (appended replica author.now parts ledger.old) result ledger.new }
 {
-    let parts = match make_parts(alloc, ledger, replica, rev, changes) {
-        Ok(parts) => parts,
-        Err(refusal) => return Err(refusal),
-    };
     let op = make_op(ledger, replica, author, parts)?;
     let name = op.name;
     match ledger.append(alloc, op) {
@@ -294,7 +289,7 @@ fn total_size(changes: &[Change]) -> u64
         .fold(0, |total, change| total.saturating_add(size_of(change)))
 }
 
-fn growth_of(change: &Change) -> u64
+pub fn growth_of(change: &Change) -> u64
     ensures { result ≡ change_growth change.now }
 {
     match change {
@@ -310,90 +305,4 @@ fn total_growth(changes: &[Change]) -> u64
     changes
         .iter()
         .fold(0, |total, change| total.saturating_add(growth_of(change)))
-}
-
-/// The parts of the changes: each refers to the revision, and each insertion is newer than what stands in the pad and
-/// than the one before it.
-fn make_parts<S: Sequence>(
-    alloc: Global,
-    ledger: &Ledger<S>,
-    replica: u16,
-    rev: u64,
-    changes: &[Change],
-) -> Result<Row<Part>, Refusal>
-    requires replica { 1 ≤ replica }
-    requires allowed { edit_refusal rev changes.now ledger.now ≡ None }
-    ensures { MatchResult result (λ parts. parts ≡ made_parts replica rev changes.now ledger.now) (λ e. e ≡ Refusal.Memory) }
-{
-    let mut counter = ledger.clock() + 1;
-    let mut parts = Row::new(alloc);
-    for change in changes {
-        let part = make_part(alloc, ledger, replica, counter, rev, change)?;
-        parts.push(part)?;
-        counter += growth_of(change);
-    }
-    Ok(parts)
-}
-
-fn make_part<S: Sequence>(
-    alloc: Global,
-    ledger: &Ledger<S>,
-    replica: u16,
-    counter: u64,
-    rev: u64,
-    change: &Change,
-) -> Result<Part, Refusal>
-    requires replica { 1 ≤ replica }
-    requires counter { 1 ≤ counter }
-    requires clock { counter + change_growth change.now ≤ MAX_COUNTER + 1 }
-    requires within { lies_outside (length (visible (characters_at rev ledger.now))) change.now ≡ false }
-    requires filled { does_nothing change.now ≡ false }
-    ensures { MatchResult result (λ part. part ≡ part_from counter replica (characters_at rev ledger.now) change.now) (λ e. e ≡ Refusal.Memory) }
-{
-    Ok(match change {
-        Change::Insert { at, text } => {
-            Part::Insert(make_run(ledger, replica, counter, rev, *at, text)?)
-        }
-        Change::Delete { at, len } => Part::Delete(ledger.spans_at(alloc, rev, *at, *len)?),
-    })
-}
-
-/// A text at a place of a revision, counted up from a counter on.
-fn make_run<S: Sequence>(
-    ledger: &Ledger<S>,
-    replica: u16,
-    counter: u64,
-    rev: u64,
-    at: u64,
-    text: &Text,
-) -> Result<Run, AllocError>
-    requires { IsInLimits counter replica }
-    ensures { IfOk result (λ run. run ≡ record { first = record { counter = counter; replica = replica }; after = before_place (characters_at rev ledger.now) at; text = text.now }) }
-{
-    let text = text.clone()?;
-    Ok(Run {
-        first: first_stamp(counter, replica),
-        after: stamp_before(ledger, rev, at),
-        text,
-    })
-}
-
-fn first_stamp(counter: u64, replica: u16) -> Stamp
-    requires { IsInLimits counter replica }
-    ensures { result ≡ record { counter = counter; replica = replica } }
-{
-    match Stamp::new(counter, replica) {
-        Ok(stamp) => stamp,
-        Err(_) => unreachable!(),
-    }
-}
-
-/// The stamp of the character in front of a place of a revision; None is the start.
-pub fn stamp_before<S: Sequence>(ledger: &Ledger<S>, rev: u64, at: u64) -> Option<Stamp>
-    ensures { result ≡ before_place (characters_at rev ledger.now) at }
-{
-    match at {
-        0 => None,
-        _ => ledger.stamp_at(rev, at - 1),
-    }
 }

@@ -234,10 +234,30 @@ impl<S: Sequence> Ledger<S> {
             &op,
         ) {
             Ok(hidden) => {
-                self.log.push(op);
+                self.log.push(fitted(op));
                 Ok(hidden)
             }
             Err(refusal) => Err(refusal),
         }
+    }
+}
+
+// The operation in room for no more parts than it has: the log keeps it as long as the pad lives.
+fn fitted(op: Op) -> Op
+    ensures { result ≡ op }
+{
+    let Op {
+        name,
+        seen,
+        author,
+        parts,
+    } = op;
+    let mut items = parts.into_vec();
+    items.shrink_to_fit();
+    Op {
+        name,
+        seen,
+        author,
+        parts: Row::from_vec(items),
     }
 }

@@ -11,6 +11,7 @@ mod grants;
 mod judge;
 pub mod laws;
 mod ledger;
+mod make;
 mod note;
 mod owned;
 mod pad;

@@ -6,8 +6,8 @@ ghost use Rattle.sessions.specs.Presence.{has_number};
 ghost use Rattle.pad_model.specs.Answers.{Tells};
 ghost use Rattle.pad_core.specs.Presence.{join as joined, leave as left, put_caret as caret_put, departed, read_who as who_read, shown_visit};
 
-use crate::edit::stamp_before;
 use crate::ledger::Ledger;
+use crate::make::stamp_before;
 use crate::reply::{PadReply, Present};
 use pad_model::{Author, Name, Refusal, Row, Sequence};
 use sessions::{PresenceBook, Visit};

@@ -135,6 +135,6 @@ pub enum Reply {
     Peer { replica: u16, version: Version },
     /// What the pad answers. A pad that was created answers that its creator joined.
     Pad(PadReply),
-    /// The session has left its pads, and is nobody's.
+    /// The session has left its pads, and is unauthenticated again.
     Ended,
 }

@@ -105,7 +105,7 @@ spans_of-len set i n l = spans-len (map (λ c. c.stamp) (take n (drop i (visible
 pub spans_of-some : (set : Characters) (i n : ℕ) → i + n ≤ length (visible set) → 1 ≤ n → 1 ≤ length (spans_of set i n)
 spans_of-some set i n l some = spans-some (map (λ c. c.stamp) (take n (drop i (visible set)))) (omega (arith, stretch_len set i n l))
 
--- a cell that a deletion hides anew is visible before it
+-- a cell that a deletion hides was visible before it
 hides_one : (log : List Op) (parts : List Part) (c : Cell) → IsBy (length log) c → is_after (length log) c.died ≡ not (is_erased (characters_in (take (length log) log)).erased c.stamp) →
     is_hidden_by (spans_in parts) c ≡ (not (is_erased (characters_in log).erased c.stamp) && is_erased (flat_map part_erases parts) c.stamp)
 hides_one log parts c by alive =

@@ -78,11 +78,11 @@ is_named spans cell = is_erased (flat_map span_stamps spans) cell.stamp
 abbrev pub is_alive : Cell → Bool
 is_alive cell = is_none cell.died
 
--- whether a deletion of these spans hides a cell anew
+-- whether a deletion of these spans hides a cell that was visible
 abbrev pub is_hidden_by : List Span → Cell → Bool
 is_hidden_by spans cell = is_named spans cell && is_alive cell
 
--- a cell after a deletion: what it hides anew dies at its revision
+-- a cell after a deletion: a cell that it hides dies at its revision
 abbrev pub erased_at : ℕ → List Span → Cell → Cell
 erased_at rev spans cell = if is_hidden_by spans cell then record cell { died = Some rev } else cell
 

@@ -1,7 +1,7 @@
 -- The numbers and names of refusals.
 use Rattle.std.specs.Prelude.{ℕ, List, codes}
 use Rattle.pad_model.specs.declared.refusal.Refusal.{Refusal}
-use Rattle.pad_model.specs.declared.refusal.Refusal.TheVariants.{TooLong, NotJson, NotRequest, NoSession, BadToken, HaveSession, Busy, NoPad, PadExists, NoSlot, BadName, NotJoined, Joined, Denied, Crowded, VisitsSpent, OwnerKept, GrantsFull, SeatsGone, SeatsOut, ActorsFull, NoRevision, OutOfRange, Empty, TooMuch, PadFull, ClockFull, NoComment, LogFull, CommentsFull, BadOp, HoldFull, PeerFault, NotPeer, OldPeer, BadStamp, Memory}
+use Rattle.pad_model.specs.declared.refusal.Refusal.TheVariants.{TooLong, NotJson, NotRequest, NoSession, BadToken, HaveSession, Busy, NoPad, PadExists, NoSlot, BadName, NotJoined, Joined, Denied, Crowded, VisitsSpent, OwnerKept, GrantsFull, SeatsGone, SeatsOut, ActorsFull, NoRevision, OutOfRange, Empty, TooMuch, PadFull, ClockFull, NoComment, LogFull, CommentsFull, BadOp, HoldFull, PeerFault, NotPeer, OldPeer, BadStamp, Memory, StoreFull}
 
 -- the number of a refusal
 abbrev pub code_of : Refusal → ℕ
@@ -42,6 +42,7 @@ code_of NotPeer = 404
 code_of OldPeer = 405
 code_of BadStamp = 410
 code_of Memory = 900
+code_of StoreFull = 901
 
 -- the name of a refusal
 abbrev pub name_of : Refusal → List ℕ
@@ -82,3 +83,4 @@ name_of NotPeer = codes "NotPeer"
 name_of OldPeer = codes "OldPeer"
 name_of BadStamp = codes "BadStamp"
 name_of Memory = codes "Memory"
+name_of StoreFull = codes "StoreFull"

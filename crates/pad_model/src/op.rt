@@ -12,7 +12,7 @@ use crate::stamp::Stamp;
 use crate::text::Text;
 use std::alloc::AllocError;
 
-/// The name of an operation: who made it, and the how-manieth of its maker on this pad it is, from 1.
+/// The name of an operation: its replica, and its sequence number among that replica's operations on this pad, from 1.
 #[derive(Clone, Copy, Debug, PartialEq, Eq)]
 pub struct OpName {
     pub origin: u16,

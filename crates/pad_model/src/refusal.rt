@@ -82,6 +82,8 @@ pub enum Refusal {
     BadStamp,
     /// 900: there was no memory.
     Memory,
+    /// 901: the disk that keeps the pads is full.
+    StoreFull,
 }
 
 impl Refusal {
@@ -127,6 +129,7 @@ impl Refusal {
             Refusal::OldPeer => 405,
             Refusal::BadStamp => 410,
             Refusal::Memory => 900,
+            Refusal::StoreFull => 901,
         }
     }
 
@@ -172,6 +175,7 @@ impl Refusal {
             Refusal::OldPeer => "OldPeer",
             Refusal::BadStamp => "BadStamp",
             Refusal::Memory => "Memory",
+            Refusal::StoreFull => "StoreFull",
         }
     }
 }

@@ -60,7 +60,7 @@ pub trait Sequence: Drop {
         requires latest { AllByRecursion (IsBy rev) (cells self.old) }
         ensures { Answers (cells self.old) (delete_cells rev spans.now (cells self.old)) result (cells self.new) };
 
-    /// Makes the insertions and deletions of one operation, and answers how many characters they hide anew.
+    /// Makes the insertions and deletions of one operation, and answers how many visible characters they hide.
     ///
     /// Each part is judged by what stood before all of them. All parts are made, or none.
     fn apply(

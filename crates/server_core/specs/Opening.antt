@@ -14,7 +14,7 @@ use Rattle.pad_core.specs.declared.act.Act.{Act}
 use Rattle.pad_core.specs.declared.reply.Reply.{Reply}
 use Rattle.pad_core.specs.declared.reply.Reply.TheVariants as reply
 
--- whether a session is nobody's
+-- whether a session is unauthenticated
 abbrev pub is_nobody : Who → Bool
 is_nobody who.Nobody = true
 is_nobody other = false

@@ -46,7 +46,7 @@ fn leave_room<S: Sequence>(cells: &mut [Pad<S>], who: &Who, room: &Room)
     }
 }
 
-/// The session is nobody's once it has no room.
+/// The session is unauthenticated again once it has left its pads.
 fn finish(session: &mut Session, task: &mut Task) -> Moved
     ensures ended { ended (actor_of session.old task.old) session.old.rooms ≡ (result, actor_of session.new task.new) }
     ensures sound { IsSoundTask task.new }

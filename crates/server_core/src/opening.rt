@@ -103,7 +103,7 @@ pub fn act_refusal(who: &Who, pad: &Name, act: &Act) -> Option<Refusal>
     }
 }
 
-/// Whether a session is nobody's.
+/// Whether a session is unauthenticated.
 pub fn is_nobody(who: &Who) -> bool
     ensures { result ≡ is_nobody who.now }
 {

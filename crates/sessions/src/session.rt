@@ -37,7 +37,7 @@ impl Model for Session {
 }
 
 impl Session {
-    /// Nobody's session, which has joined no pad. It takes no memory yet.
+    /// An unauthenticated session, which has joined no pad. It takes no memory yet.
     pub fn new(alloc: Global) -> Session
         ensures { result ≡ record { who = Who.Nobody; rooms = []; spare = 0 } }
     {

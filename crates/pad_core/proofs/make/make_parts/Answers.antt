@@ -8,7 +8,7 @@ use Rattle.pad_core.specs.Counts.{characters_at}
 use Rattle.pad_core.specs.Edits.{growth_of, parts_from, made_parts}
 use Rattle.pad_core.proofs.Allowed.{allowed}
 use Rattle.pad_core.proofs.Made.{parts_step, parts_done}
-use Rattle.pad_core.proofs.edit.make_parts.Goals as goal
+use Rattle.pad_core.proofs.make.make_parts.Goals as goal
 
 pub loop-change-init : goal.loop-change-init
 loop-change-init g c =

@@ -2,7 +2,7 @@ use Rattle.std.proofs.Common.{◌≡◌, ◌+◌, ◌≤◌, ◌++◌, drop, sum
 use Rattle.pad_model.specs.declared.limits.TheConstants.{MAX_COUNTER}
 use Rattle.pad_core.specs.Counts.{characters_at}
 use Rattle.pad_core.specs.Edits.{growth_of, parts_from, made_parts}
-use Rattle.pad_core.proofs.edit.make_parts.Given as goal
+use Rattle.pad_core.proofs.make.make_parts.Given as goal
 
 -- with the parts of the changes that are left, all parts are made; and there are counters for them
 abbrev pub invariant-loop-change : goal.invariant-loop-change

@@ -1,7 +1,7 @@
 use Rattle.pad_core.specs.Counts.{characters_at}
 use Rattle.pad_core.specs.Edits.{before_place}
 use Rattle.pad_core.proofs.Made.{run_made}
-use Rattle.pad_core.proofs.edit.make_run.Goals as goal
+use Rattle.pad_core.proofs.make.make_run.Goals as goal
 
 pub returns : goal.returns
 returns g c =

@@ -1,0 +1,20 @@
+use Rattle.std.proofs.Common.{rules, ◌≡◌, ◌∷◌, [], None, ap, ◌∙◌}
+use Rattle.pad_model.specs.Checked.{is_checked}
+use Rattle.pad_core.specs.Counts.{op_of}
+use Rattle.pad_core.specs.Delivered.{delivery_refusal}
+use Rattle.pad_core.specs.declared.act.Change.TheVariants.{Insert}
+use Rattle.pad_core.specs.Edits.{edit_refusal}
+use Rattle.pad_core.proofs.Made.{edit_checked, edit_fits}
+use Rattle.pad_core.proofs.edit.insert.Goals as goal
+
+pub append_parts-requires-clause-checked : goal.append_parts-requires-clause-checked
+append_parts-requires-clause-checked g c =
+    let none : edit_refusal c.args.rev (Insert c.args.at c.args.text.now ∷ []) c.args.ledger.now ≡ None = search rules in
+    ap (λ parts. is_checked (op_of c.args.replica c.args.author.now parts c.args.ledger.now)) c.in-Ok.ensures
+    ∙ edit_checked c.args.replica c.args.rev c.args.author.now (Insert c.args.at c.args.text.now ∷ []) c.args.ledger.now none c.in_default.ensures.sound.history c.requires.author c.requires.replica
+
+pub append_parts-requires-clause-allowed : goal.append_parts-requires-clause-allowed
+append_parts-requires-clause-allowed g c =
+    let none : edit_refusal c.args.rev (Insert c.args.at c.args.text.now ∷ []) c.args.ledger.now ≡ None = search rules in
+    ap (λ parts. delivery_refusal (op_of c.args.replica c.args.author.now parts c.args.ledger.now) c.args.ledger.now) c.in-Ok.ensures
+    ∙ edit_fits c.args.replica c.args.rev c.args.author.now (Insert c.args.at c.args.text.now ∷ []) c.args.ledger.now none c.in_default.ensures.sound.history

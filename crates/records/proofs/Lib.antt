@@ -1,4 +1,5 @@
 pub mod Deliveries
 pub mod Fronts
+pub mod Idle
 pub mod Replays
 pub mod Steps

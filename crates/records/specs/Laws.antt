@@ -1,5 +1,5 @@
 -- What holds of records and restarts.
-use Rattle.std.specs.Prelude.{◌≡◌, ℕ, ◌++◌, List, [], map, take, Some, Ok}
+use Rattle.std.specs.Prelude.{◌≡◌, ℕ, ◌++◌, false, List, [], map, take, Some, Ok}
 use Rattle.pad_model.specs.declared.op.Op.{Op}
 use Rattle.pad_model.specs.declared.who.Who.{Who}
 use Rattle.sessions.specs.Session.{IsNamed}
@@ -12,6 +12,7 @@ use Rattle.pad_core.specs.declared.request.Request.{Request}
 use Rattle.server_core.specs.AtCell.{request_at}
 use Rattle.server_core.specs.Rooms.{IsAsked}
 use Rattle.server_core.specs.Served.{Visited}
+use Rattle.records.specs.Leaves.{may_leave}
 use Rattle.records.specs.Records.{Answer, rebuilt, records_of, replay_all, unnamed}
 use Rattle.records.specs.declared.kept_record.Record.{Record}
 use Rattle.records.specs.declared.kept_record.Record.TheVariants.{Delivered}
@@ -29,6 +30,12 @@ abbrev pub StepsLaw : Type 0
 StepsLaw =
     (who : Who) (request : Request) (cell : ℕ) (rooms : List Room) (old : Machine) (answer : Answer) (new : List Room) (after : Machine) (more : List Op) →
     Left who request cell rooms old answer new after more → replay_all (records_of who request answer more) (restarted old) ≡ Ok (restarted after)
+
+-- a request that may leave no records leaves none
+abbrev pub IdleLaw : Type 0
+IdleLaw =
+    (who : Who) (request : Request) (cell : ℕ) (rooms : List Room) (old : Machine) (answer : Answer) (new : List Room) (after : Machine) (more : List Op) →
+    Left who request cell rooms old answer new after more → may_leave request ≡ false → records_of who request answer more ≡ []
 
 -- the end of a visit leaves a restarted pad as it was
 abbrev pub DeparturesLaw : Type 0

@@ -1,5 +1,5 @@
 //! What holds of records and restarts: each law is the contract of a function without parameters.
-ghost use Rattle.records.specs.Laws.{DeparturesLaw, FrontsLaw, LivesLaw, StepsLaw};
+ghost use Rattle.records.specs.Laws.{DeparturesLaw, FrontsLaw, IdleLaw, LivesLaw, StepsLaw};
 
 /// The records of a request lead from the restarted pad before it to the restarted pad after it.
 pub fn steps_law()
@@ -19,4 +19,9 @@ pub fn lives_law()
 /// The records that are left where the last ones are lost lead to the restarted pad that it was before those.
 pub fn fronts_law()
     ensures { FrontsLaw }
+{}
+
+/// A request that may leave no records leaves none, whatever it was answered.
+pub fn idle_law()
+    ensures { IdleLaw }
 {}

@@ -7,8 +7,10 @@
 mod again;
 mod kept_record;
 pub mod laws;
+mod leaves;
 mod step;
 
 pub use again::{rebuild, replay};
 pub use kept_record::Record;
+pub use leaves::leaves_records;
 pub use step::records_of;

@@ -1,0 +1,42 @@
+//! Which requests may leave something to be kept.
+ghost use Rattle.std.specs.Prelude.{◌≡◌};
+ghost use Rattle.records.specs.Leaves.{may_leave, is_kept as is_act_kept};
+
+use pad_core::{Act, Request};
+
+/// Whether a request may leave records, by what it asks alone. Where it may not, `records_of` is empty whatever the answer.
+pub fn leaves_records(request: &Request) -> bool
+    ensures { result ≡ may_leave request.now }
+{
+    match request {
+        Request::Create { .. } => true,
+        Request::On { act, .. } => is_kept(act),
+        Request::Hello { .. } | Request::Peer { .. } => false,
+    }
+}
+
+fn is_kept(act: &Act) -> bool
+    ensures { result ≡ is_act_kept act.now }
+{
+    match act {
+        Act::Join
+        | Act::Grant { .. }
+        | Act::Insert { .. }
+        | Act::Delete { .. }
+        | Act::Edit { .. }
+        | Act::Comment { .. }
+        | Act::Resolve { .. }
+        | Act::Push { .. } => true,
+        Act::Leave
+        | Act::Text { .. }
+        | Act::Runs { .. }
+        | Act::Comments { .. }
+        | Act::Revs
+        | Act::Entries { .. }
+        | Act::Caret { .. }
+        | Act::Who
+        | Act::Rights
+        | Act::Vector
+        | Act::Pull { .. } => false,
+    }
+}

@@ -1,5 +1,5 @@
 -- What a crash leaves of a pad's file leads to a restarted state that the pad had.
-use Rattle.std.proofs.Common.{◌≡◌, ℕ, zero, suc, ◌+◌, ◌≤◌, ◌<◌, true, List, [], ◌∷◌, length, map, take, fold, bytes_eq, Option, Some, None, option_map, option_and_then, Result, Ok, Err, refl, sym, ap, ◌∙◌, subst, arith}
+use Rattle.std.proofs.Common.{◌≡◌, ℕ, zero, suc, ◌≤◌, List, [], ◌∷◌, length, map, take, fold, bytes_eq, Some, Result, Ok, Err, refl, sym, ap, ◌∙◌, subst, arith}
 use Rattle.std.specs.List.{AllByRecursion}
 use Rattle.std.proofs.lemmas.Bool.{cond-true}
 use Rattle.std.proofs.lemmas.List.{take-map}
@@ -11,12 +11,14 @@ use Rattle.records.specs.Laws.{Had, Life}
 use Rattle.records.specs.Records.{rebuilt, replay, replay_all, replayed, unnamed}
 use Rattle.records.specs.declared.kept_record.Record.{Record}
 use Rattle.records.proofs.Fronts.{front as records_front}
-use Rattle.store.specs.Entries.{Read, begun, entered, entry_behind, entry_said, file_read, read_line, read_lines, unless_refused}
+use Rattle.store.specs.Entries.{entry_said}
+use Rattle.store.specs.Files.{Read, begun, entered, entry_behind, file_read, if_named, lines_read, pad_read, read_lines, read_on, said_at, text_at, unless_refused}
 use Rattle.store.specs.Laws.{Disk, IsLine, MayLeave, Say, entries_of, file_of}
-use Rattle.store.specs.Lines.{line_text, lines_behind, sum_after, text_behind, whole_lines}
+use Rattle.store.specs.Lines.{line_text, lines_behind, sum_after, whole_lines}
 use Rattle.store.specs.declared.entry.Entry.{Entry}
 use Rattle.store.specs.declared.entry.Entry.TheVariants as entry
-use Rattle.store.specs.declared.header.Header.{Header}
+use Rattle.store.specs.declared.reader.Damage.{Damage}
+use Rattle.store.specs.declared.reader.Damage.TheVariants.{Empty, OtherPad}
 use Rattle.store.proofs.Fronts.{front, text_found}
 
 front_length : (n : ℕ) (bytes : List ℕ) → length (take n bytes) ≤ n
@@ -25,10 +27,8 @@ front_length (suc n) [] = omega arith
 front_length (suc n) (b ∷ bytes) = let h = front_length n bytes in omega (arith, h)
 
 -- what the line of a text says
-said_behind : (before text : List ℕ) (said : Entry) → entry_said text ≡ Some said → entry_behind before (line_text before text) ≡ Some (said, sum_after before text)
-said_behind before text said is =
-    ap (option_and_then (λ t. option_map (λ (e : Entry). (let p : Entry × List ℕ = (e, sum_after before t) in p)) (entry_said t))) (text_found before text)
-    ∙ ap (option_map (λ (e : Entry). (let p : Entry × List ℕ = (e, sum_after before text) in p))) is
+said_behind : (number : ℕ) (before text : List ℕ) (said : Entry) → entry_said text ≡ Some said → entry_behind number before (line_text before text) ≡ Ok (said, sum_after before text)
+said_behind number before text said is = ap (text_at number before) (text_found before text) ∙ ap (said_at number (sum_after before text)) is
 
 -- the first texts say the first of it
 say_front : (n : ℕ) (says : List Entry) (texts : List (List ℕ)) → Say says texts → Say (take n says) (take n texts)
@@ -57,23 +57,29 @@ refused_stays (x ∷ records) e = refused_stays records e
 err_is_no_ok : (e : Refusal) (m : Machine) → (let r : Result Machine Refusal = Err e in r) ≡ Ok m → ⊥
 err_is_no_ok e m h = cc
 
+-- what was read has this pad
+abbrev Leads : Result Read Damage → Machine → Type 0
+Leads result m = (read : Read) × (read.pad ≡ m) × (result ≡ Ok read)
+
 -- lines that say records lead where the records lead
-pub records_read : (name : List ℕ) (records : List Record) (texts : List (List ℕ)) (before : Read) (m : Machine) → Say (map entry.Record records) texts → replay_all records before.pad ≡ Ok m →
-    option_map (λ (read : Read). read.pad) (read_lines name (Some before) (lines_behind before.sum texts)) ≡ Some m
-records_read name [] [] before m says leads = ap Some (same leads)
+pub records_read : (number : ℕ) (name : List ℕ) (records : List Record) (texts : List (List ℕ)) (before : Read) (m : Machine) → Say (map entry.Record records) texts → replay_all records before.pad ≡ Ok m →
+    Leads (read_lines number name before (lines_behind before.sum texts)) m
+records_read number name [] [] before m says leads = (before, same leads, refl)
   where
     same : (let r : Result Machine Refusal = Ok before.pad in r) ≡ Ok m → before.pad ≡ m
     same e = cc
-records_read name [] (text ∷ texts) before m says leads = absurd says
-records_read name (kept ∷ records) [] before m says leads = absurd says
-records_read name (kept ∷ records) (text ∷ texts) before m (plain, is, says) leads =
-    ap (λ (r : Option Read). option_map (λ (read : Read). read.pad) (read_lines name r (lines_behind (sum_after before.sum text) texts)))
-    (ap (option_and_then (entered name before)) (said_behind before.sum text (entry.Record kept) is))
-    ∙ at (replay kept before.pad) leads (λ next. records_read name records texts (record before { pad = next; sum = sum_after before.sum text }) m says)
+records_read number name [] (text ∷ texts) before m says leads = absurd says
+records_read number name (kept ∷ records) [] before m says leads = absurd says
+records_read number name (kept ∷ records) (text ∷ texts) before m (plain, is, says) leads =
+    subst (λ (r : Result Read Damage). Leads r m) (sym (ap (λ (r : Result (Entry × List ℕ) Damage). on (read_on (entered number name before) r)) (said_behind number before.sum text (entry.Record kept) is)))
+    (at (replay kept before.pad) leads (λ next. records_read (suc number) name records texts (record before { pad = next; sum = sum_after before.sum text }) m says))
   where
+    on : Result Read Damage → Result Read Damage
+    on r = read_on (λ next. read_lines (suc number) name next (lines_behind (sum_after before.sum text) texts)) r
+
     at : (done : Result (Unit {0}) Refusal × Machine) → fold replayed (Rattle.records.specs.Records.unless_refused done) records ≡ Ok m →
-        ((next : Machine) → replay_all records next ≡ Ok m → option_map (λ (read : Read). read.pad) (read_lines name (Some (record before { pad = next; sum = sum_after before.sum text })) (lines_behind (sum_after before.sum text) texts)) ≡ Some m) →
-        option_map (λ (read : Read). read.pad) (read_lines name (unless_refused (sum_after before.sum text) before done) (lines_behind (sum_after before.sum text) texts)) ≡ Some m
+        ((next : Machine) → replay_all records next ≡ Ok m → Leads (read_lines (suc number) name (record before { pad = next; sum = sum_after before.sum text }) (lines_behind (sum_after before.sum text) texts)) m) →
+        Leads (on (unless_refused number (sum_after before.sum text) before done)) m
     at (Ok done, next) leads more = more next leads
     at (Err e, next) leads more = absurd (err_is_no_ok e m (sym (refused_stays records e) ∙ leads))
 
@@ -85,18 +91,19 @@ map_length (kept ∷ records) = ap suc (map_length records)
 abbrev Again : ℕ → List ℕ → List Record → Machine → List (List ℕ) → ℕ → List (List ℕ) → Type 0
 Again replica name records m texts synced lines =
     (count : ℕ) × (had : Machine) × Had replica records m (take count records) had
-    × (option_map (λ (read : Read). read.pad) (file_read replica name lines) ≡ Some (restarted had))
+    × Leads (file_read replica name lines) (restarted had)
     × ((whole : ℕ) → whole ≤ length records → length (file_of (take (suc whole) texts)) ≤ synced → whole ≤ count)
 
 -- the first line is a header, and those behind it records
 file_again : (replica : ℕ) (name : List ℕ) (records : List Record) (text : List ℕ) (texts : List (List ℕ)) (had : Machine) →
     entry_said text ≡ Some (entry.Header (record { pad = name; replica = replica })) → Say (map entry.Record records) texts → rebuilt replica records ≡ Ok (restarted had) →
-    option_map (λ (read : Read). read.pad) (file_read replica name (lines_behind [] (text ∷ texts))) ≡ Some (restarted had)
+    Leads (file_read replica name (lines_behind [] (text ∷ texts))) (restarted had)
 file_again replica name records text texts had is says leads =
-    ap (λ (r : Option Read). option_map (λ (read : Read). read.pad) (read_lines name r (lines_behind (sum_after [] text) texts)))
-    (ap (option_and_then (begun replica name)) (said_behind [] text (entry.Header (record { pad = name; replica = replica })) is)
-    ∙ cond-true (bytes_eq name name) (Some first) None ((bytes_eq-Decides name name).1 refl))
-    ∙ records_read name records texts first (restarted had) says leads
+    subst (λ (r : Result Read Damage). Leads (read_on (λ before. read_lines 2 name before (lines_behind (sum_after [] text) texts)) r) (restarted had))
+    (sym
+    (ap (read_on (begun replica name)) (said_behind 1 [] text (entry.Header (record { pad = name; replica = replica })) is)
+    ∙ cond-true (bytes_eq name name) (Ok first) (Err OtherPad) ((bytes_eq-Decides name name).1 refl)))
+    (records_read 2 name records texts first (restarted had) says leads)
   where
     first : Read
     first = record { pad = unnamed replica; header = record { pad = name; replica = replica }; sum = sum_after [] text }
@@ -128,8 +135,8 @@ left_again replica name records m (text ∷ texts) disk bytes life (plain, is, s
           k,
           had,
           there,
-          ap (λ ls. option_map (λ (read : Read). read.pad) (file_read replica name ls)) (lines_left ∙ lines)
-              ∙ file_again replica name (take k records) text (take k texts) had is (subst (λ (es : List Entry). Say es (take k texts)) (take-map entry.Record k records) (say_front k (map entry.Record records) texts says)) leads,
+          subst (λ ls. Leads (file_read replica name ls) (restarted had)) (sym (lines_left ∙ lines))
+              (file_again replica name (take k records) text (take k texts) had is (subst (λ (es : List Entry). Say es (take k texts)) (take-map entry.Record k records) (say_front k (map entry.Record records) texts says)) leads),
           most,
         )
           where
@@ -141,3 +148,14 @@ left_again replica name records m (text ∷ texts) disk bytes life (plain, is, s
 
                 reach : length (file_of (take (suc whole) (text ∷ texts))) ≤ disk.synced → disk.synced ≤ n → length (file_of (take (suc whole) (text ∷ texts))) ≤ n
                 reach a b = omega arith
+
+-- what was read of lines is what the file's bytes lead to, if the pad has the name
+pub named_read : (replica : ℕ) (name bytes : List ℕ) (read : Read) → file_read replica name (whole_lines bytes) ≡ Ok read → pad_read replica name bytes ≡ if_named name read
+named_read replica name bytes read is = at (whole_lines bytes) is
+  where
+    no_line : (let r : Result Read Damage = Err Empty in r) ≡ Ok read → ⊥
+    no_line e = cc
+
+    at : (lines : List (List ℕ)) → file_read replica name lines ≡ Ok read → lines_read replica name bytes lines ≡ if_named name read
+    at [] e = absurd (no_line e)
+    at (first ∷ lines) e = ap (read_on (if_named name)) e

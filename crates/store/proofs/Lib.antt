@@ -1,2 +1,4 @@
 pub mod Crashes
+pub mod Feeds
 pub mod Fronts
+pub mod Texts

@@ -1,11 +1,13 @@
 -- What a record is written as, and read as. The time of day stands beside it, and is not read.
-use Rattle.std.specs.Prelude.{ℕ, List, [], ◌∷◌, codes, bytes_eq, if◌then◌else◌, Option, Some, None, option_map, option_and_then}
+use Rattle.std.specs.Prelude.{IsTrue, ℕ, List, [], ◌∷◌, codes, bytes_eq, if◌then◌else◌, Option, Some, None, option_map, option_and_then}
 use Rattle.serde_json.specs.Data.{Data, string}
 use Rattle.serde_json.specs.Find.{as_str}
+use Rattle.pad_model.specs.Checked.{is_checked}
 use Rattle.rights.specs.declared.right.Right.{Right}
 use Rattle.records.specs.declared.kept_record.Record.{Record}
 use Rattle.records.specs.declared.kept_record.Record.TheVariants.{Named, Granted, Visited, Delivered}
 use Rattle.wire_json.specs.Forms.{Field, fields_data, number_data}
+use Rattle.wire_json.specs.Laws.{IsSayable}
 use Rattle.wire_json.specs.Operations.{op_data}
 use Rattle.wire_json.specs.Reading.{field, of_two}
 use Rattle.wire_json.specs.Requests.{op_in}
@@ -26,6 +28,13 @@ record_fields (Delivered op) = (codes "kind", string (codes "delivered")) ∷ (c
 -- a record with the time of day, in seconds since the year 1970
 abbrev pub record_data : ℕ → Record → Data
 record_data at kept = fields_data ((codes "at", number_data at) ∷ record_fields kept)
+
+-- the operation of a record has values of its types, and is in the limits
+abbrev pub IsSayableRecord : Record → Type 0
+IsSayableRecord (Named name owner) = Unit {0}
+IsSayableRecord (Granted author right) = Unit {0}
+IsSayableRecord Visited = Unit {0}
+IsSayableRecord (Delivered op) = IsTrue (is_checked op) × IsSayable op
 
 -- a text of an object
 abbrev pub text_in : List ℕ → Data → Option (List ℕ)

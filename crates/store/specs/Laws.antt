@@ -1,11 +1,12 @@
 -- What is left of a pad's file after a crash.
-use Rattle.std.specs.Prelude.{◌≡◌, ℕ, suc, ◌≤◌, ◌≢◌, List, [], ◌∷◌, length, map, take, Some, option_map}
+use Rattle.std.specs.Prelude.{◌≡◌, ℕ, suc, ◌≤◌, ◌≢◌, List, [], ◌∷◌, length, map, take, Some, Ok}
 use Rattle.std.specs.List.{AllByRecursion}
 use Rattle.pad_core.specs.Machine.{Machine}
 use Rattle.pad_core.specs.Restart.{restarted}
 use Rattle.records.specs.Laws.{Had, Life}
 use Rattle.records.specs.declared.kept_record.Record.{Record}
-use Rattle.store.specs.Entries.{entry_said, file_read}
+use Rattle.store.specs.Entries.{entry_said}
+use Rattle.store.specs.Files.{Read, file_read, if_named, pad_read}
 use Rattle.store.specs.declared.entry.Entry.{Entry}
 use Rattle.store.specs.declared.entry.Entry.TheVariants as entry
 use Rattle.store.specs.Lines.{bytes_of, line_text, lines_behind, text_behind, whole_lines}
@@ -13,6 +14,10 @@ use Rattle.store.specs.Lines.{bytes_of, line_text, lines_behind, text_behind, wh
 -- a text without a line feed
 abbrev pub IsLine : List ℕ → Type 0
 IsLine text = AllByRecursion (λ byte. byte ≢ 10) text
+
+-- a text is one line, and says this
+abbrev pub Tells : Entry → List ℕ → Type 0
+Tells said text = IsLine text × (entry_said text ≡ Some said)
 
 -- the bytes of these texts' lines
 abbrev pub file_of : List (List ℕ) → List ℕ
@@ -51,5 +56,5 @@ CrashLaw =
     (replica : ℕ) (name : List ℕ) (records : List Record) (m : Machine) (texts : List (List ℕ)) (disk : Disk) (bytes : List ℕ) →
     Life replica records m → Say (entries_of replica name records) texts → disk.written ≡ file_of texts → MayLeave disk bytes → length (file_of (take 1 texts)) ≤ length bytes →
     (count : ℕ) × (had : Machine) × Had replica records m (take count records) had
-    × (option_map (λ read. read.pad) (file_read replica name (whole_lines bytes)) ≡ Some (restarted had))
+    × (read : Read) × (read.pad ≡ restarted had) × (file_read replica name (whole_lines bytes) ≡ Ok read) × (pad_read replica name bytes ≡ if_named name read)
     × ((synced : ℕ) → synced ≤ length records → length (file_of (take (suc synced) texts)) ≤ disk.synced → synced ≤ count)

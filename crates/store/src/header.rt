@@ -1,7 +1,10 @@
 //! The first line of a pad's file, and each from which on another server wrote.
+ghost use Rattle.std.specs.Prelude.{◌≡◌, IfOk, string_bytes};
 ghost use Rattle.serde_json.specs.View.{view};
 ghost use Rattle.wire_json.specs.Reading.{IsRead};
-ghost use Rattle.store.specs.Entries.{header_in};
+ghost use Rattle.store.specs.Entries.{header_data, header_in};
+ghost use Rattle.store.specs.Laws.{Tells};
+ghost use Rattle.store.specs.declared.entry.Entry.TheVariants as Entry;
 
 use pad_model::{Name, Refusal};
 use serde_json::{Map, Value, put};
@@ -19,7 +22,16 @@ pub struct Header {
 }
 
 /// The text of such a line.
-pub fn header_text(alloc: Global, pad: &Name, replica: u16) -> Result<String, AllocError> {
+pub fn header_text(alloc: Global, pad: &Name, replica: u16) -> Result<String, AllocError>
+    ensures { IfOk result (λ text. Tells (Entry.Header (record { pad = pad.now; replica = replica })) (string_bytes text)) }
+{
+    let value = header_value(alloc, pad, replica)?;
+    value.to_string(alloc)
+}
+
+fn header_value(alloc: Global, pad: &Name, replica: u16) -> Result<Value, AllocError>
+    ensures { IfOk result (λ v. view v ≡ header_data pad.now replica) }
+{
     let mut fields = Map::new(alloc);
     put(&mut fields, alloc, "format", Value::from(FORMAT))?;
     put(&mut fields, alloc, "pad", name_value(alloc, pad)?)?;
@@ -29,7 +41,7 @@ pub fn header_text(alloc: Global, pad: &Name, replica: u16) -> Result<String, Al
         "replica",
         Value::from(u64::from(replica)),
     )?;
-    Value::Object(fields).to_string(alloc)
+    Ok(Value::Object(fields))
 }
 
 /// What a value says as a header; 102 where it is none, or of another form.

@@ -1,12 +1,15 @@
 //! From the bytes of a file to a pad.
-ghost use Rattle.std.specs.Prelude.{◌≡◌, ◌⊎◌, ◌≤◌, ◌+◌, ℕ, [], length, true, false, bytes_eq, string_bytes, option_and_then, IfOk, MatchResult, Some, None, Ok, Err};
+ghost use Rattle.std.specs.Prelude.{◌≡◌, ◌⊎◌, ◌≤◌, ◌+◌, ℕ, [], length, true, false, bytes_eq, string_bytes, IfOk, MatchResult, Some, None, Ok, Err};
 ghost use Rattle.std.specs.List.{position};
 ghost use Rattle.serde_json.specs.View.{view};
 ghost use Rattle.pad_model.specs.declared.refusal.Refusal.{Refusal};
-ghost use Rattle.records.specs.Records.{replay as replayed};
+ghost use Rattle.pad_core.specs.Machine.{name_of};
+ghost use Rattle.records.specs.Records.{replay as replayed, unnamed};
 ghost use Rattle.wire_json.specs.Lines.{value_of as value_in};
-ghost use Rattle.store.specs.Entries.{begun, entry_behind};
-ghost use Rattle.store.specs.Lines.{is_feed};
+ghost use Rattle.store.specs.Files.{Read, begun, entry_behind, file_read, if_called, if_named, pad_read, read_line as line_read, read_lines, read_on, so_far, unbegun};
+ghost use Rattle.store.specs.Forms.{IsSayableRecord};
+ghost use Rattle.store.specs.Laws.{Tells};
+ghost use Rattle.store.specs.Lines.{bytes_of, is_feed, whole_lines};
 ghost use Rattle.store.specs.declared.reader.Damage.TheVariants.{Memory};
 
 use crate::entry::{Entry, read_entry};
@@ -28,19 +31,11 @@ pub enum Damage {
     #[error("no pad was named")]
     Empty,
     #[error("line {line}: it was changed, or lines before it are missing")]
-    Unlinked {
-        line: u64,
-    },
+    Unlinked { line: u64 },
     #[error("line {line}: it is no record")]
-    Unknown {
-        line: u64,
-    },
-    #[error("line {line}: {code} {name}")]
-    Refused {
-        line: u64,
-        code: u16,
-        name: &'static str,
-    },
+    Unknown { line: u64 },
+    #[error("line {line}: {} {}", .refusal.code(), .refusal.name())]
+    Refused { line: u64, refusal: Refusal },
     #[error("it is the file of another pad")]
     OtherPad,
 }
@@ -62,9 +57,19 @@ pub struct Loaded<S: Sequence> {
     pub cut: u64,
 }
 
-/// The text of a record's line.
-pub fn record_text(alloc: Global, at: u64, kept: &Record) -> Result<String, AllocError> {
-    record_value(alloc, at, kept)?.to_string(alloc)
+// Where the next line is linked: the last header, and the sum of the last line.
+#[derive(Drop)]
+struct Tail {
+    header: Header,
+    sum: String,
+}
+
+/// The text of a record's line. An operation in the limits is read again as it is.
+pub fn record_text(alloc: Global, at: u64, kept: &Record) -> Result<String, AllocError>
+    ensures { IfOk result (λ text. IsSayableRecord kept.now → Tells (Entry.Record kept.now) (string_bytes text)) }
+{
+    let value = record_value(alloc, at, kept)?;
+    value.to_string(alloc)
 }
 
 /// The pad with this name on the server with this replica number, of the bytes of its file. The part of a line at the end
@@ -76,31 +81,98 @@ pub fn load<S: Sequence>(
     bytes: &[u8],
 ) -> Result<Loaded<S>, Damage>
     requires { 1 ≤ replica }
-
+    ensures read { MatchResult result (λ loaded. pad_read replica name.now bytes.now ≡ Ok (record { pad = loaded.pad; header = loaded.header; sum = string_bytes loaded.sum })) (λ e. (e ≡ Damage.Memory) ⊎ (pad_read replica name.now bytes.now ≡ Err e)) }
+    ensures whole { IfOk result (λ loaded. loaded.whole ≡ length (bytes_of (whole_lines bytes.now))) }
     ensures cut { IfOk result (λ loaded. loaded.whole + loaded.cut ≡ length bytes.now) }
 {
     let Some(end) = find_feed(bytes) else {
         return Err(damage_of_front(bytes));
     };
-    let (header, sum) = first_line(alloc, name, &bytes[..end])?;
+    match load_named(alloc, replica, name, bytes, end) {
+        Ok((pad, last, cut)) => {
+            let Tail { header, sum } = last;
+            Ok(Loaded {
+                pad,
+                header,
+                sum,
+                whole: (bytes.len() - cut) as u64,
+                cut: cut as u64,
+            })
+        }
+        Err(damage) => Err(damage),
+    }
+}
+
+// The pad with this name of the whole lines of a file, of which the first ends here, with the last line, and how many bytes
+// stand behind it.
+fn load_named<S: Sequence>(
+    alloc: Global,
+    replica: u16,
+    name: &str,
+    bytes: &[u8],
+    end: usize,
+) -> Result<(Pad<S>, Tail, usize), Damage>
+    requires numbered { 1 ≤ replica }
+    requires feed { Some end ≡ position is_feed bytes.now }
+    ensures read { MatchResult result (λ done. read_on (if_named name.now) (file_read replica name.now (whole_lines bytes.now)) ≡ Ok (so_far done.0 done.1)) (λ e. (e ≡ Damage.Memory) ⊎ (read_on (if_named name.now) (file_read replica name.now (whole_lines bytes.now)) ≡ Err e)) }
+    ensures cut { IfOk result (λ done. length (bytes_of (whole_lines bytes.now)) + done.2 ≡ length bytes.now) }
+{
+    let done: (Pad<S>, Tail, usize) = load_lines(alloc, replica, name, bytes, end)?;
+    check_name(&done.0, name)?;
+    Ok(done)
+}
+
+// Whether a pad has this name.
+fn check_name<S: Sequence>(pad: &Pad<S>, name: &str) -> Result<(), Damage>
+    ensures { MatchResult result (λ _. (read : Read) → if_called name.now read (name_of pad.now.owned) ≡ Ok read) (λ e. (read : Read) → if_called name.now read (name_of pad.now.owned) ≡ Err e) }
+{
+    match pad.name() {
+        None => Err(Damage::Empty),
+        Some(own) if own != name => Err(Damage::OtherPad),
+        Some(_) => Ok(()),
+    }
+}
+
+// The pad of the whole lines of a file, of which the first ends here, with the last line, and how many bytes stand behind it.
+fn load_lines<S: Sequence>(
+    alloc: Global,
+    replica: u16,
+    name: &str,
+    bytes: &[u8],
+    end: usize,
+) -> Result<(Pad<S>, Tail, usize), Damage>
+    requires numbered { 1 ≤ replica }
+    requires feed { Some end ≡ position is_feed bytes.now }
+    ensures read { MatchResult result (λ done. file_read replica name.now (whole_lines bytes.now) ≡ Ok (so_far done.0 done.1)) (λ e. (e ≡ Damage.Memory) ⊎ (file_read replica name.now (whole_lines bytes.now) ≡ Err e)) }
+    ensures cut { IfOk result (λ done. length (bytes_of (whole_lines bytes.now)) + done.2 ≡ length bytes.now) }
+{
+    let first = match first_line(alloc, name, &bytes[..end]) {
+        Ok(first) => first,
+        Err(damage) => return Err(damage),
+    };
+    load_behind(alloc, replica, name, first, &bytes[end + 1..])
+}
+
+// The pad of a file whose first line was read, of the bytes behind that.
+fn load_behind<S: Sequence>(
+    alloc: Global,
+    replica: u16,
+    name: &str,
+    first: Tail,
+    bytes: &[u8],
+) -> Result<(Pad<S>, Tail, usize), Damage>
+    requires { 1 ≤ replica }
+    ensures read { MatchResult result (λ done. read_lines 2 name.now (so_far (unnamed replica) first) (whole_lines bytes.now) ≡ Ok (so_far done.0 done.1)) (λ e. (e ≡ Damage.Memory) ⊎ (read_lines 2 name.now (so_far (unnamed replica) first) (whole_lines bytes.now) ≡ Err e)) }
+    ensures cut { IfOk result (λ done. length (bytes_of (whole_lines bytes.now)) + done.2 ≡ length bytes.now) }
+{
     let mut pad = match Pad::new(alloc, replica) {
         Ok(pad) => pad,
         Err(_) => return Err(Damage::Memory),
     };
-    let behind = &bytes[end + 1..];
-    let (header, sum, cut) = replay_lines(alloc, &mut pad, name, header, sum, behind)?;
-    match pad.name() {
-        None => return Err(Damage::Empty),
-        Some(own) if own != name => return Err(Damage::OtherPad),
-        Some(_) => {}
+    match replay_lines(alloc, &mut pad, name, first, bytes) {
+        Ok((last, cut)) => Ok((pad, last, cut)),
+        Err(damage) => Err(damage),
     }
-    Ok(Loaded {
-        pad,
-        header,
-        sum,
-        whole: (bytes.len() - cut) as u64,
-        cut: cut as u64,
-    })
 }
 
 // The place of the first line feed.
@@ -110,37 +182,61 @@ fn find_feed(bytes: &[u8]) -> Option<usize>
     bytes.iter().position(|byte| *byte == b'\n')
 }
 
-// Replays the whole lines behind a line with this sum, and answers the last header, the last sum, and how many bytes stand
-// behind the last line feed.
+// Replays the whole lines behind the first one, and answers the last one, and how many bytes stand behind the last line
+// feed.
 fn replay_lines<S: Sequence>(
     alloc: Global,
     pad: &mut Pad<S>,
     name: &str,
-    first: Header,
-    before: String,
+    first: Tail,
     bytes: &[u8],
-) -> Result<(Header, String, usize), Damage>
-    ensures cut { IfOk result (λ done. done.2 ≤ length bytes.now) }
+) -> Result<(Tail, usize), Damage>
+    ensures read { MatchResult result (λ done. read_lines 2 name.now (so_far pad.old first) (whole_lines bytes.now) ≡ Ok (so_far pad.new done.0)) (λ e. (e ≡ Damage.Memory) ⊎ (read_lines 2 name.now (so_far pad.old first) (whole_lines bytes.now) ≡ Err e)) }
+    ensures cut { IfOk result (λ done. length (bytes_of (whole_lines bytes.now)) + done.1 ≡ length bytes.now) }
 {
-    let mut header = first;
-    let mut sum = before;
+    let mut last = first;
     let mut rest = bytes;
     let mut number: u64 = 1;
     while let Some(end) = find_feed(rest) {
-        number = number.saturating_add(1);
-        let (entry, next) = read_line(alloc, sum.as_str(), &rest[..end], number)?;
-        match entry {
-            Entry::Header(other) => header = checked(other, name)?,
-            Entry::Record(kept) => replay_record(alloc, pad, kept, number)?,
-        }
-        sum = next;
+        number += 1;
+        last = match next_line(alloc, pad, name, last, &rest[..end], number) {
+            Ok(next) => next,
+            Err(damage) => return Err(damage),
+        };
         rest = &rest[end + 1..];
     }
-    Ok((header, sum, rest.len()))
+    Ok((last, rest.len()))
+}
+
+// Reads one more line.
+fn next_line<S: Sequence>(
+    alloc: Global,
+    pad: &mut Pad<S>,
+    name: &str,
+    before: Tail,
+    line: &[u8],
+    number: u64,
+) -> Result<Tail, Damage>
+    ensures { MatchResult result (λ next. line_read number name.now (so_far pad.old before) line.now ≡ Ok (so_far pad.new next)) (λ e. (e ≡ Damage.Memory) ⊎ (line_read number name.now (so_far pad.old before) line.now ≡ Err e)) }
+{
+    let Tail { header, sum } = before;
+    let (entry, next) = read_line(alloc, sum.as_str(), line, number)?;
+    match entry {
+        Entry::Header(other) => Ok(Tail {
+            header: checked(other, name)?,
+            sum: next,
+        }),
+        Entry::Record(kept) => {
+            replay_record(alloc, pad, kept, number)?;
+            Ok(Tail { header, sum: next })
+        }
+    }
 }
 
 // A file without a whole line: its first write was cut off, or it was never a pad's.
-fn damage_of_front(bytes: &[u8]) -> Damage {
+fn damage_of_front(bytes: &[u8]) -> Damage
+    ensures { result ≡ unbegun bytes.now }
+{
     if bytes.starts_with(BEGINNING) || BEGINNING.starts_with(bytes) {
         Damage::Empty
     } else {
@@ -150,7 +246,7 @@ fn damage_of_front(bytes: &[u8]) -> Damage {
 
 // A header, if it is that of the pad with this name.
 fn checked(header: Header, name: &str) -> Result<Header, Damage>
-    ensures { MatchResult result (λ same. (same ≡ header) × (bytes_eq header.pad name.now ≡ true)) (λ e. bytes_eq header.pad name.now ≡ false) }
+    ensures { MatchResult result (λ same. (same ≡ header) × (bytes_eq header.pad name.now ≡ true)) (λ e. (e ≡ Damage.OtherPad) × (bytes_eq header.pad name.now ≡ false)) }
 {
     if header.pad.as_str() == name {
         Ok(header)
@@ -160,12 +256,15 @@ fn checked(header: Header, name: &str) -> Result<Header, Damage>
 }
 
 // The first line, which is a header, and its sum.
-fn first_line(alloc: Global, name: &str, line: &[u8]) -> Result<(Header, String), Damage>
-    ensures { MatchResult result (λ pair. (entry_behind [] line.now ≡ Some (Entry.Header pair.0, string_bytes pair.1)) × (bytes_eq pair.0.pad name.now ≡ true)) (λ e. (e ≡ Damage.Memory) ⊎ ((replica : ℕ) → option_and_then (begun replica name.now) (entry_behind [] line.now) ≡ None)) }
+fn first_line(alloc: Global, name: &str, line: &[u8]) -> Result<Tail, Damage>
+    ensures { MatchResult result (λ first. (entry_behind 1 [] line.now ≡ Ok (Entry.Header first.header, string_bytes first.sum)) × (bytes_eq first.header.pad name.now ≡ true)) (λ e. (e ≡ Damage.Memory) ⊎ ((replica : ℕ) → read_on (begun replica name.now) (entry_behind 1 [] line.now) ≡ Err e)) }
 {
     let (entry, sum) = read_line(alloc, "", line, 1)?;
     match entry {
-        Entry::Header(header) => Ok((checked(header, name)?, sum)),
+        Entry::Header(header) => Ok(Tail {
+            header: checked(header, name)?,
+            sum,
+        }),
         Entry::Record(_) => Err(Damage::Unknown { line: 1 }),
     }
 }
@@ -177,7 +276,7 @@ fn read_line(
     line: &[u8],
     number: u64,
 ) -> Result<(Entry, String), Damage>
-    ensures { MatchResult result (λ pair. entry_behind before.now line.now ≡ Some (pair.0, string_bytes pair.1)) (λ e. (e ≡ Damage.Memory) ⊎ (entry_behind before.now line.now ≡ None)) }
+    ensures { MatchResult result (λ pair. entry_behind number before.now line.now ≡ Ok (pair.0, string_bytes pair.1)) (λ e. (e ≡ Damage.Memory) ⊎ (entry_behind number before.now line.now ≡ Err e)) }
 {
     let Some((text, sum)) = text_of(alloc, before, line)? else {
         return Err(Damage::Unlinked { line: number });
@@ -196,21 +295,20 @@ fn replay_record<S: Sequence>(
     kept: Record,
     number: u64,
 ) -> Result<(), Damage>
-    ensures { MatchResult result (λ _. replayed kept pad.old ≡ (Ok tt, pad.new)) (λ e. (e ≡ Damage.Memory) ⊎ ((refusal : Refusal) × (replayed kept pad.old ≡ (Err refusal, pad.new)))) }
+    ensures { MatchResult result (λ _. replayed kept pad.old ≡ (Ok tt, pad.new)) (λ e. (e ≡ Damage.Memory) ⊎ ((refusal : Refusal) × (e ≡ Damage.Refused number refusal) × (replayed kept pad.old ≡ (Err refusal, pad.new)))) }
 {
     match replay(alloc, pad, kept) {
         Ok(()) => Ok(()),
         Err(Refusal::Memory) => Err(Damage::Memory),
         Err(refusal) => Err(Damage::Refused {
             line: number,
-            code: refusal.code(),
-            name: refusal.name(),
+            refusal,
         }),
     }
 }
 
 fn value_of(alloc: Global, text: &[u8], line: u64) -> Result<Value, Damage>
-    ensures { MatchResult result (λ v. value_in text.now ≡ Some (view v)) (λ e. (e ≡ Damage.Memory) ⊎ (value_in text.now ≡ None)) }
+    ensures { MatchResult result (λ v. value_in text.now ≡ Some (view v)) (λ e. (e ≡ Damage.Memory) ⊎ ((e ≡ Damage.Unknown line) × (value_in text.now ≡ None))) }
 {
     match Value::from_slice(alloc, text) {
         Ok(value) => Ok(value),

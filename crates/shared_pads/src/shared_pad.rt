@@ -11,7 +11,12 @@ use pad_core::{Pad, Reply, Request};
 use pad_model::{Name, Refusal, Sequence, Who};
 use sessions::{Room, Session};
 use std::alloc::Global;
-use std::sync::{Mutex, Wait};
+use std::sync::{Mutex, MutexGuard, Wait};
+use std::thread::yield_now;
+
+/// How often a thread looks whether a lock is free, and lets others run, before it sleeps until it is. A step takes some
+/// microseconds, less than putting a thread to sleep and waking it.
+const LOOKS: u32 = 64;
 
 /// A pad behind its lock, which stands in a cell of a row.
 ///
@@ -56,6 +61,17 @@ impl<S: Sequence> SharedPad<S> {
         self.kept.lock(rt).seat(self.cell)
     }
 
+    // The lock, for a step.
+    fn lock<R: Wait>(&self, rt: &R) -> MutexGuard<'_, Kept<S>> {
+        for _look in 0..LOOKS {
+            if let Some(kept) = self.kept.try_lock() {
+                return kept;
+            }
+            yield_now();
+        }
+        self.kept.lock(rt)
+    }
+
     /// A request at this cell. None: the pad there has another name. 318: the seat is not the one that the pad knows.
     pub fn call<R: Wait, G: Gate>(
         &self,
@@ -71,7 +87,7 @@ impl<S: Sequence> SharedPad<S> {
         ensures who { session.new.who ≡ session.old.who }
         ensures called { Called seat.old session.old.who request.now session.old.rooms result seat.new session.new.rooms }
     {
-        let mut kept = self.kept.lock(rt);
+        let mut kept = self.lock(rt);
         let before = kept.revision();
         let answer = kept.call(alloc, seat, session, request);
         let told = Answered {

@@ -4,7 +4,7 @@ use Rattle.pad_model.specs.declared.refusal.Refusal.{Refusal}
 use Rattle.pad_model.specs.declared.who.Who.{Who}
 use Rattle.pad_core.specs.declared.reply.Reply.{Reply}
 use Rattle.pad_core.specs.declared.request.Request.{Request}
-use Rattle.workers.specs.Row.{Passes, Scans, Searches, Seated, VisitsAt, of_cell}
+use Rattle.workers.specs.Row.{Passes, Scans, Searches, Seated, Seeks, VisitsAt, of_cell}
 
 -- the cell at a place answers
 pub found : (row cell place : ℕ) (who now : Who) (request : Request) (old mid new : Seated) (told : Result (Option Reply) Refusal) (answer : Result Reply Refusal) → cell ≤ place →
@@ -30,6 +30,6 @@ passes_on cell place who now then request old mid new told low (same, passed) st
 
 -- a search where nothing speaks against the request
 pub searched : (r : Option Refusal) (row cell first : ℕ) (who then : Who) (request : Request) (old new : Seated) (answer : Result Reply Refusal) → r ≡ None → first ≡ cell → then ≡ who →
-    Scans row first who request old answer new → Searches r row cell who request old answer new × (then ≡ who)
-searched r row cell first who then request old new answer is at same scans =
-    (subst (λ r. Searches r row cell who request old answer new) (sym is) (subst (λ n. Scans row n who request old answer new) at scans), same)
+    Seeks row first who request old answer new → Searches r row cell who request old answer new × (then ≡ who)
+searched r row cell first who then request old new answer is at same seeks =
+    (subst (λ r. Searches r row cell who request old answer new) (sym is) (subst (λ n. Seeks row n who request old answer new) at seeks), same)

@@ -183,7 +183,7 @@ module _ {P : Type 0} (calls : P → Request → Answer → P → Type 0) (old n
     subst (λ l. Appends before after (take (length (texts so.answers)) (texts l))) (sym (append-nil so.answers)) (whole_text (texts so.answers) before after so.written),
   )
 
-  -- no line is found, and that is told where it is for want of memory
+  -- no line is found, and that is told where memory ran out
   pub told_off : (fault told : Fault) (failed failed_then : ℕ) (last : Option (List ℕ)) → TellsFault fault told failed failed_then after last → BreaksOff calls old known before last now
   told_off ReadFault told failed failed_then last tells = subst (λ l. BreaksOff calls old known before l now) (sym tells.2) breaks_off
   told_off WriteFault told failed failed_then last tells = subst (λ l. BreaksOff calls old known before l now) (sym tells.2) breaks_off

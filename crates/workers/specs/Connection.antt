@@ -30,7 +30,7 @@ HasFaultCause (Err WriteFault) unread unread_then made made_then unwritten unwri
 HasFaultCause (Err PeerReply) unread unread_then made made_then unwritten unwritten_then = ⊥
 HasFaultCause (Err Memory) unread unread_then made made_then unwritten unwritten_then = (unread_then ≡ unread) × (unwritten_then ≡ unwritten)
 
--- a fault is told where it is want of memory; it stays the fault, unless the writer fails
+-- the fault of running out of memory is told; any fault stays the result, unless the writer fails
 abbrev pub TellsFault : Fault → Fault → ℕ → ℕ → Option (List ℕ) → Option (List ℕ) → Type 0
 TellsFault Memory told old new before after =
     (((told ≡ Memory) × (new ≡ old)) ⊎ ((told ≡ WriteFault) × (new ≡ one_more old))) × (count : ℕ) × Appends before after (take count (line_of (Err Refusal.Memory)))

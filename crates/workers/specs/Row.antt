@@ -1,8 +1,8 @@
 -- What a session asks of a row of shared pads.
-use Rattle.std.specs.Prelude.{◌≡◌, ◌⊎◌, ℕ, zero, suc, ◌+◌, ◌≤◌, List, slice_get, slice_set, Option, None, Some, Result, Ok, Err}
+use Rattle.std.specs.Prelude.{◌≡◌, ◌⊎◌, ℕ, zero, suc, ◌+◌, ◌≤◌, true, List, slice_get, slice_set, Option, None, Some, Result, Ok, Err}
 use Rattle.pad_model.specs.Answers.{Answers}
 use Rattle.pad_model.specs.declared.refusal.Refusal.{Refusal}
-use Rattle.pad_model.specs.declared.refusal.Refusal.TheVariants.{SeatsOut}
+use Rattle.pad_model.specs.declared.refusal.Refusal.TheVariants.{SeatsOut, StoreFull}
 use Rattle.pad_model.specs.declared.who.Who.{Who}
 use Rattle.sessions.specs.Accounts.{Accounts}
 use Rattle.sessions.specs.declared.session.Room.{Room}
@@ -12,6 +12,7 @@ use Rattle.pad_core.specs.declared.request.Request.TheVariants as request
 use Rattle.server_core.specs.Actor.{first_cell}
 use Rattle.server_core.specs.AtCell.{past_row}
 use Rattle.server_core.specs.Opening.{act_refusal, create_refusal, hello, peer}
+use Rattle.records.specs.Leaves.{may_leave}
 use Rattle.shared_pads.specs.Kept.{Called}
 use Rattle.shared_pads.specs.declared.seat.Seat.{Seat}
 
@@ -42,12 +43,17 @@ Scans row cell who request old answer new =
     (count : ℕ) × (mid : Seated) × Passes who request cell count old mid
     × (VisitsAt who request (cell + count) mid (of_cell answer) new ⊎ ((row ≤ cell + count) × (answer ≡ Err (past_row request)) × (new ≡ mid)))
 
+-- a scan, or the refusal of a request that may leave records, where they cannot be kept
+abbrev pub Seeks : ℕ → ℕ → Who → Request → Seated → Result Reply Refusal → Seated → Type 0
+Seeks row cell who request old answer new =
+    ((may_leave request ≡ true) × (answer ≡ Err StoreFull) × (new ≡ old)) ⊎ Scans row cell who request old answer new
+
 -- a request on a pad, where nothing speaks against it
 abbrev pub Searches : Option Refusal → ℕ → ℕ → Who → Request → Seated → Result Reply Refusal → Seated → Type 0
 Searches (Some refusal) row cell who request old answer new = (answer ≡ Err refusal) × (new ≡ old)
-Searches None row cell who request old answer new = Scans row cell who request old answer new
+Searches None row cell who request old answer new = Seeks row cell who request old answer new
 
--- a session asks a row of so many cells: its own requests are answered as by the server machine, others by a scan
+-- a session asks a row of so many cells: its own requests are answered as by the server machine, others by a scan or as 901
 abbrev pub RowAsked : ℕ → Accounts → ℕ → Who → Seated → Request → Result Reply Refusal → Who → Seated → Type 0
 RowAsked replica accounts row who old (request.Hello name token) answer then new = Answers who (hello replica accounts name token who) answer then × (new ≡ old)
 RowAsked replica accounts row who old (request.Peer number token version) answer then new = (peer replica accounts number token version who ≡ (answer, then)) × (new ≡ old)

@@ -33,7 +33,7 @@ pub trait Pads {
     fn relay(&mut self, alloc: Global, number: u16) -> Result<Reply, Refusal>
         ensures { relays self.old number result self.new };
 
-    /// Leaves all pads. The session is nobody's then.
+    /// Leaves all pads. The session is unauthenticated then.
     fn end(&mut self, alloc: Global)
         ensures { ends self.old self.new };
 

@@ -2,10 +2,11 @@
 ghost use Rattle.std.specs.Prelude.{◌≡◌, ◌≤◌, [], length, vec_len, IfOk, IfErr};
 ghost use Rattle.server_core.specs.Rooms.{IsAsked};
 ghost use Rattle.workers.specs.Crew.{LeavesRoom, LeavesRooms};
-ghost use Rattle.workers.specs.Row.{RowAsked, Scans, VisitsAt};
+ghost use Rattle.workers.specs.Row.{RowAsked, Scans, Seeks, VisitsAt};
 
 use pad_core::{Pad, Reply, Request};
 use pad_model::{Name, Refusal, Sequence};
+use records::leaves_records;
 use server_core::{act_refusal, create_refusal, first_cell, hello, past_row, peer};
 use sessions::{Accounts, Room, Session};
 use shared_pads::{Gate, Seat, SharedPad};
@@ -72,13 +73,32 @@ impl<'a, S: Sequence, R: Wait, G: Gate> Row<'a, S, R, G> {
             ),
             Request::Create { pad } => match create_refusal(session.who(), pad) {
                 Some(refusal) => Err(refusal),
-                None => self.scan(alloc, seats, session, first_cell(session, pad), request),
+                None => self.search(alloc, seats, session, first_cell(session, pad), request),
             },
             Request::On { pad, act } => match act_refusal(session.who(), pad, act) {
                 Some(refusal) => Err(refusal),
-                None => self.scan(alloc, seats, session, first_cell(session, pad), request),
+                None => self.search(alloc, seats, session, first_cell(session, pad), request),
             },
         }
+    }
+
+    /// A scan, unless the request may leave what cannot be kept.
+    fn search(
+        &self,
+        alloc: Global,
+        seats: &mut Vec<Seat>,
+        session: &mut Session,
+        start: u32,
+        request: &Request,
+    ) -> Result<Reply, Refusal>
+        requires { IsAsked request.now }
+        ensures who { session.new.who ≡ session.old.who }
+        ensures seeks { Seeks (length self.now.cells.now) start session.old.who request.now (record { rooms = session.old.rooms; seats = seats.old.items }) result (record { rooms = session.new.rooms; seats = seats.new.items }) }
+    {
+        if leaves_records(request) && !self.gate.keeps(alloc) {
+            return Err(Refusal::StoreFull);
+        }
+        self.scan(alloc, seats, session, start, request)
     }
 
     /// A request goes from cell to cell, from this one on, until one answers it.

@@ -71,9 +71,20 @@ named_or None other = other
 named_or (Some zero) other = other
 named_or (Some (suc n)) other = suc n
 
--- 0 after help, 1 where memory ran out, else 2
+-- a program that tells its version where it is asked
+abbrev pub versioned : App → App
+versioned a = record a { top = record a.top { has_version = true } }
+
+-- what was asked for is a text: the help or the version
+abbrev pub is_text : ErrorKind → Bool
+is_text kind.DisplayHelp = true
+is_text kind.DisplayVersion = true
+is_text other = false
+
+-- 0 after help and the version, 1 where memory ran out, else 2
 abbrev pub status : ErrorKind → ℕ
 status kind.DisplayHelp = 0
+status kind.DisplayVersion = 0
 status kind.OutOfMemory = 1
 status other = 2
 

@@ -11,3 +11,6 @@ mod status;
 pub use number::{cells_of, replica_of, replica_or};
 pub use option::{accounts_option, cells_option, replica_option};
 pub use status::{report, status_of};
+
+/// The version of the programs. CHANGELOG.md tells what came with each.
+pub const VERSION: &str = "0.1.0";

@@ -7,7 +7,7 @@ ghost use Rattle.server_core.specs.declared.limits.TheConstants.{MAX_CELLS};
 ghost use Rattle.pad_replay.specs.CommandLine.{AsksFor, line, mandatory};
 
 use clap::{Arg, ArgAction, Command, Error};
-use command_line::{accounts_option, cells_of, cells_option, replica_of, replica_option};
+use command_line::{VERSION, accounts_option, cells_of, cells_option, replica_of, replica_option};
 use std::alloc::{AllocError, Global};
 
 /// What the command line asks for.
@@ -48,6 +48,7 @@ fn command<'a>(alloc: Global) -> Result<Command<'a>, AllocError>
     let cells_help = "How many pads a server has room for, 1 to 64";
     Command::new(alloc, "pad_replay")
         .about("Plays sessions against a pad server, from lines NAME<TAB>REQUEST")
+        .version(VERSION)
         .arg(replica_option(alloc, replica_help))?
         .arg(mandatory(cells_option(alloc, cells_help)))?
         .arg(mandatory(accounts_option(alloc, "The accounts file")))?

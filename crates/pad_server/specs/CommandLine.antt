@@ -1,7 +1,7 @@
 -- The command line of the program, and what it gives.
 use Rattle.std.specs.Prelude.{◌≡◌, List, ℕ, codes, option_map, unwrap_or}
 use Rattle.clap.specs.Words.{App, Rule, matches_of, new_app, one_of, with_rule}
-use Rattle.command_line.specs.Options.{Gives, IsFlag, accounts_rule, cells_rule, flag_rule, number_rule, option_rule, replica_rule, text_given}
+use Rattle.command_line.specs.Options.{Gives, IsFlag, accounts_rule, cells_rule, flag_rule, number_rule, option_rule, replica_rule, text_given, versioned}
 use Rattle.server_core.specs.declared.limits.TheConstants.{MAX_CELLS}
 use Rattle.pad_server.specs.declared.args.Asked.{Asked}
 use Rattle.pad_server.specs.declared.options.TheConstants.{MAX_WORKERS, DEFAULT_WORKERS}
@@ -36,7 +36,7 @@ new_replica_rule = flag_rule (codes "new-replica")
 
 -- the options that say what is served, by which server, and for whom
 abbrev pub first_line : App
-first_line = with_rule (with_rule (with_rule (with_rule (new_app (codes "pad_server")) stdin_rule) listen_rule) replica_rule) accounts_rule
+first_line = with_rule (with_rule (with_rule (with_rule (versioned (new_app (codes "pad_server"))) stdin_rule) listen_rule) replica_rule) accounts_rule
 
 -- with those that say how many pads and connections there are
 abbrev pub second_line : App

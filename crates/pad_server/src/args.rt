@@ -11,7 +11,7 @@ use crate::options::{
     stdin_flag, store_option, workers_of, workers_option,
 };
 use clap::{Command, Error};
-use command_line::{accounts_option, cells_of, cells_option, replica_of, replica_option};
+use command_line::{VERSION, accounts_option, cells_of, cells_option, replica_of, replica_option};
 use std::alloc::{AllocError, Global};
 
 /// What the words of the command line give.
@@ -49,6 +49,7 @@ fn first_options<'a>(alloc: Global) -> Result<Command<'a>, AllocError>
     let replica_help = "The replica number of this server, 1 to 65535";
     Command::new(alloc, "pad_server")
         .about("Serves shared pads")
+        .version(VERSION)
         .arg(stdin_flag(alloc))?
         .arg(listen_option(alloc))?
         .arg(replica_option(alloc, replica_help))?

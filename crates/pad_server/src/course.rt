@@ -42,6 +42,13 @@ impl<R: Wait> Gate for Course<'_, R> {
         }
     }
 
+    fn keeps(&self, alloc: Global) -> bool {
+        match self.keeper {
+            Some(keeper) => keeper.keeps(self.rt, alloc),
+            None => true,
+        }
+    }
+
     fn inside(&self, _cell: u32) {}
 
     fn before_reply(&self, _connection: u64, delivered: bool) {

@@ -7,6 +7,7 @@ use pad_model::Refusal;
 use sessions::AccountsError;
 use std::alloc::AllocError;
 use std::io;
+use std::io::ErrorKind;
 use std::process::ExitCode;
 use thiserror::Error;
 use wire_lines::Fault;
@@ -14,6 +15,8 @@ use wire_lines::Fault;
 /// Why the server does not start, or ends before its input.
 #[derive(Clone, Copy, Debug, Error)]
 pub enum Failure<'a> {
+    #[error("the arguments cannot be read: {0}")]
+    Unasked(io::Error),
     #[error("the accounts file {path} cannot be read: {cause}")]
     Unread { path: &'a str, cause: io::Error },
     #[error("500 BadAccounts line {line}")]
@@ -61,6 +64,14 @@ impl Failure<'_> {
         match cause {
             Some(cause) => Failure::Broken { fault, cause },
             None => Failure::Fault(fault),
+        }
+    }
+
+    /// Why the arguments could not be read.
+    pub fn of_arguments(cause: io::Error) -> Failure<'static> {
+        match cause.kind() {
+            ErrorKind::OutOfMemory => Failure::Fault(Fault::Memory),
+            _ => Failure::Unasked(cause),
         }
     }
 

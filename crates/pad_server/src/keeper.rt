@@ -1,6 +1,7 @@
 //! The files of a server's pads while it runs: what was answered is noted under the pad's lock, and synced before a reply is
 //! written.
-use log::error;
+use crate::reserve::{Reserve, is_full};
+use log::{error, warn};
 use records::{Record, records_of};
 use shared_pads::Answered;
 use std::alloc::Global;
@@ -8,14 +9,26 @@ use std::fs::{File, OpenOptions};
 use std::io;
 use std::io::{ErrorKind, Write};
 use std::sync::{Condvar, Mutex, Wait};
+use std::thread::yield_now;
 use std::time::{SystemTime, UNIX_EPOCH};
 use store::{header_text, link, record_text};
+
+/// How often a thread that is about to sync lets others run first, whose notes then go with its own.
+const LOOKS: u32 = 6;
 
 /// A pad's file, open for appending, and the sum of its last line.
 #[derive(Drop)]
 pub struct Book {
     pub file: Option<File>,
     pub sum: String,
+}
+
+/// The files of all cells.
+#[derive(Drop)]
+pub struct Books {
+    pub all: Vec<Mutex<Book>>,
+    /// Second handles of the files, by which they are synced while others append.
+    pub handles: Vec<Mutex<Option<File>>>,
 }
 
 /// How far the files are synced.
@@ -39,8 +52,8 @@ enum Turn {
     Done,
     /// It will not be.
     Failed,
-    /// It syncs these cells for all.
-    Leads { noted: u64, dirty: u64 },
+    /// It syncs for all.
+    Leads,
 }
 
 /// Keeps the pads of a server in files, one for each pad that has a name.
@@ -55,26 +68,27 @@ pub struct Keeper {
     handles: Vec<Mutex<Option<File>>>,
     progress: Mutex<Progress>,
     settled: Condvar,
+    reserve: Reserve,
     // Held as long as the server runs.
     _lock: File,
 }
 
 impl Keeper {
-    /// A keeper of these books, one for each cell, with a second handle of each file.
+    /// A keeper of these books.
     pub fn new(
         files: HostRuntime,
         folder: String,
         replica: u16,
-        books: Vec<Mutex<Book>>,
-        handles: Vec<Mutex<Option<File>>>,
+        books: Books,
+        reserve: Reserve,
         lock: File,
     ) -> Keeper {
         Keeper {
             files,
             folder,
             replica,
-            books,
-            handles,
+            books: books.all,
+            handles: books.handles,
             progress: Mutex::new(Progress {
                 noted: 0,
                 settled: 0,
@@ -83,6 +97,7 @@ impl Keeper {
                 failed: false,
             }),
             settled: Condvar::new(),
+            reserve,
             _lock: lock,
         }
     }
@@ -128,10 +143,44 @@ impl Keeper {
         let sum = self.append(alloc, book.sum.as_str(), records.as_slice(), &mut lines)?;
         book.sum = sum;
         match &mut book.file {
-            Some(file) => file.write_all(lines.as_bytes())?,
+            Some(file) => self.put(rt, file, lines.as_bytes())?,
             None => return Err(io::Error::from(ErrorKind::NotFound)),
         }
         Ok(true)
+    }
+
+    // Appends lines. Where the disk is full, what was written of them is cut off, and they get the room of the reserve.
+    fn put<R: Wait>(&self, rt: &R, file: &mut File, lines: &[u8]) -> io::Result<()> {
+        let before = file.metadata()?.len();
+        match file.write_all(lines) {
+            Err(cause) if is_full(&cause) => {
+                file.set_len(before)?;
+                self.make_room(rt)?;
+                file.write_all(lines)
+            }
+            done => done,
+        }
+    }
+
+    // Spends the reserve.
+    fn make_room<R: Wait>(&self, rt: &R) -> io::Result<()> {
+        if self.reserve.spend(rt)? {
+            warn!(&self.files; "the disk of the store {} is full: nothing more is taken that has to be kept", self.folder);
+        }
+        Ok(())
+    }
+
+    /// Whether what is answered from now on can be kept, as far as that is known. Where the disk was full, it is found out
+    /// once in a second whether there is room again.
+    pub fn keeps<R: Wait>(&self, rt: &R, alloc: Global) -> bool {
+        if self.reserve.is_whole(rt) {
+            return true;
+        }
+        let has_room = self.reserve.renew(rt, alloc, self.seconds());
+        if has_room {
+            warn!(&self.files; "the disk of the store {} has room again", self.folder);
+        }
+        has_room
     }
 
     // The lines of records behind a line with this sum, and the sum of the last.
@@ -168,9 +217,13 @@ impl Keeper {
         let folder = self.folder.as_str();
         let pad = name.as_str();
         let path = format!(in alloc; "{folder}/{pad}.pad")?;
-        let mut options = OpenOptions::new();
-        options.append(true).create_new(true);
-        let file = options.open(&self.files, path.as_str())?;
+        let file = match self.create(path.as_str()) {
+            Err(cause) if is_full(&cause) => {
+                self.make_room(rt)?;
+                self.create(path.as_str())?
+            }
+            made => made?,
+        };
         if cell < self.handles.len() {
             *self.handles[cell].lock(rt) = Some(file.try_clone()?);
         }
@@ -179,6 +232,13 @@ impl Keeper {
         let linked = link(alloc, "", text.as_str())?;
         lines.push_str(linked.line.as_str())?;
         Ok((file, linked.sum))
+    }
+
+    // A file that was not there.
+    fn create(&self, path: &str) -> io::Result<File> {
+        let mut options = OpenOptions::new();
+        options.append(true).create_new(true);
+        options.open(&self.files, path)
     }
 
     // The time of day in seconds since 1970, or 0 where the clock does not tell.
@@ -203,7 +263,11 @@ impl Keeper {
         match self.turn(rt, noted) {
             Turn::Done => Ok(()),
             Turn::Failed => Err(io::Error::from(ErrorKind::Other)),
-            Turn::Leads { noted, dirty } => {
+            Turn::Leads => {
+                for _look in 0..LOOKS {
+                    yield_now();
+                }
+                let (noted, dirty) = self.take_dirty(rt);
                 let synced = self.sync(rt, dirty);
                 self.finish(rt, noted, synced.is_ok());
                 synced
@@ -224,13 +288,16 @@ impl Keeper {
         if progress.settled >= note {
             return Turn::Done;
         }
-        let dirty = progress.dirty;
         progress.settling = true;
+        Turn::Leads
+    }
+
+    // How many notes there are, and the cells that have some which are not synced. They are now taken to be.
+    fn take_dirty<R: Wait>(&self, rt: &R) -> (u64, u64) {
+        let mut progress = self.progress.lock(rt);
+        let dirty = progress.dirty;
         progress.dirty = 0;
-        Turn::Leads {
-            noted: progress.noted,
-            dirty,
-        }
+        (progress.noted, dirty)
     }
 
     // Tells all who wait what became of a sync.

@@ -2,7 +2,8 @@
 ghost use Rattle.std.specs.Prelude.{◌≤◌};
 
 use crate::failure::Failure;
-use crate::keeper::{Book, Keeper};
+use crate::keeper::{Book, Books, Keeper};
+use crate::reserve::Reserve;
 use block_seq::BlockSeq;
 use log::{Log, warn};
 use pad_core::Pad;
@@ -12,7 +13,7 @@ use std::alloc::{AllocError, Global};
 use std::fs::{File, OpenOptions};
 use std::io::{Eprint, Write};
 use std::rt::Runtime;
-use std::sync::Mutex;
+use std::sync::{Mutex, Wait};
 use std::{fs, io};
 use store::{Damage, Header, Loaded, header_text, link, load};
 
@@ -40,20 +41,23 @@ pub fn restore<'f, R>(
     count: u32,
 ) -> Result<Stored, Failure<'f>>
 where
-    R: Runtime<A = Global, File = File> + Log,
+    R: Runtime<A = Global, File = File> + Log + Wait,
     requires { 1 ≤ owner.replica }
 {
     let kept_in = String::from_str(rt.alloc(), folder)?;
     let (lock, names) = open_folder(rt, folder)?;
-    let row = load_row(rt, folder, names.as_slice(), owner, count)?;
-    let Loading {
-        cells,
-        books,
-        handles,
-    } = row;
+    let Loading { cells, books } = load_row(rt, folder, names.as_slice(), owner, count)?;
+    let path = format!(in rt.alloc(); "{folder}/reserve")?;
+    let reserve = match Reserve::open(&files, path.as_str()) {
+        Ok(reserve) => reserve,
+        Err(cause) => return Err(Failure::Unopened { folder, cause }),
+    };
+    if !reserve.is_whole(rt) {
+        warn!(rt; "the disk of the store {folder} is full: nothing is taken that has to be kept");
+    }
     Ok(Stored {
         cells,
-        keeper: Keeper::new(files, kept_in, owner.replica, books, handles, lock),
+        keeper: Keeper::new(files, kept_in, owner.replica, books, reserve, lock),
     })
 }
 
@@ -88,8 +92,10 @@ where
     let alloc = rt.alloc();
     let mut row = Loading {
         cells: Vec::new(alloc),
-        books: Vec::new(alloc),
-        handles: Vec::new(alloc),
+        books: Books {
+            all: Vec::new(alloc),
+            handles: Vec::new(alloc),
+        },
     };
     for name in names {
         if let Some(loaded) = load_file(rt, folder, name.as_str(), owner)? {
@@ -110,8 +116,7 @@ where
 #[derive(Drop)]
 struct Loading {
     cells: Vec<SharedPad<BlockSeq>>,
-    books: Vec<Mutex<Book>>,
-    handles: Vec<Mutex<Option<File>>>,
+    books: Books,
 }
 
 impl Loading {
@@ -125,11 +130,11 @@ impl Loading {
             handle,
         } = opened;
         self.cells.push(SharedPad::new(alloc, pad, cell))?;
-        self.books.push(Mutex::new(Book {
+        self.books.all.push(Mutex::new(Book {
             file: Some(file),
             sum,
         }))?;
-        self.handles.push(Mutex::new(Some(handle)))?;
+        self.books.handles.push(Mutex::new(Some(handle)))?;
         Ok(())
     }
 
@@ -139,11 +144,11 @@ impl Loading {
     {
         let pad = Pad::new(alloc, replica)?;
         self.cells.push(SharedPad::new(alloc, pad, cell))?;
-        self.books.push(Mutex::new(Book {
+        self.books.all.push(Mutex::new(Book {
             file: None,
             sum: String::new(alloc),
         }))?;
-        self.handles.push(Mutex::new(None))?;
+        self.books.handles.push(Mutex::new(None))?;
         Ok(())
     }
 }

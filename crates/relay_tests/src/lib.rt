@@ -10,4 +10,8 @@ mod loopback;
 #[cfg(test)]
 mod rounds;
 #[cfg(test)]
+mod sides;
+#[cfg(test)]
 mod stage;
+#[cfg(test)]
+mod stress;

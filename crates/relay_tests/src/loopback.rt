@@ -49,9 +49,9 @@ const SHOWN: &str = concat!(
     "{\"now\":3,\"ok\":true,\"seen\":[[1,2],[2,1]]}\n",
 );
 
-type PlainRow<'a, R> = Row<'a, PlainSeq, R, Open>;
+pub type PlainRow<'a, R> = Row<'a, PlainSeq, R, Open>;
 
-fn ask<P: Pads>(alloc: Global, pads: &mut P, line: &str) -> Result<Reply, Refusal> {
+pub fn ask<P: Pads>(alloc: Global, pads: &mut P, line: &str) -> Result<Reply, Refusal> {
     match read_request(alloc, line.as_bytes()) {
         Ok(request) => pads.call(alloc, &request),
         Err(refusal) => Err(refusal),
@@ -59,7 +59,7 @@ fn ask<P: Pads>(alloc: Global, pads: &mut P, line: &str) -> Result<Reply, Refusa
 }
 
 // Asks lines of which none is to be refused.
-fn ask_all<P: Pads>(alloc: Global, pads: &mut P, lines: &[&str]) -> Result<(), Refusal> {
+pub fn ask_all<P: Pads>(alloc: Global, pads: &mut P, lines: &[&str]) -> Result<(), Refusal> {
     for line in lines {
         let _answered = ask(alloc, pads, line)?;
     }
@@ -89,7 +89,11 @@ fn add_reply<P: Pads>(
 }
 
 // Adds the reply lines to an author who reads.
-fn add_readings<P: Pads>(alloc: Global, pads: &mut P, lines: &mut String) -> Result<(), Refusal> {
+pub fn add_readings<P: Pads>(
+    alloc: Global,
+    pads: &mut P,
+    lines: &mut String,
+) -> Result<(), Refusal> {
     ask_all(alloc, pads, &[HELLO, r#"{"do":"join","pad":"p"}"#])?;
     for reading in READINGS {
         add_reply(alloc, pads, reading, lines)?;
@@ -98,7 +102,7 @@ fn add_readings<P: Pads>(alloc: Global, pads: &mut P, lines: &mut String) -> Res
 }
 
 // Adds the reply line to a peer who asks for the vector.
-fn add_vector<P: Pads>(
+pub fn add_vector<P: Pads>(
     alloc: Global,
     pads: &mut P,
     peer: u16,
@@ -119,7 +123,7 @@ fn shown<R: Wait>(alloc: Global, row: &PlainRow<'_, R>, peer: u16) -> Result<Str
     Ok(lines)
 }
 
-fn seats_of<R: Wait>(
+pub fn seats_of<R: Wait>(
     rt: &R,
     alloc: Global,
     cells: &[SharedPad<PlainSeq>],
@@ -129,7 +133,7 @@ fn seats_of<R: Wait>(
     Ok(seats)
 }
 
-fn connect<R: Net<Stream = TcpStream>>(rt: &R, port: u16) -> io::Result<TcpStream> {
+pub fn connect<R: Net<Stream = TcpStream>>(rt: &R, port: u16) -> io::Result<TcpStream> {
     let stream = TcpStream::connect(rt, ("127.0.0.1", port))?;
     stream.set_read_timeout(Some(Duration::from_secs(PATIENCE)))?;
     Ok(stream)
@@ -167,7 +171,7 @@ fn serve<R: Wait>(
     serve_client(alloc, &mut pads, &mut reader, &mut writer, 1, &Open)
 }
 
-fn row_of<'a, R: Wait>(
+pub fn row_of<'a, R: Wait>(
     rt: &'a R,
     cells: &'a [SharedPad<PlainSeq>],
     replica: u16,

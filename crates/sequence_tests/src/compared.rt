@@ -66,8 +66,8 @@ fn have_same_spans(
     Ok(true)
 }
 
-/// Whether both tell the same of a revision: its text, authors, spans, stamps and places.
-pub fn tell_the_same(
+/// Whether both show the same at a revision: its text, authors and spans.
+pub fn show_the_same(
     alloc: Global,
     rows: &BlockSeq,
     plain: &PlainSeq,
@@ -76,7 +76,19 @@ pub fn tell_the_same(
     Ok(
         rows.text_at(alloc, rev)? == plain.text_at(alloc, rev)?
             && rows.authors_at(alloc, rev)? == plain.authors_at(alloc, rev)?
-            && have_same_spans(alloc, rows, plain, rev)?
+            && have_same_spans(alloc, rows, plain, rev)?,
+    )
+}
+
+/// Whether both tell the same of a revision: what it shows, its stamps and its places.
+pub fn tell_the_same(
+    alloc: Global,
+    rows: &BlockSeq,
+    plain: &PlainSeq,
+    rev: u64,
+) -> Result<bool, Refusal> {
+    Ok(
+        show_the_same(alloc, rows, plain, rev)?
             && (0..=plain.len_at(rev)).all(|at| rows.stamp_at(rev, at) == plain.stamp_at(rev, at))
             && place_all_the_same(rows, plain, rev)
             && rows.clock() == plain.clock(),

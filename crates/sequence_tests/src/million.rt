@@ -25,9 +25,9 @@ impl Model for Long {
 
     ghost Value = { List Cell };
 
-    ghost view = { λ s. s.row };
+    ghost view = { λ s. s.row.cells };
 
-    ghost invariant = { λ s. AllByRecursion (IsBy s.rev) s.row };
+    ghost invariant = { λ s. AllByRecursion (IsBy s.rev) s.row.cells };
 }
 
 impl Long {

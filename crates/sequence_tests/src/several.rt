@@ -32,7 +32,8 @@ fn parts_of(
     Ok(parts)
 }
 
-fn op_of(alloc: Global, site: &Site, number: u64, dice: &mut Dice) -> Result<Op, Refusal> {
+/// An operation of several parts by one of three replicas.
+pub fn op_of(alloc: Global, site: &Site, number: u64, dice: &mut Dice) -> Result<Op, Refusal> {
     let origin = dice.roll(3).saturating_add(1) as u16;
     Ok(Op {
         name: OpName { origin, number },

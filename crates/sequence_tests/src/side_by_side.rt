@@ -32,7 +32,7 @@ impl Model for Pair {
 
     ghost view = { λ s. s.plain };
 
-    ghost invariant = { λ s. AllByRecursion (IsBy s.rev) s.plain × AllByRecursion (IsBy s.rev) s.rows };
+    ghost invariant = { λ s. AllByRecursion (IsBy s.rev) s.plain × AllByRecursion (IsBy s.rev) s.rows.cells };
 }
 
 impl Pair {

@@ -1,8 +1,11 @@
-//! Tests of threads at shared pads: four that write, cells and connections that do not hold one another up, seats, audits.
+//! Tests of threads at shared pads: four that write, cells and connections that do not hold one another up, seats, audits, and
+//! what is refused while nothing can be kept.
 #![tactic(auto)]
 
 #[cfg(test)]
 mod held;
+#[cfg(test)]
+mod kept;
 #[cfg(test)]
 mod records;
 #[cfg(test)]

@@ -1,0 +1,103 @@
+//! What a server under stress has come to, and whether its pad closes with that.
+use block_seq::PlainSeq;
+use pad_core::{Recorded, audit};
+use pad_model::Refusal;
+use shared_pads::{Seat, SharedPad};
+use std::alloc::Global;
+use wire_lines::Fault;
+
+// Stands for an answer of another kind than was asked for. No pad refuses with it.
+pub const NO_ANSWER: Refusal = Refusal::Busy;
+
+// What an author was answered, if nothing was refused, and its seats.
+#[derive(Drop)]
+pub struct Written {
+    pub records: Result<Vec<Recorded>, Refusal>,
+    pub seats: Vec<Seat>,
+}
+
+// How many operations one side of a round took from the other one, and its seats.
+#[derive(Drop)]
+pub struct Taken {
+    pub count: Result<u64, Fault>,
+    pub seats: Vec<Seat>,
+}
+
+// What a server has come to: records and number of its own edits, operations from the other one, and all seats.
+#[derive(Drop)]
+pub struct Side {
+    pub records: Vec<Recorded>,
+    pub edits: u64,
+    pub taken: u64,
+    pub seats: Vec<Seat>,
+}
+
+impl Side {
+    pub fn new(alloc: Global) -> Side {
+        Side {
+            records: Vec::new(alloc),
+            edits: 0,
+            taken: 0,
+            seats: Vec::new(alloc),
+        }
+    }
+
+    pub fn keep(&mut self, seats: Vec<Seat>) -> Result<(), Refusal> {
+        for seat in seats {
+            self.seats.push(seat)?;
+        }
+        Ok(())
+    }
+
+    pub fn add_written(&mut self, all: Vec<Written>) -> Result<(), Refusal> {
+        for written in all {
+            let Written { records, seats } = written;
+            for record in records? {
+                if let Recorded::Edit { .. } = record {
+                    self.edits = self.edits.saturating_add(1);
+                }
+                self.records.push(record)?;
+            }
+            self.keep(seats)?;
+        }
+        Ok(())
+    }
+
+    pub fn add_taken(&mut self, taken: Taken) -> Result<(), Refusal> {
+        let Taken { count, seats } = taken;
+        let Ok(count) = count else {
+            return Err(NO_ANSWER);
+        };
+        self.taken = self.taken.saturating_add(count);
+        self.keep(seats)
+    }
+}
+
+fn calls_of(seats: &[Seat]) -> u64 {
+    let mut calls = 0u64;
+    for seat in seats {
+        calls = calls.saturating_add(seat.tally().calls);
+    }
+    calls
+}
+
+// Whether the seats close their pad with what was answered and exchanged, which an audit finds in its log.
+pub fn is_closed(alloc: Global, cells: Vec<SharedPad<PlainSeq>>, side: Side) -> bool {
+    let mut cells = cells;
+    let Side {
+        records,
+        edits,
+        taken,
+        seats,
+    } = side;
+    let calls = calls_of(seats.as_slice());
+    let Some(pad) = cells.pop() else {
+        return false;
+    };
+    match pad.close(seats) {
+        Ok(closed) => closed.pad.revision() == edits.saturating_add(taken)
+            && closed.calls == calls
+            && audit(alloc, &closed.pad, records.as_slice()).is_ok(),
+        Err(_) => false,
+    }
+}

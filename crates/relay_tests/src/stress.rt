@@ -1,0 +1,388 @@
+//! Two servers whose authors write at once while they exchange over loopback.
+use crate::loopback::{PlainRow, add_readings, add_vector, ask_all, connect, row_of, seats_of};
+use crate::sides::{NO_ANSWER, Side, Taken, Written, is_closed};
+use block_seq::PlainSeq;
+use pad_core::{Act, PadReply, Recorded, Reply, Request};
+use pad_model::{Name, Refusal, Text};
+use relay::{Link, relay_round};
+use sessions::{Accounts, Session};
+use shared_pads::{Seat, SharedPad};
+use std::alloc::Global;
+use std::net::{Net, TcpListener, TcpStream};
+use std::sync::Wait;
+use std::test::Fail;
+use std::thread;
+use std::thread::Threads;
+use wire_lines::{Fault, Std};
+use workers::{Pads, Shared, open_row, serve_client};
+
+// How often the authors write, with a round of the servers beside each time.
+const PHASES: u64 = 10;
+
+// How many edits each author makes in a phase.
+const EDITS: u64 = 10;
+
+const ACCOUNTS: &[u8] =
+    b"author ann t\nauthor a1 t\nauthor a2 t\nauthor a3 t\nauthor a4 t\npeer 1 secret h:1\npeer 2 secret h:2\n";
+
+// What the owner asks on each server before the others come.
+const BEGINNING: [&str; 6] = [
+    r#"{"do":"hello","name":"ann","token":"t"}"#,
+    r#"{"do":"create","pad":"p"}"#,
+    r#"{"do":"grant","pad":"p","author":"a1","right":"write"}"#,
+    r#"{"do":"grant","pad":"p","author":"a2","right":"write"}"#,
+    r#"{"do":"grant","pad":"p","author":"a3","right":"write"}"#,
+    r#"{"do":"grant","pad":"p","author":"a4","right":"write"}"#,
+];
+
+const HELLOS: [&str; 4] = [
+    r#"{"do":"hello","name":"a1","token":"t"}"#,
+    r#"{"do":"hello","name":"a2","token":"t"}"#,
+    r#"{"do":"hello","name":"a3","token":"t"}"#,
+    r#"{"do":"hello","name":"a4","token":"t"}"#,
+];
+
+const JOIN: &str = r#"{"do":"join","pad":"p"}"#;
+
+// What an author is to do, and its seats.
+#[derive(Drop)]
+struct Job {
+    hello: &'static str,
+    seats: Vec<Seat>,
+}
+
+fn on_pad(alloc: Global, act: Act) -> Result<Request, Refusal> {
+    let pad = Name::from_str(alloc, "p")?;
+    Ok(Request::On { pad, act })
+}
+
+// The edit with a number at a revision of so many characters: every tenth is a comment, every fifth that is no tenth a
+// deletion, and the others insert.
+fn edit_act(alloc: Global, number: u64, rev: u64, len: u64) -> Result<Act, Refusal> {
+    let Some(at) = number.checked_rem(len) else {
+        let text = Text::from_str(alloc, "first")?;
+        return Ok(Act::Insert { rev, at: 0, text });
+    };
+    if number % 10 == 0 {
+        let text = Text::from_str(alloc, "why?")?;
+        return Ok(Act::Comment {
+            rev,
+            at,
+            len: 1,
+            text,
+        });
+    }
+    if number % 5 == 0 {
+        return Ok(Act::Delete { rev, at, len: 1 });
+    }
+    let text = Text::from_str(alloc, "word ")?;
+    Ok(Act::Insert { rev, at, text })
+}
+
+fn ask<P: Pads>(alloc: Global, pads: &mut P, act: Act) -> Result<Reply, Refusal> {
+    let request = on_pad(alloc, act)?;
+    pads.call(alloc, &request)
+}
+
+// The revision and the text that a reading tells.
+fn text_of(reply: Reply) -> Result<(u64, Text), Refusal> {
+    match reply {
+        Reply::Pad(PadReply::Text { rev, text, .. }) => Ok((rev, text)),
+        _ => Err(NO_ANSWER),
+    }
+}
+
+// The edit that a reply tells of.
+fn edit_of(reply: Reply) -> Result<Recorded, Refusal> {
+    match reply {
+        Reply::Pad(PadReply::Made { now, name } | PadReply::Changed { now, name, .. }) => {
+            Ok(Recorded::Edit { name, rev: now })
+        }
+        _ => Err(NO_ANSWER),
+    }
+}
+
+// Reads the text, and answers its revision and length.
+fn read<P: Pads>(
+    alloc: Global,
+    pads: &mut P,
+    records: &mut Vec<Recorded>,
+) -> Result<(u64, u64), Refusal> {
+    let (rev, text) = text_of(ask(alloc, pads, Act::Text { rev: None })?)?;
+    let len = text.as_slice().len() as u64;
+    records.push(Recorded::Read { rev, text })?;
+    Ok((rev, len))
+}
+
+// Reads the text, and edits what was read.
+fn read_and_edit<P: Pads>(
+    alloc: Global,
+    pads: &mut P,
+    number: u64,
+    records: &mut Vec<Recorded>,
+) -> Result<(), Refusal> {
+    let (rev, len) = read(alloc, pads, records)?;
+    let act = edit_act(alloc, number, rev, len)?;
+    let edit = edit_of(ask(alloc, pads, act)?)?;
+    records.push(edit)?;
+    Ok(())
+}
+
+fn write<P: Pads>(alloc: Global, pads: &mut P, hello: &str) -> Result<Vec<Recorded>, Refusal> {
+    ask_all(alloc, pads, &[hello, JOIN])?;
+    let mut records = Vec::new(alloc);
+    for number in 1..=EDITS {
+        read_and_edit(alloc, pads, number, &mut records)?;
+    }
+    Ok(records)
+}
+
+fn work<R: Wait>(alloc: Global, row: &PlainRow<'_, R>, job: Job) -> Written {
+    let Job { hello, seats } = job;
+    let mut pads = Shared::new(row, seats, Session::new(alloc));
+    let records = write(alloc, &mut pads, hello);
+    pads.end(alloc);
+    Written {
+        records,
+        seats: pads.seats(),
+    }
+}
+
+// The four authors of a server write at once.
+fn write_all<R: Threads + Wait + Sync>(
+    alloc: Global,
+    row: &PlainRow<'_, R>,
+) -> Result<Vec<Written>, Refusal> {
+    let mut jobs = Vec::new(alloc);
+    for hello in HELLOS {
+        let seats = seats_of(row.rt, alloc, row.cells)?;
+        jobs.push(Job { hello, seats })?;
+    }
+    Ok(thread::map_vec(row.rt, jobs, &|job: Job| { work(alloc, row, job) })?)
+}
+
+// A round with the peer that listens at this port.
+fn exchange<R: Wait + Net<Stream = TcpStream, Listener = TcpListener>>(
+    alloc: Global,
+    row: &PlainRow<'_, R>,
+    peer: u16,
+    port: u16,
+    seats: Vec<Seat>,
+) -> Taken {
+    let mut pads = Shared::new(row, seats, Session::new(alloc));
+    let count = exchange_by(alloc, row, &mut pads, peer, port);
+    Taken {
+        count,
+        seats: pads.seats(),
+    }
+}
+
+fn exchange_by<P: Pads, R: Wait + Net<Stream = TcpStream, Listener = TcpListener>>(
+    alloc: Global,
+    row: &PlainRow<'_, R>,
+    pads: &mut P,
+    peer: u16,
+    port: u16,
+) -> Result<u64, Fault> {
+    let Ok(stream) = connect(row.rt, port) else {
+        return Err(Fault::ReadFault);
+    };
+    let mut link = Link::new(alloc, Std::new(&stream), Std::new(&stream))?;
+    let _session = pads.relay(alloc, peer);
+    let relayed = relay_round(alloc, pads, &mut link, row.replica, "secret")?;
+    Ok(relayed.pulled)
+}
+
+// Serves the first connection that comes.
+fn serve<R: Wait>(
+    alloc: Global,
+    row: &PlainRow<'_, R>,
+    listener: TcpListener,
+    seats: Vec<Seat>,
+) -> Taken {
+    let mut pads = Shared::new(row, seats, Session::new(alloc));
+    let count = serve_by(alloc, &mut pads, listener);
+    Taken {
+        count,
+        seats: pads.seats(),
+    }
+}
+
+fn serve_by<P: Pads>(alloc: Global, pads: &mut P, listener: TcpListener) -> Result<u64, Fault> {
+    let Ok((stream, _address)) = listener.accept() else {
+        return Err(Fault::ReadFault);
+    };
+    let mut reader = Std::new(&stream);
+    let mut writer = Std::new(&stream);
+    let served = serve_client(alloc, pads, &mut reader, &mut writer, 1, &shared_pads::Open)?;
+    Ok(served.delivered)
+}
+
+// A round that the server of the first row makes with that of the second one; None where it can't begin.
+fn round<R: Threads + Wait + Sync + Net<Stream = TcpStream, Listener = TcpListener>>(
+    alloc: Global,
+    from: &PlainRow<'_, R>,
+    to: &PlainRow<'_, R>,
+) -> Option<(Taken, Taken)> {
+    let listener = TcpListener::bind(from.rt, "127.0.0.1:0").ok()?;
+    let port = listener.local_addr().ok()?.port();
+    let ours = seats_of(from.rt, alloc, from.cells).ok()?;
+    let theirs = seats_of(to.rt, alloc, to.cells).ok()?;
+    Some(thread::join(
+        from.rt,
+        || exchange(alloc, from, to.replica, port, ours),
+        || serve(alloc, to, listener, theirs),
+    ))
+}
+
+// A round, and what it leaves on both sides.
+fn round_kept<R: Threads + Wait + Sync + Net<Stream = TcpStream, Listener = TcpListener>>(
+    alloc: Global,
+    from: &PlainRow<'_, R>,
+    to: &PlainRow<'_, R>,
+    ours: &mut Side,
+    theirs: &mut Side,
+) -> Result<(), Refusal> {
+    let Some((pulled, pushed)) = round(alloc, from, to) else {
+        return Err(NO_ANSWER);
+    };
+    ours.add_taken(pulled)?;
+    theirs.add_taken(pushed)
+}
+
+type AllWritten = Result<Vec<Written>, Refusal>;
+
+// The authors of both servers write at once.
+fn write_both<R: Threads + Wait + Sync>(
+    alloc: Global,
+    first: &PlainRow<'_, R>,
+    second: &PlainRow<'_, R>,
+) -> (AllWritten, AllWritten) {
+    thread::join(
+        first.rt,
+        || write_all(alloc, first),
+        || write_all(alloc, second),
+    )
+}
+
+// The authors of both servers write, with a round of the first server beside them.
+fn write_beside_round<R: Threads + Wait + Sync + Net<Stream = TcpStream, Listener = TcpListener>>(
+    alloc: Global,
+    first: &PlainRow<'_, R>,
+    second: &PlainRow<'_, R>,
+    ours: &mut Side,
+    theirs: &mut Side,
+) -> Result<(), Refusal> {
+    let (written, rounds) = thread::join(
+        first.rt,
+        || write_both(alloc, first, second),
+        || round(alloc, first, second),
+    );
+    ours.add_written(written.0?)?;
+    theirs.add_written(written.1?)?;
+    let Some((pulled, pushed)) = rounds else {
+        return Err(NO_ANSWER);
+    };
+    ours.add_taken(pulled)?;
+    theirs.add_taken(pushed)
+}
+
+// The owner makes the pad and lets the others write.
+fn begin<R: Wait>(alloc: Global, row: &PlainRow<'_, R>, side: &mut Side) -> Result<(), Refusal> {
+    let seats = seats_of(row.rt, alloc, row.cells)?;
+    let mut owner = Shared::new(row, seats, Session::new(alloc));
+    ask_all(alloc, &mut owner, &BEGINNING)?;
+    owner.end(alloc);
+    side.keep(owner.seats())
+}
+
+// The reply lines of text, runs, comments and vector.
+fn shown<R: Wait>(
+    alloc: Global,
+    row: &PlainRow<'_, R>,
+    peer: u16,
+    side: &mut Side,
+) -> Result<String, Refusal> {
+    let seats = seats_of(row.rt, alloc, row.cells)?;
+    let mut pads = Shared::new(row, seats, Session::new(alloc));
+    let mut lines = String::new(alloc);
+    add_readings(alloc, &mut pads, &mut lines)?;
+    pads.end(alloc);
+    add_vector(alloc, &mut pads, peer, &mut lines)?;
+    side.keep(pads.seats())?;
+    Ok(lines)
+}
+
+// All phases, and a round of each server at the end.
+fn write_and_exchange<R: Threads + Wait + Sync + Net<Stream = TcpStream, Listener = TcpListener>>(
+    alloc: Global,
+    first: &PlainRow<'_, R>,
+    second: &PlainRow<'_, R>,
+    ours: &mut Side,
+    theirs: &mut Side,
+) -> Result<(), Refusal> {
+    begin(alloc, first, ours)?;
+    begin(alloc, second, theirs)?;
+    for _ in 0..PHASES {
+        write_beside_round(alloc, first, second, ours, theirs)?;
+    }
+    round_kept(alloc, first, second, ours, theirs)?;
+    round_kept(alloc, second, first, theirs, ours)
+}
+
+// Both servers write and exchange, and then show the same.
+fn end_alike<R: Threads + Wait + Sync + Net<Stream = TcpStream, Listener = TcpListener>>(
+    alloc: Global,
+    first: &PlainRow<'_, R>,
+    second: &PlainRow<'_, R>,
+    ours: &mut Side,
+    theirs: &mut Side,
+) -> Result<bool, Refusal> {
+    write_and_exchange(alloc, first, second, ours, theirs)?;
+    let here = shown(alloc, first, 2, ours)?;
+    let there = shown(alloc, second, 1, theirs)?;
+    Ok(here.as_str() == there.as_str())
+}
+
+// Plays it on two rows of pads, and says whether all is as it should be.
+fn play<R: Threads + Wait + Sync + Net<Stream = TcpStream, Listener = TcpListener>>(
+    rt: &R,
+    alloc: Global,
+    accounts: &Accounts,
+    first_cells: Vec<SharedPad<PlainSeq>>,
+    second_cells: Vec<SharedPad<PlainSeq>>,
+) -> [bool; 5] {
+    let first = row_of(rt, first_cells.as_slice(), 1, accounts);
+    let second = row_of(rt, second_cells.as_slice(), 2, accounts);
+    let mut ours = Side::new(alloc);
+    let mut theirs = Side::new(alloc);
+    let alike = end_alike(alloc, &first, &second, &mut ours, &mut theirs);
+    [
+        alike == Ok(true),
+        ours.edits == 400 && theirs.edits == 400,
+        ours.taken == 400 && theirs.taken == 400,
+        is_closed(alloc, first_cells, ours),
+        is_closed(alloc, second_cells, theirs),
+    ]
+}
+
+#[test]
+fn two_servers_under_stress(rt: HostRuntime) -> Result<(), Fail> {
+    let alloc = rt.alloc();
+    let accounts = Accounts::read(alloc, ACCOUNTS)?;
+    let first_cells = open_row(alloc, 1, 1)?;
+    let second_cells = open_row(alloc, 2, 1)?;
+    let [alike, edited, taken, first, second] = play(
+        &rt,
+        alloc,
+        &accounts,
+        first_cells,
+        second_cells,
+    );
+    assert!(rt; alike, "both servers show the same");
+    assert!(rt; edited, "400 edits were answered by each");
+    assert!(rt; taken, "each took 400 of the other");
+    assert!(rt; first, "the first closes with its seats and records");
+    assert!(rt; second, "the second does");
+    Ok(())
+}

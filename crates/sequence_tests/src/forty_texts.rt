@@ -1,0 +1,66 @@
+//! Twenty thousand operations of three replicas on the sequence of blocks beside the plain one, in forty texts.
+use crate::compared::show_the_same;
+use crate::converge::made;
+use crate::several::op_of;
+use crate::site::Site;
+use dice::Dice;
+use pad_model::{Op, OpName, Refusal, Sequence};
+use std::alloc::Global;
+use std::process::Abort;
+use std::test::Fail;
+
+/// How many texts there are, each with dice of its own.
+const TEXTS: u64 = 40;
+
+const OPERATIONS: u64 = 500;
+
+/// The cells of both are compared after each hundredth operation; each of them must be answered alike.
+const COMPARED: u64 = 100;
+
+const REVISIONS: [u64; 10] = [1, 10, 50, 100, 200, 300, 400, 450, 490, 500];
+
+/// Every twentieth operation has several insertions; the others type, erase or do both.
+fn next_op(alloc: Global, site: &Site, number: u64, dice: &mut Dice) -> Result<Op, Refusal> {
+    if number % 20 == 0 {
+        return op_of(alloc, site, number, dice);
+    }
+    let origin = dice.roll(3).saturating_add(1) as u16;
+    made(alloc, site, OpName { origin, number }, dice)
+}
+
+/// The first operation that is not taken, or 0.
+fn take_many(alloc: Global, site: &mut Site, seed: u64) -> Result<u64, Refusal> {
+    let mut dice = Dice::new(seed);
+    for number in 1..=OPERATIONS {
+        let op = next_op(alloc, site, number, &mut dice)?;
+        if site.deliver(alloc, &op).is_err() {
+            return Ok(number);
+        }
+    }
+    Ok(0)
+}
+
+/// Both tell the same of a text, now and at older revisions.
+fn keeps_a_text(rt: &impl Abort, alloc: Global, seed: u64) -> Result<(), Fail> {
+    let mut site = Site::compared_every(alloc, COMPARED)?;
+    let stopped = take_many(alloc, &mut site, seed)?;
+    assert!(rt; stopped == 0, "at {stopped} of {seed}");
+    let (cells, shown) = (site.plain().cell_count(), site.plain().len_at(OPERATIONS));
+    assert!(rt; cells >= 500, "{cells}");
+    assert!(rt; cells.saturating_sub(shown) >= 200, "{shown} of {cells}");
+    for rev in REVISIONS {
+        assert!(rt;
+            show_the_same(alloc, site.sequence(), site.plain(), rev)?,
+            "revision {rev} of {seed}"
+        );
+    }
+    Ok(())
+}
+
+#[test]
+fn twenty_thousand_operations(rt: HostRuntime) -> Result<(), Fail> {
+    for seed in 1..=TEXTS {
+        keeps_a_text(&rt, rt.alloc(), seed)?;
+    }
+    Ok(())
+}

@@ -1,0 +1,108 @@
+//! A gate by which nothing can be kept, as where the disk of a store is full.
+use crate::stage::{accounts, ask, ask_all};
+use block_seq::PlainSeq;
+use pad_model::Refusal;
+use sessions::Session;
+use shared_pads::{Gate, SharedPad};
+use std::alloc::Global;
+use std::sync::atomic::{AtomicBool, Ordering};
+use std::test::Fail;
+use wire_json::reply_line;
+use workers::{Pads, Row, Shared, open_row, take_seats};
+
+// Keeps what is answered, or nothing.
+#[derive(Drop)]
+struct Disk {
+    has_room: AtomicBool,
+}
+
+impl Gate for Disk {
+    fn keeps(&self, _alloc: Global) -> bool {
+        self.has_room.load(Ordering::SeqCst)
+    }
+
+    fn inside(&self, _cell: u32) {}
+
+    fn before_reply(&self, _connection: u64, _delivered: bool) {}
+
+    fn done(&self, _connection: u64) {}
+}
+
+const BEFORE: [&str; 3] = [
+    r#"{"do":"hello","name":"a1","token":"t"}"#,
+    r#"{"do":"create","pad":"p"}"#,
+    r#"{"do":"insert","pad":"p","rev":0,"at":0,"text":"hello"}"#,
+];
+
+const REFUSED: [&str; 8] = [
+    r#"{"do":"create","pad":"q"}"#,
+    r#"{"do":"join","pad":"p"}"#,
+    r#"{"do":"grant","pad":"p","author":"a2","right":"read"}"#,
+    r#"{"do":"insert","pad":"p","rev":1,"at":0,"text":"x"}"#,
+    r#"{"do":"delete","pad":"p","rev":1,"at":0,"len":1}"#,
+    r#"{"do":"edit","pad":"p","rev":1,"parts":[{"at":0,"text":"x"}]}"#,
+    r#"{"do":"comment","pad":"p","rev":1,"at":0,"len":1,"text":"x"}"#,
+    r#"{"do":"resolve","pad":"p","comment":[1,1]}"#,
+];
+
+const ANSWERED: [&str; 7] = [
+    r#"{"do":"runs","pad":"p"}"#,
+    r#"{"do":"comments","pad":"p"}"#,
+    r#"{"do":"revs","pad":"p"}"#,
+    r#"{"do":"entries","pad":"p","from":1,"count":1}"#,
+    r#"{"do":"caret","pad":"p","rev":1,"at":1}"#,
+    r#"{"do":"who","pad":"p"}"#,
+    r#"{"do":"rights","pad":"p"}"#,
+];
+
+// Whether each of these lines is refused as 901.
+fn are_refused<P: Pads>(alloc: Global, pads: &mut P, lines: &[&str]) -> bool {
+    lines.iter().all(|line| matches!(ask(alloc, pads, line), Err(Refusal::StoreFull)))
+}
+
+// Whether a line is answered by just this one.
+fn tells<P: Pads>(alloc: Global, pads: &mut P, line: &str, reply: &str) -> bool {
+    let answer = ask(alloc, pads, line);
+    match reply_line(alloc, &answer) {
+        Ok(told) => told.as_bytes() == reply.as_bytes(),
+        Err(_) => false,
+    }
+}
+
+#[test]
+fn what_cannot_be_kept_is_refused(rt: HostRuntime) -> Result<(), Fail> {
+    let alloc = rt.alloc();
+    let accounts = accounts(alloc)?;
+    let cells: Vec<SharedPad<PlainSeq>> = open_row(alloc, 1, 2)?;
+    let gate = Disk {
+        has_room: AtomicBool::new(true),
+    };
+    let row = Row {
+        rt: &rt,
+        cells: cells.as_slice(),
+        replica: 1,
+        accounts: &accounts,
+        gate: &gate,
+    };
+    let mut seats = Vec::new(alloc);
+    take_seats(&rt, cells.as_slice(), &mut seats)?;
+    let mut pads = Shared::new(&row, seats, Session::new(alloc));
+    ask_all(alloc, &mut pads, &BEFORE)?;
+    gate.has_room.store(false, Ordering::SeqCst);
+    assert!(rt; are_refused(alloc, &mut pads, &REFUSED));
+    ask_all(alloc, &mut pads, &ANSWERED)?;
+    let text = r#"{"do":"text","pad":"p"}"#;
+    let shown = "{\"now\":1,\"ok\":true,\"rev\":1,\"text\":\"hello\"}\n";
+    assert!(rt; tells(alloc, &mut pads, text, shown));
+    gate.has_room.store(true, Ordering::SeqCst);
+    let insert = r#"{"do":"insert","pad":"p","rev":1,"at":5,"text":"!"}"#;
+    assert!(rt;
+        tells(
+            alloc,
+            &mut pads,
+            insert,
+            "{\"name\":[1,2],\"now\":2,\"ok\":true}\n"
+        )
+    );
+    Ok(())
+}

@@ -1,13 +1,15 @@
 //! The work of `crates/pad_bench` in plain Rust, over the same structures written for it alone. It reads and prints
-//! the same lines.
+//! the same lines. With the word `lines` it answers requests as `pad_server --stdin` does.
 mod dice;
 mod index;
+mod json;
+mod lines;
 mod log;
 mod slides;
 mod tree;
 mod typing;
 
-use std::io;
+use std::{env, io};
 use std::process::ExitCode;
 use typing::Trace;
 
@@ -49,6 +51,10 @@ fn counts(line: &str) -> Option<String> {
 }
 
 fn main() -> io::Result<ExitCode> {
+    if env::args().nth(1).as_deref() == Some("lines") {
+        lines::serve()?;
+        return Ok(ExitCode::SUCCESS);
+    }
     for line in io::stdin().lines() {
         let line = line?;
         let Some(counts) = counts(&line) else {

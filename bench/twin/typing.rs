@@ -38,7 +38,7 @@ pub enum Trace {
     Stale(u64),
 }
 
-struct Row {
+pub struct Row {
     tree: Tree<Block>,
     index: Index,
     text: Vec<char>,
@@ -50,7 +50,7 @@ struct Row {
 }
 
 impl Row {
-    fn new() -> Row {
+    pub fn new() -> Row {
         Row {
             tree: Tree::new(),
             index: Index::new(),
@@ -194,7 +194,7 @@ impl Row {
         hangs && self.index.last_of(first.replica) < first.counter
     }
 
-    fn type_at(&mut self, seen: u64, at: u64, text: &str) {
+    pub fn type_at(&mut self, seen: u64, at: u64, text: &str) {
         let parent = at
             .checked_sub(1)
             .and_then(|place| self.stamp_at(seen, place));
@@ -230,7 +230,7 @@ impl Row {
         self.clock = self.clock.max(first.counter + len - 1);
     }
 
-    fn erase_at(&mut self, at: u64) {
+    pub fn erase_at(&mut self, at: u64) {
         let Some(stamp) = self.stamp_at(self.rev, at) else {
             return;
         };

@@ -19,6 +19,21 @@ use typing::Trace;
 // The seed of each work's dice; the twin has the same.
 const SEED: u64 = 2026;
 
+// The trace that a work is named for.
+fn trace(work: &str) -> Option<Trace> {
+    Some(match work {
+        "append" => Trace::Append,
+        "forward" => Trace::Forward,
+        "backward" => Trace::Backward,
+        "random" => Trace::Random,
+        "stale1" => Trace::Stale(1),
+        "stale4" => Trace::Stale(4),
+        "stale64" => Trace::Stale(64),
+        "stale1000" => Trace::Stale(1_000),
+        _ => return None,
+    })
+}
+
 // The counts of the work that a line names, or none where there is no such work.
 fn counts(alloc: Global, line: &str) -> Result<Option<String>, Refusal> {
     let words: Vec<&str> = line.split_whitespace().collect(alloc)?;
@@ -28,19 +43,17 @@ fn counts(alloc: Global, line: &str) -> Result<Option<String>, Refusal> {
     let (Ok(size), Ok(times)) = (size.parse::<u32>(), times.parse::<u32>()) else {
         return Ok(None);
     };
+    if let Some(trace) = trace(work) {
+        return Ok(Some(typing::edits(alloc, trace, size, times)?));
+    }
+    if let Some(trace) = work.strip_prefix("plain-").and_then(trace) {
+        return Ok(Some(typing::plain_edits(alloc, trace, size, times)?));
+    }
     let counts = match *work {
         "insert" => tree::insert(alloc, size, times),
         "iterate" => tree::iterate(alloc, size, times),
         "locate" => index::locate(alloc, size, times),
         "pull" => pull::pull(alloc, size, times),
-        "append" => typing::edits(alloc, Trace::Append, size, times),
-        "forward" => typing::edits(alloc, Trace::Forward, size, times),
-        "backward" => typing::edits(alloc, Trace::Backward, size, times),
-        "random" => typing::edits(alloc, Trace::Random, size, times),
-        "stale1" => typing::edits(alloc, Trace::Stale(1), size, times),
-        "stale4" => typing::edits(alloc, Trace::Stale(4), size, times),
-        "stale64" => typing::edits(alloc, Trace::Stale(64), size, times),
-        "stale1000" => typing::edits(alloc, Trace::Stale(1_000), size, times),
         "wire" => wire::wire(alloc, size, times),
         "json" => wire::json(alloc, size, times),
         _ => return Ok(None),

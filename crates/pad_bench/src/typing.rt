@@ -1,10 +1,10 @@
-//! Work on `BlockSeq`: edits of one author by calls, each at a revision that is some behind the present.
+//! Work on a sequence: edits of one author by calls, each at a revision that is some behind the present.
 ghost use Rattle.std.specs.Prelude.{◌≡◌, IsTrue};
 ghost use Rattle.std.specs.List.{list_all};
 ghost use Rattle.pad_model.specs.Checked.{fits_clock, is_run, is_span};
 
 use crate::SEED;
-use block_seq::BlockSeq;
+use block_seq::{BlockSeq, PlainSeq};
 use dice::Dice;
 use pad_model::{Author, MAX_COUNTER, MAX_TEXT, Name, Refusal, Run, Sequence, Span, Stamp, Text};
 use std::alloc::Global;
@@ -29,27 +29,27 @@ pub enum Trace {
 
 /// A sequence, and the revision that it has come to.
 #[derive(Drop)]
-struct Desk {
-    row: BlockSeq,
+struct Desk<S: Sequence> {
+    row: S,
     rev: u64,
 }
 
-impl Model for Desk {
+impl<S: Sequence> Model for Desk<S> {
     ghost use Rattle.std.specs.Prelude.{List};
     ghost use Rattle.std.specs.List.{AllByRecursion};
     ghost use Rattle.pad_model.specs.Cell.{Cell, IsBy};
 
     ghost Value = { List Cell };
 
-    ghost view = { λ s. s.row };
+    ghost view = { λ s. S.cells s.row };
 
-    ghost invariant = { λ s. AllByRecursion (IsBy s.rev) s.row };
+    ghost invariant = { λ s. AllByRecursion (IsBy s.rev) (S.cells s.row) };
 }
 
-impl Desk {
-    fn new(alloc: Global) -> Result<Desk, Refusal> {
+impl<S: Sequence> Desk<S> {
+    fn new(alloc: Global) -> Result<Desk<S>, Refusal> {
         Ok(Desk {
-            row: BlockSeq::empty(alloc)?,
+            row: S::empty(alloc)?,
             rev: 0,
         })
     }
@@ -147,6 +147,13 @@ impl Desk {
         }
     }
 
+    // How many characters are shown.
+    fn shown(&self) -> u64 {
+        self.row.len_at(self.rev)
+    }
+}
+
+impl Desk<BlockSeq> {
     // The blocks, what is shown, and a check sum over the stamps, parents and labels of the blocks in order.
     fn counts(&self, alloc: Global) -> Result<String, Refusal> {
         let mut check: u64 = 0;
@@ -156,7 +163,7 @@ impl Desk {
                 .wrapping_mul(31)
                 .wrapping_add(block.first.counter() ^ parent ^ block.label);
         }
-        let (blocks, shown) = (self.row.kept().tree.len(), self.row.len_at(self.rev));
+        let (blocks, shown) = (self.row.blocks(), self.row.len_at(self.rev));
         Ok(format!(in alloc; "blocks {blocks}, shown {shown}, check {check}")?)
     }
 }
@@ -186,20 +193,47 @@ fn fits_clock(first: Stamp, len: u64) -> bool
     first.counter().saturating_add(len) <= MAX_COUNTER + 1
 }
 
-/// Makes that many edits of a trace on an empty sequence, that many times.
-pub fn edits(alloc: Global, trace: Trace, size: u32, times: u32) -> Result<String, Refusal> {
-    let author = Author {
+// The author of all edits.
+fn typist(alloc: Global) -> Result<Author, Refusal> {
+    Ok(Author {
         name: Name::from_str(alloc, "ann")?,
         origin: REPLICA,
-    };
+    })
+}
+
+// A sequence after that many edits of a trace.
+fn edited<S: Sequence>(
+    alloc: Global,
+    author: &Author,
+    trace: Trace,
+    size: u32,
+) -> Result<Desk<S>, Refusal> {
+    let mut dice = Dice::new(SEED);
+    let mut desk = Desk::new(alloc)?;
+    for number in 0..u64::from(size) {
+        desk.edit(alloc, author, &mut dice, trace, number)?;
+    }
+    Ok(desk)
+}
+
+/// Makes that many edits of a trace on an empty sequence of blocks, that many times.
+pub fn edits(alloc: Global, trace: Trace, size: u32, times: u32) -> Result<String, Refusal> {
+    let author = typist(alloc)?;
     let mut counts = String::new(alloc);
     for _ in 0..times {
-        let mut dice = Dice::new(SEED);
-        let mut desk = Desk::new(alloc)?;
-        for number in 0..u64::from(size) {
-            desk.edit(alloc, &author, &mut dice, trace, number)?;
-        }
+        let desk: Desk<BlockSeq> = edited(alloc, &author, trace, size)?;
         counts = desk.counts(alloc)?;
     }
     Ok(counts)
+}
+
+/// Makes the same edits on an empty plain sequence, and answers what is shown in the end.
+pub fn plain_edits(alloc: Global, trace: Trace, size: u32, times: u32) -> Result<String, Refusal> {
+    let author = typist(alloc)?;
+    let mut shown: u64 = 0;
+    for _ in 0..times {
+        let desk: Desk<PlainSeq> = edited(alloc, &author, trace, size)?;
+        shown = desk.shown();
+    }
+    Ok(format!(in alloc; "shown {shown}")?)
 }

@@ -1,0 +1,58 @@
+"""Drives `pad_server --listen --store` by one writer and by 15 on one pad, beside an echo that writes and syncs as many bytes."""
+import os
+import subprocess
+import sys
+import tempfile
+from pathlib import Path
+
+from listen import DRIVE, OUT, SERVER, TOP, build as build_listen, drive, print_row
+
+sys.path.insert(0, str(TOP / "tests"))
+from faults import Faults
+
+SYNCED = OUT / "synced"
+
+# So many answered edits for each sync are aimed at with 15 writers, so many times the replies a second of one writer, and so many times
+# the echo's median for one writer.
+EDITS_AIM, RATE_AIM, P50_AIM = 4, 3, 1.5
+
+
+def serve(accounts, folder, writers, requests, variables=None):
+    words = ["--listen", "127.0.0.1:0", "--replica", "1", "--cells", "16", "--workers", "16", "--store", folder]
+    words += ["--connections", str(writers + 1), "--accounts", accounts]
+    environment = {**os.environ, **(variables or {})}
+    return drive(subprocess.Popen([SERVER, *words], stdout=subprocess.PIPE, env=environment), "pads", writers, 1, requests)
+
+
+def echo(folder, size, requests):
+    os.mkdir(folder)
+    process = subprocess.Popen([SYNCED, folder, str(size), "1"], stdout=subprocess.PIPE)
+    return drive(process, "echo", 1, 1, requests)
+
+
+def syncs_of(accounts, folder, writers, requests):
+    """How many syncs a run makes."""
+    faults = Faults()
+    serve(accounts, folder, writers, requests, faults.variables)
+    return faults.get("syncs_made")
+
+
+def measure(flags, requests):
+    build_listen(flags)
+    subprocess.run(["rustc", *flags, "-o", SYNCED, TOP / "bench" / "drive" / "synced.rs"], check=True)
+    print(f"load {os.getloadavg()[0]:.1f} on {os.cpu_count()} processors, {requests} requests of each writer")
+    print(f"{'':<12}{'writers':>8}{'pads':>6}{'replies/s':>12}{'p50 us':>10}{'p99 us':>10}{'p99.9 us':>11}")
+    with tempfile.TemporaryDirectory(dir=OUT) as folder:
+        os.chdir(folder)
+        Path("accounts").write_text("author owner t\n" + "".join(f"author w{writer} t\n" for writer in range(15)))
+        one = serve("accounts", "one", 1, requests)
+        size = os.path.getsize("one/p0.pad") // requests
+        bare = echo("bare", size, requests)
+        many = serve("accounts", "many", 15, requests)
+        edits = 15 * requests / syncs_of("accounts", "counted", 15, requests)
+    print_row("synced echo", 1, 1, bare)
+    print_row("pad_server", 1, 1, one)
+    print_row("pad_server", 15, 1, many)
+    print(f"{size} bytes a record; p50 of one writer over the echo's {one[1] / bare[1]:.2f}, aims {P50_AIM}")
+    print(f"replies a second of 15 writers over those of one {many[0] / one[0]:.2f}, aims {RATE_AIM}")
+    print(f"answered edits a sync with 15 writers {edits:.2f}, aims {EDITS_AIM}")

@@ -37,6 +37,9 @@ def rooms(name, args, count):
 CASES = [
     Case("help", "--help", stdout=OPTIONS),
     Case("help by its short name", "-h", stdout=OPTIONS),
+    Case("version", "--version", stdout="pad_server 0.1.0\n"),
+    Case("version by its short name, and nothing else is asked for", "-V --stdin --replica 1", stdout="pad_server 0.1.0\n"),
+    Case("version that cannot be printed", "--version", status=1, to=FULL),
     Case("help that cannot be printed", "--help", status=1, to=FULL),
     refused("no words", "", "--replica"),
     refused("no --replica", "--stdin", "--replica"),

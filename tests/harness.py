@@ -95,10 +95,11 @@ def put_files(files):
             file.write(as_bytes(content))
 
 
-def start(program, args, **streams):
-    """Starts a program in the folder of the test, with no environment but a path."""
+def start(program, args, variables=None, **streams):
+    """Starts a program in the folder of the test, with no environment but a path and these variables."""
     words = shlex.split(args) if isinstance(args, str) else args
-    return subprocess.Popen([path_of(program), *words], env={"PATH": "/usr/bin:/bin"}, **streams)
+    environment = {"PATH": "/usr/bin:/bin", **(variables or {})}
+    return subprocess.Popen([path_of(program), *words], env=environment, **streams)
 
 
 def open_output(device):

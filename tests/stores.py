@@ -335,6 +335,23 @@ def write_until_killed(server, name, kept, number):
         return
 
 
+def kill_under_writers(server, seconds):
+    """Lets eight authors write at once for some seconds, kills the server, and says what they were answered."""
+    lists = [[] for _ in range(WRITERS)]
+    threads = [
+        threading.Thread(target=write_until_killed, args=(server, NAMES[number], lists[number], number))
+        for number in range(WRITERS)
+    ]
+    for thread in threads:
+        thread.start()
+    time.sleep(seconds)
+    server.process.send_signal(signal.SIGKILL)
+    for thread in threads:
+        thread.join()
+    kill(server)
+    return [made for made_by in lists for made in made_by]
+
+
 def killed_under_writers():
     server = restarted()
     ann = server.author("ann")
@@ -344,19 +361,7 @@ def killed_under_writers():
     chance = random.Random(7)
     answered = []
     for _ in range(ROUNDS):
-        lists = [[] for _ in range(WRITERS)]
-        threads = [
-            threading.Thread(target=write_until_killed, args=(server, NAMES[number], lists[number], number))
-            for number in range(WRITERS)
-        ]
-        for thread in threads:
-            thread.start()
-        time.sleep(chance.uniform(0.02, 0.2))
-        server.process.send_signal(signal.SIGKILL)
-        for thread in threads:
-            thread.join()
-        kill(server)
-        answered += [made for made_by in lists for made in made_by]
+        answered += kill_under_writers(server, chance.uniform(0.02, 0.2))
         server = restarted()
         client = server.author("ann", "p")
         there = entries_of(client)

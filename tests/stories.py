@@ -1,7 +1,8 @@
-"""pad_replay: its command line, the lines of a story, and sessions side by side."""
+"""pad_replay: its command line, the lines of a story, sessions side by side, and stories that are cut to small ones."""
 import os
+import subprocess
 
-from harness import CLOSED, FULL, ROOT, Case, Has
+from harness import CLOSED, FULL, ROOT, Case, Has, Test, put_files, want
 from sessions import comment, delete, edit, insert, read, refusal
 
 ARGS = "--replica 1 --cells 2 --accounts accounts"
@@ -245,6 +246,7 @@ COMMAND_LINE = [
         "pad_replay",
         memory=10_000_000,
     ),
+    Case("version", "--version", stdout="pad_replay 0.1.0\n", program="pad_replay"),
     run("a folder as accounts file", "# x\n", "", 1, Has("pad_replay: ", "Is a directory (os error 21)"), args=ARGS.replace("accounts accounts", "accounts .")),
     run("another replica", f"a\t{HELLO['ann']}\n", f"a\t{welcome('ann', 300)}\n", args=ARGS.replace("replica 1", "replica 300")),
 ]
@@ -263,4 +265,14 @@ def plain():
     return Case("the worked examples by the plain sequence", ARGS + " --plain", all_examples("stdin"), all_examples("stdout"), 0, "", accounts, "pad_replay", seconds=120)
 
 
+def one_line_is_left():
+    """Of sixty insertions the one is left by which a story fails, with one letter of its text."""
+    inserts = "".join(f'ann\t{{"do":"insert","text":"letters of {number}","rev":{number}}}\n' for number in range(60))
+    put_files([("story", "=== sixty\n" + inserts)])
+    fails = ["sh", "-c", "! grep -q 'rev.: *37'"]
+    done = subprocess.run([f"{ROOT}/tests/shrink", "story", *fails], capture_output=True, text=True, check=True)
+    want(done.stdout, 'ann\t{"do": "insert", "text": "l", "rev": 37}\n', "what is left of the story")
+
+
 TESTS = [case.test() for case in COMMAND_LINE + LINES + STORIES + [plain()]]
+TESTS.append(Test("shrink: the line by which a story fails is left", one_line_is_left))

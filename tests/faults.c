@@ -1,0 +1,189 @@
+/* Loaded before the C library into a program under test, which it makes fail where the file FAULTS says so.
+ *
+ * tests/faults.py compiles it, and writes and reads the fields of the file. A count of 3 lets the third call from then on
+ * fail, and no other; 0 lets none fail. */
+#define _GNU_SOURCE
+#include <errno.h>
+#include <fcntl.h>
+#include <stdatomic.h>
+#include <stdio.h>
+#include <stdlib.h>
+#include <string.h>
+#include <sys/mman.h>
+#include <sys/stat.h>
+#include <sys/syscall.h>
+#include <unistd.h>
+
+struct faults {
+    atomic_long allocations; /* of all threads where `everywhere` is 1, else of those that have read something */
+    atomic_long everywhere;
+    atomic_long syncs;
+    atomic_long writes; /* to files: those to sockets and pipes are not counted */
+    atomic_long failed; /* how many calls have failed */
+    atomic_long synced; /* the length of the file p.pad that the last sync of it found */
+    atomic_long error; /* of the write that fails; 0 is EIO */
+    atomic_long room; /* the bytes that files have room for, and one more; 0 sets no bound */
+    atomic_long syncs_made;
+};
+
+static struct faults *faults;
+static __thread int has_read __attribute__((tls_model("initial-exec")));
+
+void *__libc_malloc(size_t size);
+void *__libc_realloc(void *block, size_t size);
+
+__attribute__((constructor)) static void open_faults(void)
+{
+    const char *path = getenv("FAULTS");
+    int file = path ? open(path, O_RDWR | O_CLOEXEC) : -1;
+    if (file < 0)
+        abort();
+    void *at = mmap(NULL, sizeof *faults, PROT_READ | PROT_WRITE, MAP_SHARED, file, 0);
+    if (at == MAP_FAILED)
+        abort();
+    close(file);
+    faults = at;
+}
+
+/* Whether this call is the one that is to fail. */
+static int fails(atomic_long *count)
+{
+    long left = atomic_load(count);
+    while (left > 0)
+        if (atomic_compare_exchange_weak(count, &left, left - 1)) {
+            if (left == 1)
+                atomic_fetch_add(&faults->failed, 1);
+            return left == 1;
+        }
+    return 0;
+}
+
+static int is_refused(void)
+{
+    return faults && (has_read || atomic_load(&faults->everywhere)) && fails(&faults->allocations);
+}
+
+void *malloc(size_t size)
+{
+    if (is_refused()) {
+        errno = ENOMEM;
+        return NULL;
+    }
+    return __libc_malloc(size);
+}
+
+void *realloc(void *block, size_t size)
+{
+    if (size > 0 && is_refused()) {
+        errno = ENOMEM;
+        return NULL;
+    }
+    return __libc_realloc(block, size);
+}
+
+ssize_t read(int file, void *to, size_t size)
+{
+    ssize_t count = syscall(SYS_read, file, to, size);
+    has_read |= count > 0;
+    return count;
+}
+
+ssize_t recv(int file, void *to, size_t size, int flags)
+{
+    ssize_t count = syscall(SYS_recvfrom, file, to, size, flags, NULL, NULL);
+    has_read |= count > 0;
+    return count;
+}
+
+/* The length of a file on the disk; -1 for a pipe, a socket or a device. */
+static long length_of_file(int file)
+{
+    struct stat state;
+    return fstat(file, &state) == 0 && S_ISREG(state.st_mode) ? state.st_size : -1;
+}
+
+/* How many of so many bytes there is room for, which are then taken. */
+static long take_room(long size)
+{
+    long room = atomic_load(&faults->room);
+    while (room > 0) {
+        long taken = size < room - 1 ? size : room - 1;
+        if (atomic_compare_exchange_weak(&faults->room, &room, room - taken))
+            return taken;
+    }
+    return size;
+}
+
+ssize_t write(int file, const void *from, size_t size)
+{
+    if (faults && size > 0 && (atomic_load(&faults->writes) > 0 || atomic_load(&faults->room) > 0) && length_of_file(file) >= 0) {
+        if (fails(&faults->writes)) {
+            errno = atomic_load(&faults->error) ? atomic_load(&faults->error) : EIO;
+            return -1;
+        }
+        size = take_room(size);
+        if (size == 0) {
+            errno = ENOSPC;
+            return -1;
+        }
+    }
+    return syscall(SYS_write, file, from, size);
+}
+
+/* Gives the room of what is cut off back. */
+static int cut(int file, off_t length)
+{
+    long before = length_of_file(file);
+    int result = syscall(SYS_ftruncate, file, length);
+    if (faults && result == 0 && before > length && atomic_load(&faults->room) > 0)
+        atomic_fetch_add(&faults->room, before - length);
+    return result;
+}
+
+int ftruncate(int file, off_t length)
+{
+    return cut(file, length);
+}
+
+int ftruncate64(int file, off_t length)
+{
+    return cut(file, length);
+}
+
+/* The length of a file, if it is p.pad, else 0. */
+static long length_of_pad(int file)
+{
+    char link[64], path[4096];
+    struct stat state;
+    snprintf(link, sizeof link, "/proc/self/fd/%d", file);
+    ssize_t length = readlink(link, path, sizeof path - 1);
+    if (length < 6 || fstat(file, &state) != 0)
+        return 0;
+    path[length] = 0;
+    return strcmp(path + length - 6, "/p.pad") == 0 ? state.st_size : 0;
+}
+
+static int sync_by(long call, int file)
+{
+    if (faults && fails(&faults->syncs)) {
+        errno = EIO;
+        return -1;
+    }
+    long length = length_of_pad(file);
+    int result = syscall(call, file);
+    if (faults)
+        atomic_fetch_add(&faults->syncs_made, 1);
+    if (faults && result == 0 && length > atomic_load(&faults->synced))
+        atomic_store(&faults->synced, length);
+    return result;
+}
+
+int fsync(int file)
+{
+    return sync_by(SYS_fsync, file);
+}
+
+int fdatasync(int file)
+{
+    return sync_by(SYS_fdatasync, file);
+}

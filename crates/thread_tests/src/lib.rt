@@ -3,11 +3,11 @@
 #![tactic(auto)]
 
 #[cfg(test)]
+mod audits;
+#[cfg(test)]
 mod held;
 #[cfg(test)]
 mod kept;
-#[cfg(test)]
-mod records;
 #[cfg(test)]
 mod seats;
 #[cfg(test)]

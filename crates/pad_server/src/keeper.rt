@@ -1,5 +1,6 @@
 //! The files of a server's pads while it runs: what was answered is noted under the pad's lock, and synced before a reply is
 //! written.
+use crate::progress::{Progress, Turn};
 use crate::reserve::{Reserve, is_full};
 use log::{error, warn};
 use records::{Record, records_of};
@@ -8,13 +9,15 @@ use std::alloc::Global;
 use std::fs::{File, OpenOptions};
 use std::io;
 use std::io::{ErrorKind, Write};
-use std::sync::{Condvar, Mutex, Wait};
+use std::sync::atomic::{AtomicBool, Ordering};
+use std::sync::{Mutex, Wait};
 use std::thread::yield_now;
 use std::time::{SystemTime, UNIX_EPOCH};
 use store::{header_text, link, record_text};
 
-/// How often a thread that is about to sync lets others run first, whose notes then go with its own.
-const LOOKS: u32 = 6;
+/// How often at most a thread that is about to sync lets others run first, whose notes then go with its own. It waits for no more
+/// notes than went with the last sync, so that one author alone is never kept waiting.
+const LOOKS: u32 = 16;
 
 /// A pad's file, open for appending, and the sum of its last line.
 #[derive(Drop)]
@@ -23,37 +26,29 @@ pub struct Book {
     pub sum: String,
 }
 
+/// A second handle of a pad's file, by which it is synced while others append.
+#[derive(Drop)]
+pub struct Handle {
+    file: Mutex<Option<File>>,
+    /// Whether something was appended since a sync last began.
+    dirty: AtomicBool,
+}
+
+impl Handle {
+    /// Of a file to which nothing was appended yet; None: it is still to be made.
+    pub fn new(file: Option<File>) -> Handle {
+        Handle {
+            file: Mutex::new(file),
+            dirty: AtomicBool::new(false),
+        }
+    }
+}
+
 /// The files of all cells.
 #[derive(Drop)]
 pub struct Books {
     pub all: Vec<Mutex<Book>>,
-    /// Second handles of the files, by which they are synced while others append.
-    pub handles: Vec<Mutex<Option<File>>>,
-}
-
-/// How far the files are synced.
-#[derive(Clone, Copy)]
-struct Progress {
-    /// How many notes were made.
-    noted: u64,
-    /// How many of them are synced.
-    settled: u64,
-    /// The cells that have notes which are not, a bit for each.
-    dirty: u64,
-    /// Whether a thread is syncing for all.
-    settling: bool,
-    /// Whether a write or a sync has failed, after which nothing is promised any more.
-    failed: bool,
-}
-
-/// What a thread does that waits for a note to be synced.
-enum Turn {
-    /// It is synced.
-    Done,
-    /// It will not be.
-    Failed,
-    /// It syncs for all.
-    Leads,
+    pub handles: Vec<Handle>,
 }
 
 /// Keeps the pads of a server in files, one for each pad that has a name.
@@ -64,10 +59,8 @@ pub struct Keeper {
     folder: String,
     replica: u16,
     books: Vec<Mutex<Book>>,
-    // Second handles of the files, by which they are synced while others append.
-    handles: Vec<Mutex<Option<File>>>,
-    progress: Mutex<Progress>,
-    settled: Condvar,
+    handles: Vec<Handle>,
+    progress: Progress,
     reserve: Reserve,
     // Held as long as the server runs.
     _lock: File,
@@ -89,14 +82,7 @@ impl Keeper {
             replica,
             books: books.all,
             handles: books.handles,
-            progress: Mutex::new(Progress {
-                noted: 0,
-                settled: 0,
-                dirty: 0,
-                settling: false,
-                failed: false,
-            }),
-            settled: Condvar::new(),
+            progress: Progress::new(),
             reserve,
             _lock: lock,
         }
@@ -105,19 +91,14 @@ impl Keeper {
     /// Notes what a request leaves to be kept. A failure is logged, and from then on nothing is settled any more.
     pub fn note<R: Wait>(&self, rt: &R, alloc: Global, told: &Answered<'_>) {
         // What stands behind a line that was not written whole would be damage at the next start.
-        if self.progress.lock(rt).failed {
+        if self.progress.has_failed() {
             return;
         }
-        let written = self.write(rt, alloc, told);
-        let mut progress = self.progress.lock(rt);
-        match written {
+        match self.write(rt, alloc, told) {
             Ok(false) => {}
-            Ok(true) => {
-                progress.noted = progress.noted.saturating_add(1);
-                progress.dirty |= 1u64 << (told.cell % 64);
-            }
+            Ok(true) => self.progress.note(),
             Err(cause) => {
-                progress.failed = true;
+                self.progress.fail();
                 error!(&self.files; "the store {} cannot be written: {cause}", self.folder);
             }
         }
@@ -145,6 +126,9 @@ impl Keeper {
         match &mut book.file {
             Some(file) => self.put(rt, file, lines.as_bytes())?,
             None => return Err(io::Error::from(ErrorKind::NotFound)),
+        }
+        if let Some(handle) = self.handles.get(cell) {
+            handle.dirty.store(true, Ordering::SeqCst);
         }
         Ok(true)
     }
@@ -224,8 +208,8 @@ impl Keeper {
             }
             made => made?,
         };
-        if cell < self.handles.len() {
-            *self.handles[cell].lock(rt) = Some(file.try_clone()?);
+        if let Some(handle) = self.handles.get(cell) {
+            *handle.file.lock(rt) = Some(file.try_clone()?);
         }
         File::open(&self.files, folder)?.sync_all()?;
         let text = header_text(alloc, name, self.replica)?;
@@ -253,70 +237,40 @@ impl Keeper {
     }
 
     /// Whether a write or a sync has failed, after which nothing is settled any more.
-    pub fn has_failed<R: Wait>(&self, rt: &R) -> bool {
-        self.progress.lock(rt).failed
+    pub fn has_failed(&self) -> bool {
+        self.progress.has_failed()
     }
 
     /// Waits until all that was noted before is synced, or fails.
     pub fn settle<R: Wait>(&self, rt: &R) -> io::Result<()> {
-        let noted = self.progress.lock(rt).noted;
-        match self.turn(rt, noted) {
+        match self.progress.turn(rt) {
             Turn::Done => Ok(()),
             Turn::Failed => Err(io::Error::from(ErrorKind::Other)),
             Turn::Leads => {
-                for _look in 0..LOOKS {
-                    yield_now();
-                }
-                let (noted, dirty) = self.take_dirty(rt);
-                let synced = self.sync(rt, dirty);
-                self.finish(rt, noted, synced.is_ok());
+                self.gather();
+                let noted = self.progress.noted();
+                let synced = self.sync(rt);
+                self.progress.finish(noted, synced.is_ok());
                 synced
             }
         }
     }
 
-    // Waits while another thread syncs, until a note is synced or this thread has to do it.
-    fn turn<R: Wait>(&self, rt: &R, note: u64) -> Turn {
-        let mut progress = self.settled.wait_while(
-            rt,
-            self.progress.lock(rt),
-            |progress| progress.settling && progress.settled < note && !progress.failed,
-        );
-        if progress.failed {
-            return Turn::Failed;
+    // Lets other threads run, whose notes can go with a sync that is about to begin.
+    fn gather(&self) {
+        for _look in 0..LOOKS {
+            if self.progress.is_crowded() {
+                return;
+            }
+            yield_now();
         }
-        if progress.settled >= note {
-            return Turn::Done;
-        }
-        progress.settling = true;
-        Turn::Leads
     }
 
-    // How many notes there are, and the cells that have some which are not synced. They are now taken to be.
-    fn take_dirty<R: Wait>(&self, rt: &R) -> (u64, u64) {
-        let mut progress = self.progress.lock(rt);
-        let dirty = progress.dirty;
-        progress.dirty = 0;
-        (progress.noted, dirty)
-    }
-
-    // Tells all who wait what became of a sync.
-    fn finish<R: Wait>(&self, rt: &R, noted: u64, synced: bool) {
-        let mut progress = self.progress.lock(rt);
-        progress.settling = false;
-        if synced {
-            progress.settled = noted;
-        } else {
-            progress.failed = true;
-        }
-        self.settled.notify_all();
-    }
-
-    // Syncs the files of these cells.
-    fn sync<R: Wait>(&self, rt: &R, dirty: u64) -> io::Result<()> {
-        for (cell, handle) in self.handles.iter().enumerate() {
-            if (dirty >> (cell % 64)) & 1 == 1 {
-                if let Some(file) = &*handle.lock(rt) {
+    // Syncs the files to which something was appended.
+    fn sync<R: Wait>(&self, rt: &R) -> io::Result<()> {
+        for handle in &self.handles {
+            if handle.dirty.swap(false, Ordering::SeqCst) {
+                if let Some(file) = &*handle.file.lock(rt) {
                     if let Err(cause) = file.sync_data() {
                         error!(&self.files; "the store {} cannot be synced: {cause}", self.folder);
                         return Err(cause);

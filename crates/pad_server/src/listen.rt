@@ -66,7 +66,7 @@ where
         stop: &stop,
     };
     serve_row(rt, cells, Some(guard), asked, listener, &accounts)?;
-    if keeper.has_failed(rt) {
+    if keeper.has_failed() {
         return Err(Failure::Failed { folder });
     }
     Ok(())

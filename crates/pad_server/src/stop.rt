@@ -95,7 +95,7 @@ impl Guard<'_> {
         R: Net<Listener = TcpListener, Stream = TcpStream> + Wait,
     {
         self.stop.leave(rt, number);
-        if self.keeper.has_failed(rt) {
+        if self.keeper.has_failed() {
             self.stop.stop(rt);
         }
     }

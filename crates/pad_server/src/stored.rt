@@ -2,7 +2,7 @@
 ghost use Rattle.std.specs.Prelude.{◌≤◌};
 
 use crate::failure::Failure;
-use crate::keeper::{Book, Books, Keeper};
+use crate::keeper::{Book, Books, Handle, Keeper};
 use crate::reserve::Reserve;
 use block_seq::BlockSeq;
 use log::{Log, warn};
@@ -134,7 +134,7 @@ impl Loading {
             file: Some(file),
             sum,
         }))?;
-        self.books.handles.push(Mutex::new(Some(handle)))?;
+        self.books.handles.push(Handle::new(Some(handle)))?;
         Ok(())
     }
 
@@ -148,7 +148,7 @@ impl Loading {
             file: None,
             sum: String::new(alloc),
         }))?;
-        self.books.handles.push(Mutex::new(None))?;
+        self.books.handles.push(Handle::new(None))?;
         Ok(())
     }
 }

@@ -1,5 +1,5 @@
 -- What a request at a cell does to the log of its pad: it grows by the operations that the answer tells of, and by no others.
-use Rattle.std.proofs.Common.{◌≡◌, ◌⊎◌, inl, inr, ℕ, zero, suc, ◌+◌, Bool, true, false, not, cond, List, [], ◌∷◌, ◌++◌, length, Option, Some, None, Result, Ok, Err, slice_get, bytes_eq, nat_le, ◌||◌, unwrap_or, refl, sym, ap, ap₂, ◌∙◌, subst, arith, append_assoc, eqb, eq-eqb}
+use Rattle.std.proofs.Common.{◌≡◌, ◌⊎◌, inl, inr, ℕ, zero, suc, ◌+◌, Bool, true, false, not, cond, List, [], ◌∷◌, ◌++◌, length, Option, Some, None, Result, Ok, Err, slice_get, bytes_eq, nat_le, ◌||◌, unwrap_or, refl, sym, ap, ◌∙◌, subst, arith, append_assoc, eqb, eq-eqb}
 use Rattle.std.proofs.lemmas.Bool.{and_from}
 use Rattle.std.proofs.lemmas.List.{append-nil, length-append}
 use Rattle.std.specs.List.{find}
@@ -25,7 +25,7 @@ use Rattle.pad_core.specs.Delivered.{delivery_refusal}
 use Rattle.pad_core.specs.Edits.{edit_refusal, edited, made_parts, told_hidden, told_name}
 use Rattle.pad_core.specs.Notes.{noted}
 use Rattle.pad_core.specs.Exchange.{Delivery, delivered, received, release, settled, steps, taken_out, unsettled, settle}
-use Rattle.pad_core.specs.Machine.{Machine, author_act, author_refusal, author_step, claim, peer_act, session_step, step, need_of, nobody_refusal}
+use Rattle.pad_core.specs.Machine.{Machine, author_act, author_refusal, author_step, peer_act, session_step, step, need_of, nobody_refusal}
 use Rattle.pad_core.specs.declared.act.Act.{Act}
 use Rattle.pad_core.specs.declared.act.Act.TheVariants as act
 use Rattle.pad_core.specs.declared.act.Change.{Change}
@@ -37,7 +37,6 @@ use Rattle.pad_core.specs.declared.owned.Owned.{Owned}
 use Rattle.pad_core.specs.declared.reply.PadReply.{PadReply}
 use Rattle.pad_core.specs.declared.reply.PadReply.TheVariants as pad
 use Rattle.pad_core.specs.declared.reply.Pushed.{Pushed}
-use Rattle.pad_core.specs.declared.reply.Pushed.TheVariants as pushed
 use Rattle.pad_core.specs.declared.request.Request.{Request}
 use Rattle.pad_core.specs.declared.request.Request.TheVariants as request
 use Rattle.pad_core.proofs.Made.{edit_refused}

@@ -1,3 +1,4 @@
 pub mod Calls
 pub mod Grows
+pub mod Seated
 pub mod Tallies

@@ -1,16 +1,17 @@
 -- What lies under the lock of a shared pad, and what a call of a seat is.
-use Rattle.std.specs.Prelude.{◌≡◌, ◌⊎◌, ℕ, ◌+◌, ◌≤◌, ◌<◌, ◌^◌, ◌-◌, List, length, sum_by, slice_get, slice_set, true, Option, Some, Result, Err}
+use Rattle.std.specs.Prelude.{◌≡◌, ◌⊎◌, ℕ, ◌+◌, ◌≤◌, ◌<◌, ◌^◌, ◌-◌, List, [], ◌∷◌, ◌++◌, length, sum_by, slice_get, slice_set, true, Option, Some, Err}
 use Rattle.std.specs.List.{AllByRecursion}
 use Rattle.pad_model.specs.declared.op.Op.{Op}
 use Rattle.pad_model.specs.declared.refusal.Refusal.TheVariants.{SeatsOut}
 use Rattle.pad_model.specs.declared.who.Who.{Who}
 use Rattle.sessions.specs.declared.session.Room.{Room}
 use Rattle.pad_core.specs.Delivered.{IsDelivered}
-use Rattle.pad_core.specs.Machine.{Machine}
+use Rattle.pad_core.specs.Machine.{Machine, step}
+use Rattle.pad_core.specs.declared.act.Act.TheVariants.{Leave}
 use Rattle.pad_core.specs.declared.request.Request.{Request}
 use Rattle.server_core.specs.AtCell.{request_at}
 use Rattle.server_core.specs.Served.{Visited}
-use Rattle.shared_pads.specs.Seats.{Answer, Stands, Tells, are_apart, counted, edit_of}
+use Rattle.shared_pads.specs.Seats.{Answer, Stands, Tells, are_apart, counted, edit_of, uncounted}
 use Rattle.shared_pads.specs.declared.seat.LastEdit.{LastEdit}
 use Rattle.shared_pads.specs.declared.seat.Seat.{Seat}
 use Rattle.shared_pads.specs.declared.seat.Tally.{Tally}
@@ -28,6 +29,18 @@ pub record IsKept (log : List Op) (base : ℕ) (tallies : List Tally) (calls : �
   pub revision : length log ≡ base + sum_by (λ t. t.operations) tallies
   pub standing : AllByRecursion (λ t. Stands log t.last) tallies
   pub called : calls ≡ sum_by (λ t. t.calls) tallies
+
+-- what lies under the lock of a pad that no seat was made for
+abbrev pub unseated : Machine → Kept
+unseated m = record { pad = m; base = length m.log; tallies = []; calls = 0 }
+
+-- the next seat, at a cell
+abbrev pub next_seat : ℕ → Kept → Seat
+next_seat cell k = record { cell = cell; number = length k.tallies; base = k.base; tally = uncounted }
+
+-- what lies under the lock once that seat was made
+abbrev pub one_more : Kept → Kept
+one_more k = record { pad = k.pad; base = k.base; tallies = k.tallies ++ uncounted ∷ []; calls = k.calls }
 
 -- a seat is the one that the lock knows, and one more call can be counted
 abbrev pub IsKnown : Kept → Seat → Type 0
@@ -48,6 +61,10 @@ Counts old seat who request rooms answer after new next =
     × Visited who request rooms old.pad (request_at who request seat.cell rooms old.pad) answer new next.pad
     × (after ≡ seat_after more (edit_of request answer) seat) × (next ≡ kept_after next.pad more (edit_of request answer) seat old)
 
+-- a pad after the session of a visit has left it
+abbrev pub left : Who → Room → Machine → Machine
+left who room m = (step room.pad who (Some room.visit) Leave m).1
+
 -- a pad is one that the machine can have, it has the seat's last edit at its revision, and at least the operations of the seat behind its base
 abbrev pub Fits : Seat → Machine → Type 0
 Fits seat m = IsDelivered m.log × Stands m.log seat.tally.last × (seat.base + seat.tally.operations ≤ length m.log)
@@ -63,6 +80,10 @@ Called seat who request rooms answer after new =
 -- a seat is just as the lock knows it
 abbrev pub IsOf : Kept → Seat → Type 0
 IsOf k seat = (seat.base ≡ k.base) × (slice_get k.tallies seat.number ≡ Some seat.tally)
+
+-- seats are all that the lock made: as many, with numbers of their own, and each is as the lock knows it
+abbrev pub AreAll : Kept → List Seat → Type 0
+AreAll k seats = (length seats ≡ length k.tallies) × (are_apart seats ≡ true) × AllByRecursion (IsOf k) seats
 
 -- what all seats together have done: they have numbers of their own, each is as the lock knows it, and the revision of the pad is the base and their operations
 abbrev pub IsClosed : Kept → List Seat → Sums → Type 0

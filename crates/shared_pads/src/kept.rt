@@ -1,9 +1,10 @@
 //! What lies under the lock of a shared pad.
-ghost use Rattle.std.specs.Prelude.{◌≡◌, ◌⊎◌, ◌↔◌, drop, length, IsTrue, IfOk, IfErr, IfSome, None};
+ghost use Rattle.std.specs.Prelude.{◌≡◌, ◌⊎◌, ◌↔◌, ◌≤◌, drop, length, IsTrue, IsSome, IfOk, IfErr, IfSome, OnOk, OnErr, Err, None};
 ghost use Rattle.std.specs.List.{AllByRecursion};
 ghost use Rattle.server_core.specs.Rooms.{IsAsked};
-ghost use Rattle.shared_pads.specs.Kept.{Called, Counts, IsClosed, IsKnown, IsOf, seat_after};
-ghost use Rattle.shared_pads.specs.Seats.{uncounted};
+ghost use Rattle.pad_core.specs.Machine.{name_of};
+ghost use Rattle.shared_pads.specs.declared.seat.TheConstants.{MAX_SEATS};
+ghost use Rattle.shared_pads.specs.Kept.{AreAll, Called, Counts, IsClosed, IsKnown, IsOf, kept_after, left, next_seat, one_more, seat_after, unseated};
 
 use crate::seat::{MAX_SEATS, Seat, Tally, edit_of};
 use crate::sums::{Sums, are_apart, sums_of};
@@ -35,7 +36,9 @@ impl<S: Sequence> Model for Kept<S> {
 
 impl<S: Sequence> Kept<S> {
     /// A pad that no seat was made for.
-    pub fn new(alloc: Global, pad: Pad<S>) -> Kept<S> {
+    pub fn new(alloc: Global, pad: Pad<S>) -> Kept<S>
+        ensures { result ≡ unseated pad }
+    {
         let base = pad.revision();
         Kept {
             pad,
@@ -47,8 +50,11 @@ impl<S: Sequence> Kept<S> {
 
     /// A seat with a number of its own, at this cell.
     pub fn seat(&mut self, cell: u32) -> Result<Seat, Refusal>
-        ensures seat { IfOk result (λ seat. (seat.cell ≡ cell) × (seat.tally ≡ uncounted)) }
+        ensures gone { (result ≡ Err Refusal.SeatsGone) ↔ (MAX_SEATS ≤ length self.old.tallies) }
         ensures refusal { IfErr result (λ e. (e ≡ Refusal.SeatsGone) ⊎ (e ≡ Refusal.Memory)) }
+        ensures refused { OnErr result (self.new ≡ self.old) }
+        ensures seat { IfOk result (λ seat. seat ≡ next_seat cell self.old) }
+        ensures kept { OnOk result (self.new ≡ one_more self.old) }
     {
         let number = self.tallies.len();
         if number >= MAX_SEATS as usize {
@@ -65,7 +71,9 @@ impl<S: Sequence> Kept<S> {
 
     /// The leave of a session that ends: it ends a visit where it is present and the session's. It takes no memory.
     pub fn depart(&mut self, seat: &mut Seat, who: &Who, room: &Room)
-        ensures { (seat.new ≡ seat.old) ⊎ (seat.new ≡ seat_after 0 None seat.old) }
+        ensures seat { (seat.new ≡ seat.old) ⊎ (seat.new ≡ seat_after 0 None seat.old) }
+        ensures known { IsKnown self.old seat.old → (seat.new ≡ seat_after 0 None seat.old) × (self.new ≡ kept_after (left who.now room.now self.old.pad) 0 None seat.old self.old) }
+        ensures unknown { ¬ IsKnown self.old seat.old → (seat.new ≡ seat.old) × (self.new ≡ self.old) }
     {
         if !self.knows(seat) {
             return;
@@ -79,7 +87,8 @@ impl<S: Sequence> Kept<S> {
 
     /// The name of the pad, if it has one.
     pub fn name(&self, alloc: Global) -> Result<Option<Name>, Refusal>
-        ensures { IfErr result (λ e. e ≡ Refusal.Memory) }
+        ensures name { IfOk result (λ name. name ≡ name_of self.now.pad.owned) }
+        ensures refusal { IfErr result (λ e. e ≡ Refusal.Memory) }
     {
         match self.pad.name() {
             None => Ok(None),
@@ -89,11 +98,14 @@ impl<S: Sequence> Kept<S> {
 
     /// What all seats have done, where these are the seats that were made.
     pub fn sum(&self, seats: &[Seat]) -> Option<Sums>
-        ensures { IfSome result (λ sums. IsClosed self.now seats.now sums) }
+        ensures sums { IfSome result (λ sums. IsClosed self.now seats.now sums) }
+        ensures all { IsSome result ↔ AreAll self.now seats.now }
     {
+        let revision = self.pad.revision();
+        let calls = self.calls;
         let sums = sums_of(seats)?;
-        let revision = self.base.checked_add(sums.operations)?;
-        if self.pad.revision() != revision || self.calls != sums.calls {
+        let made = self.base.checked_add(sums.operations)?;
+        if revision != made || calls != sums.calls {
             return None;
         }
         if seats.len() != self.tallies.len() || !are_apart(seats) || !self.has_all(seats) {
@@ -104,7 +116,7 @@ impl<S: Sequence> Kept<S> {
 
     /// Whether each seat is just as it is known here.
     fn has_all(&self, seats: &[Seat]) -> bool
-        ensures { IsTrue result → AllByRecursion (IsOf self.now) seats.now }
+        ensures { IsTrue result ↔ AllByRecursion (IsOf self.now) seats.now }
     {
         match seats.split_first() {
             None => true,
@@ -113,7 +125,7 @@ impl<S: Sequence> Kept<S> {
     }
 
     fn has(&self, seat: &Seat) -> bool
-        ensures { IsTrue result → IsOf self.now seat.now }
+        ensures { IsTrue result ↔ IsOf self.now seat.now }
     {
         if seat.base != self.base {
             return false;
@@ -170,6 +182,8 @@ impl<S: Sequence> Kept<S> {
         requires { IsAsked request.now }
         ensures who { session.new.who ≡ session.old.who }
         ensures called { Called seat.old session.old.who request.now session.old.rooms result seat.new session.new.rooms }
+        ensures known { IsKnown self.old seat.old → Counts self.old seat.old session.old.who request.now session.old.rooms result seat.new session.new.rooms self.new }
+        ensures unknown { ¬ IsKnown self.old seat.old → (result ≡ Err Refusal.SeatsOut) × (seat.new ≡ seat.old) × (session.new.rooms ≡ session.old.rooms) × (self.new ≡ self.old) }
     {
         if !self.knows(seat) {
             return Err(Refusal::SeatsOut);

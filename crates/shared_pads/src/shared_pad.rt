@@ -129,7 +129,8 @@ impl<S: Sequence> SharedPad<S> {
     /// Ends the sharing, where these are the seats that were made, each once, with their tallies; else all is handed back
     /// (318).
     pub fn close(self, seats: Vec<Seat>) -> Result<Closed<S>, (SharedPad<S>, Vec<Seat>)>
-        ensures { IfOk result (λ closed. HasClosed closed.pad seats.items closed.operations closed.calls) }
+        ensures closed { IfOk result (λ closed. HasClosed closed.pad seats.items closed.operations closed.calls) }
+        ensures back { IfErr result (λ back. (back.0.cell ≡ self.cell) × (back.1 ≡ seats)) }
     {
         let SharedPad { kept, cell } = self;
         let kept = kept.into_inner();

@@ -1,5 +1,5 @@
 //! What several seats have done together.
-ghost use Rattle.std.specs.Prelude.{◌≡◌, ◌==◌, IfSome, sum_by};
+ghost use Rattle.std.specs.Prelude.{◌≡◌, ◌⊎◌, ◌<◌, ◌==◌, IfSome, IfNone, sum_by};
 ghost use Rattle.std.specs.List.{list_any};
 ghost use Rattle.shared_pads.specs.Seats.{are_apart as all_apart};
 
@@ -14,7 +14,8 @@ pub struct Sums {
 
 /// What seats have done together, where it can be counted.
 pub fn sums_of(seats: &[Seat]) -> Option<Sums>
-    ensures { IfSome result (λ sums. (sums.operations ≡ sum_by (λ seat. seat.tally.operations) seats.now) × (sums.calls ≡ sum_by (λ seat. seat.tally.calls) seats.now)) }
+    ensures sums { IfSome result (λ sums. (sums.operations ≡ sum_by (λ seat. seat.tally.operations) seats.now) × (sums.calls ≡ sum_by (λ seat. seat.tally.calls) seats.now)) }
+    ensures passes { IfNone result ((u64.MAX < sum_by (λ seat. seat.tally.operations) seats.now) ⊎ (u64.MAX < sum_by (λ seat. seat.tally.calls) seats.now)) }
 {
     match seats.split_first() {
         None => Some(Sums {

@@ -1,4 +1,4 @@
-use Rattle.std.proofs.Common.{◌≡◌, ℕ, arith}
+use Rattle.std.proofs.Common.{arith}
 use Rattle.shared_pads.proofs.Calls.{calls_low, departs, number_low}
 use Rattle.shared_pads.proofs.kept.Kept.depart.Goals as goal
 

@@ -1,5 +1,5 @@
-use Rattle.std.proofs.Common.{◌≡◌, ℕ, arith}
-use Rattle.shared_pads.proofs.Calls.{Visit, no_fewer, room_for_call, room_for_operations, here, called, counts, stays_kept}
+use Rattle.std.proofs.Common.{arith}
+use Rattle.shared_pads.proofs.Calls.{no_fewer, room_for_call, room_for_operations, here, called, counts, stays_kept}
 use Rattle.shared_pads.proofs.kept.Kept.visit.Goals as goal
 
 pub overflow_sub-more : goal.overflow_sub-more

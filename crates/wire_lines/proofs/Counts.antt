@@ -1,5 +1,5 @@
 -- Reads that are counted, one by one.
-use Rattle.std.proofs.Common.{◌≡◌, ℕ, zero, suc, ◌+◌, Result, Ok, Err, refl, sym, ap, ◌∙◌, arith}
+use Rattle.std.proofs.Common.{◌≡◌, ℕ, suc, ◌+◌, Err, refl, ap, ◌∙◌, arith}
 use Rattle.wire_lines.specs.Causes.{AreCounted, CountsRead, with_more}
 use Rattle.wire_lines.specs.Device.{one_more}
 use Rattle.wire_lines.specs.declared.fault.Fault.{Fault}

@@ -1,15 +1,13 @@
 -- The first line and the others are all the lines.
-use Rattle.std.proofs.Common.{◌≡◌, ℕ, ◌+◌, ◌<◌, ◌≤◌, suc, ◌⊎◌, ⊎_elim, Bool, true, false, ◌||◌, not, cond, ltb, eqb, List, [], ◌∷◌, length, take, drop, refl, ap, ◌∙◌, sym, subst, arith}
+use Rattle.std.proofs.Common.{◌≡◌, ℕ, ◌+◌, ◌<◌, suc, ◌⊎◌, ⊎_elim, Bool, true, false, ◌||◌, not, cond, ltb, eqb, List, [], ◌∷◌, length, take, refl, ap, ◌∙◌, sym, subst, arith}
 use Rattle.std.proofs.Math.Nat.{eq-or-lt_of_le}
 use Rattle.std.proofs.Math.ListN.{drop_of_length-le}
 use Rattle.std.proofs.lemmas.List.{length-take-le}
-use Rattle.std.proofs.lemmas.List.Splits.{slice_split_first, slice_split_none}
-use Rattle.std.specs.List.{slice_split, onto_first, list_any, All}
+use Rattle.std.proofs.lemmas.List.Splits.{slice_split_first}
+use Rattle.std.specs.List.{slice_split, onto_first, list_any}
 use Rattle.wire_lines.specs.Lines.{is_feed, line_end, first_line, behind_line, is_too_long, without_return}
-use Rattle.wire_lines.specs.Buffer.{Shows}
-use Rattle.wire_lines.specs.Served.{is_long, lines_of, lines, is_cut, GoesOn, LinesLaw}
+use Rattle.wire_lines.specs.Served.{is_long, lines_of, lines, is_cut, LinesLaw}
 use Rattle.wire_lines.specs.declared.feed.TheConstants.{MAX_LINE}
-use Rattle.wire_lines.specs.declared.buffer.Found.{Found}
 use Rattle.wire_lines.specs.declared.buffer.Found.TheVariants.{Text, TooLong, End}
 use Rattle.wire_lines.proofs.Feeds.{line_end-le}
 use Rattle.wire_lines.proofs.Taken.{first-of, first-whole}

@@ -1,17 +1,14 @@
 -- What a part of the bytes shows of all of them.
-use Rattle.std.proofs.Common.{◌≡◌, ℕ, ◌+◌, ◌-◌, ◌<◌, ◌≤◌, zero, true, false, cond, ltb, List, [], ◌++◌, length, length-append, take, drop, refl, ap, ◌∙◌, sym, subst, arith, append-nil, Option, None, Some, length-drop, drop-drop}
-use Rattle.std.proofs.Math.ListN.{drop_of_length-le}
+use Rattle.std.proofs.Common.{◌≡◌, ℕ, ◌+◌, ◌-◌, ◌<◌, ◌≤◌, true, false, cond, ltb, List, ◌++◌, length, length-append, take, drop, refl, ap, ◌∙◌, sym, subst, arith, length-drop, drop-drop}
 use Rattle.std.proofs.lemmas.List.{take-append-le, drop-append-le}
 use Rattle.std.specs.Prelude.{slice_range}
-use Rattle.std.specs.Io.KnownBytes.{Keeps, IsAtEnd, prepend_known}
-use Rattle.wire_lines.specs.Lines.{is_feed, line_end, first_line, behind_line, is_too_long, without_return}
-use Rattle.wire_lines.specs.Buffer.{Shows, ShowsBefore, Finds, IsPart}
-use Rattle.wire_lines.specs.declared.buffer.Found.{Found}
-use Rattle.wire_lines.specs.declared.buffer.Found.TheVariants.{Text, TooLong, End}
+use Rattle.wire_lines.specs.Lines.{line_end, first_line, without_return}
+use Rattle.wire_lines.specs.Buffer.{Shows, ShowsBefore}
+use Rattle.wire_lines.specs.declared.buffer.Found.TheVariants.{Text, TooLong}
 use Rattle.wire_lines.specs.declared.feed.TheConstants.{MAX_LINE}
 use Rattle.wire_lines.specs.Inside.{IsBuffer}
 use Rattle.wire_lines.specs.declared.buffer.TheConstants.{MAX_READS, CHUNK}
-use Rattle.wire_lines.proofs.Feeds.{line_end-le, line_end-found, line_end-behind, line_end-more}
+use Rattle.wire_lines.proofs.Feeds.{line_end-found, line_end-behind, line_end-more}
 
 -- the first line of bytes that have a line feed
 pub first-of : (bytes : List ℕ) → line_end bytes < length bytes → first_line bytes ≡ without_return (take (line_end bytes) bytes)

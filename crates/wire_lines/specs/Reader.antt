@@ -7,7 +7,6 @@ use Rattle.wire_lines.specs.declared.fault.Fault.{Fault}
 use Rattle.wire_lines.specs.declared.lines.Lines.{Lines}
 use Rattle.wire_lines.specs.declared.lines.Line.{Line}
 use Rattle.wire_lines.specs.declared.lines.Line.TheVariants as line
-use Rattle.wire_lines.specs.declared.buffer.Found.TheVariants as found
 
 -- the reader behind the lines
 abbrev pub source_of : {R : Type 0} → Lines R → R

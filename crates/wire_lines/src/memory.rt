@@ -1,6 +1,7 @@
 //! Devices over memory, for tests: they cut, are interrupted, or fail at a chosen call.
-ghost use Rattle.std.specs.Prelude.{◌≡◌, ◌+◌, ◌≤◌, ◌<◌, [], Some, min, length, take, drop};
-ghost use Rattle.wire_lines.specs.Device.{one_more};
+ghost use Rattle.std.specs.Prelude.{◌≡◌, ◌⊎◌, ◌+◌, ◌≤◌, ◌<◌, [], Some, true, false, IfOk, IsOk, IsErr, min, length, take, drop};
+ghost use Rattle.std.specs.Io.KnownBytes.{ReadConsumes, WriteAppends};
+ghost use Rattle.wire_lines.specs.Device.{after_read, after_write, one_more};
 
 use crate::device::{ReadError, Sink, Source, WriteError};
 use std::alloc::Global;
@@ -18,11 +19,13 @@ pub struct Input<'a> {
 }
 
 impl<'a> Input<'a> {
-    ghost use Rattle.wire_lines.specs.Devices.{input_rest};
+    ghost use Rattle.wire_lines.specs.Devices.{input_rest, input_settings};
 
     /// It gives as many bytes as there is room for, and doesn't fail.
     pub fn new(bytes: &'a [u8]) -> Input<'a>
-        ensures { input_rest result ≡ bytes.now }
+        ensures bytes { input_rest result ≡ bytes.now }
+        ensures settings { input_settings result ≡ record { piece = usize.MAX; is_interrupted = false; fails_at = 0 } }
+        ensures counts { (result.calls ≡ 0) × (result.failures ≡ 0) }
     {
         Input {
             rest: bytes,
@@ -37,7 +40,9 @@ impl<'a> Input<'a> {
     /// One read gives so many bytes at most.
     pub fn in_pieces(mut self, piece: usize) -> Input<'a>
         requires { 0 < piece }
-        ensures { input_rest result ≡ input_rest self.entry }
+        ensures bytes { input_rest result ≡ input_rest self.entry }
+        ensures settings { input_settings result ≡ record (input_settings self.entry) { piece = piece } }
+        ensures counts { (result.calls ≡ self.entry.calls) × (result.failures ≡ self.entry.failures) }
     {
         self.piece = piece;
         self
@@ -45,7 +50,9 @@ impl<'a> Input<'a> {
 
     /// Each read is interrupted once before it gives its bytes.
     pub fn interrupted(mut self) -> Input<'a>
-        ensures { input_rest result ≡ input_rest self.entry }
+        ensures bytes { input_rest result ≡ input_rest self.entry }
+        ensures settings { input_settings result ≡ record (input_settings self.entry) { is_interrupted = true } }
+        ensures counts { (result.calls ≡ self.entry.calls) × (result.failures ≡ self.entry.failures) }
     {
         self.is_interrupted = true;
         self
@@ -53,7 +60,9 @@ impl<'a> Input<'a> {
 
     /// A read fails, counted from 1.
     pub fn failing_at(mut self, call: u64) -> Input<'a>
-        ensures { input_rest result ≡ input_rest self.entry }
+        ensures bytes { input_rest result ≡ input_rest self.entry }
+        ensures settings { input_settings result ≡ record (input_settings self.entry) { fails_at = call } }
+        ensures counts { (result.calls ≡ self.entry.calls) × (result.failures ≡ self.entry.failures) }
     {
         self.fails_at = call;
         self
@@ -61,13 +70,22 @@ impl<'a> Input<'a> {
 }
 
 impl Source for Input<'_> {
+    ghost use Rattle.wire_lines.specs.Devices.{input_answer, input_rest, input_settings};
+
     ghost remaining = { λ i. Some i.rest.now };
 
     ghost failures = { λ i. i.failures };
 
     ghost reads = { λ i. i.calls };
 
-    fn read(&mut self, buffer: &mut [u8]) -> Result<usize, ReadError> {
+    fn read(&mut self, buffer: &mut [u8]) -> Result<usize, ReadError>
+        ensures bound { IfOk result (λ count. count ≤ length buffer.new) }
+        ensures bytes { ReadConsumes (Some (input_rest self.old)) (Some (input_rest self.new)) result buffer.new }
+        ensures failures { self.new.failures ≡ after_read result self.old.failures }
+        ensures reads { self.new.calls ≡ one_more self.old.calls }
+        ensures answer { result ≡ input_answer self.old (length buffer.old) }
+        ensures settings { input_settings self.new ≡ input_settings self.old }
+    {
         self.calls = one_more(self.calls);
         if self.calls == self.fails_at {
             self.failures = one_more(self.failures);
@@ -110,11 +128,13 @@ pub struct Output {
 }
 
 impl Output {
-    ghost use Rattle.wire_lines.specs.Devices.{output_bytes};
+    ghost use Rattle.wire_lines.specs.Devices.{output_bytes, output_settings};
 
     /// Nothing is written. It takes all bytes of a call, and doesn't fail while there is memory.
     pub fn new(alloc: Global) -> Output
-        ensures { output_bytes result ≡ [] }
+        ensures bytes { output_bytes result ≡ [] }
+        ensures settings { output_settings result ≡ record { piece = usize.MAX; is_interrupted = false; fails_at = 0 } }
+        ensures counts { (result.calls ≡ 0) × (result.failures ≡ 0) }
     {
         Output {
             bytes: Vec::new(alloc),
@@ -127,7 +147,9 @@ impl Output {
 
     /// One write takes so many bytes at most, which may be none.
     pub fn in_pieces(mut self, piece: usize) -> Output
-        ensures { output_bytes result ≡ output_bytes self }
+        ensures bytes { output_bytes result ≡ output_bytes self }
+        ensures settings { output_settings result ≡ record (output_settings self) { piece = piece } }
+        ensures counts { (result.calls ≡ self.calls) × (result.failures ≡ self.failures) }
     {
         self.piece = piece;
         self
@@ -135,7 +157,9 @@ impl Output {
 
     /// A write fails, counted from 1.
     pub fn failing_at(mut self, call: u64) -> Output
-        ensures { output_bytes result ≡ output_bytes self }
+        ensures bytes { output_bytes result ≡ output_bytes self }
+        ensures settings { output_settings result ≡ record (output_settings self) { fails_at = call } }
+        ensures counts { (result.calls ≡ self.calls) × (result.failures ≡ self.failures) }
     {
         self.fails_at = call;
         self
@@ -150,11 +174,20 @@ impl Output {
 }
 
 impl Sink for Output {
+    ghost use Rattle.wire_lines.specs.Devices.{output_answer, output_bytes, output_settings};
+
     ghost contents = { λ o. Some o.bytes.items };
 
     ghost failures = { λ o. o.failures };
 
-    fn write(&mut self, bytes: &[u8]) -> Result<usize, WriteError> {
+    fn write(&mut self, bytes: &[u8]) -> Result<usize, WriteError>
+        ensures bound { IfOk result (λ count. count ≤ length bytes.now) }
+        ensures bytes { WriteAppends (Some (output_bytes self.old)) (Some (output_bytes self.new)) result bytes.now }
+        ensures failures { self.new.failures ≡ after_write result bytes.now self.old.failures }
+        ensures answer { IsErr result ⊎ (result ≡ output_answer self.old (length bytes.now)) }
+        ensures calls { self.new.calls ≡ one_more self.old.calls }
+        ensures settings { output_settings self.new ≡ output_settings self.old }
+    {
         self.calls = one_more(self.calls);
         let count = self.piece.min(bytes.len());
         if self.calls == self.fails_at || self.bytes.extend_from_slice(&bytes[..count]).is_err() {
@@ -167,7 +200,10 @@ impl Sink for Output {
         Ok(count)
     }
 
-    fn flush(&mut self) -> Result<(), WriteError> {
+    fn flush(&mut self) -> Result<(), WriteError>
+        ensures done { IsOk result }
+        ensures same { self.new ≡ self.old }
+    {
         Ok(())
     }
 }

@@ -18,7 +18,8 @@ impl<T> Std<T> {
 
     /// No call has failed yet.
     pub fn new(inner: T) -> Std<T>
-        ensures { std_inner result ≡ inner }
+        ensures inner { std_inner result ≡ inner }
+        ensures counts { (result.failures ≡ 0) × (result.reads ≡ 0) }
     {
         Std {
             inner,

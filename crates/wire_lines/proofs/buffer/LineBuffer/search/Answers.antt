@@ -1,4 +1,4 @@
-use Rattle.std.proofs.Common.{rules, refl, ap, sym, ◌∙◌, ◌+◌, ◌≡◌, arith}
+use Rattle.std.proofs.Common.{rules, refl, ap, ◌∙◌, ◌+◌, arith}
 use Rattle.std.proofs.lemmas.Grind.{common_steps}
 use Rattle.wire_lines.specs.declared.buffer.Found.{Found}
 use Rattle.wire_lines.proofs.Counts.{counted_none, counted_more, counted_fault}

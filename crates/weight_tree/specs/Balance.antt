@@ -5,13 +5,13 @@ use Rattle.std.specs.Prelude.{◌≡◌, ℕ, ◌+◌, ◌*◌, ◌^◌, ◌<◌
 abbrev pub IsBalanced : ℕ → ℕ → Type 0
 IsBalanced left right = (left + 1 ≤ 3 * (right + 1)) × (right + 1 ≤ 3 * (left + 1))
 
--- the heavy side has one item more than the light one allows
-abbrev pub IsOneTooHeavy : ℕ → ℕ → Type 0
-IsOneTooHeavy heavy light = heavy + 1 ≡ 3 * (light + 1) + 1
+-- the heavy side has more items than the light one allows, but not with one item more there
+abbrev pub IsTooHeavy : ℕ → ℕ → Type 0
+IsTooHeavy heavy light = (3 * (light + 1) < heavy + 1) × (heavy + 1 ≤ 3 * (light + 2))
 
--- the sides are balanced, or one of them is one item too heavy
+-- the size and one of neither side is more than three times that of the other with one item more
 abbrev pub IsNearlyBalanced : ℕ → ℕ → Type 0
-IsNearlyBalanced left right = (left + 1 ≤ 3 * (right + 1) + 1) × (right + 1 ≤ 3 * (left + 1) + 1)
+IsNearlyBalanced left right = (left + 1 ≤ 3 * (right + 2)) × (right + 1 ≤ 3 * (left + 2))
 
 -- a single rotation, which moves the inner part of the heavy side over to the light side, leaves each pair of sides balanced
 abbrev pub SingleMends : ℕ → ℕ → ℕ → Type 0

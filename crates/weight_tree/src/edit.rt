@@ -1,5 +1,6 @@
-//! One more item, and an item in place of another.
-ghost use Rattle.std.specs.Prelude.{◌≡◌, ◌+◌, ◌<◌, ◌≤◌, ◌^◌, length, sum_by, insert, slice_get, slice_set};
+//! One more item, one less, and an item in place of another.
+ghost use Rattle.std.specs.Prelude.{◌≡◌, ◌+◌, ◌<◌, ◌≤◌, ◌^◌, Some, length, sum_by, insert, slice_get, slice_set};
+ghost use Rattle.std.specs.List.{remove};
 
 use crate::node::Node;
 use crate::tree::WeightTree;
@@ -34,6 +35,40 @@ impl<T: Weigh> WeightTree<T> {
             let right = right.with_item(rank - left_len - 1, node);
             Self::rebalance(left, middle, right)
         }
+    }
+
+    /// Takes out the item at `rank`. It takes no memory.
+    pub fn remove(&mut self, rank: usize) -> T
+        requires in_range { rank < length self.old.items }
+        ensures items { self.new.items ≡ remove self.old.items rank }
+        ensures removed { slice_get self.old.items rank ≡ Some result }
+    {
+        let (rest, node) = mem::take(self).without(rank);
+        *self = rest;
+        node.into_item()
+    }
+
+    fn without(self, rank: usize) -> (Self, Node<T>)
+        requires in_range { rank < length self.items }
+        ensures items { result.0.items ≡ remove self.items rank }
+        ensures removed { slice_get self.items rank ≡ Some result.1 }
+    {
+        let _fits = (self.len(), self.weight());
+        let (left, middle, right) = self.split();
+        let left_len = left.len();
+        if rank < left_len {
+            let (left, node) = left.without(rank);
+            return (Self::rebalance(left, middle, right), node);
+        }
+        if rank > left_len {
+            let (right, node) = right.without(rank - left_len - 1);
+            return (Self::rebalance(left, middle, right), node);
+        }
+        if right.is_empty() {
+            return (left, middle);
+        }
+        let (right, next) = right.without(0);
+        (Self::rebalance(left, next, right), middle)
     }
 
     /// Puts an item in the place of the one at `rank`, and returns that one.

@@ -3,8 +3,7 @@
 //!
 //! It stands on std alone. A node's memory is taken before a change, by `Node::make`, and no other call
 //! takes any. The tree is balanced by how many items its sides have, and not by what they weigh. It has
-//! no links to parents, removes no item, and gives out no `&mut` to one, since that could change its
-//! weight unseen.
+//! no links to parents, and gives out no `&mut` to an item, since that could change its weight unseen.
 #![tactic(auto)]
 
 mod edit;

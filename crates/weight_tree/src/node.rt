@@ -39,4 +39,11 @@ impl<T: Weigh> Node<T> {
             }
         }
     }
+
+    pub(crate) fn into_item(self) -> T
+        ensures { result ≡ self }
+    {
+        let branch = Box::into_inner(self.branch);
+        branch.item
+    }
 }

@@ -1,8 +1,8 @@
-//! How a tree is taken apart and put together, and what mends a side that is one item too heavy.
+//! How a tree is taken apart and put together, and what mends a side that is too heavy.
 //!
 //! The weight of a side is here its number of items and one. An insertion below leaves at worst sides
-//! of the weights 3w + 1 and w. With a the outer and b the inner part of the heavy side, and c and d
-//! the parts of b, the two ways to mend it are
+//! of the weights 3w + 1 and w, and a removal sides of the weights 3w + 3 and w. With a the outer and b
+//! the inner part of the heavy side, and c and d the parts of b, the two ways to mend it are
 //!
 //!         single, where b < 2a              double
 //!
@@ -16,7 +16,7 @@
 //!
 //! and the same from right to left.
 ghost use Rattle.std.specs.Prelude.{◌≡◌, ℕ, ◌+◌, ◌*◌, ◌^◌, ◌<◌, ◌≤◌, ◌↔◌, max, ◌∷◌, ◌++◌, length, IsTrue, MatchBool};
-ghost use Rattle.weight_tree.specs.Balance.{IsBalanced, IsOneTooHeavy, IsNearlyBalanced, SingleMends, DoubleMends};
+ghost use Rattle.weight_tree.specs.Balance.{IsBalanced, IsTooHeavy, IsNearlyBalanced, SingleMends, DoubleMends};
 ghost use Rattle.weight_tree.specs.Tree.{FitTogether};
 
 use crate::node::Node;
@@ -63,7 +63,7 @@ impl<T: Weigh> WeightTree<T> {
         }
     }
 
-    // As `join`, where an insertion has gone into one side.
+    // As `join`, where one side has got an item or lost one.
     pub(crate) fn rebalance(left: Self, node: Node<T>, right: Self) -> Self
         requires nearly { IsNearlyBalanced (length left.items) (length right.items) }
         requires fits { FitTogether T.weight_of left node right }
@@ -78,22 +78,22 @@ impl<T: Weigh> WeightTree<T> {
         }
     }
 
-    // Whether a single rotation mends a side with these parts that is one item too heavy.
+    // Whether a single rotation mends a side with these parts that is too heavy.
     fn single_mends(outer: &Self, inner: &Self) -> bool
         ensures choice { IsTrue result ↔ (length inner.now.items + 1 < 2 * (length outer.now.items + 1)) }
 
         // Such a side is mended by one rotation: by a single one or else by a double one.
         ensures mends { let a = length outer.now.items in
             let b = length inner.now.items in
-            (w : ℕ) → IsBalanced a b → IsOneTooHeavy (a + b + 1) w →
+            (w : ℕ) → IsBalanced a b → IsTooHeavy (a + b + 1) w →
             MatchBool result (SingleMends a b w) (DoubleMends a b w) }
     {
         inner.balance_weight() < 2 * outer.balance_weight()
     }
 
-    // The left side is one item too heavy.
+    // The left side is too heavy.
     fn lean_right(left: Self, node: Node<T>, right: Self) -> Self
-        requires heavy { IsOneTooHeavy (length left.items) (length right.items) }
+        requires heavy { IsTooHeavy (length left.items) (length right.items) }
         requires fits { FitTogether T.weight_of left node right }
         ensures items { result.items ≡ left.items ++ node ∷ right.items }
     {
@@ -108,9 +108,9 @@ impl<T: Weigh> WeightTree<T> {
         }
     }
 
-    // The right side is one item too heavy.
+    // The right side is too heavy.
     fn lean_left(left: Self, node: Node<T>, right: Self) -> Self
-        requires heavy { IsOneTooHeavy (length right.items) (length left.items) }
+        requires heavy { IsTooHeavy (length right.items) (length left.items) }
         requires fits { FitTogether T.weight_of left node right }
         ensures items { result.items ≡ left.items ++ node ∷ right.items }
     {

@@ -1,6 +1,6 @@
 -- What the index keeps of blocks, after one of them is changed and after one more.
 use Rattle.std.proofs.Common.{◌≡◌, ℕ, zero, suc, ◌+◌, ◌^◌, ◌≤◌, ◌<◌, Bool, true, false, cond, List, [], ◌∷◌, length, Option, Some, None, refl, sym, ap, ◌∙◌, subst, arith, slice_get, slice_set, sum_by}
-use Rattle.std.specs.List.{AllByRecursion, insert}
+use Rattle.std.specs.List.{AllByRecursion, insert, remove}
 use Rattle.std.specs.Ordering.{eq_by_cmp}
 use Rattle.std.specs.FinMap.{get}
 use Rattle.std.proofs.lemmas.List.Sums.{sum_by-cons, sum_by-insert}
@@ -139,6 +139,50 @@ listed_insert m n bs i b k none sized room changed = record {
   sized = each_insert IsSized bs i b k.sized sized;
   small = omega (arith, room, sum_by-insert (λ (x : Block). x.len) bs i b);
 }
+
+-- ---- a block less
+pub entry_removed : (bs : List Block) (i : ℕ) (b : Block) (q : Stamp) → IsApart bs → slice_get bs i ≡ Some b
+    → entry_of (remove bs i) q ≡ cond (eq_by_cmp stamp_cmp q b.first) None (entry_of bs q)
+entry_removed [] i b q a e = absurd (cc)
+entry_removed (x ∷ bs) zero b q a e =
+    let same : x ≡ b = cc in
+    subst (λ (y : Block). entry_of bs q ≡ cond (eq_by_cmp stamp_cmp q y.first) None (entry_of (x ∷ bs) q)) same
+    (split (eq_by_cmp stamp_cmp q x.first)
+    (λ is. rw is (ap (entry_of bs) (same_from_tied q x.first is) ∙ a.0))
+    (λ is. rw is refl))
+entry_removed (x ∷ bs) (suc i) b q a e =
+    ap (λ o. cond (eq_by_cmp stamp_cmp q x.first) (Some (entry x)) o) (entry_removed bs i b q a.1 e)
+    ∙ in_turn (eq_by_cmp stamp_cmp q x.first) (eq_by_cmp stamp_cmp q b.first) (Some (entry x)) None (entry_of bs q)
+    (λ u v. differs bs i b x.first a.1 e a.0 (sym (same_from_tied q x.first u) ∙ same_from_tied q b.first v))
+
+apart_removed : (bs : List Block) (i : ℕ) (b : Block) → IsApart bs → slice_get bs i ≡ Some b → IsApart (remove bs i)
+apart_removed [] i b a e = absurd (cc)
+apart_removed (x ∷ bs) zero b a e = a.1
+apart_removed (x ∷ bs) (suc i) b a e =
+    (entry_removed bs i b x.first a.1 e ∙ (rw (apart_stamps x.first b.first (differs bs i b x.first a.1 e a.0)) a.0), apart_removed bs i b a.1 e)
+
+each_removed : {A : Type 0} (P : A → Type 0) (xs : List A) (i : ℕ) (y : A) → AllByRecursion P xs → slice_get xs i ≡ Some y → AllByRecursion P (remove xs i)
+each_removed P [] i y h e = absurd (cc)
+each_removed P (x ∷ xs) zero y h e = h.1
+each_removed P (x ∷ xs) (suc i) y h e = (h.0, each_removed P xs i y h.1 e)
+
+sum_removed : (f : Block → ℕ) (bs : List Block) (i : ℕ) (b : Block) → slice_get bs i ≡ Some b → sum_by f (remove bs i) ≤ sum_by f bs
+sum_removed f [] i b e = absurd (cc)
+sum_removed f (x ∷ bs) zero b e = rw (sum_by-cons f x bs) (omega arith)
+sum_removed f (x ∷ bs) (suc i) b e =
+    let rest = sum_removed f bs i b e in
+    rw (sum_by-cons f x bs, sum_by-cons f x (remove bs i)) (omega (arith, rest))
+
+pub listed_removed : (m n : Index) (bs : List Block) (i : ℕ) (b : Block) → IsListed m bs → slice_get bs i ≡ Some b
+    → ((q : Stamp) → get n q ≡ cond (eq_by_cmp stamp_cmp q b.first) None (get m q)) → IsListed n (remove bs i)
+listed_removed m n bs i b k e changed =
+    let sums = sum_removed (λ (x : Block). x.len) bs i b e in
+    record {
+      index = λ s. changed s ∙ ap (cond (eq_by_cmp stamp_cmp s b.first) None) (k.index s) ∙ sym (entry_removed bs i b s k.apart e);
+      apart = apart_removed bs i b k.apart e;
+      sized = each_removed IsSized bs i b k.sized e;
+      small = omega (arith, k.small, sums);
+    }
 
 -- a stamp where a block begins, by the index
 pub found_block : (bs : List Block) (s : Stamp) (x : Entry) → entry_of bs s ≡ Some x → (i : ℕ) × (b : Block) × (slice_get bs i ≡ Some b) × (b.first ≡ s) × (entry b ≡ x)

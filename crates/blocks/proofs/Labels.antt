@@ -1,6 +1,6 @@
 -- Labels that rise.
 use Rattle.std.proofs.Common.{◌≡◌, ℕ, zero, suc, ◌+◌, ◌*◌, ◌/◌, ◌≤◌, ◌<◌, inl, inr, Bool, cond, List, [], ◌∷◌, ◌++◌, length, take, drop, get_or, Some, refl, sym, ap, ◌∙◌, subst, arith, slice_get, slice_set, count_by}
-use Rattle.std.specs.List.{insert}
+use Rattle.std.specs.List.{insert, remove}
 use Rattle.std.specs.Ordering.{nat_cmp, is_lt, ordering_index}
 use Rattle.std.specs.Cmp.{nat_cmp_is}
 use Rattle.std.specs.declared.cmp.Ordering.TheVariants.{Less, Equal, Greater}
@@ -123,6 +123,16 @@ Rises-set low high (x ∷ bs) zero b c r e f =
     let first = r.0 in
     (omega arith, subst (λ l. Rises 1 l bs high) here r.1)
 Rises-set low high (x ∷ bs) (suc i) b c r e f = (r.0, Rises-set x.label high bs i b c r.1 e f)
+
+-- ---- a block less
+rises_from : (low below high : ℕ) (bs : List Block) → low ≤ below → Rises 1 below bs high → Rises 1 low bs high
+rises_from low below high [] h r = omega arith
+rises_from low below high (b ∷ bs) h r = let first = r.0 in (omega arith, r.1)
+
+pub Rises-removed : (low high : ℕ) (bs : List Block) (i : ℕ) (b : Block) → Rises 1 low bs high → slice_get bs i ≡ Some b → Rises 1 low (remove bs i) high
+Rises-removed low high [] i b r e = absurd (cc)
+Rises-removed low high (x ∷ bs) zero b r e = let first = r.0 in rises_from low x.label high bs (omega arith) r.1
+Rises-removed low high (x ∷ bs) (suc i) b r e = (r.0, Rises-removed x.label high bs i b r.1 e)
 
 -- ---- labels at even steps
 pub Rises-weaker : (step low high : ℕ) (bs : List Block) → 1 ≤ step → Rises step low bs high → Rises 1 low bs high

@@ -1,8 +1,8 @@
 -- A block that is cut in two, in the row of blocks and in the index.
 use Rattle.std.proofs.Common.{◌≡◌, ℕ, zero, suc, ◌+◌, ◌-◌, ◌≤◌, ◌<◌, ◌^◌, inl, inr, List, [], ◌∷◌, length, Option, Some, None, refl, sym, ap, ◌∙◌, subst, arith, slice_get, slice_set, sum_by}
-use Rattle.std.specs.FinMap.{get, get-insert}
+use Rattle.std.specs.FinMap.{get, get-insert, get-remove}
 use Rattle.std.specs.FinMap as map
-use Rattle.std.specs.List.{insert}
+use Rattle.std.specs.List.{insert, remove}
 use Rattle.std.specs.Option.{IsSomeAnd}
 use Rattle.std.proofs.Math.ListN.{length-set}
 use Rattle.pad_model.specs.Stamp.{Stamp}
@@ -18,8 +18,8 @@ use Rattle.blocks.specs.declared.block.TheConstants.{LAST_LABEL}
 use Rattle.blocks.specs.Blocks.{entry, entry_of, weight_of, IsSized, IsListed, IsKept, IsEdge, KeepsEdges, below, above, left_part, right_part, without_labels, unlabelled}
 use Rattle.blocks.specs.Cells.{SameCells}
 use Rattle.blocks.proofs.Cells.{cells-cut, within_cut}
-use Rattle.blocks.proofs.Entries.{entry_here, entry_set, listed_set, listed_insert, each_get, weights_small, weight-le-len, len_small, count_small}
-use Rattle.blocks.proofs.Labels.{Rises-insert, Rises-set, below-get, above-set, get-set}
+use Rattle.blocks.proofs.Entries.{entry_here, entry_set, listed_set, listed_insert, listed_removed, each_get, weights_small, weight-le-len, len_small, count_small}
+use Rattle.blocks.proofs.Labels.{Rises-insert, Rises-removed, Rises-set, below-get, above-set, get-set}
 
 -- the block of an `IsSomeAnd`
 pub some_block : (o : Option Block) (P : Block → Type 0) → IsSomeAnd o P → (b : Block) × (o ≡ Some b) × P b
@@ -132,6 +132,13 @@ pub put_leaves : (m n : Index) (bs : List Block) (i : ℕ) (b : Block) → IsSou
 put_leaves m n bs i b sound k within sized fresh room under over put = record {
   listed = listed_insert m n bs i b k.listed (sym (k.listed.index b.first) ∙ get-from_new m b.first b.len sound sized.0 fresh) sized room (λ q. ap (λ x. get x q) put ∙ get-insert stamp_cmp_total m b.first (entry b) q);
   rises = Rises-insert 0 LAST_LABEL bs i b k.rises within under over;
+}
+
+-- what a block less leaves
+pub take_leaves : (m n : Index) (bs : List Block) (i : ℕ) (b : Block) → IsKept m bs → slice_get bs i ≡ Some b → n ≡ map.remove m b.first → IsKept n (remove bs i)
+take_leaves m n bs i b k e gone = record {
+  listed = listed_removed m n bs i b k.listed e (λ q. ap (λ x. get x q) gone ∙ get-remove stamp_cmp_total m b.first q);
+  rises = Rises-removed 0 LAST_LABEL bs i b k.rises e;
 }
 
 pub insert-without_labels : (bs : List Block) (i : ℕ) (b : Block) → without_labels (insert bs i b) ≡ insert (without_labels bs) i (unlabelled b)

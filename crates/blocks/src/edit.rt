@@ -1,5 +1,6 @@
-//! Changes of the blocks: a cut, which changes no character, a new block, and a death.
+//! Changes of the blocks: a cut, which changes no character, a new block, one less, and a death.
 ghost use Rattle.std.specs.Prelude.{◌≡◌, ℕ, ◌+◌, ◌-◌, ◌≤◌, ◌<◌, Some, length, map, sum_by, insert, slice_get, slice_set, IfErr, OnOk, OnErr};
+ghost use Rattle.std.specs.List.{remove};
 ghost use Rattle.std.specs.Option.{IsSomeAnd};
 ghost use Rattle.pad_model.specs.declared.limits.TheConstants.{MAX_CHARACTERS};
 ghost use Rattle.ident_index.specs.Index.{Covers, IsNew, stamp_behind};
@@ -123,6 +124,17 @@ pub fn put_block(
     index.add(first, len, label)?;
     tree.insert(rank, node);
     Ok(())
+}
+
+/// Takes out the block at a rank. It takes no memory.
+pub fn take_block(tree: &mut WeightTree<Block>, index: &mut IdentIndex, rank: usize)
+    requires kept { IsKept index.old tree.old.items }
+    requires within { rank < length tree.old.items }
+    ensures kept { IsKept index.new tree.new.items }
+    ensures taken { tree.new.items ≡ remove tree.old.items rank }
+{
+    let block = tree.remove(rank);
+    index.remove(block.first);
 }
 
 /// Marks the death of the block at a rank.

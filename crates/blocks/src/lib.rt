@@ -11,6 +11,6 @@ mod find;
 mod label;
 
 pub use block::{Block, LAST_LABEL};
-pub use edit::{cut_at, kill, put_block};
+pub use edit::{cut_at, kill, put_block, take_block};
 pub use find::{Spot, find_block};
 pub use label::free_label;

@@ -3,7 +3,6 @@ pub mod BlockCells
 pub mod ByRevision
 pub mod BlockScan
 pub mod RowChange
-pub mod RowCopy
 pub mod RowCounts
 pub mod RowErase
 pub mod RowKills
@@ -19,3 +18,4 @@ pub mod Fronts
 pub mod Kept
 pub mod PartSteps
 pub mod Spans
+pub mod RowRuns

@@ -1,6 +1,6 @@
 -- A run and a deletion that are made together.
 use Rattle.std.proofs.Common.{◌≡◌, ℕ, zero, suc, ◌+◌, ◌-◌, ◌≤◌, ◌<◌, inl, inr, Bool, true, false, ◌&&◌, ◌||◌, List, [], ◌∷◌, ◌++◌, length, map, flat_map, sum_by, count_by, Option, Some, None, refl, sym, ap, ap₂, ◌∙◌, subst, arith, leb-true, eqb-true, get_or, drop, Ok}
-use Rattle.std.specs.List.{AllByRecursion, AllZip, list_all}
+use Rattle.std.specs.List.{AllByRecursion, list_all}
 use Rattle.std.proofs.lemmas.Bool.{and_parts, or_left, or_right}
 use Rattle.std.proofs.lemmas.List.Folds.{list_any-append}
 use Rattle.std.proofs.lemmas.List.Sums.{sum_by-cons, sum_by-append}
@@ -89,13 +89,6 @@ hidden_with_run rev spans run author cells o may named =
     sum_by-IsPermutation (λ c. Rattle.std.proofs.Common.cond (is_hidden_by spans c) 1 0) (cells ++ new) (with_run rev run author cells) (order-permutation character_of (cells ++ new) more)
     ∙ sum_by-append (λ c. Rattle.std.proofs.Common.cond (is_hidden_by spans c) 1 0) cells new
     ∙ (let sum : count_by (is_hidden_by spans) cells + count_by (is_hidden_by spans) new ≡ count_by (is_hidden_by spans) cells = omega (arith, none) in sum)
-
--- copied authors
-pub same_authors : (xs ys : List Author) → AllZip (λ a b. (b.name ≡ a.name) × (b.origin ≡ a.origin)) xs ys → ys ≡ xs
-same_authors [] [] e = refl
-same_authors [] (y ∷ ys) e = absurd e
-same_authors (x ∷ xs) [] e = absurd e
-same_authors (x ∷ xs) (y ∷ ys) e = ap₂ (λ (a : Author) l. a ∷ l) (ap₂ (λ name origin. let it : Author = record { name = name; origin = origin } in it) e.0.0 e.0.1) (same_authors xs ys e.1)
 
 -- the block of a run is within the limits
 pub run_sized : (origin start : ℕ) (run : Run) → is_run origin run ≡ true → (1 ≤ length run.text) × (run.first.counter + length run.text ≤ MAX_COUNTER + 1)
@@ -188,11 +181,3 @@ parts_made rev author parts now spans runs o checked fit room spans_is runs_is =
 pub no_run : {X : Type 0} (f : X → Run) (xs : List X) → length xs ≡ 0 → map f xs ≡ []
 no_run f [] e = refl
 no_run f (x ∷ xs) e = absurd (omega arith)
-
-pub one_run : {X : Type 0} (f : X → Run) (xs : List X) (x : X) → length xs ≡ 1 → Rattle.std.proofs.Common.slice_get xs 0 ≡ Some x → map f xs ≡ f x ∷ []
-one_run f [] x l e = absurd (omega arith)
-one_run f (y ∷ []) x l e = let same : y ≡ x = cc in ap (λ z. f z ∷ []) same
-one_run f (y ∷ z ∷ xs) x l e = absurd (omega arith)
-
-pub one_room : (run : Run) → sum_by (λ r. length r.text) (run ∷ []) ≡ length run.text
-one_room run = sum_by-cons (λ (r : Run). length r.text) run [] ∙ (let e : length run.text + 0 ≡ length run.text = omega arith in e)

@@ -4,7 +4,6 @@ use Rattle.std.specs.List.{AllByRecursion, insert}
 use Rattle.std.proofs.lemmas.Bool.{lt-leb}
 use Rattle.std.proofs.lemmas.List.{take-append-drop, take-map, drop-map, map-append}
 use Rattle.std.proofs.lemmas.List.Sums.{sum_by-cons, sum_by-append}
-use Rattle.std.proofs.lemmas.List.Elements.{same_from_all_zip}
 use Rattle.std.specs.List.{AllZip}
 use Rattle.std.proofs.lemmas.List.Concat.{flat_map-append}
 use Rattle.pad_model.specs.Cell.{IsBy, is_after, cells_at}
@@ -308,7 +307,3 @@ blocks_small (b ∷ bs) h =
 -- no blocks need no slides
 pub slid_nothing : (slides : List Slide) (bs : List Block) → slides ≡ [] → bs ≡ [] → IsSlid slides bs
 slid_nothing slides bs none blank = rw (none, blank) (record { sorted = tt; by = λ rev d. tt; leads = λ rev. refl })
-
--- copied slides
-pub same_slides : (xs ys : List Slide) → AllZip (λ a b. b ≡ a) xs ys → ys ≡ xs
-same_slides xs ys e = same_from_all_zip _ xs ys e (λ x y e. e)

@@ -1,5 +1,12 @@
 -- The runs of one operation's parts, and what they leave when each is put in its turn.
-use Rattle.std.specs.Prelude.{◌≡◌, ℕ, ◌+◌, true, List, [], ◌∷◌, flat_map, fold, length}
+use Rattle.std.specs.Prelude.{◌≡◌, ℕ, ◌+◌, ◌≤◌, ◌<◌, true, List, [], ◌∷◌, flat_map, fold, length, sum_by, Option, Some, None}
+use Rattle.std.specs.List.{AllByRecursion, list_all, remove}
+use Rattle.ident_index.specs.Index.{Index, stamp_behind}
+use Rattle.blocks.specs.Blocks.{IsEdge}
+use Rattle.pad_model.specs.Checked.{is_run}
+use Rattle.pad_model.specs.Legal.{has_parent}
+use Rattle.pad_model.specs.Stamp.{Stamp}
+use Rattle.pad_model.specs.declared.limits.TheConstants.{MAX_CHARACTERS}
 use Rattle.pad_model.specs.Cell.{Cell, character_of, with_run}
 use Rattle.pad_model.specs.Log.{run_may_join}
 use Rattle.pad_model.specs.Parts.{spans_in}
@@ -31,3 +38,27 @@ with_all rev author cells runs = fold (λ cells run. with_run rev run author cel
 abbrev pub AllJoin : ℕ → Author → List Cell → List Run → Type 0
 AllJoin rev author cells [] = Unit {0}
 AllJoin rev author cells (run ∷ runs) = (run_may_join character_of cells run.first run.after ≡ true) × AllJoin rev author (with_run rev run author cells) runs
+
+-- no block reaches over the place behind a run's parent
+abbrev pub IsCutBehind : Index → Option Stamp → Type 0
+IsCutBehind m None = Unit {0}
+IsCutBehind m (Some p) = IsEdge m (stamp_behind p 1)
+
+-- the runs are checked, each joins the cells when its turn comes, their parents are there from the start with the blocks cut behind them,
+-- and there is room for all
+pub record MayPut (rev : ℕ) (author : Author) (cells : List Cell) (m : Index) (runs : List Run) : Type 0 where
+  pub checked : list_all (is_run author.origin) runs ≡ true
+  pub join : AllJoin rev author cells runs
+  pub rooted : list_all (λ run. has_parent character_of cells run.after) runs ≡ true
+  pub cut : AllByRecursion (λ run. IsCutBehind m run.after) runs
+  pub room : length cells + sum_by (λ run. length run.text) runs ≤ MAX_CHARACTERS
+
+-- the items without those at some ranks, the last rank taken first
+abbrev pub without_ranks : {A : Type 0} → List A → List ℕ → List A
+without_ranks items [] = items
+without_ranks items (rank ∷ ranks) = remove (without_ranks items ranks) rank
+
+-- each rank is within what is left when it is taken
+abbrev pub AreRanks : {A : Type 0} → List A → List ℕ → Type 0
+AreRanks items [] = Unit {0}
+AreRanks items (rank ∷ ranks) = AreRanks items ranks × (rank < length (without_ranks items ranks))

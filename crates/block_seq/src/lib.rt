@@ -10,7 +10,6 @@ mod place;
 mod plain;
 mod put;
 mod readers;
-mod row_copy;
 mod row_erase;
 mod row_kills;
 mod row_lists;
@@ -22,6 +21,7 @@ mod row_text;
 mod row_view;
 mod rows;
 mod run_place;
+mod run_put;
 mod stretches;
 
 pub use place::PlainCell;

@@ -1,8 +1,9 @@
 //! The parts of one operation: whether they fit the sequence of blocks, their spans and their runs.
-ghost use Rattle.std.specs.Prelude.{◌≡◌, ℕ, List, IsTrue, length, map, IfOk, OnOk, ◌++◌};
+ghost use Rattle.std.specs.Prelude.{◌≡◌, ℕ, ◌≤◌, List, IsTrue, length, map, sum_by, IfOk, OnOk, ◌++◌};
 ghost use Rattle.std.specs.List.{AllByRecursion, list_all};
 ghost use Rattle.pad_model.specs.Cell.{character_of};
 ghost use Rattle.pad_model.specs.Parts.{part_fits, part_spans, spans_in};
+ghost use Rattle.pad_model.specs.declared.limits.TheConstants.{MAX_CHARACTERS};
 ghost use Rattle.pad_model.specs.declared.who.Author.{Author as AuthorValue};
 ghost use Rattle.blocks.specs.Blocks.{IsKept};
 ghost use Rattle.blocks.specs.Cells.{cells_of, IsWithin};
@@ -84,4 +85,16 @@ pub fn list_runs<'a>(alloc: Global, parts: &'a [Part]) -> Result<Vec<&'a Run>, A
         add_inserted(&mut all, part)?;
     }
     Ok(all)
+}
+
+/// How many characters the runs have.
+pub fn count_text(runs: &[&Run]) -> usize
+    requires { sum_by (λ run. length run.now.text) runs.now ≤ MAX_CHARACTERS }
+    ensures { result ≡ sum_by (λ run. length run.now.text) runs.now }
+{
+    let mut count = 0;
+    for run in runs {
+        count += run.text.len();
+    }
+    count
 }

@@ -11,17 +11,16 @@ ghost use Rattle.block_seq.specs.RowParts.{AllJoin, count_changes, with_all};
 
 use crate::authors::place_author;
 use crate::parts::count_inserted;
-use crate::row_copy::copy_blocks;
 use crate::row_erase::{cut_spans, has_spans};
 use crate::row_kills::kill_named;
 use crate::row_lists::{find_cell, read_authors};
-use crate::row_parts::{list_runs, list_spans, parts_fit};
+use crate::row_parts::{count_text, list_runs, list_spans, parts_fit};
 use crate::row_past::{PastRow, count_front, count_visible, find_visible, read_spans};
 use crate::row_readers::{is_at_most, read_text};
-use crate::row_slides::{count_kills, push_shown};
-use crate::row_text::push_text;
-use crate::run_place::{has_character, place_run, run_fits};
-use blocks::{Block, Spot, find_block, put_block};
+use crate::row_slides::count_kills;
+use crate::run_place::{cut_parents, has_character, run_fits};
+use crate::run_put::{Batch, put_runs};
+use blocks::{Block, Spot, find_block};
 use ident_index::IdentIndex;
 use pad_model::{
     Author, AuthorRun, CellView, MAX_CHARACTERS, Part, Refusal, Row, Run, Sequence, Span, Stamp,
@@ -60,47 +59,47 @@ impl Model for BlockSeq {
 }
 
 impl BlockSeq {
-    /// Erases the characters of the spans and puts a run at its place, or changes nothing.
+    /// Erases the characters of the spans and puts runs at their places, or changes nothing.
     fn change(
         &mut self,
         alloc: Global,
         spans: &[Span],
-        run: &Run,
+        runs: &[&Run],
         author: &Author,
         rev: u64,
     ) -> Result<u64, Refusal>
         requires spans { IsTrue (list_all is_span spans.now) }
         requires there { IsTrue (holds_spans character_of self.old.cells spans.now) }
-        requires run { IsTrue (is_run author.now.origin run.now) }
-        requires fits { IsTrue (run_may_join character_of self.old.cells run.now.first run.now.after) }
-        requires room { length self.old.cells + length run.now.text ≤ MAX_CHARACTERS }
+        requires runs { IsTrue (list_all (λ run. is_run author.now.origin run.now) runs.now) }
+        requires fit { IsTrue (list_all (λ run. run_may_join character_of self.old.cells run.now.first run.now.after) runs.now) }
+        requires join { AllJoin rev author.now self.old.cells (map (λ run. run.now) runs.now) }
+        requires room { length self.old.cells + sum_by (λ run. length run.now.text) runs.now ≤ MAX_CHARACTERS }
         requires latest { AllByRecursion (IsBy rev) self.old.cells }
-        ensures answers { Answers self.old.cells (Ok (count_by (is_hidden_by spans.now) self.old.cells), with_run rev run.now author.now (without_spans rev spans.now self.old.cells)) result self.new.cells }
-        ensures rises { self.new.blocks ≤ self.old.blocks + 2 * (1 + length spans.now) }
+        ensures answers { Answers self.old.cells (Ok (count_by (is_hidden_by spans.now) self.old.cells), with_all rev author.now (without_spans rev spans.now self.old.cells) (map (λ run. run.now) runs.now)) result self.new.cells }
+        ensures rises { self.new.blocks ≤ self.old.blocks + 2 * (length runs.now + length spans.now) }
     {
         cut_spans(alloc, &mut self.tree, &mut self.index, spans)?;
+        cut_parents(alloc, &mut self.tree, &mut self.index, runs)?;
         let author = place_author(&mut self.authors, author)?;
-        self.text.reserve(run.text.len())?;
-        let rank = place_run(alloc, &mut self.tree, &mut self.index, run.first, run.after)?;
+        self.text.reserve(count_text(runs))?;
         let kills = count_kills(&self.tree, spans);
-        self.slides.reserve(kills + 2)?;
-        let at = self.tree.before(rank);
-        let block = Block {
-            first: run.first,
-            parent: run.after,
+        self.slides.reserve(kills + 2 * runs.len())?;
+        let batch = Batch {
+            authors: self.authors.as_slice(),
             author,
-            born: rev,
-            died: None,
-            label: 0,
-            start: self.text.len(),
-            len: run.text.len() as u64,
+            rev,
+            clock: self.clock,
         };
-        put_block(alloc, &mut self.tree, &mut self.index, rank, block)?;
-        push_text(&mut self.text, run.text.as_slice());
-        push_shown(&mut self.slides, rev, at, run);
+        let clock = put_runs(
+            &mut self.tree,
+            &mut self.index,
+            &mut self.text,
+            &mut self.slides,
+            runs,
+            &batch,
+        )?;
         let hidden = kill_named(&mut self.tree, &self.index, &mut self.slides, spans, rev);
-        let last = run.first.counter() + (run.text.len() as u64 - 1);
-        self.clock = self.clock.max(last);
+        self.clock = clock;
         self.latest = self.latest.max(rev);
         Ok(hidden)
     }
@@ -114,76 +113,8 @@ impl BlockSeq {
         ensures answers { Answers self.old.cells (Ok tt, with_run rev run.now author.now self.old.cells) result self.new.cells }
         ensures rises { self.new.blocks ≤ self.old.blocks + 2 }
     {
-        self.change(alloc, &[], run, author, rev)?;
+        self.change(alloc, &[], &[run], author, rev)?;
         Ok(())
-    }
-
-    /// Puts runs at their places, one after the other. Where memory is refused, some of them are put.
-    fn put_all(
-        &mut self,
-        alloc: Global,
-        runs: &[&Run],
-        author: &Author,
-        rev: u64,
-    ) -> Result<(), Refusal>
-        requires runs { IsTrue (list_all (λ run. is_run author.now.origin run.now) runs.now) }
-        requires join { AllJoin rev author.now self.old.cells (map (λ run. run.now) runs.now) }
-        requires room { length self.old.cells + sum_by (λ run. length run.now.text) runs.now ≤ MAX_CHARACTERS }
-        requires latest { AllByRecursion (IsBy rev) self.old.cells }
-        ensures ok { OnOk result (self.new.cells ≡ with_all rev author.now self.old.cells (map (λ run. run.now) runs.now)) }
-        ensures memory { IfErr result (λ e. e ≡ Refusal.Memory) }
-        ensures rises { self.new.blocks ≤ self.old.blocks + 2 * length runs.now }
-    {
-        let _text = &self.text;
-        for run in runs {
-            self.put(alloc, run, author, rev)?;
-        }
-        Ok(())
-    }
-
-    /// Erases the characters of the spans and puts several runs at their places, on a copy that then takes the place of
-    /// this sequence: so it changes nothing where memory is refused.
-    fn change_aside(
-        &mut self,
-        alloc: Global,
-        spans: &[Span],
-        runs: &[&Run],
-        author: &Author,
-        rev: u64,
-    ) -> Result<u64, Refusal>
-        requires spans { IsTrue (list_all is_span spans.now) }
-        requires there { IsTrue (holds_spans character_of self.old.cells spans.now) }
-        requires runs { IsTrue (list_all (λ run. is_run author.now.origin run.now) runs.now) }
-        requires join { AllJoin rev author.now (without_spans rev spans.now self.old.cells) (map (λ run. run.now) runs.now) }
-        requires room { length self.old.cells + sum_by (λ run. length run.now.text) runs.now ≤ MAX_CHARACTERS }
-        requires latest { AllByRecursion (IsBy rev) self.old.cells }
-        ensures answers { Answers self.old.cells (Ok (count_by (is_hidden_by spans.now) self.old.cells), with_all rev author.now (without_spans rev spans.now self.old.cells) (map (λ run. run.now) runs.now)) result self.new.cells }
-        ensures rises { self.new.blocks ≤ self.old.blocks + 2 * (length runs.now + length spans.now) }
-    {
-        let mut copy = self.copy(alloc)?;
-        let hidden = copy.erase(alloc, spans, rev)?;
-        copy.put_all(alloc, runs, author, rev)?;
-        *self = copy;
-        Ok(hidden)
-    }
-
-    /// The same characters in memory of their own.
-    fn copy(&self, alloc: Global) -> Result<BlockSeq, Refusal>
-        ensures { MatchResult result (λ s. s ≡ self.now) (λ e. e ≡ Refusal.Memory) }
-    {
-        let text = self.text.clone()?;
-        let authors = self.authors.clone()?;
-        let slides = self.slides.clone()?;
-        let (tree, index) = copy_blocks(alloc, &self.tree, &self.index)?;
-        Ok(BlockSeq {
-            tree,
-            index,
-            text,
-            authors,
-            slides,
-            latest: self.latest,
-            clock: self.clock,
-        })
     }
 
     /// Erases the characters of the spans.
@@ -277,10 +208,7 @@ impl Sequence for BlockSeq {
         if runs.is_empty() {
             return self.erase(alloc, spans.as_slice(), rev);
         }
-        if runs.len() == 1 {
-            return self.change(alloc, spans.as_slice(), runs[0], author, rev);
-        }
-        self.change_aside(alloc, spans.as_slice(), runs.as_slice(), author, rev)
+        self.change(alloc, spans.as_slice(), runs.as_slice(), author, rev)
     }
 
     fn fits(&self, parts: &[Part], _origin: u16) -> bool {

@@ -1,18 +1,19 @@
 //! Where a run goes among blocks: RGA's scan, one step a block.
-ghost use Rattle.std.specs.Prelude.{◌≡◌, ℕ, ◌+◌, ◌≤◌, ◌<◌, List, Option, Some, true, not, nat_lt, ◌==◌, ◌&&◌, ◌||◌, length, drop, IfOk, IfErr, MatchOption};
+ghost use Rattle.std.specs.Prelude.{◌≡◌, ℕ, ◌+◌, ◌≤◌, ◌<◌, List, Option, Some, true, not, nat_lt, ◌==◌, ◌&&◌, ◌||◌, length, drop, OnOk, IfErr};
 ghost use Rattle.std.specs.List.{AllByRecursion, list_all};
 ghost use Rattle.pad_model.specs.Cell.{character_of};
 ghost use Rattle.pad_model.specs.Legal.{has_stamp, has_parent, counter_of};
 ghost use Rattle.pad_model.specs.Log.{run_may_join};
-ghost use Rattle.pad_model.specs.declared.limits.TheConstants.{MAX_COUNTER};
 ghost use Rattle.pad_model.specs.declared.who.Author.{Author as AuthorValue};
-ghost use Rattle.blocks.specs.Blocks.{IsKept, KeepsEdges};
+ghost use Rattle.ident_index.specs.Index.{stamp_behind};
+ghost use Rattle.blocks.specs.Blocks.{IsEdge, IsKept, KeepsEdges};
 ghost use Rattle.blocks.specs.Cells.{cells_of, IsWithin, SameCells};
+ghost use Rattle.block_seq.specs.RowParts.{IsCutBehind};
 ghost use Rattle.block_seq.specs.Rows.{IsBehind, StartsAt, IsPlaceFor, passes};
 
 use blocks::{Block, cut_at, find_block};
 use ident_index::IdentIndex;
-use pad_model::{Refusal, Stamp};
+use pad_model::{Refusal, Run, Stamp};
 use std::alloc::Global;
 use weight_tree::WeightTree;
 
@@ -77,73 +78,89 @@ fn scan_blocks(tree: &WeightTree<Block>, start: usize, first: Stamp) -> usize
     tree.len()
 }
 
-/// Cuts behind a character, and answers the rank of what follows it.
-fn cut_behind(
-    alloc: Global,
-    tree: &mut WeightTree<Block>,
-    index: &mut IdentIndex,
-    stamp: Stamp,
-) -> Result<usize, Refusal>
-    requires kept { IsKept index.old tree.old.items }
-    requires limit { stamp.counter < MAX_COUNTER }
-    ensures kept { IsKept index.new tree.new.items }
-    ensures cells { SameCells tree.old.items tree.new.items }
-    ensures edges { KeepsEdges index.old index.new }
-    ensures behind { (authors : List AuthorValue) (text : List ℕ) → AllByRecursion (IsWithin (length authors) (length text)) tree.old.items → has_stamp character_of (cells_of authors text tree.old.items) stamp ≡ true → IfOk result (λ rank. IsBehind tree.new.items stamp rank) }
-    ensures within { IfOk result (λ rank. rank ≤ length tree.new.items) }
-    ensures memory { IfErr result (λ e. e ≡ Refusal.Memory) }
-    ensures more { length tree.new.items ≤ length tree.old.items + 1 }
-{
-    cut_at(alloc, tree, index, stamp.plus(1))?;
-    match find_block(tree, index, stamp) {
-        None => Ok(tree.len()),
-        Some(spot) => Ok(spot.rank + 1),
-    }
-}
-
-/// The rank from which a run's place is searched, once what stands there is cut.
-fn start_run(
+/// Cuts behind a run's parent, so that no block reaches over that place. No character changes.
+pub fn cut_parent(
     alloc: Global,
     tree: &mut WeightTree<Block>,
     index: &mut IdentIndex,
     first: Stamp,
     parent: Option<Stamp>,
-) -> Result<usize, Refusal>
+) -> Result<(), Refusal>
     requires kept { IsKept index.old tree.old.items }
     requires later { counter_of parent < first.counter }
     ensures kept { IsKept index.new tree.new.items }
     ensures cells { SameCells tree.old.items tree.new.items }
     ensures edges { KeepsEdges index.old index.new }
-    ensures start { (authors : List AuthorValue) (text : List ℕ) → AllByRecursion (IsWithin (length authors) (length text)) tree.old.items → has_parent character_of (cells_of authors text tree.old.items) parent ≡ true → IfOk result (λ rank. StartsAt parent tree.new.items rank) }
-    ensures within { IfOk result (λ rank. rank ≤ length tree.new.items) }
+    ensures cut { OnOk result (IsCutBehind index.new parent) }
     ensures memory { IfErr result (λ e. e ≡ Refusal.Memory) }
     ensures more { length tree.new.items ≤ length tree.old.items + 1 }
 {
     let _limit = first.counter();
     match parent {
-        None => Ok(0),
-        Some(stamp) => cut_behind(alloc, tree, index, stamp),
+        None => Ok(()),
+        Some(stamp) => cut_at(alloc, tree, index, stamp.plus(1)),
     }
 }
 
-/// Where a run goes, once what stands there is cut.
-pub fn place_run(
+/// Cuts behind the parent of each run.
+pub fn cut_parents(
     alloc: Global,
     tree: &mut WeightTree<Block>,
     index: &mut IdentIndex,
-    first: Stamp,
-    parent: Option<Stamp>,
-) -> Result<usize, Refusal>
+    runs: &[&Run],
+) -> Result<(), Refusal>
     requires kept { IsKept index.old tree.old.items }
-    requires later { counter_of parent < first.counter }
+    requires later { AllByRecursion (λ run. counter_of run.now.after < run.now.first.counter) runs.now }
     ensures kept { IsKept index.new tree.new.items }
     ensures cells { SameCells tree.old.items tree.new.items }
     ensures edges { KeepsEdges index.old index.new }
-    ensures place { (authors : List AuthorValue) (text : List ℕ) → AllByRecursion (IsWithin (length authors) (length text)) tree.old.items → has_parent character_of (cells_of authors text tree.old.items) parent ≡ true → IfOk result (λ rank. IsPlaceFor parent first tree.new.items rank) }
-    ensures within { IfOk result (λ rank. rank ≤ length tree.new.items) }
+    ensures cut { OnOk result (AllByRecursion (λ run. IsCutBehind index.new run.now.after) runs.now) }
     ensures memory { IfErr result (λ e. e ≡ Refusal.Memory) }
-    ensures more { length tree.new.items ≤ length tree.old.items + 1 }
+    ensures more { length tree.new.items ≤ length tree.old.items + length runs.now }
 {
-    let start = start_run(alloc, tree, index, first, parent)?;
-    Ok(scan_blocks(tree, start, first))
+    for run in runs {
+        cut_parent(alloc, tree, index, run.first, run.after)?;
+    }
+    Ok(())
+}
+
+/// The rank of what follows a character, where no block reaches over the place behind it.
+fn rank_behind(tree: &WeightTree<Block>, index: &IdentIndex, stamp: Stamp) -> usize
+    requires kept { IsKept index.now tree.now.items }
+    requires cut { IsEdge index.now (stamp_behind stamp 1) }
+    ensures behind { (authors : List AuthorValue) (text : List ℕ) → AllByRecursion (IsWithin (length authors) (length text)) tree.now.items → has_stamp character_of (cells_of authors text tree.now.items) stamp ≡ true → IsBehind tree.now.items stamp result }
+    ensures within { result ≤ length tree.now.items }
+{
+    match find_block(tree, index, stamp) {
+        None => tree.len(),
+        Some(spot) => spot.rank + 1,
+    }
+}
+
+/// The rank at which the search for a run's place begins.
+fn start_run(tree: &WeightTree<Block>, index: &IdentIndex, parent: Option<Stamp>) -> usize
+    requires kept { IsKept index.now tree.now.items }
+    requires cut { IsCutBehind index.now parent }
+    ensures start { (authors : List AuthorValue) (text : List ℕ) → AllByRecursion (IsWithin (length authors) (length text)) tree.now.items → has_parent character_of (cells_of authors text tree.now.items) parent ≡ true → StartsAt parent tree.now.items result }
+    ensures within { result ≤ length tree.now.items }
+{
+    match parent {
+        None => 0,
+        Some(stamp) => rank_behind(tree, index, stamp),
+    }
+}
+
+/// Where a run goes among blocks that are cut behind its parent.
+pub fn find_place(
+    tree: &WeightTree<Block>,
+    index: &IdentIndex,
+    first: Stamp,
+    parent: Option<Stamp>,
+) -> usize
+    requires kept { IsKept index.now tree.now.items }
+    requires cut { IsCutBehind index.now parent }
+    ensures place { (authors : List AuthorValue) (text : List ℕ) → AllByRecursion (IsWithin (length authors) (length text)) tree.now.items → has_parent character_of (cells_of authors text tree.now.items) parent ≡ true → IsPlaceFor parent first tree.now.items result }
+    ensures within { result ≤ length tree.now.items }
+{
+    scan_blocks(tree, start_run(tree, index, parent), first)
 }

@@ -7,17 +7,15 @@ use Rattle.block_seq.specs.KeptParts.{inserted_size}
 use Rattle.block_seq.proofs.Applied.{spans_checked, length-inserts_in, apply-fault, apply-full, apply-ok}
 use Rattle.block_seq.proofs.BlockCells.{length-cells}
 use Rattle.block_seq.proofs.RowChange.{PartsMade, parts_made}
-use Rattle.std.proofs.lemmas.Bool.{and_parts}
 use Rattle.pad_model.specs.Answers.{Answers}
 use Rattle.pad_model.specs.Cell.{is_hidden_by, without_spans}
 use Rattle.pad_model.specs.Checked.{is_run}
 use Rattle.pad_model.specs.declared.limits.TheConstants.{MAX_CHARACTERS}
-use Rattle.pad_model.specs.declared.op.Part.TheVariants.{Insert}
 use Rattle.pad_model.specs.declared.op.Span.{Span}
-use Rattle.pad_model.proofs.Parts.{part_fits-erased}
 use Rattle.block_seq.specs.RowParts.{AllJoin, with_all}
-use Rattle.block_seq.proofs.RowLists.{get_here}
-use Rattle.block_seq.proofs.RowChange.{lent_checked, lent_sizes, no_run, one_run, one_room}
+use Rattle.block_seq.proofs.RowChange.{lent_checked, lent_sizes, no_run}
+use Rattle.pad_model.specs.Log.{run_may_join}
+use Rattle.block_seq.proofs.RowRuns.{all_fit, join_before, runs_fit}
 use Rattle.block_seq.proofs.RowCounts.{cells_seen}
 use Rattle.block_seq.proofs.rows.BlockSeqSequence.apply.Goals as goal
 use Rattle.block_seq.proofs.rows.BlockSeqSequence.apply.Goals.{After-parts_fit, After-count_inserted-more, In_ok-runs}
@@ -99,91 +97,41 @@ pub change-requires-clause-spans : goal.change-requires-clause-spans
 change-requires-clause-spans c =
     let g = goal.at.change-requires-clause-spans c in
     let small = room g.After-count_inserted-more (size g.After-parts_fit) (omega (arith, c.self.inside.text.ok.0, c.if-len-more-gt-MAX_CHARACTERS.false)) in
-    let f = facts g.In_ok-runs c.as_slice-then-len-eq1.result.now c.as_slice-then-len-eq1.ensures.value (fit g.After-parts_fit true c.if-not-parts_fit.false) small in
+    let f = facts g.In_ok-runs c.as_slice-2.result.now c.as_slice-2.ensures.value (fit g.After-parts_fit true c.if-not-parts_fit.false) small in
     f.checked
 
 pub change-requires-clause-there : goal.change-requires-clause-there
 change-requires-clause-there c =
     let g = goal.at.change-requires-clause-there c in
     let small = room g.After-count_inserted-more (size g.After-parts_fit) (omega (arith, c.self.inside.text.ok.0, c.if-len-more-gt-MAX_CHARACTERS.false)) in
-    let f = facts g.In_ok-runs c.as_slice-then-len-eq1.result.now c.as_slice-then-len-eq1.ensures.value (fit g.After-parts_fit true c.if-not-parts_fit.false) small in
-    f.there
-
-pub change-requires-clause-run : goal.change-requires-clause-run
-change-requires-clause-run c =
-    let g = goal.at.change-requires-clause-run c in
-    let small = room g.After-count_inserted-more (size g.After-parts_fit) (omega (arith, c.self.inside.text.ok.0, c.if-len-more-gt-MAX_CHARACTERS.false)) in
-    let f = facts g.In_ok-runs c.as_slice-then-len-eq1.result.now c.as_slice-then-len-eq1.ensures.value (fit g.After-parts_fit true c.if-not-parts_fit.false) small in
-    let len = c.in_ok-runs.runs.ok.0 in
-    let some = get_here c.in_ok-runs.runs.items 0 c.index.result.now (omega (arith, len, c.len-2.ensures, c.if-len-eq1.true)) c.index.ensures in
-    let one = one_run (λ run. run.now) c.in_ok-runs.runs.items c.index.result.now (omega (arith, len, c.len-2.ensures, c.if-len-eq1.true)) some in
-    (and_parts _ _ (subst (λ l. list_all (is_run c.args.author.now.origin) l ≡ true) one f.sized)).0
-
-pub change-requires-clause-fits : goal.change-requires-clause-fits
-change-requires-clause-fits c =
-    let g = goal.at.change-requires-clause-fits c in
-    let small = room g.After-count_inserted-more (size g.After-parts_fit) (omega (arith, c.self.inside.text.ok.0, c.if-len-more-gt-MAX_CHARACTERS.false)) in
-    let f = facts g.In_ok-runs c.as_slice-then-len-eq1.result.now c.as_slice-then-len-eq1.ensures.value (fit g.After-parts_fit true c.if-not-parts_fit.false) small in
-    let len = c.in_ok-runs.runs.ok.0 in
-    let some = get_here c.in_ok-runs.runs.items 0 c.index.result.now (omega (arith, len, c.len-2.ensures, c.if-len-eq1.true)) c.index.ensures in
-    let one = one_run (λ run. run.now) c.in_ok-runs.runs.items c.index.result.now (omega (arith, len, c.len-2.ensures, c.if-len-eq1.true)) some in
-    let join = subst (AllJoin c.args.rev c.args.author.now (without_spans c.args.rev c.as_slice-then-len-eq1.result.now c.args.self.now.cells)) one f.join in
-    sym (part_fits-erased c.args.rev c.as_slice-then-len-eq1.result.now c.args.self.now.cells (Insert c.index.result.now.now)) ∙ join.0
-
-pub change-requires-clause-room : goal.change-requires-clause-room
-change-requires-clause-room c =
-    let g = goal.at.change-requires-clause-room c in
-    let small = room g.After-count_inserted-more (size g.After-parts_fit) (omega (arith, c.self.inside.text.ok.0, c.if-len-more-gt-MAX_CHARACTERS.false)) in
-    let f = facts g.In_ok-runs c.as_slice-then-len-eq1.result.now c.as_slice-then-len-eq1.ensures.value (fit g.After-parts_fit true c.if-not-parts_fit.false) small in
-    let len = c.in_ok-runs.runs.ok.0 in
-    let some = get_here c.in_ok-runs.runs.items 0 c.index.result.now (omega (arith, len, c.len-2.ensures, c.if-len-eq1.true)) c.index.ensures in
-    let one = one_run (λ run. run.now) c.in_ok-runs.runs.items c.index.result.now (omega (arith, len, c.len-2.ensures, c.if-len-eq1.true)) some in
-    let all = subst (λ l. length c.args.self.now.cells + sum_by (λ run. length run.text) l ≤ MAX_CHARACTERS) one f.room in
-    let single = one_room c.index.result.now.now in
-    omega (arith, all, single)
-
-pub returns-then-len-eq1-clause-answers : goal.returns-then-len-eq1-clause-answers
-returns-then-len-eq1-clause-answers c =
-    let g = goal.at.returns-then-len-eq1-clause-answers c in
-    let small = room g.After-count_inserted-more (size g.After-parts_fit) (omega (arith, c.self.inside.text.ok.0, c.if-len-more-gt-MAX_CHARACTERS.false)) in
-    let f = facts g.In_ok-runs c.as_slice-then-len-eq1.result.now c.as_slice-then-len-eq1.ensures.value (fit g.After-parts_fit true c.if-not-parts_fit.false) small in
-    let len = c.in_ok-runs.runs.ok.0 in
-    let some = get_here c.in_ok-runs.runs.items 0 c.index.result.now (omega (arith, len, c.len-2.ensures, c.if-len-eq1.true)) c.index.ensures in
-    let one = one_run (λ run. run.now) c.in_ok-runs.runs.items c.index.result.now (omega (arith, len, c.len-2.ensures, c.if-len-eq1.true)) some in
-    subst (λ x. Answers c.args.self.now.cells x c.change.result c.change.new.self.cells)
-    (sym (f.made ∙ ap (λ l. (Ok (count_by (is_hidden_by c.as_slice-then-len-eq1.result.now) c.args.self.now.cells), with_all c.args.rev c.args.author.now (without_spans c.args.rev c.as_slice-then-len-eq1.result.now c.args.self.now.cells) l)) one)) c.change.ensures.answers
-
-pub change_aside-requires-clause-spans : goal.change_aside-requires-clause-spans
-change_aside-requires-clause-spans c =
-    let g = goal.at.change_aside-requires-clause-spans c in
-    let small = room g.After-count_inserted-more (size g.After-parts_fit) (omega (arith, c.self.inside.text.ok.0, c.if-len-more-gt-MAX_CHARACTERS.false)) in
-    let f = facts g.In_ok-runs c.as_slice-2.result.now c.as_slice-2.ensures.value (fit g.After-parts_fit true c.if-not-parts_fit.false) small in
-    f.checked
-
-pub change_aside-requires-clause-there : goal.change_aside-requires-clause-there
-change_aside-requires-clause-there c =
-    let g = goal.at.change_aside-requires-clause-there c in
-    let small = room g.After-count_inserted-more (size g.After-parts_fit) (omega (arith, c.self.inside.text.ok.0, c.if-len-more-gt-MAX_CHARACTERS.false)) in
     let f = facts g.In_ok-runs c.as_slice-2.result.now c.as_slice-2.ensures.value (fit g.After-parts_fit true c.if-not-parts_fit.false) small in
     f.there
 
-pub change_aside-requires-clause-runs : goal.change_aside-requires-clause-runs
-change_aside-requires-clause-runs c =
-    let g = goal.at.change_aside-requires-clause-runs c in
+pub change-requires-clause-runs : goal.change-requires-clause-runs
+change-requires-clause-runs c =
+    let g = goal.at.change-requires-clause-runs c in
     let small = room g.After-count_inserted-more (size g.After-parts_fit) (omega (arith, c.self.inside.text.ok.0, c.if-len-more-gt-MAX_CHARACTERS.false)) in
     let f = facts g.In_ok-runs c.as_slice-2.result.now c.as_slice-2.ensures.value (fit g.After-parts_fit true c.if-not-parts_fit.false) small in
     ap (list_all (λ run. is_run c.args.author.now.origin run.now)) c.as_slice-3.ensures.value ∙ lent_checked (λ run. run.now) c.args.author.now.origin c.in_ok-runs.runs.items ∙ f.sized
 
-pub change_aside-requires-clause-join : goal.change_aside-requires-clause-join
-change_aside-requires-clause-join c =
-    let g = goal.at.change_aside-requires-clause-join c in
+pub change-requires-clause-join : goal.change-requires-clause-join
+change-requires-clause-join c =
+    let g = goal.at.change-requires-clause-join c in
     let small = room g.After-count_inserted-more (size g.After-parts_fit) (omega (arith, c.self.inside.text.ok.0, c.if-len-more-gt-MAX_CHARACTERS.false)) in
     let f = facts g.In_ok-runs c.as_slice-2.result.now c.as_slice-2.ensures.value (fit g.After-parts_fit true c.if-not-parts_fit.false) small in
-    subst (λ l. AllJoin c.args.rev c.args.author.now (without_spans c.args.rev c.as_slice-2.result.now c.args.self.now.cells) (map (λ run. run.now) l)) (sym c.as_slice-3.ensures.value) f.join
+    join_before c.args.rev c.as_slice-2.result.now c.args.author.now c.args.self.now.cells (map (λ run. run.now) c.as_slice-3.result.now) (subst IsInOrder (cells_seen c.self.view_is) c.self.invariant.row.order) f.there
+    (subst (λ l. AllJoin c.args.rev c.args.author.now (without_spans c.args.rev c.as_slice-2.result.now c.args.self.now.cells) (map (λ run. run.now) l)) (sym c.as_slice-3.ensures.value) f.join)
 
-pub change_aside-requires-clause-room : goal.change_aside-requires-clause-room
-change_aside-requires-clause-room c =
-    let g = goal.at.change_aside-requires-clause-room c in
+pub change-requires-clause-fit : goal.change-requires-clause-fit
+change-requires-clause-fit c =
+    let g = goal.at.change-requires-clause-fit c in
+    let listed = ap (map (λ run. run.now)) c.as_slice-3.ensures.value ∙ c.in_ok-runs.ensures in
+    all_fit (λ run. run.now) c.args.self.now.cells c.as_slice-3.result.now
+    (subst (λ l. list_all (λ run. run_may_join character_of c.args.self.now.cells run.first run.after) l ≡ true) (sym listed) (runs_fit c.args.self.now.cells c.args.parts.now (fit g.After-parts_fit true c.if-not-parts_fit.false)))
+
+pub change-requires-clause-room : goal.change-requires-clause-room
+change-requires-clause-room c =
+    let g = goal.at.change-requires-clause-room c in
     let small = room g.After-count_inserted-more (size g.After-parts_fit) (omega (arith, c.self.inside.text.ok.0, c.if-len-more-gt-MAX_CHARACTERS.false)) in
     let f = facts g.In_ok-runs c.as_slice-2.result.now c.as_slice-2.ensures.value (fit g.After-parts_fit true c.if-not-parts_fit.false) small in
     let all = f.room in
@@ -195,5 +143,5 @@ returns-clause-answers c =
     let g = goal.at.returns-clause-answers c in
     let small = room g.After-count_inserted-more (size g.After-parts_fit) (omega (arith, c.self.inside.text.ok.0, c.if-len-more-gt-MAX_CHARACTERS.false)) in
     let f = facts g.In_ok-runs c.as_slice-2.result.now c.as_slice-2.ensures.value (fit g.After-parts_fit true c.if-not-parts_fit.false) small in
-    subst (λ x. Answers c.args.self.now.cells x c.change_aside.result c.change_aside.new.self.cells)
-    (sym (f.made ∙ ap (λ l. (Ok (count_by (is_hidden_by c.as_slice-2.result.now) c.args.self.now.cells), with_all c.args.rev c.args.author.now (without_spans c.args.rev c.as_slice-2.result.now c.args.self.now.cells) (map (λ run. run.now) l))) (sym c.as_slice-3.ensures.value))) c.change_aside.ensures.answers
+    subst (λ x. Answers c.args.self.now.cells x c.change.result c.change.new.self.cells)
+    (sym (f.made ∙ ap (λ l. (Ok (count_by (is_hidden_by c.as_slice-2.result.now) c.args.self.now.cells), with_all c.args.rev c.args.author.now (without_spans c.args.rev c.as_slice-2.result.now c.args.self.now.cells) (map (λ run. run.now) l))) (sym c.as_slice-3.ensures.value))) c.change.ensures.answers

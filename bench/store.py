@@ -41,7 +41,7 @@ def measure(flags, requests):
     build_listen(flags)
     subprocess.run(["rustc", *flags, "-o", SYNCED, TOP / "bench" / "drive" / "synced.rs"], check=True)
     print(f"load {os.getloadavg()[0]:.1f} on {os.cpu_count()} processors, {requests} requests of each writer")
-    print(f"{'':<12}{'writers':>8}{'pads':>6}{'replies/s':>12}{'p50 us':>10}{'p99 us':>10}{'p99.9 us':>11}")
+    print(f"{'':<12}{'writers':>8}{'pads':>6}{'size':>9}{'replies/s':>12}{'p50 us':>10}{'p99 us':>10}{'p99.9 us':>11}")
     with tempfile.TemporaryDirectory(dir=OUT) as folder:
         os.chdir(folder)
         Path("accounts").write_text("author owner t\n" + "".join(f"author w{writer} t\n" for writer in range(15)))

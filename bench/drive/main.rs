@@ -2,7 +2,7 @@
 //!
 //! drive ADDRESS pads|echo WRITERS PADS SIZE REQUESTS
 //!
-//! An author first makes the pads, types SIZE characters into each, and lets the writers write. Then each writer inserts a
+//! An author first makes the pads, types SIZE characters into each, a hundred at a time, and lets the writers write. Then each writer inserts a
 //! character at a random place of the revision that its last reply told, REQUESTS times. With `echo` the same lines are
 //! written to a server that echoes them. It prints replies a second, and the median, the 99th of 100 and the 999th of 1,000
 //! times from a line to its reply, in microseconds. A refusal ends it with a failure.
@@ -11,6 +11,9 @@ use std::net::TcpStream;
 use std::sync::{Arc, Barrier};
 use std::time::Instant;
 use std::{env, process, thread};
+
+/// How many characters are typed at a time before the writers begin.
+const PIECE: u64 = 100;
 
 struct Client {
     input: BufReader<TcpStream>,
@@ -58,11 +61,14 @@ fn prepare(address: &str, writers: u64, pads: u64, size: u64) -> u64 {
     let mut now = 0;
     for pad in 0..pads {
         owner.does(&format!("{{\"do\":\"create\",\"pad\":\"p{pad}\"}}\n"));
-        let text = "etaoin shrdlu ".repeat(size as usize / 14 + 1);
-        now = owner.does(&format!(
-            "{{\"at\":0,\"do\":\"insert\",\"pad\":\"p{pad}\",\"rev\":0,\"text\":\"{}\"}}\n",
-            &text[..size as usize]
-        ));
+        let text = "etaoin shrdlu ".repeat(PIECE as usize / 14 + 1);
+        now = 0;
+        for at in (0..size).step_by(PIECE as usize) {
+            let piece = &text[..PIECE.min(size - at) as usize];
+            now = owner.does(&format!(
+                "{{\"at\":{at},\"do\":\"insert\",\"pad\":\"p{pad}\",\"rev\":{now},\"text\":\"{piece}\"}}\n"
+            ));
+        }
         for writer in 0..writers {
             owner.does(&format!(
                 "{{\"author\":\"w{writer}\",\"do\":\"grant\",\"pad\":\"p{pad}\",\"right\":\"write\"}}\n"

@@ -1,7 +1,7 @@
 //! What no clause says: worked lines as a client sees them, and devices that cut and fail.
 ghost use Rattle.std.specs.Prelude.{◌≤◌};
 
-use block_seq::PlainSeq;
+use block_seq::BlockSeq;
 use pad_core::Request;
 use pad_model::{Name, Refusal};
 use server_core::Server;
@@ -18,25 +18,25 @@ fn hello(alloc: Global) -> Result<Request, Refusal> {
     })
 }
 
-fn server(alloc: Global) -> Result<Server<PlainSeq>, Fail> {
+fn server(alloc: Global) -> Result<Server<BlockSeq>, Fail> {
     let accounts = Accounts::read(alloc, b"author solo solo\n")?;
     Ok(Server::new(alloc, 1, 64, accounts)?)
 }
 
-fn opened(alloc: Global) -> Result<Alone<PlainSeq>, Fail> {
+fn opened(alloc: Global) -> Result<Alone<BlockSeq>, Fail> {
     let mut server = server(alloc)?;
     let actor = server.open(alloc)?;
     Ok(Alone::new(server, actor))
 }
 
-fn greet(alloc: Global, pads: &mut Alone<PlainSeq>) -> Result<(), Fail> {
+fn greet(alloc: Global, pads: &mut Alone<BlockSeq>) -> Result<(), Fail> {
     let hello = hello(alloc)?;
     let _reply = pads.call(alloc, &hello);
     Ok(())
 }
 
 // A fresh server of replica 1, with a session of the author solo.
-fn solo(alloc: Global) -> Result<Alone<PlainSeq>, Fail> {
+fn solo(alloc: Global) -> Result<Alone<BlockSeq>, Fail> {
     let mut pads = opened(alloc)?;
     greet(alloc, &mut pads)?;
     Ok(pads)
@@ -265,7 +265,7 @@ fn each_read_fails_once(rt: HostRuntime) -> Result<(), Fail> {
 }
 
 // What two connections with a request to create `p` write, one after the other.
-fn written_by_two(alloc: Global, pads: &mut Alone<PlainSeq>) -> Result<Output, Fail> {
+fn written_by_two(alloc: Global, pads: &mut Alone<BlockSeq>) -> Result<Output, Fail> {
     let mut writer = Output::new(alloc);
     for _ in 0..2 {
         let mut reader = Input::new(CREATE.as_bytes());
@@ -281,7 +281,7 @@ fn are_both(written: &[u8], first: &str, second: &str) -> bool {
 
 fn is_named(
     alloc: Global,
-    pads: &mut Alone<PlainSeq>,
+    pads: &mut Alone<BlockSeq>,
     cell: u32,
     want: Option<&str>,
 ) -> Result<bool, Fail> {

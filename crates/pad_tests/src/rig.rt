@@ -2,7 +2,7 @@
 ghost use Rattle.std.specs.Prelude.{◌≤◌};
 
 use crate::replies::is_refusal;
-use block_seq::PlainSeq;
+use block_seq::BlockSeq;
 use pad_core::{Reply, Request};
 use pad_model::Refusal;
 use server_core::{Moved, Server, Step};
@@ -25,10 +25,10 @@ const NO_ANSWER: Refusal = Refusal::Busy;
 #[derive(Drop)]
 pub struct Rig {
     alloc: Global,
-    server: Server<PlainSeq>,
+    server: Server<BlockSeq>,
 }
 
-fn make_server(alloc: Global, replica: u16) -> Result<Server<PlainSeq>, Refusal>
+fn make_server(alloc: Global, replica: u16) -> Result<Server<BlockSeq>, Refusal>
     requires { 1 ≤ replica }
 {
     let text = b"author ann t\npeer 9 t host:1\n";

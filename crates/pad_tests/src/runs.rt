@@ -1,12 +1,12 @@
 //! A list of events on one pad, made as one run.
-use block_seq::PlainSeq;
+use block_seq::BlockSeq;
 use pad_core::{Act, Claim, Pad, PadEvent, PadReply};
 use pad_model::{Name, Refusal, Text, Who};
 use std::alloc::Global;
 use std::test::Fail;
 
 // The pad `p` of ann, on the server with number 1.
-fn claimed(alloc: Global) -> Result<Pad<PlainSeq>, Refusal> {
+fn claimed(alloc: Global) -> Result<Pad<BlockSeq>, Refusal> {
     let mut pad = Pad::new(alloc, 1)?;
     match pad.claim(alloc, "p", "ann")? {
         Claim::Created { .. } => Ok(pad),

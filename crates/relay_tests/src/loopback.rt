@@ -1,5 +1,5 @@
 //! Two servers in one process that are the same after one round over loopback.
-use block_seq::PlainSeq;
+use block_seq::BlockSeq;
 use pad_core::Reply;
 use pad_model::Refusal;
 use relay::{Link, Relayed, relay_round};
@@ -49,7 +49,7 @@ const SHOWN: &str = concat!(
     "{\"now\":3,\"ok\":true,\"seen\":[[1,2],[2,1]]}\n",
 );
 
-pub type PlainRow<'a, R> = Row<'a, PlainSeq, R, Open>;
+pub type LoopbackRow<'a, R> = Row<'a, BlockSeq, R, Open>;
 
 pub fn ask<P: Pads>(alloc: Global, pads: &mut P, line: &str) -> Result<Reply, Refusal> {
     match read_request(alloc, line.as_bytes()) {
@@ -67,7 +67,11 @@ pub fn ask_all<P: Pads>(alloc: Global, pads: &mut P, lines: &[&str]) -> Result<(
 }
 
 // The same, in a session of its own.
-fn prepare<R: Wait>(alloc: Global, row: &PlainRow<'_, R>, lines: &[&str]) -> Result<(), Refusal> {
+fn prepare<R: Wait>(
+    alloc: Global,
+    row: &LoopbackRow<'_, R>,
+    lines: &[&str],
+) -> Result<(), Refusal> {
     let seats = seats_of(row.rt, alloc, row.cells)?;
     let mut pads = Shared::new(row, seats, Session::new(alloc));
     let asked = ask_all(alloc, &mut pads, lines);
@@ -113,7 +117,7 @@ pub fn add_vector<P: Pads>(
 }
 
 // The reply lines to an author who reads, and to a peer who asks for the vector.
-fn shown<R: Wait>(alloc: Global, row: &PlainRow<'_, R>, peer: u16) -> Result<String, Refusal> {
+fn shown<R: Wait>(alloc: Global, row: &LoopbackRow<'_, R>, peer: u16) -> Result<String, Refusal> {
     let seats = seats_of(row.rt, alloc, row.cells)?;
     let mut pads = Shared::new(row, seats, Session::new(alloc));
     let mut lines = String::new(alloc);
@@ -126,7 +130,7 @@ fn shown<R: Wait>(alloc: Global, row: &PlainRow<'_, R>, peer: u16) -> Result<Str
 pub fn seats_of<R: Wait>(
     rt: &R,
     alloc: Global,
-    cells: &[SharedPad<PlainSeq>],
+    cells: &[SharedPad<BlockSeq>],
 ) -> Result<Vec<Seat>, Refusal> {
     let mut seats = Vec::new(alloc);
     take_seats(rt, cells, &mut seats)?;
@@ -142,7 +146,7 @@ pub fn connect<R: Net<Stream = TcpStream>>(rt: &R, port: u16) -> io::Result<TcpS
 // A round of server 1 with the one that listens at this port.
 fn exchange<R: Wait + Net<Stream = TcpStream>>(
     alloc: Global,
-    row: &PlainRow<'_, R>,
+    row: &LoopbackRow<'_, R>,
     port: u16,
     seats: Vec<Seat>,
 ) -> Result<Relayed, Fault> {
@@ -158,7 +162,7 @@ fn exchange<R: Wait + Net<Stream = TcpStream>>(
 // Serves the first connection that comes.
 fn serve<R: Wait>(
     alloc: Global,
-    row: &PlainRow<'_, R>,
+    row: &LoopbackRow<'_, R>,
     listener: TcpListener,
     seats: Vec<Seat>,
 ) -> Result<Served, Fault> {
@@ -173,10 +177,10 @@ fn serve<R: Wait>(
 
 pub fn row_of<'a, R: Wait>(
     rt: &'a R,
-    cells: &'a [SharedPad<PlainSeq>],
+    cells: &'a [SharedPad<BlockSeq>],
     replica: u16,
     accounts: &'a Accounts,
-) -> PlainRow<'a, R> {
+) -> LoopbackRow<'a, R> {
     Row {
         rt,
         cells,
@@ -193,8 +197,8 @@ fn one_round_over_loopback(rt: HostRuntime) -> Result<(), Fail> {
         alloc,
         b"author ann t\npeer 1 secret h:1\npeer 2 secret h:2\n",
     )?;
-    let first_cells: Vec<SharedPad<PlainSeq>> = open_row(alloc, 1, 1)?;
-    let second_cells: Vec<SharedPad<PlainSeq>> = open_row(alloc, 2, 1)?;
+    let first_cells: Vec<SharedPad<BlockSeq>> = open_row(alloc, 1, 1)?;
+    let second_cells: Vec<SharedPad<BlockSeq>> = open_row(alloc, 2, 1)?;
     let first = row_of(&rt, first_cells.as_slice(), 1, &accounts);
     let second = row_of(&rt, second_cells.as_slice(), 2, &accounts);
     prepare(alloc, &first, &FIRST)?;

@@ -1,5 +1,5 @@
 //! What a server under stress has come to, and whether its pad closes with that.
-use block_seq::PlainSeq;
+use block_seq::BlockSeq;
 use pad_core::{Recorded, audit};
 use pad_model::Refusal;
 use shared_pads::{Seat, SharedPad};
@@ -82,7 +82,7 @@ fn calls_of(seats: &[Seat]) -> u64 {
 }
 
 // Whether the seats close their pad with what was answered and exchanged, which an audit finds in its log.
-pub fn is_closed(alloc: Global, cells: Vec<SharedPad<PlainSeq>>, side: Side) -> bool {
+pub fn is_closed(alloc: Global, cells: Vec<SharedPad<BlockSeq>>, side: Side) -> bool {
     let mut cells = cells;
     let Side {
         records,

@@ -1,5 +1,5 @@
 //! A server with the pad `p`, on which ann has typed, and its side of a round.
-use block_seq::PlainSeq;
+use block_seq::BlockSeq;
 use pad_core::Request;
 use pad_model::Refusal;
 use relay::{Link, Relayed, relay_round};
@@ -32,9 +32,9 @@ fn request(alloc: Global, line: &str) -> Result<Request, Refusal> {
 }
 
 // Server 1 with the pad `p`, after ann has asked these lines.
-fn typed(alloc: Global, lines: &[&str]) -> Result<Alone<PlainSeq>, Fail> {
+fn typed(alloc: Global, lines: &[&str]) -> Result<Alone<BlockSeq>, Fail> {
     let accounts = Accounts::read(alloc, b"author ann t\npeer 2 p2 host:1\n")?;
-    let mut server: Server<PlainSeq> = Server::new(alloc, 1, 1, accounts)?;
+    let mut server: Server<BlockSeq> = Server::new(alloc, 1, 1, accounts)?;
     let actor = server.open(alloc)?;
     let mut pads = Alone::new(server, actor);
     for line in [HELLO, CREATE] {

@@ -1,7 +1,7 @@
 //! Two servers whose authors write at once while they exchange over loopback.
-use crate::loopback::{PlainRow, add_readings, add_vector, ask_all, connect, row_of, seats_of};
+use crate::loopback::{LoopbackRow, add_readings, add_vector, ask_all, connect, row_of, seats_of};
 use crate::sides::{NO_ANSWER, Side, Taken, Written, is_closed};
-use block_seq::PlainSeq;
+use block_seq::BlockSeq;
 use pad_core::{Act, PadReply, Recorded, Reply, Request};
 use pad_model::{Name, Refusal, Text};
 use relay::{Link, relay_round};
@@ -137,7 +137,7 @@ fn write<P: Pads>(alloc: Global, pads: &mut P, hello: &str) -> Result<Vec<Record
     Ok(records)
 }
 
-fn work<R: Wait>(alloc: Global, row: &PlainRow<'_, R>, job: Job) -> Written {
+fn work<R: Wait>(alloc: Global, row: &LoopbackRow<'_, R>, job: Job) -> Written {
     let Job { hello, seats } = job;
     let mut pads = Shared::new(row, seats, Session::new(alloc));
     let records = write(alloc, &mut pads, hello);
@@ -151,7 +151,7 @@ fn work<R: Wait>(alloc: Global, row: &PlainRow<'_, R>, job: Job) -> Written {
 // The four authors of a server write at once.
 fn write_all<R: Threads + Wait + Sync>(
     alloc: Global,
-    row: &PlainRow<'_, R>,
+    row: &LoopbackRow<'_, R>,
 ) -> Result<Vec<Written>, Refusal> {
     let mut jobs = Vec::new(alloc);
     for hello in HELLOS {
@@ -164,7 +164,7 @@ fn write_all<R: Threads + Wait + Sync>(
 // A round with the peer that listens at this port.
 fn exchange<R: Wait + Net<Stream = TcpStream, Listener = TcpListener>>(
     alloc: Global,
-    row: &PlainRow<'_, R>,
+    row: &LoopbackRow<'_, R>,
     peer: u16,
     port: u16,
     seats: Vec<Seat>,
@@ -179,7 +179,7 @@ fn exchange<R: Wait + Net<Stream = TcpStream, Listener = TcpListener>>(
 
 fn exchange_by<P: Pads, R: Wait + Net<Stream = TcpStream, Listener = TcpListener>>(
     alloc: Global,
-    row: &PlainRow<'_, R>,
+    row: &LoopbackRow<'_, R>,
     pads: &mut P,
     peer: u16,
     port: u16,
@@ -196,7 +196,7 @@ fn exchange_by<P: Pads, R: Wait + Net<Stream = TcpStream, Listener = TcpListener
 // Serves the first connection that comes.
 fn serve<R: Wait>(
     alloc: Global,
-    row: &PlainRow<'_, R>,
+    row: &LoopbackRow<'_, R>,
     listener: TcpListener,
     seats: Vec<Seat>,
 ) -> Taken {
@@ -221,8 +221,8 @@ fn serve_by<P: Pads>(alloc: Global, pads: &mut P, listener: TcpListener) -> Resu
 // A round that the server of the first row makes with that of the second one; None where it can't begin.
 fn round<R: Threads + Wait + Sync + Net<Stream = TcpStream, Listener = TcpListener>>(
     alloc: Global,
-    from: &PlainRow<'_, R>,
-    to: &PlainRow<'_, R>,
+    from: &LoopbackRow<'_, R>,
+    to: &LoopbackRow<'_, R>,
 ) -> Option<(Taken, Taken)> {
     let listener = TcpListener::bind(from.rt, "127.0.0.1:0").ok()?;
     let port = listener.local_addr().ok()?.port();
@@ -238,8 +238,8 @@ fn round<R: Threads + Wait + Sync + Net<Stream = TcpStream, Listener = TcpListen
 // A round, and what it leaves on both sides.
 fn round_kept<R: Threads + Wait + Sync + Net<Stream = TcpStream, Listener = TcpListener>>(
     alloc: Global,
-    from: &PlainRow<'_, R>,
-    to: &PlainRow<'_, R>,
+    from: &LoopbackRow<'_, R>,
+    to: &LoopbackRow<'_, R>,
     ours: &mut Side,
     theirs: &mut Side,
 ) -> Result<(), Refusal> {
@@ -255,8 +255,8 @@ type AllWritten = Result<Vec<Written>, Refusal>;
 // The authors of both servers write at once.
 fn write_both<R: Threads + Wait + Sync>(
     alloc: Global,
-    first: &PlainRow<'_, R>,
-    second: &PlainRow<'_, R>,
+    first: &LoopbackRow<'_, R>,
+    second: &LoopbackRow<'_, R>,
 ) -> (AllWritten, AllWritten) {
     thread::join(
         first.rt,
@@ -268,8 +268,8 @@ fn write_both<R: Threads + Wait + Sync>(
 // The authors of both servers write, with a round of the first server beside them.
 fn write_beside_round<R: Threads + Wait + Sync + Net<Stream = TcpStream, Listener = TcpListener>>(
     alloc: Global,
-    first: &PlainRow<'_, R>,
-    second: &PlainRow<'_, R>,
+    first: &LoopbackRow<'_, R>,
+    second: &LoopbackRow<'_, R>,
     ours: &mut Side,
     theirs: &mut Side,
 ) -> Result<(), Refusal> {
@@ -288,7 +288,7 @@ fn write_beside_round<R: Threads + Wait + Sync + Net<Stream = TcpStream, Listene
 }
 
 // The owner makes the pad and lets the others write.
-fn begin<R: Wait>(alloc: Global, row: &PlainRow<'_, R>, side: &mut Side) -> Result<(), Refusal> {
+fn begin<R: Wait>(alloc: Global, row: &LoopbackRow<'_, R>, side: &mut Side) -> Result<(), Refusal> {
     let seats = seats_of(row.rt, alloc, row.cells)?;
     let mut owner = Shared::new(row, seats, Session::new(alloc));
     ask_all(alloc, &mut owner, &BEGINNING)?;
@@ -299,7 +299,7 @@ fn begin<R: Wait>(alloc: Global, row: &PlainRow<'_, R>, side: &mut Side) -> Resu
 // The reply lines of text, runs, comments and vector.
 fn shown<R: Wait>(
     alloc: Global,
-    row: &PlainRow<'_, R>,
+    row: &LoopbackRow<'_, R>,
     peer: u16,
     side: &mut Side,
 ) -> Result<String, Refusal> {
@@ -316,8 +316,8 @@ fn shown<R: Wait>(
 // All phases, and a round of each server at the end.
 fn write_and_exchange<R: Threads + Wait + Sync + Net<Stream = TcpStream, Listener = TcpListener>>(
     alloc: Global,
-    first: &PlainRow<'_, R>,
-    second: &PlainRow<'_, R>,
+    first: &LoopbackRow<'_, R>,
+    second: &LoopbackRow<'_, R>,
     ours: &mut Side,
     theirs: &mut Side,
 ) -> Result<(), Refusal> {
@@ -333,8 +333,8 @@ fn write_and_exchange<R: Threads + Wait + Sync + Net<Stream = TcpStream, Listene
 // Both servers write and exchange, and then show the same.
 fn end_alike<R: Threads + Wait + Sync + Net<Stream = TcpStream, Listener = TcpListener>>(
     alloc: Global,
-    first: &PlainRow<'_, R>,
-    second: &PlainRow<'_, R>,
+    first: &LoopbackRow<'_, R>,
+    second: &LoopbackRow<'_, R>,
     ours: &mut Side,
     theirs: &mut Side,
 ) -> Result<bool, Refusal> {
@@ -349,8 +349,8 @@ fn play<R: Threads + Wait + Sync + Net<Stream = TcpStream, Listener = TcpListene
     rt: &R,
     alloc: Global,
     accounts: &Accounts,
-    first_cells: Vec<SharedPad<PlainSeq>>,
-    second_cells: Vec<SharedPad<PlainSeq>>,
+    first_cells: Vec<SharedPad<BlockSeq>>,
+    second_cells: Vec<SharedPad<BlockSeq>>,
 ) -> [bool; 5] {
     let first = row_of(rt, first_cells.as_slice(), 1, accounts);
     let second = row_of(rt, second_cells.as_slice(), 2, accounts);

@@ -1,6 +1,6 @@
 //! Records of reads and edits, compared with the log of a pad.
 use crate::stage::typed;
-use block_seq::PlainSeq;
+use block_seq::BlockSeq;
 use pad_core::{AuditError, Pad, Recorded, audit};
 use pad_model::{OpName, Refusal, Text};
 use std::alloc::Global;
@@ -29,7 +29,7 @@ fn edit(rev: u64) -> Recorded {
     }
 }
 
-fn fault_of(alloc: Global, pad: &Pad<PlainSeq>, records: &[Recorded]) -> usize {
+fn fault_of(alloc: Global, pad: &Pad<BlockSeq>, records: &[Recorded]) -> usize {
     match audit(alloc, pad, records) {
         Ok(()) => NONE,
         Err(AuditError::Mismatch { index }) => index,

@@ -1,6 +1,6 @@
 //! Gates that hold a thread until another one has got on: a pad's lock and a connection hold up no others.
 use crate::stage::{accounts, ask_all};
-use block_seq::PlainSeq;
+use block_seq::BlockSeq;
 use pad_model::Refusal;
 use sessions::Session;
 use shared_pads::{Gate, Seat, SharedPad};
@@ -91,7 +91,7 @@ const SECOND: [&str; 2] = [
     r#"{"do":"create","pad":"two"}"#,
 ];
 
-type HeldRow<'a, R> = Row<'a, PlainSeq, R, FirstCellHeld<'a, R>>;
+type HeldRow<'a, R> = Row<'a, BlockSeq, R, FirstCellHeld<'a, R>>;
 
 // Makes the first pad, and reads it once the second one is made.
 fn read_first<R: Wait + Clock>(
@@ -126,7 +126,7 @@ fn read_second<R: Wait + Clock>(
 fn cells_do_not_block_each_other(rt: HostRuntime) -> Result<(), Fail> {
     let alloc = rt.alloc();
     let accounts = accounts(alloc)?;
-    let cells: Vec<SharedPad<PlainSeq>> = open_row(alloc, 1, 2)?;
+    let cells: Vec<SharedPad<BlockSeq>> = open_row(alloc, 1, 2)?;
     let gate = FirstCellHeld {
         rt: &rt,
         first_made: Event::new(),
@@ -206,7 +206,7 @@ impl Connection for Greeter {
 // Whether two threads' seats close their pad.
 fn is_closed(
     alloc: Global,
-    cells: Vec<SharedPad<PlainSeq>>,
+    cells: Vec<SharedPad<BlockSeq>>,
     crew: Vec<Vec<Seat>>,
 ) -> Result<bool, Refusal> {
     let mut cells = cells;
@@ -227,7 +227,7 @@ fn is_closed(
 fn connections_do_not_block_each_other(rt: HostRuntime) -> Result<(), Fail> {
     let alloc = rt.alloc();
     let accounts = accounts(alloc)?;
-    let cells: Vec<SharedPad<PlainSeq>> = open_row(alloc, 1, 1)?;
+    let cells: Vec<SharedPad<BlockSeq>> = open_row(alloc, 1, 1)?;
     let gate = FirstConnectionHeld {
         rt: &rt,
         second_done: Event::new(),

@@ -1,6 +1,6 @@
 //! A gate by which nothing can be kept, as where the disk of a store is full.
 use crate::stage::{accounts, ask, ask_all};
-use block_seq::PlainSeq;
+use block_seq::BlockSeq;
 use pad_model::Refusal;
 use sessions::Session;
 use shared_pads::{Gate, SharedPad};
@@ -73,7 +73,7 @@ fn tells<P: Pads>(alloc: Global, pads: &mut P, line: &str, reply: &str) -> bool 
 fn what_cannot_be_kept_is_refused(rt: HostRuntime) -> Result<(), Fail> {
     let alloc = rt.alloc();
     let accounts = accounts(alloc)?;
-    let cells: Vec<SharedPad<PlainSeq>> = open_row(alloc, 1, 2)?;
+    let cells: Vec<SharedPad<BlockSeq>> = open_row(alloc, 1, 2)?;
     let gate = Disk {
         has_room: AtomicBool::new(true),
     };

@@ -1,6 +1,6 @@
 //! A pad behind its lock, and its seats.
 use crate::stage::typed;
-use block_seq::PlainSeq;
+use block_seq::BlockSeq;
 use pad_core::{Act, PadReply, Present, Reply, Request};
 use pad_model::{Name, Refusal, Row, Who};
 use sessions::Session;
@@ -22,7 +22,7 @@ fn ann(alloc: Global) -> Result<Session, Refusal> {
 fn ask<R: Wait>(
     rt: &R,
     alloc: Global,
-    shared: &SharedPad<PlainSeq>,
+    shared: &SharedPad<BlockSeq>,
     seat: &mut Seat,
     session: &mut Session,
     act: Act,
@@ -39,7 +39,7 @@ fn ask<R: Wait>(
 fn join<R: Wait>(
     rt: &R,
     alloc: Global,
-    shared: &SharedPad<PlainSeq>,
+    shared: &SharedPad<BlockSeq>,
     seat: &mut Seat,
     session: &mut Session,
 ) -> Result<u64, Refusal> {
@@ -60,7 +60,7 @@ fn are_visits(who: &Row<Present>, visits: [u64; 2]) -> bool {
 fn has_visits<R: Wait>(
     rt: &R,
     alloc: Global,
-    shared: &SharedPad<PlainSeq>,
+    shared: &SharedPad<BlockSeq>,
     seat: &mut Seat,
     session: &mut Session,
     visits: [u64; 2],
@@ -74,7 +74,7 @@ fn has_visits<R: Wait>(
 // Leaves the pad that was joined first, as the end of a session does.
 fn leave<R: Wait>(
     rt: &R,
-    shared: &SharedPad<PlainSeq>,
+    shared: &SharedPad<BlockSeq>,
     seat: &mut Seat,
     session: &mut Session,
 ) -> bool {
@@ -88,7 +88,7 @@ fn leave<R: Wait>(
 }
 
 // Whether the pad has this name.
-fn is_named<R: Wait>(rt: &R, alloc: Global, shared: &SharedPad<PlainSeq>, name: &str) -> bool {
+fn is_named<R: Wait>(rt: &R, alloc: Global, shared: &SharedPad<BlockSeq>, name: &str) -> bool {
     match shared.name(rt, alloc) {
         Ok(Some(found)) => found.is(name),
         _ => false,
@@ -98,7 +98,7 @@ fn is_named<R: Wait>(rt: &R, alloc: Global, shared: &SharedPad<PlainSeq>, name: 
 // The calls that a pad is closed with by one seat. None: it is not.
 fn closed_calls(
     alloc: Global,
-    shared: SharedPad<PlainSeq>,
+    shared: SharedPad<BlockSeq>,
     seat: Seat,
 ) -> Result<Option<u64>, Refusal> {
     let mut seats = Vec::new(alloc);
@@ -107,7 +107,7 @@ fn closed_calls(
 }
 
 // The pad again, which is not closed without its seat. None: it is.
-fn without_seat(alloc: Global, shared: SharedPad<PlainSeq>) -> Option<SharedPad<PlainSeq>> {
+fn without_seat(alloc: Global, shared: SharedPad<BlockSeq>) -> Option<SharedPad<BlockSeq>> {
     match shared.close(Vec::new(alloc)) {
         Ok(_) => None,
         Err((shared, _)) => Some(shared),
@@ -118,7 +118,7 @@ fn without_seat(alloc: Global, shared: SharedPad<PlainSeq>) -> Option<SharedPad<
 fn comes_again<R: Wait>(
     rt: &R,
     alloc: Global,
-    shared: &SharedPad<PlainSeq>,
+    shared: &SharedPad<BlockSeq>,
     seat: &mut Seat,
 ) -> Result<bool, Refusal> {
     let mut session = ann(alloc)?;
@@ -144,7 +144,7 @@ fn one_seat(rt: HostRuntime) -> Result<(), Fail> {
 }
 
 // How many seats a pad makes, before one is refused as 317.
-fn count_seats<R: Wait>(rt: &R, shared: &SharedPad<PlainSeq>) -> u64 {
+fn count_seats<R: Wait>(rt: &R, shared: &SharedPad<BlockSeq>) -> u64 {
     for count in 0..100 {
         match shared.seat(rt) {
             Ok(_) => {}

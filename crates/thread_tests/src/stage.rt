@@ -1,5 +1,5 @@
 //! Accounts, pads and requests that the tests share.
-use block_seq::PlainSeq;
+use block_seq::BlockSeq;
 use pad_core::{Act, Claim, Pad, PadEvent, Reply};
 use pad_model::{Name, Refusal, Text, Who};
 use sessions::Accounts;
@@ -33,7 +33,7 @@ pub fn ask_all<P: Pads>(alloc: Global, pads: &mut P, lines: &[&str]) -> Result<(
 }
 
 // The pad `p` of ann, on the server with number 1.
-fn claimed(alloc: Global) -> Result<Pad<PlainSeq>, Refusal> {
+fn claimed(alloc: Global) -> Result<Pad<BlockSeq>, Refusal> {
     let mut pad = Pad::new(alloc, 1)?;
     match pad.claim(alloc, "p", "ann")? {
         Claim::Created { .. } => Ok(pad),
@@ -50,7 +50,7 @@ fn hello(alloc: Global) -> Result<Act, Refusal> {
 }
 
 /// The pad `p` of ann, after she has inserted `hello`.
-pub fn typed(alloc: Global) -> Result<Pad<PlainSeq>, Refusal> {
+pub fn typed(alloc: Global) -> Result<Pad<BlockSeq>, Refusal> {
     let mut pad = claimed(alloc)?;
     let who = Who::Author(Name::from_str(alloc, "ann")?);
     let act = hello(alloc)?;

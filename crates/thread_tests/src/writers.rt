@@ -1,6 +1,6 @@
 //! Four threads that write into one pad and read it, each with a session and a seat of its own.
 use crate::stage::{accounts, ask, ask_all};
-use block_seq::PlainSeq;
+use block_seq::BlockSeq;
 use pad_core::{PadReply, Recorded, Reply, audit};
 use pad_model::{AuthorRun, Refusal, Text};
 use sessions::Session;
@@ -117,7 +117,7 @@ fn write<P: Pads>(alloc: Global, pads: &mut P, job: &Job) -> Result<Vec<Recorded
     Ok(records)
 }
 
-fn work<R: Wait>(alloc: Global, row: &Row<'_, PlainSeq, R, Open>, mut job: Job) -> Written {
+fn work<R: Wait>(alloc: Global, row: &Row<'_, BlockSeq, R, Open>, mut job: Job) -> Written {
     let seats = std::mem::replace(&mut job.seats, Vec::new(alloc));
     let mut shared = Shared::new(row, seats, Session::new(alloc));
     let records = write(alloc, &mut shared, &job);
@@ -132,7 +132,7 @@ fn work<R: Wait>(alloc: Global, row: &Row<'_, PlainSeq, R, Open>, mut job: Job) 
 fn jobs<R: Wait>(
     rt: &R,
     alloc: Global,
-    cells: &[SharedPad<PlainSeq>],
+    cells: &[SharedPad<BlockSeq>],
 ) -> Result<Vec<Job>, Refusal> {
     let mut jobs = Vec::new(alloc);
     for (hello, insert, letter) in AUTHORS {
@@ -228,7 +228,7 @@ fn calls_of(seats: &[Seat]) -> u64 {
 // Whether the seats close their pad with what was answered, which an audit finds in its log.
 fn is_closed(
     alloc: Global,
-    cells: Vec<SharedPad<PlainSeq>>,
+    cells: Vec<SharedPad<BlockSeq>>,
     seats: Vec<Seat>,
     records: &[Recorded],
 ) -> bool {
@@ -249,8 +249,8 @@ fn is_closed(
 // The owner, who makes the pad.
 fn begin<'a, R: Wait>(
     alloc: Global,
-    row: &'a Row<'a, PlainSeq, R, Open>,
-) -> Result<Shared<'a, PlainSeq, R, Open>, Refusal> {
+    row: &'a Row<'a, BlockSeq, R, Open>,
+) -> Result<Shared<'a, BlockSeq, R, Open>, Refusal> {
     let mut seats = Vec::new(alloc);
     take_seats(row.rt, row.cells, &mut seats)?;
     let mut owner = Shared::new(row, seats, Session::new(alloc));
@@ -261,7 +261,7 @@ fn begin<'a, R: Wait>(
 // All that was answered to the four authors, and the seats of all; an error where the text is not whole.
 fn write_all<R: Threads + Wait + Sync>(
     alloc: Global,
-    row: &Row<'_, PlainSeq, R, Open>,
+    row: &Row<'_, BlockSeq, R, Open>,
     seats: &mut Vec<Seat>,
 ) -> Result<Vec<Recorded>, Refusal> {
     let mut owner = begin(alloc, row)?;
@@ -280,7 +280,7 @@ fn write_all<R: Threads + Wait + Sync>(
 fn four_writers(rt: HostRuntime) -> Result<(), Fail> {
     let alloc = rt.alloc();
     let accounts = accounts(alloc)?;
-    let cells: Vec<SharedPad<PlainSeq>> = open_row(alloc, 1, 1)?;
+    let cells: Vec<SharedPad<BlockSeq>> = open_row(alloc, 1, 1)?;
     let row = Row {
         rt: &rt,
         cells: cells.as_slice(),

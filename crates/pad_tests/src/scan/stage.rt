@@ -1,5 +1,5 @@
 //! A server whose steps are words: `move`, `end`, `look 0`, `relay 2`, or a line of JSON that is asked.
-use block_seq::PlainSeq;
+use block_seq::BlockSeq;
 use pad_model::Refusal;
 use server_core::{MAX_CELLS, Moved, Server, Step};
 use sessions::Accounts;
@@ -11,7 +11,7 @@ use wire_json::{read_request, reply_line};
 pub type Turn<'a> = (u32, &'a str, &'a str);
 
 /// A server of replica 1 that knows ann, bob and peer 2, with three actors.
-pub fn open(alloc: Global, cells: u32) -> Result<Server<PlainSeq>, Fail> {
+pub fn open(alloc: Global, cells: u32) -> Result<Server<BlockSeq>, Fail> {
     let accounts = Accounts::read(
         alloc,
         b"author ann t1\nauthor bob t2\npeer 2 p2 127.0.0.1:7402\n",
@@ -22,7 +22,7 @@ pub fn open(alloc: Global, cells: u32) -> Result<Server<PlainSeq>, Fail> {
 }
 
 /// So many more actors.
-pub fn open_more(alloc: Global, server: &mut Server<PlainSeq>, count: u32) -> Result<(), Refusal> {
+pub fn open_more(alloc: Global, server: &mut Server<BlockSeq>, count: u32) -> Result<(), Refusal> {
     for _ in 0..count {
         let _actor = server.open(alloc)?;
     }
@@ -32,7 +32,7 @@ pub fn open_more(alloc: Global, server: &mut Server<PlainSeq>, count: u32) -> Re
 /// How many steps are told so, before the first whose answer is another.
 pub fn count_told(
     alloc: Global,
-    server: &mut Server<PlainSeq>,
+    server: &mut Server<BlockSeq>,
     turns: &[Turn<'_>],
 ) -> Result<usize, Fail> {
     let mut count = 0usize;
@@ -48,7 +48,7 @@ pub fn count_told(
 /// Whether a run of the steps tells just this.
 pub fn runs_so(
     alloc: Global,
-    server: &mut Server<PlainSeq>,
+    server: &mut Server<BlockSeq>,
     turns: &[Turn<'_>],
 ) -> Result<bool, Fail> {
     let mut steps = Vec::new(alloc);
@@ -65,7 +65,7 @@ pub fn runs_so(
     Ok(count == turns.len())
 }
 
-fn is_told(alloc: Global, server: &mut Server<PlainSeq>, turn: Turn<'_>) -> Result<bool, Fail> {
+fn is_told(alloc: Global, server: &mut Server<BlockSeq>, turn: Turn<'_>) -> Result<bool, Fail> {
     let (actor, words, want) = turn;
     let told = answer(alloc, server, actor, words)?;
     Ok(told.as_str() == want)
@@ -73,7 +73,7 @@ fn is_told(alloc: Global, server: &mut Server<PlainSeq>, turn: Turn<'_>) -> Resu
 
 fn answer(
     alloc: Global,
-    server: &mut Server<PlainSeq>,
+    server: &mut Server<BlockSeq>,
     actor: u32,
     words: &str,
 ) -> Result<String, Fail> {

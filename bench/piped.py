@@ -68,11 +68,15 @@ def compare(folder, trace, size, rounds):
     return {name: (statistics.median(each[0] for each in runs), max(each[1] for each in runs)) for name, runs in taken.items()}
 
 
-def measure(flags, rounds):
+def build(flags):
     command = ["rt", "run", "--", "--help"]
     subprocess.run(command, cwd=SERVER.parent.parent, stdin=subprocess.DEVNULL, stdout=sys.stderr, check=True)
     TWIN.parent.mkdir(exist_ok=True)
     subprocess.run(["rustc", *flags, "-o", TWIN, TOP / "bench" / "twin" / "main.rs"], check=True)
+
+
+def measure(flags, rounds):
+    build(flags)
     print(f"load {os.getloadavg()[0]:.1f} on {os.cpu_count()} processors, median processor time of {rounds} rounds")
     print(f"{'trace':<10}{'edits':>8}{'twin s':>9}{'ours s':>9}{'rate':>8}{'growth':>8}{'twin KiB':>10}{'our KiB':>10}")
     with tempfile.TemporaryDirectory() as folder:

@@ -1,5 +1,5 @@
-//! One pad behind the lines of `pad_server --stdin`, as far as `bench/piped.py` asks: `create`, `insert`, and `delete` of one
-//! character. Each reply is one write.
+//! One pad behind the lines of `pad_server --stdin`, as far as `bench/piped.py` and `bench/reads.py` ask: `create`, `insert`, `delete`
+//! of one character, and the present `text`, of letters alone. Each reply is one write.
 use crate::json::{read, Value};
 use crate::typing::Row;
 use std::io::{self, BufRead, Write};
@@ -30,6 +30,11 @@ impl Pad {
                 self.row.erase_at(request.number("at")?);
                 let number = self.keep("");
                 Some(format!("{{\"hidden\":1,\"name\":[1,{number}],\"now\":{number},\"ok\":true}}\n"))
+            }
+            "text" => {
+                let number = self.log.last().map_or(0, |last| last.number);
+                let text = self.row.shown();
+                Some(format!("{{\"now\":{number},\"ok\":true,\"rev\":{number},\"text\":\"{text}\"}}\n"))
             }
             _ => None,
         }

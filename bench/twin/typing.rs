@@ -230,6 +230,12 @@ impl Row {
         self.clock = self.clock.max(first.counter + len - 1);
     }
 
+    /// What is visible at present.
+    pub fn shown(&self) -> String {
+        let visible = self.tree.iter().filter(|block| block.died.is_none());
+        visible.flat_map(|block| &self.text[block.start..block.start + block.len as usize]).collect()
+    }
+
     pub fn erase_at(&mut self, at: u64) {
         let Some(stamp) = self.stamp_at(self.rev, at) else {
             return;

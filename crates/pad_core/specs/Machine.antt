@@ -111,6 +111,19 @@ abbrev pub session_refusal : Who → Act → Option Refusal
 session_refusal who act =
     if not (suits who (need_of act)) then Some (nobody_refusal (need_of act)) else if names_badly act then Some BadName else None
 
+-- what an act comes to: its answer, and the part of the pad that it changes, as that is afterwards
+pub data Outcome : Type 0 where
+  -- nothing changes
+  reads : Result PadReply Refusal → Outcome
+  -- the log alone
+  writes : Result PadReply Refusal × List Op → Outcome
+  -- who is present
+  visits : Result PadReply Refusal × Presence → Outcome
+  -- the rights
+  grants : Result PadReply Refusal × Rights → Outcome
+  -- the log and what is held
+  delivers : Result PadReply Refusal × (List Op × List Op) → Outcome
+
 -- an act that changes the log alone
 abbrev pub on_log : Machine → Result PadReply Refusal × List Op → Result PadReply Refusal × Machine
 on_log m done = (done.0, record m { log = done.1 })
@@ -119,40 +132,61 @@ on_log m done = (done.0, record m { log = done.1 })
 abbrev pub on_presence : Machine → Result PadReply Refusal × Presence → Result PadReply Refusal × Machine
 on_presence m done = (done.0, record m { presence = done.1 })
 
+-- a name with other rights, if there is one
+abbrev pub with_rights : Option Owned → Rights → Option Owned
+with_rights None rights = None
+with_rights (Some owned) rights = Some (record owned { rights = rights })
+
 -- an act that changes the rights
-abbrev pub on_rights : Owned → Machine → Result PadReply Refusal × Rights → Result PadReply Refusal × Machine
-on_rights owned m done = (done.0, record m { owned = Some (record owned { rights = done.1 }) })
+abbrev pub on_rights : Option Owned → Machine → Result PadReply Refusal × Rights → Result PadReply Refusal × Machine
+on_rights owned m done = (done.0, record m { owned = with_rights owned done.1 })
 
 -- an act that changes the log and what is held
 abbrev pub on_delivery : Machine → Result PadReply Refusal × (List Op × List Op) → Result PadReply Refusal × Machine
 on_delivery m done = (done.0, record m { log = done.1.0; held = done.1.1 })
 
+-- the answer and the pad after an act on a pad of this name and these rights, by what the act comes to
+abbrev pub applied : Option Owned → Outcome → Machine → Result PadReply Refusal × Machine
+applied owned (reads answer) m = (answer, m)
+applied owned (writes done) m = on_log m done
+applied owned (visits done) m = on_presence m done
+applied owned (grants done) m = on_rights owned m done
+applied owned (delivers done) m = on_delivery m done
+
+-- what each act of an author comes to
+abbrev pub author_outcome : Owned → List ℕ → ℕ → Act → Machine → Outcome
+author_outcome owned name visit act.Join m = visits (join (now_of m) name m.presence)
+author_outcome owned name visit act.Leave m = visits (leave (now_of m) visit m.presence)
+author_outcome owned name visit (act.Insert rev at text) m = writes (insert m.replica name rev at text m.log)
+author_outcome owned name visit (act.Delete rev at len) m = writes (delete m.replica name rev at len m.log)
+author_outcome owned name visit (act.Edit rev changes) m = writes (edit m.replica name rev changes m.log)
+author_outcome owned name visit (act.Comment rev at len text) m = writes (comment m.replica name rev at len text m.log)
+author_outcome owned name visit (act.Resolve resolved) m = writes (resolve m.replica name resolved m.log)
+author_outcome owned name visit (act.Text rev) m = reads (read_text rev m.log)
+author_outcome owned name visit (act.Runs rev) m = reads (read_runs rev m.log)
+author_outcome owned name visit (act.Comments rev) m = reads (read_comments rev m.log)
+author_outcome owned name visit act.Revs m = reads (read_revs m.log)
+author_outcome owned name visit (act.Entries from count) m = reads (read_entries from count m.log)
+author_outcome owned name visit (act.Caret rev at) m = visits (put_caret rev at visit m.log m.presence)
+author_outcome owned name visit act.Who m = reads (read_who m.replica m.log m.presence)
+author_outcome owned name visit (act.Grant author given) m = grants (grant (now_of m) author given owned.rights)
+author_outcome owned name visit act.Rights m = reads (read_rights (now_of m) owned.rights)
+author_outcome owned name visit other m = reads (Err NotPeer)
+
+-- what each act of a peer comes to
+abbrev pub peer_outcome : Version → Act → Machine → Outcome
+peer_outcome version act.Vector m = reads (read_vector version m.log)
+peer_outcome version (act.Push op) m = delivers (push m.replica op (m.log, m.held))
+peer_outcome version (act.Pull seen max) m = reads (pull version seen max m.log)
+peer_outcome version other m = reads (Err NoSession)
+
 -- what an author's act does
 abbrev pub author_act : Owned → List ℕ → ℕ → Act → Machine → Result PadReply Refusal × Machine
-author_act owned name visit act.Join m = on_presence m (join (now_of m) name m.presence)
-author_act owned name visit act.Leave m = on_presence m (leave (now_of m) visit m.presence)
-author_act owned name visit (act.Insert rev at text) m = on_log m (insert m.replica name rev at text m.log)
-author_act owned name visit (act.Delete rev at len) m = on_log m (delete m.replica name rev at len m.log)
-author_act owned name visit (act.Edit rev changes) m = on_log m (edit m.replica name rev changes m.log)
-author_act owned name visit (act.Comment rev at len text) m = on_log m (comment m.replica name rev at len text m.log)
-author_act owned name visit (act.Resolve resolved) m = on_log m (resolve m.replica name resolved m.log)
-author_act owned name visit (act.Text rev) m = (read_text rev m.log, m)
-author_act owned name visit (act.Runs rev) m = (read_runs rev m.log, m)
-author_act owned name visit (act.Comments rev) m = (read_comments rev m.log, m)
-author_act owned name visit act.Revs m = (read_revs m.log, m)
-author_act owned name visit (act.Entries from count) m = (read_entries from count m.log, m)
-author_act owned name visit (act.Caret rev at) m = on_presence m (put_caret rev at visit m.log m.presence)
-author_act owned name visit act.Who m = (read_who m.replica m.log m.presence, m)
-author_act owned name visit (act.Grant author given) m = on_rights owned m (grant (now_of m) author given owned.rights)
-author_act owned name visit act.Rights m = (read_rights (now_of m) owned.rights, m)
-author_act owned name visit other m = (Err NotPeer, m)
+author_act owned name visit act m = applied (Some owned) (author_outcome owned name visit act m) m
 
 -- what a peer's act does
 abbrev pub peer_act : Version → Act → Machine → Result PadReply Refusal × Machine
-peer_act version act.Vector m = (read_vector version m.log, m)
-peer_act version (act.Push op) m = on_delivery m (push m.replica op (m.log, m.held))
-peer_act version (act.Pull seen max) m = (pull version seen max m.log, m)
-peer_act version other m = (Err NoSession, m)
+peer_act version act m = applied m.owned (peer_outcome version act m) m
 
 -- an author's act, where nothing speaks against it
 abbrev pub author_step : Owned → List ℕ → Option ℕ → Act → Machine → Result PadReply Refusal × Machine

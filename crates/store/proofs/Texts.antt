@@ -12,10 +12,9 @@ use Rattle.records.specs.declared.kept_record.Record.{Record}
 use Rattle.records.specs.declared.kept_record.Record.TheVariants.{Named, Granted, Visited, Delivered}
 use Rattle.wire_json.specs.Operations.{op_data}
 use Rattle.wire_json.specs.Peers.{push_request}
-use Rattle.wire_json.proofs.NoFloats.{push_has_no_float}
 use Rattle.wire_json.proofs.OneLine.{text_plain}
 use Rattle.wire_json.proofs.OpAgain.{reads_again}
-use Rattle.wire_json.proofs.Shallow.{push_is_shallow}
+use Rattle.wire_json.proofs.Plain.{push_has_no_float, push_is_shallow}
 use Rattle.wire_json.proofs.Values.{value_of_text}
 use Rattle.store.specs.Entries.{entry_in, entry_said, header_data}
 use Rattle.store.specs.Forms.{IsSayableRecord, record_data}

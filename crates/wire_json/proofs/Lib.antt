@@ -1,4 +1,4 @@
-pub mod NoFloats
+pub mod Plain
 pub mod Fields
 pub mod Values
 pub mod Items
@@ -6,5 +6,4 @@ pub mod Rising
 pub mod Again
 pub mod OpAgain
 pub mod OneLine
-pub mod Shallow
 pub mod Spelled

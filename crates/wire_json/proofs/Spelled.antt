@@ -23,9 +23,8 @@ use Rattle.pad_core.specs.declared.reply.Pushed.TheVariants as pushed
 use Rattle.pad_core.specs.declared.reply.Reply.{Reply}
 use Rattle.wire_json.specs.Replies.{IsWritten, answer, pad_data, outcome_data}
 use Rattle.wire_json.specs.Words.{state_word}
-use Rattle.wire_json.proofs.NoFloats.{outcome_has_no_float}
 use Rattle.wire_json.proofs.OneLine.{text_plain}
-use Rattle.wire_json.proofs.Shallow.{outcome_is_shallow}
+use Rattle.wire_json.proofs.Plain.{outcome_has_no_float, outcome_is_shallow}
 
 -- the text of a value is read as it, where its numbers have texts and it nests a few levels deep
 record IsReadable (d : Data) : Type 0 where

@@ -1,8 +1,7 @@
 -- The line of a value is the request's: its value has no float, and nests a few levels deep.
 use Rattle.std.proofs.Common.{string_bytes, rules}
 use Rattle.wire_json.specs.Peers.{peer_request}
-use Rattle.wire_json.proofs.NoFloats.{peer_has_no_float}
-use Rattle.wire_json.proofs.Shallow.{peer_is_shallow}
+use Rattle.wire_json.proofs.Plain.{peer_has_no_float, peer_is_shallow}
 use Rattle.wire_json.proofs.Spelled.{said}
 use Rattle.wire_json.proofs.peer_request.peer_line.Goals as goal
 

@@ -1,8 +1,7 @@
 -- The line of a value is the request's: its value has no float, and nests a few levels deep.
 use Rattle.std.proofs.Common.{string_bytes, rules}
 use Rattle.wire_json.specs.Peers.{pull_request}
-use Rattle.wire_json.proofs.NoFloats.{pull_has_no_float}
-use Rattle.wire_json.proofs.Shallow.{pull_is_shallow}
+use Rattle.wire_json.proofs.Plain.{pull_has_no_float, pull_is_shallow}
 use Rattle.wire_json.proofs.Spelled.{said}
 use Rattle.wire_json.proofs.peer_request.pull_line.Goals as goal
 

@@ -1,8 +1,7 @@
 -- The line of a value is the request's: its value has no float, and nests a few levels deep.
 use Rattle.std.proofs.Common.{string_bytes, rules}
 use Rattle.wire_json.specs.Peers.{push_request}
-use Rattle.wire_json.proofs.NoFloats.{push_has_no_float}
-use Rattle.wire_json.proofs.Shallow.{push_is_shallow}
+use Rattle.wire_json.proofs.Plain.{push_has_no_float, push_is_shallow}
 use Rattle.wire_json.proofs.Spelled.{said}
 use Rattle.wire_json.proofs.peer_request.push_line.Goals as goal
 

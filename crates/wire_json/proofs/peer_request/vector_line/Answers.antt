@@ -1,8 +1,7 @@
 -- The line of a value is the request's: its value has no float, and nests a few levels deep.
 use Rattle.std.proofs.Common.{string_bytes, rules}
 use Rattle.wire_json.specs.Peers.{vector_request}
-use Rattle.wire_json.proofs.NoFloats.{vector_has_no_float}
-use Rattle.wire_json.proofs.Shallow.{vector_is_shallow}
+use Rattle.wire_json.proofs.Plain.{vector_has_no_float, vector_is_shallow}
 use Rattle.wire_json.proofs.Spelled.{said}
 use Rattle.wire_json.proofs.peer_request.vector_line.Goals as goal
 

@@ -15,9 +15,9 @@ use Rattle.pad_core.specs.declared.reply.Kind.{Kind}
 use Rattle.pad_core.specs.declared.reply.Kind.TheVariants as kind
 use Rattle.pad_core.specs.declared.request.Request.{Request}
 use Rattle.pad_core.specs.declared.request.Request.TheVariants as request
-use Rattle.wire_json.specs.declared.deed.Deed.{Deed}
-use Rattle.wire_json.specs.declared.deed.Deed.TheVariants as deed
-use Rattle.wire_json.specs.Words.{kind_of_word, deed_of_word}
+use Rattle.wire_json.specs.declared.act_word.ActWord.{ActWord}
+use Rattle.wire_json.specs.declared.act_word.ActWord.TheVariants as act_word
+use Rattle.wire_json.specs.Words.{kind_of_word, act_word_of}
 use Rattle.wire_json.specs.Reading.{of_two, of_three, of_four, field, null_or, optional, list_in, number_in, name_in, text_in, stamp_in, op_name_in, span_in, seen_in, right_in, version_of}
 
 -- the part of a kind
@@ -72,31 +72,31 @@ change_of false false at d = None
 abbrev pub change_in : Data → Option Change
 change_in d = option_and_then (λ at. change_of (is_some (get (codes "text") d)) (is_some (get (codes "len") d)) at d) (field number_in (codes "at") d)
 
--- the act of a deed
-abbrev pub act_of : Deed → Data → Option Act
-act_of deed.Join d = Some act.Join
-act_of deed.Leave d = Some act.Leave
-act_of deed.Insert d =
+-- the act that its word names, from the fields that it takes
+abbrev pub act_of : ActWord → Data → Option Act
+act_of act_word.Join d = Some act.Join
+act_of act_word.Leave d = Some act.Leave
+act_of act_word.Insert d =
     of_three act.Insert (field number_in (codes "rev") d) (field number_in (codes "at") d) (field text_in (codes "text") d)
-act_of deed.Delete d =
+act_of act_word.Delete d =
     of_three act.Delete (field number_in (codes "rev") d) (field number_in (codes "at") d) (field number_in (codes "len") d)
-act_of deed.Edit d = of_two act.Edit (field number_in (codes "rev") d) (field (list_in change_in) (codes "parts") d)
-act_of deed.Comment d =
+act_of act_word.Edit d = of_two act.Edit (field number_in (codes "rev") d) (field (list_in change_in) (codes "parts") d)
+act_of act_word.Comment d =
     of_four act.Comment (field number_in (codes "rev") d) (field number_in (codes "at") d) (field number_in (codes "len") d)
     (field text_in (codes "text") d)
-act_of deed.Resolve d = option_map act.Resolve (field op_name_in (codes "comment") d)
-act_of deed.Text d = option_map act.Text (optional number_in (codes "rev") d)
-act_of deed.Runs d = option_map act.Runs (optional number_in (codes "rev") d)
-act_of deed.Comments d = option_map act.Comments (optional number_in (codes "rev") d)
-act_of deed.Revs d = Some act.Revs
-act_of deed.Entries d = of_two act.Entries (field number_in (codes "from") d) (field number_in (codes "count") d)
-act_of deed.Caret d = of_two act.Caret (field number_in (codes "rev") d) (field number_in (codes "at") d)
-act_of deed.Who d = Some act.Who
-act_of deed.Grant d = of_two act.Grant (field name_in (codes "author") d) (field right_in (codes "right") d)
-act_of deed.Rights d = Some act.Rights
-act_of deed.Vector d = Some act.Vector
-act_of deed.Push d = option_map act.Push (field op_in (codes "op") d)
-act_of deed.Pull d = of_two act.Pull (field seen_in (codes "seen") d) (field number_in (codes "max") d)
+act_of act_word.Resolve d = option_map act.Resolve (field op_name_in (codes "comment") d)
+act_of act_word.Text d = option_map act.Text (optional number_in (codes "rev") d)
+act_of act_word.Runs d = option_map act.Runs (optional number_in (codes "rev") d)
+act_of act_word.Comments d = option_map act.Comments (optional number_in (codes "rev") d)
+act_of act_word.Revs d = Some act.Revs
+act_of act_word.Entries d = of_two act.Entries (field number_in (codes "from") d) (field number_in (codes "count") d)
+act_of act_word.Caret d = of_two act.Caret (field number_in (codes "rev") d) (field number_in (codes "at") d)
+act_of act_word.Who d = Some act.Who
+act_of act_word.Grant d = of_two act.Grant (field name_in (codes "author") d) (field right_in (codes "right") d)
+act_of act_word.Rights d = Some act.Rights
+act_of act_word.Vector d = Some act.Vector
+act_of act_word.Push d = option_map act.Push (field op_in (codes "op") d)
+act_of act_word.Pull d = of_two act.Pull (field seen_in (codes "seen") d) (field number_in (codes "max") d)
 
 -- an author begins a session
 abbrev pub hello_in : Data → Option Request
@@ -112,9 +112,9 @@ peer_in d =
 abbrev pub create_in : Data → Option Request
 create_in d = option_map request.Create (field name_in (codes "pad") d)
 
--- a deed on a pad
+-- an act on a pad
 abbrev pub on_in : List ℕ → Data → Option Request
-on_in word d = of_two request.On (field name_in (codes "pad") d) (option_and_then (λ k. act_of k d) (deed_of_word word))
+on_in word d = of_two request.On (field name_in (codes "pad") d) (option_and_then (λ k. act_of k d) (act_word_of word))
 
 -- what a word asks
 abbrev pub asked : List ℕ → Data → Option Request

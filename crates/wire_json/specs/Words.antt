@@ -1,13 +1,13 @@
--- The words that stand for rights, kinds and states.
-use Rattle.std.specs.Prelude.{ℕ, List, codes, bytes_eq, if◌then◌else◌, Option, Some, None}
+-- The words that stand for acts, rights, kinds and states.
+use Rattle.std.specs.Prelude.{ℕ, List, [], ◌∷◌, codes, bytes_eq, if◌then◌else◌, Option, Some, None}
 use Rattle.rights.specs.declared.right.Right.{Right}
 use Rattle.rights.specs.declared.right.Right.TheVariants as right
 use Rattle.pad_core.specs.declared.reply.Kind.{Kind}
 use Rattle.pad_core.specs.declared.reply.Kind.TheVariants as kind
 use Rattle.pad_core.specs.declared.reply.Pushed.{Pushed}
 use Rattle.pad_core.specs.declared.reply.Pushed.TheVariants as state
-use Rattle.wire_json.specs.declared.deed.Deed.{Deed}
-use Rattle.wire_json.specs.declared.deed.Deed.TheVariants as deed
+use Rattle.wire_json.specs.declared.act_word.ActWord.{ActWord}
+use Rattle.wire_json.specs.declared.act_word.ActWord.TheVariants as act_word
 
 -- the word for a right
 abbrev pub right_word : Right → List ℕ
@@ -58,31 +58,22 @@ kind_of_word word =
     else if bytes_eq word (codes "edit") then Some kind.Edit
     else None
 
--- the deed of an author's reader, or of a peer, that a word names
-abbrev pub other_deed_of_word : List ℕ → Option Deed
-other_deed_of_word word =
-    if bytes_eq word (codes "revs") then Some deed.Revs
-    else if bytes_eq word (codes "entries") then Some deed.Entries
-    else if bytes_eq word (codes "caret") then Some deed.Caret
-    else if bytes_eq word (codes "who") then Some deed.Who
-    else if bytes_eq word (codes "grant") then Some deed.Grant
-    else if bytes_eq word (codes "rights") then Some deed.Rights
-    else if bytes_eq word (codes "vector") then Some deed.Vector
-    else if bytes_eq word (codes "push") then Some deed.Push
-    else if bytes_eq word (codes "pull") then Some deed.Pull
-    else None
+-- what a word stands for in a table, if it is there
+abbrev pub looked_up : {A : Type 0} → List ℕ → List (List ℕ × A) → Option A
+looked_up word [] = None
+looked_up word ((name, meant) ∷ rest) = if bytes_eq word name then Some meant else looked_up word rest
 
--- the deed that a word names
-abbrev pub deed_of_word : List ℕ → Option Deed
-deed_of_word word =
-    if bytes_eq word (codes "join") then Some deed.Join
-    else if bytes_eq word (codes "leave") then Some deed.Leave
-    else if bytes_eq word (codes "insert") then Some deed.Insert
-    else if bytes_eq word (codes "delete") then Some deed.Delete
-    else if bytes_eq word (codes "edit") then Some deed.Edit
-    else if bytes_eq word (codes "text") then Some deed.Text
-    else if bytes_eq word (codes "runs") then Some deed.Runs
-    else if bytes_eq word (codes "comment") then Some deed.Comment
-    else if bytes_eq word (codes "resolve") then Some deed.Resolve
-    else if bytes_eq word (codes "comments") then Some deed.Comments
-    else other_deed_of_word word
+-- the acts by their words
+abbrev pub act_words : List (List ℕ × ActWord)
+act_words =
+    (codes "join", act_word.Join) ∷ (codes "leave", act_word.Leave) ∷ (codes "insert", act_word.Insert)
+    ∷ (codes "delete", act_word.Delete) ∷ (codes "edit", act_word.Edit) ∷ (codes "text", act_word.Text)
+    ∷ (codes "runs", act_word.Runs) ∷ (codes "comment", act_word.Comment) ∷ (codes "resolve", act_word.Resolve)
+    ∷ (codes "comments", act_word.Comments) ∷ (codes "revs", act_word.Revs) ∷ (codes "entries", act_word.Entries)
+    ∷ (codes "caret", act_word.Caret) ∷ (codes "who", act_word.Who) ∷ (codes "grant", act_word.Grant)
+    ∷ (codes "rights", act_word.Rights) ∷ (codes "vector", act_word.Vector) ∷ (codes "push", act_word.Push)
+    ∷ (codes "pull", act_word.Pull) ∷ []
+
+-- the act that a word names
+abbrev pub act_word_of : List ℕ → Option ActWord
+act_word_of word = looked_up word act_words

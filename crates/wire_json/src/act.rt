@@ -3,7 +3,7 @@ ghost use Rattle.serde_json.specs.View.{view};
 ghost use Rattle.wire_json.specs.Reading.{IsForm, IsRead, right_in, field};
 ghost use Rattle.wire_json.specs.Requests.{act_of, change_of, change_in};
 
-use crate::deed::Deed;
+use crate::act_word::ActWord;
 use crate::field::{field, name_field, number_field, optional_number_field, str_field, text_field};
 use crate::form::{op_name_field, seen_field};
 use crate::list::{FromJson, list_field};
@@ -16,7 +16,7 @@ use serde_json::Value;
 use std::alloc::Global;
 
 fn read_insert(alloc: Global, value: &Value) -> Result<Act, Refusal>
-    ensures { IsRead (act_of Deed.Insert (view value.now)) result }
+    ensures { IsRead (act_of ActWord.Insert (view value.now)) result }
 {
     let rev = number_field(value, "rev")?;
     let at = number_field(value, "at")?;
@@ -25,7 +25,7 @@ fn read_insert(alloc: Global, value: &Value) -> Result<Act, Refusal>
 }
 
 fn read_delete(value: &Value) -> Result<Act, Refusal>
-    ensures { IsForm (act_of Deed.Delete (view value.now)) result }
+    ensures { IsForm (act_of ActWord.Delete (view value.now)) result }
 {
     let rev = number_field(value, "rev")?;
     let at = number_field(value, "at")?;
@@ -68,7 +68,7 @@ fn change_at(
 }
 
 fn read_edit(alloc: Global, value: &Value) -> Result<Act, Refusal>
-    ensures { IsRead (act_of Deed.Edit (view value.now)) result }
+    ensures { IsRead (act_of ActWord.Edit (view value.now)) result }
 {
     let rev = number_field(value, "rev")?;
     let changes = list_field(alloc, value, "parts")?;
@@ -76,7 +76,7 @@ fn read_edit(alloc: Global, value: &Value) -> Result<Act, Refusal>
 }
 
 fn read_comment(alloc: Global, value: &Value) -> Result<Act, Refusal>
-    ensures { IsRead (act_of Deed.Comment (view value.now)) result }
+    ensures { IsRead (act_of ActWord.Comment (view value.now)) result }
 {
     let rev = number_field(value, "rev")?;
     let at = number_field(value, "at")?;
@@ -86,14 +86,14 @@ fn read_comment(alloc: Global, value: &Value) -> Result<Act, Refusal>
 }
 
 fn read_resolve(value: &Value) -> Result<Act, Refusal>
-    ensures { IsForm (act_of Deed.Resolve (view value.now)) result }
+    ensures { IsForm (act_of ActWord.Resolve (view value.now)) result }
 {
     let comment = op_name_field(value, "comment")?;
     Ok(Act::Resolve { comment })
 }
 
 fn read_entries(value: &Value) -> Result<Act, Refusal>
-    ensures { IsForm (act_of Deed.Entries (view value.now)) result }
+    ensures { IsForm (act_of ActWord.Entries (view value.now)) result }
 {
     let from = number_field(value, "from")?;
     let count = number_field(value, "count")?;
@@ -101,7 +101,7 @@ fn read_entries(value: &Value) -> Result<Act, Refusal>
 }
 
 fn read_caret(value: &Value) -> Result<Act, Refusal>
-    ensures { IsForm (act_of Deed.Caret (view value.now)) result }
+    ensures { IsForm (act_of ActWord.Caret (view value.now)) result }
 {
     let rev = number_field(value, "rev")?;
     let at = number_field(value, "at")?;
@@ -120,7 +120,7 @@ fn right_field(value: &Value, key: &str) -> Result<Option<Right>, Refusal>
 }
 
 fn read_grant(alloc: Global, value: &Value) -> Result<Act, Refusal>
-    ensures { IsRead (act_of Deed.Grant (view value.now)) result }
+    ensures { IsRead (act_of ActWord.Grant (view value.now)) result }
 {
     let right = right_field(value, "right")?;
     let author = name_field(alloc, value, "author")?;
@@ -128,14 +128,14 @@ fn read_grant(alloc: Global, value: &Value) -> Result<Act, Refusal>
 }
 
 fn read_push(alloc: Global, value: &Value) -> Result<Act, Refusal>
-    ensures { IsRead (act_of Deed.Push (view value.now)) result }
+    ensures { IsRead (act_of ActWord.Push (view value.now)) result }
 {
     let op = read_op(alloc, field(value, "op")?)?;
     Ok(Act::Push { op })
 }
 
 fn read_pull(alloc: Global, value: &Value) -> Result<Act, Refusal>
-    ensures { IsRead (act_of Deed.Pull (view value.now)) result }
+    ensures { IsRead (act_of ActWord.Pull (view value.now)) result }
 {
     let max = number_field(value, "max")?;
     let seen = seen_field(alloc, value, "seen")?;
@@ -143,49 +143,49 @@ fn read_pull(alloc: Global, value: &Value) -> Result<Act, Refusal>
 }
 
 fn read_text(value: &Value) -> Result<Act, Refusal>
-    ensures { IsForm (act_of Deed.Text (view value.now)) result }
+    ensures { IsForm (act_of ActWord.Text (view value.now)) result }
 {
     let rev = optional_number_field(value, "rev")?;
     Ok(Act::Text { rev })
 }
 
 fn read_runs(value: &Value) -> Result<Act, Refusal>
-    ensures { IsForm (act_of Deed.Runs (view value.now)) result }
+    ensures { IsForm (act_of ActWord.Runs (view value.now)) result }
 {
     let rev = optional_number_field(value, "rev")?;
     Ok(Act::Runs { rev })
 }
 
 fn read_comments(value: &Value) -> Result<Act, Refusal>
-    ensures { IsForm (act_of Deed.Comments (view value.now)) result }
+    ensures { IsForm (act_of ActWord.Comments (view value.now)) result }
 {
     let rev = optional_number_field(value, "rev")?;
     Ok(Act::Comments { rev })
 }
 
-/// The act of a request that does this.
-pub fn read_act(alloc: Global, deed: Deed, value: &Value) -> Result<Act, Refusal>
-    ensures { IsRead (act_of deed (view value.now)) result }
+/// The act that a request's word names.
+pub fn read_act(alloc: Global, word: ActWord, value: &Value) -> Result<Act, Refusal>
+    ensures { IsRead (act_of word (view value.now)) result }
 {
-    match deed {
-        Deed::Join => Ok(Act::Join),
-        Deed::Leave => Ok(Act::Leave),
-        Deed::Insert => read_insert(alloc, value),
-        Deed::Delete => read_delete(value),
-        Deed::Edit => read_edit(alloc, value),
-        Deed::Text => read_text(value),
-        Deed::Runs => read_runs(value),
-        Deed::Comment => read_comment(alloc, value),
-        Deed::Resolve => read_resolve(value),
-        Deed::Comments => read_comments(value),
-        Deed::Revs => Ok(Act::Revs),
-        Deed::Entries => read_entries(value),
-        Deed::Caret => read_caret(value),
-        Deed::Who => Ok(Act::Who),
-        Deed::Grant => read_grant(alloc, value),
-        Deed::Rights => Ok(Act::Rights),
-        Deed::Vector => Ok(Act::Vector),
-        Deed::Push => read_push(alloc, value),
-        Deed::Pull => read_pull(alloc, value),
+    match word {
+        ActWord::Join => Ok(Act::Join),
+        ActWord::Leave => Ok(Act::Leave),
+        ActWord::Insert => read_insert(alloc, value),
+        ActWord::Delete => read_delete(value),
+        ActWord::Edit => read_edit(alloc, value),
+        ActWord::Text => read_text(value),
+        ActWord::Runs => read_runs(value),
+        ActWord::Comment => read_comment(alloc, value),
+        ActWord::Resolve => read_resolve(value),
+        ActWord::Comments => read_comments(value),
+        ActWord::Revs => Ok(Act::Revs),
+        ActWord::Entries => read_entries(value),
+        ActWord::Caret => read_caret(value),
+        ActWord::Who => Ok(Act::Who),
+        ActWord::Grant => read_grant(alloc, value),
+        ActWord::Rights => Ok(Act::Rights),
+        ActWord::Vector => Ok(Act::Vector),
+        ActWord::Push => read_push(alloc, value),
+        ActWord::Pull => read_pull(alloc, value),
     }
 }

@@ -6,8 +6,8 @@
 #![tactic(auto)]
 
 mod act;
+mod act_word;
 mod answer;
-mod deed;
 mod field;
 mod fixed;
 mod form;

@@ -3,11 +3,11 @@ ghost use Rattle.std.specs.Prelude.{◌≡◌, ◌⊎◌, Some, None, MatchResul
 ghost use Rattle.serde_json.specs.View.{view};
 ghost use Rattle.wire_json.specs.Lines.{request, value_of};
 ghost use Rattle.wire_json.specs.Reading.{IsForm, IsLine, IsRead};
-ghost use Rattle.wire_json.specs.Words.{deed_of_word};
+ghost use Rattle.wire_json.specs.Words.{act_word_of};
 ghost use Rattle.wire_json.specs.Requests.{request_in, hello_in, peer_in, create_in, on_in};
 
 use crate::act::read_act;
-use crate::deed::{Deed, deed_of_word};
+use crate::act_word::{ActWord, act_word_of};
 use crate::field::{name_field, number_field, str_field, word_field};
 use crate::form::version_field;
 use pad_core::Request;
@@ -79,18 +79,18 @@ fn read_create(alloc: Global, value: &Value) -> Result<Request, Refusal>
 fn read_on(alloc: Global, word: &str, value: &Value) -> Result<Request, Refusal>
     ensures { IsRead (on_in word.now (view value.now)) result }
 {
-    let deed = deed_of(word)?;
+    let named = known_word(word)?;
     let pad = str_field(value, "pad")?;
-    let act = read_act(alloc, deed, value)?;
+    let act = read_act(alloc, named, value)?;
     let pad = Name::from_str(alloc, pad)?;
     Ok(Request::On { pad, act })
 }
 
-fn deed_of(word: &str) -> Result<Deed, Refusal>
-    ensures { IsForm (deed_of_word word.now) result }
+fn known_word(word: &str) -> Result<ActWord, Refusal>
+    ensures { IsForm (act_word_of word.now) result }
 {
-    match deed_of_word(word) {
-        Some(deed) => Ok(deed),
+    match act_word_of(word) {
+        Some(known) => Ok(known),
         None => Err(Refusal::NotRequest),
     }
 }

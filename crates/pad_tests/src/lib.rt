@@ -2,9 +2,9 @@
 #![tactic(auto)]
 
 #[cfg(test)]
-mod connection;
+mod choice;
 #[cfg(test)]
-mod deed;
+mod connection;
 #[cfg(test)]
 mod expected;
 #[cfg(test)]

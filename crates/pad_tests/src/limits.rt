@@ -1,5 +1,5 @@
 //! The limits of a pad that take many requests to reach: what one more is answered.
-use crate::limits::Step::{Asks, ComeAndGo, Fill, JoinMore, Opens, Says, Taken, Types};
+use crate::limits::LimitCase::{Asks, ComeAndGo, Fill, JoinMore, Opens, Says, Taken, Types};
 use crate::replies::number_behind;
 use crate::rig::{ANN, PEER, Rig};
 use pad_model::Refusal;
@@ -51,7 +51,7 @@ const Z: &str =
 
 /// What is done with a server, and what is wanted of it.
 #[derive(Clone, Copy)]
-enum Step {
+enum LimitCase {
     /// A session's request, and the number of its refusal; 0 where it is not refused.
     Asks(u32, &'static str, u64),
     /// A request of ann's, how often it is made at most, and how often it is taken before it is refused.
@@ -71,7 +71,7 @@ enum Step {
 }
 
 /// On a pad with 10,000 comments, and then with 200,000 operations, 10,000 comments among them, and no counter left.
-const COMMENTS_AND_OPERATIONS: &[Step] = &[
+const COMMENTS_AND_OPERATIONS: &[LimitCase] = &[
     Taken(COMMENT, 20_000, 9_999),
     Asks(ANN, COMMENT, 328),
     Asks(
@@ -155,7 +155,7 @@ fn join_more(rig: &mut Rig, times: u64) -> Result<u64, Refusal> {
 }
 
 /// 64 sessions of ann's join a million times in all, and then one more comes.
-const VISITS: &[Step] = &[
+const VISITS: &[LimitCase] = &[
     ComeAndGo(999_936),
     JoinMore(63),
     Opens(65),
@@ -211,7 +211,7 @@ const LAST: &str =
     r#"{"do":"push","pad":"p","op":{"name":[3,1],"seen":[],"author":"bob","kind":"insert","after":null,"first":[281474976710656,3],"text":"z"}}"#;
 
 /// On a pad with 4,000,000 characters and no counter left at the end.
-const CHARACTERS: &[Step] = &[
+const CHARACTERS: &[LimitCase] = &[
     Fill(399),
     Types(400, 3_990_001, 9_999),
     Asks(PEER, LAST, 0),
@@ -240,7 +240,7 @@ fn limit_characters(rt: HostRuntime) -> Result<(), Fail> {
     Ok(())
 }
 
-fn is_so(alloc: Global, rig: &mut Rig, step: Step) -> Result<bool, Refusal> {
+fn is_so(alloc: Global, rig: &mut Rig, step: LimitCase) -> Result<bool, Refusal> {
     match step {
         Asks(session, line, want) => Ok(code(rig, session, line)? == want),
         Taken(line, times, want) => Ok(count_taken(rig, line, times)? == want),
@@ -254,7 +254,7 @@ fn is_so(alloc: Global, rig: &mut Rig, step: Step) -> Result<bool, Refusal> {
 }
 
 /// How many steps are so, before the first that is not.
-fn count_so(alloc: Global, rig: &mut Rig, steps: &[Step]) -> Result<usize, Refusal> {
+fn count_so(alloc: Global, rig: &mut Rig, steps: &[LimitCase]) -> Result<usize, Refusal> {
     let mut count = 0usize;
     for step in steps {
         if !is_so(alloc, rig, *step)? {

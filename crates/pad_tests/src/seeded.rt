@@ -1,5 +1,5 @@
 //! Two servers whose authors act on all revisions, and that hear of each other from time to time.
-use crate::deed::Deed;
+use crate::choice::Choice;
 use crate::expected::{comments_line, runs_line, text_line};
 use crate::page::Page;
 use crate::replies::{between, is_refusal, number_behind, op_of, ops_in, text_len};
@@ -24,14 +24,14 @@ struct Shares {
 }
 
 impl Shares {
-    fn count(&mut self, deed: Deed, reply: &str) {
-        let share = match deed {
+    fn count(&mut self, choice: Choice, reply: &str) {
+        let share = match choice {
             _ if is_refusal(reply) => &mut self.refused,
-            Deed::Type => &mut self.typed,
-            Deed::Erase => &mut self.erased,
-            Deed::Edit => &mut self.edited,
-            Deed::Note => &mut self.noted,
-            Deed::Resolve => &mut self.resolved,
+            Choice::Type => &mut self.typed,
+            Choice::Erase => &mut self.erased,
+            Choice::Edit => &mut self.edited,
+            Choice::Note => &mut self.noted,
+            Choice::Resolve => &mut self.resolved,
         };
         *share = share.saturating_add(1);
         let hidden = number_behind(reply, "\"hidden\":").unwrap_or(0);
@@ -73,24 +73,24 @@ fn happen(
     let now = revision(rig)?;
     let rev = dice.roll(now.saturating_add(1));
     let length = length_at(alloc, rig, rev)?;
-    let deed = Deed::pick(dice);
+    let choice = Choice::pick(dice);
     let place = dice.roll(noted.len() as u64) as usize;
     let comment = one_of(noted.as_slice(), place);
-    let line = deed.line(alloc, dice, rev, length, comment)?;
-    act(alloc, rig, deed, line.as_str(), noted, shares)
+    let line = choice.line(alloc, dice, rev, length, comment)?;
+    act(alloc, rig, choice, line.as_str(), noted, shares)
 }
 
 fn act(
     alloc: Global,
     rig: &mut Rig,
-    deed: Deed,
+    choice: Choice,
     line: &str,
     noted: &mut Vec<String>,
     shares: &mut Shares,
 ) -> Result<(), Refusal> {
     let reply = rig.say(ANN, line)?;
-    shares.count(deed, reply.as_str());
-    if deed == Deed::Note {
+    shares.count(choice, reply.as_str());
+    if choice == Choice::Note {
         keep_name(alloc, reply.as_str(), noted)?;
     }
     Ok(())
@@ -331,23 +331,23 @@ fn are_same(one: &mut Rig, two: &mut Rig, line: &str) -> Result<bool, Refusal> {
 /// What came of a run: the shares of its events, how many readings are the same on both servers, and how many revisions
 /// of each read as they should.
 #[derive(Clone, Copy)]
-struct Outcome {
+struct Played {
     shares: Shares,
     same: u64,
     agreeing: [u64; 2],
 }
 
-fn play_to_the_end(alloc: Global, one: &mut Rig, two: &mut Rig) -> Result<Outcome, Refusal> {
+fn play_to_the_end(alloc: Global, one: &mut Rig, two: &mut Rig) -> Result<Played, Refusal> {
     let shares = play(alloc, one, two)?;
     exchange(alloc, one, two)?;
-    Ok(Outcome {
+    Ok(Played {
         shares,
         same: count_same(one, two)?,
         agreeing: [count_agreeing(alloc, one)?, count_agreeing(alloc, two)?],
     })
 }
 
-fn play_both(alloc: Global) -> Result<Outcome, Refusal> {
+fn play_both(alloc: Global) -> Result<Played, Refusal> {
     let mut one = Rig::new(alloc, 1)?;
     let mut two = Rig::new(alloc, 2)?;
     play_to_the_end(alloc, &mut one, &mut two)
@@ -355,7 +355,7 @@ fn play_both(alloc: Global) -> Result<Outcome, Refusal> {
 
 #[test]
 fn seeded_servers_agree(rt: HostRuntime) -> Result<(), Fail> {
-    let Outcome {
+    let Played {
         shares,
         same,
         agreeing,

@@ -1,5 +1,5 @@
 //! Who wrote what: runs that are cut and joined, as someone counts them, and room that is reserved.
-use crate::author_runs::Step::{By, Len, Put, Runs, Take};
+use crate::author_runs::RunCase::{By, Len, Put, Runs, Take};
 use authorship::RunList;
 use pad_model::{Author, AuthorRun, Name, Refusal};
 use std::alloc::{AllocError, Global};
@@ -71,7 +71,7 @@ fn are_runs(alloc: Global, list: &RunList, want: &[Plain]) -> Result<bool, Refus
 
 /// A change of a list, or what it shows.
 #[derive(Clone, Copy)]
-enum Step {
+enum RunCase {
     Put(u64, &'static str, u64),
     Take(u64, u64),
     Runs(&'static [Plain]),
@@ -79,7 +79,7 @@ enum Step {
     Len(u64),
 }
 
-fn is_so(alloc: Global, list: &mut RunList, step: Step) -> Result<bool, Refusal> {
+fn is_so(alloc: Global, list: &mut RunList, step: RunCase) -> Result<bool, Refusal> {
     match step {
         Put(pos, name, n) => put(list, alloc, pos, name, n),
         Take(pos, n) => Ok(take(list, pos, n)),
@@ -90,7 +90,7 @@ fn is_so(alloc: Global, list: &mut RunList, step: Step) -> Result<bool, Refusal>
 }
 
 /// How many steps are so, before the first that is not.
-fn count_so(alloc: Global, list: &mut RunList, steps: &[Step]) -> Result<usize, Refusal> {
+fn count_so(alloc: Global, list: &mut RunList, steps: &[RunCase]) -> Result<usize, Refusal> {
     let mut count = 0usize;
     for step in steps {
         if !is_so(alloc, list, *step)? {
@@ -102,7 +102,7 @@ fn count_so(alloc: Global, list: &mut RunList, steps: &[Step]) -> Result<usize, 
 }
 
 /// ann's five characters with one of bob's after the second, and without it again.
-const BOB_COMES_AND_GOES: &[Step] = &[
+const BOB_COMES_AND_GOES: &[RunCase] = &[
     Len(0),
     Put(0, "ann", 5),
     Put(2, "bob", 1),

@@ -1,5 +1,5 @@
 //! Who may do what with a pad, as someone reads the rules, and how many names a pad takes.
-use crate::grants::Step::{Counts, Grants, Lists, May};
+use crate::grants::GrantCase::{Counts, Grants, Lists, May};
 use pad_model::{Name, Refusal};
 use rights::Right::{Comment, Own, Read, Write};
 use rights::{Grant, MAX_GRANTS, Right, RightsBook};
@@ -15,7 +15,7 @@ type Plain = (&'static str, Right);
 
 /// What a book does, and how it answers.
 #[derive(Clone, Copy)]
-enum Step {
+enum GrantCase {
     Grants(&'static str, Option<Right>, Result<(), Refusal>),
     May(&'static str, Right, bool),
     Lists(&'static [Plain]),
@@ -60,7 +60,7 @@ fn count(alloc: Global, book: &RightsBook) -> Result<u64, Refusal> {
     Ok(rows.len() as u64)
 }
 
-fn is_so(alloc: Global, book: &mut RightsBook, step: Step) -> Result<bool, Refusal> {
+fn is_so(alloc: Global, book: &mut RightsBook, step: GrantCase) -> Result<bool, Refusal> {
     match step {
         Grants(name, right, want) => Ok(grant(alloc, book, name, right) == want),
         May(name, right, want) => Ok(may(alloc, book, name, right)? == want),
@@ -70,7 +70,7 @@ fn is_so(alloc: Global, book: &mut RightsBook, step: Step) -> Result<bool, Refus
 }
 
 /// How many steps are so, before the first that is not.
-fn count_so(alloc: Global, book: &mut RightsBook, steps: &[Step]) -> Result<usize, Refusal> {
+fn count_so(alloc: Global, book: &mut RightsBook, steps: &[GrantCase]) -> Result<usize, Refusal> {
     let mut count = 0usize;
     for step in steps {
         if !is_so(alloc, book, *step)? {
@@ -82,7 +82,7 @@ fn count_so(alloc: Global, book: &mut RightsBook, steps: &[Step]) -> Result<usiz
 }
 
 /// bob is granted a right, and has those before it too.
-const EACH_RIGHT: &[[Step; 5]] = &[
+const EACH_RIGHT: &[[GrantCase; 5]] = &[
     [
         Grants("bob", Some(Read), Ok(())),
         May("bob", Read, true),
@@ -114,7 +114,7 @@ const EACH_RIGHT: &[[Step; 5]] = &[
 ];
 
 /// How many steps are so in a book of ann's alone.
-fn count_so_in_new(alloc: Global, steps: &[Step]) -> Result<usize, Refusal> {
+fn count_so_in_new(alloc: Global, steps: &[GrantCase]) -> Result<usize, Refusal> {
     let mut book = book_of_ann(alloc)?;
     count_so(alloc, &mut book, steps)
 }
@@ -128,7 +128,7 @@ fn each_right_includes_those_before_it(rt: HostRuntime) -> Result<(), Fail> {
     Ok(())
 }
 
-const SHARED: &[Step] = &[
+const SHARED: &[GrantCase] = &[
     May("ann", Own, true),
     May("bob", Read, false),
     Grants("ann", Some(Read), Err(Refusal::OwnerKept)),
@@ -166,7 +166,7 @@ fn may_read(alloc: Global, book: &mut RightsBook, number: u64) -> Result<(), Fai
 }
 
 /// In a book that is full, where `ab` is the first of those who may read.
-const FULL: &[Step] = &[
+const FULL: &[GrantCase] = &[
     Grants("zoe", Some(Read), Err(Refusal::GrantsFull)),
     Grants("zoe", None, Ok(())),
     Grants("ab", Some(Own), Ok(())),

@@ -1,5 +1,5 @@
 //! Operations that wait for others: what a hold answers, as someone counts it.
-use crate::held::Deed::{Deliver, Fill, Get, Len, Next, Offer, Take};
+use crate::held::HoldCall::{Deliver, Fill, Get, Len, Next, Offer, Take};
 use holdback::Hold;
 use pad_model::{Name, Op, OpName, Refusal, Row, Seen};
 use std::alloc::Global;
@@ -38,7 +38,7 @@ fn op(alloc: Global, made: Made) -> Result<Op, Refusal> {
 
 /// What a hold is asked, or its caller does.
 #[derive(Clone, Copy)]
-enum Deed {
+enum HoldCall {
     /// Offers 256 operations that wait, and answers as all of them were answered, or as the first that is not held.
     Fill,
     Offer(Made),
@@ -50,7 +50,7 @@ enum Deed {
 }
 
 #[derive(Clone, Copy, PartialEq)]
-pub enum Told {
+pub enum HoldAnswer {
     Ready,
     Held,
     Repeat,
@@ -65,90 +65,94 @@ pub enum Told {
 }
 
 /// Whether an operation that came back is the one that was made.
-fn found(alloc: Global, found: Option<&Op>, made: Made) -> Result<Told, Refusal> {
+fn found(alloc: Global, found: Option<&Op>, made: Made) -> Result<HoldAnswer, Refusal> {
     let Some(found) = found else {
-        return Ok(Told::Nothing);
+        return Ok(HoldAnswer::Nothing);
     };
     if *found == op(alloc, made)? {
-        Ok(Told::Itself)
+        Ok(HoldAnswer::Itself)
     } else {
-        Ok(Told::Another)
+        Ok(HoldAnswer::Another)
     }
 }
 
 /// A hold, and what was delivered.
 #[derive(Drop)]
-pub struct Stage {
+pub struct HoldRig {
     pub hold: Hold,
     pub seen: Seen,
 }
 
-impl Stage {
-    pub fn new(alloc: Global) -> Stage {
-        Stage {
+impl HoldRig {
+    pub fn new(alloc: Global) -> HoldRig {
+        HoldRig {
             hold: Hold::new(alloc),
             seen: Seen::new(alloc),
         }
     }
 
-    pub fn offer(&mut self, alloc: Global, made: Made) -> Result<Told, Refusal> {
+    pub fn offer(&mut self, alloc: Global, made: Made) -> Result<HoldAnswer, Refusal> {
         let answer = self.hold.offer(op(alloc, made)?, &self.seen);
         match answer {
             Ok(holdback::Offer::Ready(op)) => match found(alloc, Some(&op), made)? {
-                Told::Itself => Ok(Told::Ready),
+                HoldAnswer::Itself => Ok(HoldAnswer::Ready),
                 other => Ok(other),
             },
-            Ok(holdback::Offer::Held) => Ok(Told::Held),
-            Ok(holdback::Offer::Repeat) => Ok(Told::Repeat),
-            Err(Refusal::HoldFull) => Ok(Told::Full),
+            Ok(holdback::Offer::Held) => Ok(HoldAnswer::Held),
+            Ok(holdback::Offer::Repeat) => Ok(HoldAnswer::Repeat),
+            Err(Refusal::HoldFull) => Ok(HoldAnswer::Full),
             Err(refusal) => Err(refusal),
         }
     }
 
-    pub fn deliver(&mut self, name: OpName) -> Result<Told, Refusal> {
+    pub fn deliver(&mut self, name: OpName) -> Result<HoldAnswer, Refusal> {
         self.seen.set(name.origin, name.number)?;
-        Ok(Told::Delivered)
+        Ok(HoldAnswer::Delivered)
     }
 
-    fn next(&self) -> Told {
+    fn next(&self) -> HoldAnswer {
         match self.hold.next_ready(&self.seen) {
-            Some(name) => Told::Name(name),
-            None => Told::Nothing,
+            Some(name) => HoldAnswer::Name(name),
+            None => HoldAnswer::Nothing,
         }
     }
 
-    fn take(&mut self, alloc: Global, made: Made) -> Result<Told, Refusal> {
+    fn take(&mut self, alloc: Global, made: Made) -> Result<HoldAnswer, Refusal> {
         let taken = self.hold.take(made.name);
         found(alloc, taken.as_ref(), made)
     }
 
-    fn fill(&mut self, alloc: Global) -> Result<Told, Refusal> {
+    fn fill(&mut self, alloc: Global) -> Result<HoldAnswer, Refusal> {
         for number in 2..258 {
             let told = self.offer(alloc, plain(1, number))?;
-            if told != Told::Held {
+            if told != HoldAnswer::Held {
                 return Ok(told);
             }
         }
-        Ok(Told::Held)
+        Ok(HoldAnswer::Held)
     }
 
-    fn tell(&mut self, alloc: Global, deed: Deed) -> Result<Told, Refusal> {
-        match deed {
+    fn tell(&mut self, alloc: Global, call: HoldCall) -> Result<HoldAnswer, Refusal> {
+        match call {
             Fill => self.fill(alloc),
             Offer(made) => self.offer(alloc, made),
             Deliver(name) => self.deliver(name),
             Next => Ok(self.next()),
             Get(made) => found(alloc, self.hold.get(made.name), made),
             Take(made) => self.take(alloc, made),
-            Len => Ok(Told::Count(self.hold.len())),
+            Len => Ok(HoldAnswer::Count(self.hold.len())),
         }
     }
 
-    /// How many deeds are answered so, before the first that is not.
-    fn count_told(&mut self, alloc: Global, deeds: &[(Deed, Told)]) -> Result<usize, Refusal> {
+    /// How many calls are answered so, before the first that is not.
+    fn count_told(
+        &mut self,
+        alloc: Global,
+        calls: &[(HoldCall, HoldAnswer)],
+    ) -> Result<usize, Refusal> {
         let mut count = 0usize;
-        for (deed, told) in deeds {
-            if self.tell(alloc, *deed)? != *told {
+        for (call, told) in calls {
+            if self.tell(alloc, *call)? != *told {
                 break;
             }
             count = count.saturating_add(1);
@@ -157,10 +161,10 @@ impl Stage {
     }
 }
 
-/// How many deeds a new hold answers so.
-fn count_told(alloc: Global, deeds: &[(Deed, Told)]) -> Result<usize, Refusal> {
-    let mut stage = Stage::new(alloc);
-    stage.count_told(alloc, deeds)
+/// How many calls a new hold answers so.
+fn count_told(alloc: Global, calls: &[(HoldCall, HoldAnswer)]) -> Result<usize, Refusal> {
+    let mut rig = HoldRig::new(alloc);
+    rig.count_told(alloc, calls)
 }
 
 const FIRST_NAME: OpName = OpName {
@@ -188,26 +192,26 @@ const SECOND: Made = Made {
     needs: NONE_OF_ITS_ORIGIN,
 };
 
-const IN_TURN: &[(Deed, Told)] = &[
-    (Offer(SECOND), Told::Held),
-    (Offer(SECOND), Told::Repeat),
-    (Next, Told::Nothing),
-    (Offer(FIRST), Told::Ready),
-    (Deliver(FIRST_NAME), Told::Delivered),
-    (Offer(FIRST), Told::Repeat),
-    (Next, Told::Name(SECOND_NAME)),
-    (Get(SECOND), Told::Itself),
-    (Take(FIRST), Told::Nothing),
-    (Len, Told::Count(1)),
-    (Take(SECOND), Told::Itself),
-    (Get(SECOND), Told::Nothing),
-    (Len, Told::Count(0)),
+const IN_TURN: &[(HoldCall, HoldAnswer)] = &[
+    (Offer(SECOND), HoldAnswer::Held),
+    (Offer(SECOND), HoldAnswer::Repeat),
+    (Next, HoldAnswer::Nothing),
+    (Offer(FIRST), HoldAnswer::Ready),
+    (Deliver(FIRST_NAME), HoldAnswer::Delivered),
+    (Offer(FIRST), HoldAnswer::Repeat),
+    (Next, HoldAnswer::Name(SECOND_NAME)),
+    (Get(SECOND), HoldAnswer::Itself),
+    (Take(FIRST), HoldAnswer::Nothing),
+    (Len, HoldAnswer::Count(1)),
+    (Take(SECOND), HoldAnswer::Itself),
+    (Get(SECOND), HoldAnswer::Nothing),
+    (Len, HoldAnswer::Count(0)),
 ];
 
 #[test]
 fn a_later_operation_waits_for_the_one_before(rt: HostRuntime) -> Result<(), Fail> {
     let count = count_told(rt.alloc(), IN_TURN)?;
-    assert!(rt; count == IN_TURN.len(), "not deed {count}");
+    assert!(rt; count == IN_TURN.len(), "not call {count}");
     Ok(())
 }
 
@@ -222,18 +226,18 @@ const THIRD: Made = Made {
     needs: FIRST_NAME,
 };
 
-const OF_TWO_ORIGINS: &[(Deed, Told)] = &[
-    (Offer(THIRD), Told::Held),
-    (Next, Told::Nothing),
-    (Offer(FIRST), Told::Ready),
-    (Deliver(FIRST_NAME), Told::Delivered),
-    (Next, Told::Name(THIRD_NAME)),
+const OF_TWO_ORIGINS: &[(HoldCall, HoldAnswer)] = &[
+    (Offer(THIRD), HoldAnswer::Held),
+    (Next, HoldAnswer::Nothing),
+    (Offer(FIRST), HoldAnswer::Ready),
+    (Deliver(FIRST_NAME), HoldAnswer::Delivered),
+    (Next, HoldAnswer::Name(THIRD_NAME)),
 ];
 
 #[test]
 fn an_operation_waits_for_another_origin(rt: HostRuntime) -> Result<(), Fail> {
     let count = count_told(rt.alloc(), OF_TWO_ORIGINS)?;
-    assert!(rt; count == OF_TWO_ORIGINS.len(), "not deed {count}");
+    assert!(rt; count == OF_TWO_ORIGINS.len(), "not call {count}");
     Ok(())
 }
 
@@ -260,19 +264,19 @@ const LAST_OF_ALL: Made = Made {
     },
 };
 
-const FULL: &[(Deed, Told)] = &[
-    (Fill, Told::Held),
-    (Len, Told::Count(256)),
-    (Offer(SECOND), Told::Full),
-    (Get(SECOND), Told::Nothing),
-    (Offer(LAST_OF_ALL), Told::Repeat),
-    (Offer(FIRST_OF_ALL), Told::Ready),
-    (Len, Told::Count(256)),
+const FULL: &[(HoldCall, HoldAnswer)] = &[
+    (Fill, HoldAnswer::Held),
+    (Len, HoldAnswer::Count(256)),
+    (Offer(SECOND), HoldAnswer::Full),
+    (Get(SECOND), HoldAnswer::Nothing),
+    (Offer(LAST_OF_ALL), HoldAnswer::Repeat),
+    (Offer(FIRST_OF_ALL), HoldAnswer::Ready),
+    (Len, HoldAnswer::Count(256)),
 ];
 
 #[test]
 fn a_full_hold_refuses_what_must_wait(rt: HostRuntime) -> Result<(), Fail> {
     let count = count_told(rt.alloc(), FULL)?;
-    assert!(rt; count == FULL.len(), "not deed {count}");
+    assert!(rt; count == FULL.len(), "not call {count}");
     Ok(())
 }

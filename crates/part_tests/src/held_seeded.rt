@@ -1,5 +1,5 @@
 //! Operations that wait for others: a hold beside a plain list, by 500 offers in a seeded order.
-use crate::held::{Made, Stage, Told, name, plain};
+use crate::held::{HoldAnswer, HoldRig, Made, name, plain};
 use dice::Dice;
 use holdback::MAX_HELD;
 use pad_model::{OpName, Refusal, Seen};
@@ -45,15 +45,15 @@ fn is_there(held: &[Made], name: OpName) -> bool {
     false
 }
 
-fn expected(held: &[Made], made: Made, seen: &Seen) -> Told {
+fn expected(held: &[Made], made: Made, seen: &Seen) -> HoldAnswer {
     if made.name.number <= seen.count(made.name.origin) || is_there(held, made.name) {
-        Told::Repeat
+        HoldAnswer::Repeat
     } else if may_go(made, seen) {
-        Told::Ready
+        HoldAnswer::Ready
     } else if held.len() as u64 == MAX_HELD {
-        Told::Full
+        HoldAnswer::Full
     } else {
-        Told::Held
+        HoldAnswer::Held
     }
 }
 
@@ -80,11 +80,11 @@ struct Cases {
 }
 
 impl Cases {
-    fn note(&mut self, told: Told, next: Option<OpName>) {
+    fn note(&mut self, told: HoldAnswer, next: Option<OpName>) {
         let count = match told {
-            Told::Ready => &mut self.ready,
-            Told::Held => &mut self.held,
-            Told::Repeat => &mut self.repeated,
+            HoldAnswer::Ready => &mut self.ready,
+            HoldAnswer::Held => &mut self.held,
+            HoldAnswer::Repeat => &mut self.repeated,
             _ => &mut self.refused,
         };
         *count = count.saturating_add(1);
@@ -103,7 +103,7 @@ impl Cases {
 /// A hold with a plain list beside it.
 #[derive(Drop)]
 struct Pair {
-    stage: Stage,
+    rig: HoldRig,
     held: Vec<Made>,
 }
 
@@ -111,23 +111,23 @@ impl Pair {
     /// A hundred operations of a fifth origin wait all along.
     fn new(alloc: Global) -> Result<Pair, Refusal> {
         let mut pair = Pair {
-            stage: Stage::new(alloc),
+            rig: HoldRig::new(alloc),
             held: Vec::new(alloc),
         };
         for number in 2..102 {
-            pair.stage.offer(alloc, plain(9, number))?;
+            pair.rig.offer(alloc, plain(9, number))?;
             pair.held.push(plain(9, number))?;
         }
         Ok(pair)
     }
 
     /// Offers an operation that came, which is delivered where it is ready, and says whether the answer was right.
-    fn offer(&mut self, alloc: Global, made: Made, want: Told) -> Result<bool, Refusal> {
-        let told = self.stage.offer(alloc, made)?;
-        if want == Told::Ready {
-            self.stage.deliver(made.name)?;
+    fn offer(&mut self, alloc: Global, made: Made, want: HoldAnswer) -> Result<bool, Refusal> {
+        let told = self.rig.offer(alloc, made)?;
+        if want == HoldAnswer::Ready {
+            self.rig.deliver(made.name)?;
         }
-        if want == Told::Held {
+        if want == HoldAnswer::Held {
             self.held.push(made)?;
         }
         Ok(told == want)
@@ -135,23 +135,23 @@ impl Pair {
 
     /// Delivers the held operation that is next, and says whether it was there.
     fn release(&mut self, name: OpName) -> Result<bool, Refusal> {
-        let was_there = self.stage.hold.take(name).is_some();
+        let was_there = self.rig.hold.take(name).is_some();
         self.held.retain(|made| made.name != name);
-        self.stage.deliver(name)?;
+        self.rig.deliver(name)?;
         Ok(was_there)
     }
 
-    fn some_operation(&self, dice: &mut Dice) -> (Made, Told) {
-        let made = some_operation(dice, &self.stage.seen);
-        (made, expected(self.held.as_slice(), made, &self.stage.seen))
+    fn some_operation(&self, dice: &mut Dice) -> (Made, HoldAnswer) {
+        let made = some_operation(dice, &self.rig.seen);
+        (made, expected(self.held.as_slice(), made, &self.rig.seen))
     }
 
     fn expected_next(&self) -> Option<OpName> {
-        expected_next(self.held.as_slice(), &self.stage.seen)
+        expected_next(self.held.as_slice(), &self.rig.seen)
     }
 
     fn is_as_long(&self) -> bool {
-        self.stage.hold.len() == self.held.len() as u64
+        self.rig.hold.len() == self.held.len() as u64
     }
 
     /// Offers some operation, delivers the one that is next, and says whether all went as in the list.
@@ -159,7 +159,7 @@ impl Pair {
         let (made, want) = self.some_operation(dice);
         let was_told = self.offer(alloc, made, want)?;
         let next = self.expected_next();
-        let is_next = self.stage.hold.next_ready(&self.stage.seen) == next;
+        let is_next = self.rig.hold.next_ready(&self.rig.seen) == next;
         let was_there = match next {
             Some(name) => self.release(name)?,
             None => true,

@@ -1,5 +1,5 @@
 //! Who is present on a pad, and which pads a session has joined, as someone counts them.
-use crate::presence::Step::{Caret, Holds, Join, Leave, Present};
+use crate::presence::VisitCase::{Caret, Holds, Join, Leave, Present};
 use pad_model::{Name, Refusal, Stamp, Version, Who};
 use sessions::{PresenceBook, Room, Session, Visit};
 use std::alloc::Global;
@@ -13,7 +13,7 @@ type Plain = (u64, &'static str, Option<Place>);
 
 /// What a book does, and how it answers; or what it shows.
 #[derive(Clone, Copy)]
-enum Step {
+enum VisitCase {
     Join(&'static str, Result<u64, Refusal>),
     Caret(u64, Option<Place>, Result<(), Refusal>),
     Leave(u64, Result<(), Refusal>),
@@ -56,7 +56,7 @@ fn are_present(alloc: Global, book: &PresenceBook, want: &[Plain]) -> Result<boo
     Ok(are_visits(visits.as_slice(), want))
 }
 
-fn is_so(alloc: Global, book: &mut PresenceBook, step: Step) -> Result<bool, Refusal> {
+fn is_so(alloc: Global, book: &mut PresenceBook, step: VisitCase) -> Result<bool, Refusal> {
     match step {
         Join(author, want) => Ok(book.join(alloc, author) == want),
         Caret(visit, place, want) => Ok(put_caret(book, visit, place) == want),
@@ -67,7 +67,7 @@ fn is_so(alloc: Global, book: &mut PresenceBook, step: Step) -> Result<bool, Ref
 }
 
 /// How many steps are so, before the first that is not.
-fn count_so(alloc: Global, book: &mut PresenceBook, steps: &[Step]) -> Result<usize, Refusal> {
+fn count_so(alloc: Global, book: &mut PresenceBook, steps: &[VisitCase]) -> Result<usize, Refusal> {
     let mut count = 0usize;
     for step in steps {
         if !is_so(alloc, book, *step)? {
@@ -78,7 +78,7 @@ fn count_so(alloc: Global, book: &mut PresenceBook, steps: &[Step]) -> Result<us
     Ok(count)
 }
 
-const VISITS: &[Step] = &[
+const VISITS: &[VisitCase] = &[
     Join("ann", Ok(1)),
     Join("bob", Ok(2)),
     Join("ann", Ok(3)),
@@ -106,7 +106,7 @@ fn join_and_leave(rt: HostRuntime) -> Result<(), Fail> {
 }
 
 /// Where 64 are present.
-const CROWDED: &[Step] = &[
+const CROWDED: &[VisitCase] = &[
     Join("ann", Err(Refusal::Crowded)),
     Leave(64, Ok(())),
     Join("ann", Ok(65)),

@@ -8,9 +8,9 @@ use std::alloc::Global;
 use std::test::Fail;
 use wire_json::{read_op, reply_line};
 
-/// What is answered, in a word.
+/// A reply that a test writes, in a word.
 #[derive(Clone, Copy)]
-enum Told {
+enum Sample {
     Hello,
     Peer(u16, Version),
     Ended,
@@ -32,22 +32,22 @@ enum Told {
     Pulled,
 }
 
-fn line_of(alloc: Global, told: Told) -> Result<String, Refusal> {
-    reply_line(alloc, &reply_of(alloc, told))
+fn line_of(alloc: Global, sample: Sample) -> Result<String, Refusal> {
+    reply_line(alloc, &reply_of(alloc, sample))
 }
 
-fn is_line(alloc: Global, told: Told, want: &str) -> Result<bool, Refusal> {
-    let line = line_of(alloc, told)?;
+fn is_line(alloc: Global, sample: Sample, want: &str) -> Result<bool, Refusal> {
+    let line = line_of(alloc, sample)?;
     Ok(line.as_str() == want)
 }
 
-fn reply_of(alloc: Global, told: Told) -> Result<Reply, Refusal> {
-    match told {
-        Told::Hello => hello(alloc),
-        Told::Peer(replica, version) => Ok(Reply::Peer { replica, version }),
-        Told::Ended => Ok(Reply::Ended),
-        Told::Refused(refusal) => Err(refusal),
-        _ => Ok(Reply::Pad(pad_reply_of(alloc, told)?)),
+fn reply_of(alloc: Global, sample: Sample) -> Result<Reply, Refusal> {
+    match sample {
+        Sample::Hello => hello(alloc),
+        Sample::Peer(replica, version) => Ok(Reply::Peer { replica, version }),
+        Sample::Ended => Ok(Reply::Ended),
+        Sample::Refused(refusal) => Err(refusal),
+        _ => Ok(Reply::Pad(pad_reply_of(alloc, sample)?)),
     }
 }
 
@@ -56,41 +56,41 @@ fn hello(alloc: Global) -> Result<Reply, Refusal> {
     Ok(Reply::Hello { author })
 }
 
-fn pad_reply_of(alloc: Global, told: Told) -> Result<PadReply, Refusal> {
-    match told {
-        Told::Text => text_told(alloc),
-        Told::Runs => runs_told(alloc),
-        Told::Comments => comments_told(alloc),
-        Told::Who => who_told(alloc),
-        Told::Entries => entries_told(alloc),
-        Told::Rights => rights_told(alloc),
-        Told::Vector => vector_told(alloc),
-        Told::Pulled => pulled_told(alloc),
-        _ => Ok(numbers_told(told)),
+fn pad_reply_of(alloc: Global, sample: Sample) -> Result<PadReply, Refusal> {
+    match sample {
+        Sample::Text => text_told(alloc),
+        Sample::Runs => runs_told(alloc),
+        Sample::Comments => comments_told(alloc),
+        Sample::Who => who_told(alloc),
+        Sample::Entries => entries_told(alloc),
+        Sample::Rights => rights_told(alloc),
+        Sample::Vector => vector_told(alloc),
+        Sample::Pulled => pulled_told(alloc),
+        _ => Ok(numbers_told(sample)),
     }
 }
 
 /// The replies that hold numbers alone.
-fn numbers_told(told: Told) -> PadReply {
+fn numbers_told(sample: Sample) -> PadReply {
     let name = OpName {
         origin: 1,
         number: 2,
     };
-    match told {
-        Told::Joined => PadReply::Joined { now: 0, visit: 1 },
-        Told::Done => PadReply::Done { now: u64::MAX },
-        Told::Made => PadReply::Made { now: 2, name },
-        Told::Changed => PadReply::Changed {
+    match sample {
+        Sample::Joined => PadReply::Joined { now: 0, visit: 1 },
+        Sample::Done => PadReply::Done { now: u64::MAX },
+        Sample::Made => PadReply::Made { now: 2, name },
+        Sample::Changed => PadReply::Changed {
             now: 2,
             name,
             hidden: 3,
         },
-        Told::Revs => PadReply::Revs {
+        Sample::Revs => PadReply::Revs {
             now: 1,
             cells: 5,
             length: 4,
         },
-        Told::Pushed(state, released, dropped) => PadReply::Pushed {
+        Sample::Pushed(state, released, dropped) => PadReply::Pushed {
             now: 2,
             state,
             released,
@@ -222,67 +222,70 @@ fn pulled_told(alloc: Global) -> Result<PadReply, Refusal> {
     Ok(PadReply::Pulled { now: 2, ops })
 }
 
-const SESSIONS: &[(Told, &str)] = &[
-    (Told::Hello, "{\"author\":\"ann@1\",\"ok\":true}\n"),
+const SESSIONS: &[(Sample, &str)] = &[
+    (Sample::Hello, "{\"author\":\"ann@1\",\"ok\":true}\n"),
     (
-        Told::Peer(300, Version::Two),
+        Sample::Peer(300, Version::Two),
         "{\"ok\":true,\"replica\":300,\"version\":2}\n",
     ),
-    (Told::Peer(1, Version::One), "{\"ok\":true,\"replica\":1}\n"),
-    (Told::Ended, "{\"ok\":true}\n"),
     (
-        Told::Refused(Refusal::NotRequest),
+        Sample::Peer(1, Version::One),
+        "{\"ok\":true,\"replica\":1}\n",
+    ),
+    (Sample::Ended, "{\"ok\":true}\n"),
+    (
+        Sample::Refused(Refusal::NotRequest),
         "{\"code\":102,\"error\":\"NotRequest\",\"ok\":false}\n",
     ),
     (
-        Told::Refused(Refusal::OldPeer),
+        Sample::Refused(Refusal::OldPeer),
         "{\"code\":405,\"error\":\"OldPeer\",\"ok\":false}\n",
     ),
     (
-        Told::Refused(Refusal::Memory),
+        Sample::Refused(Refusal::Memory),
         "{\"code\":900,\"error\":\"Memory\",\"ok\":false}\n",
     ),
 ];
 
 #[test]
 fn sessions_and_refusals_are_written(rt: HostRuntime) -> Result<(), Fail> {
-    for (told, line) in SESSIONS {
-        assert!(rt; is_line(rt.alloc(), *told, line)?, "{line}");
+    for (sample, line) in SESSIONS {
+        assert!(rt; is_line(rt.alloc(), *sample, line)?, "{line}");
     }
     Ok(())
 }
 
-const ACTS: &[(Told, &str)] = &[
-    (Told::Elsewhere, "{\"ok\":true}\n"),
-    (Told::Joined, "{\"now\":0,\"ok\":true,\"visit\":1}\n"),
-    (Told::Done, "{\"now\":18446744073709551615,\"ok\":true}\n"),
-    (Told::Made, "{\"name\":[1,2],\"now\":2,\"ok\":true}\n"),
+const ACTS: &[(Sample, &str)] = &[
+    (Sample::Elsewhere, "{\"ok\":true}\n"),
+    (Sample::Joined, "{\"now\":0,\"ok\":true,\"visit\":1}\n"),
+    (Sample::Done, "{\"now\":18446744073709551615,\"ok\":true}\n"),
+    (Sample::Made, "{\"name\":[1,2],\"now\":2,\"ok\":true}\n"),
     (
-        Told::Changed,
+        Sample::Changed,
         "{\"hidden\":3,\"name\":[1,2],\"now\":2,\"ok\":true}\n",
     ),
     (
-        Told::Revs,
+        Sample::Revs,
         "{\"cells\":5,\"length\":4,\"now\":1,\"ok\":true}\n",
     ),
     (
-        Told::Pushed(Pushed::Held, 0, 0),
+        Sample::Pushed(Pushed::Held, 0, 0),
         "{\"dropped\":0,\"now\":2,\"ok\":true,\"released\":0,\"state\":\"held\"}\n",
     ),
     (
-        Told::Pushed(Pushed::Delivered, 1, 7),
+        Sample::Pushed(Pushed::Delivered, 1, 7),
         "{\"dropped\":7,\"now\":2,\"ok\":true,\"released\":1,\"state\":\"delivered\"}\n",
     ),
     (
-        Told::Pushed(Pushed::Repeat, 0, 0),
+        Sample::Pushed(Pushed::Repeat, 0, 0),
         "{\"dropped\":0,\"now\":2,\"ok\":true,\"released\":0,\"state\":\"repeat\"}\n",
     ),
 ];
 
 #[test]
 fn acts_are_answered(rt: HostRuntime) -> Result<(), Fail> {
-    for (told, line) in ACTS {
-        assert!(rt; is_line(rt.alloc(), *told, line)?, "{line}");
+    for (sample, line) in ACTS {
+        assert!(rt; is_line(rt.alloc(), *sample, line)?, "{line}");
     }
     Ok(())
 }
@@ -292,56 +295,56 @@ const ESCAPED: &str =
 
 #[test]
 fn texts_are_escaped(rt: HostRuntime) -> Result<(), Fail> {
-    assert!(rt; is_line(rt.alloc(), Told::Text, ESCAPED)?);
+    assert!(rt; is_line(rt.alloc(), Sample::Text, ESCAPED)?);
     Ok(())
 }
 
-const WITH_AUTHORS: &[(Told, &str)] = &[
+const WITH_AUTHORS: &[(Sample, &str)] = &[
     (
-        Told::Runs,
+        Sample::Runs,
         "{\"now\":2,\"ok\":true,\"rev\":2,\"runs\":[[\"bob@65535\",3],[\"ann@1\",2]]}\n",
     ),
     (
-        Told::Comments,
+        Sample::Comments,
         "{\"comments\":[{\"at\":0,\"author\":\"bob@65535\",\"len\":7,\"name\":[1,3],\"resolved\":false,\"text\":\"c\"}],\"now\":5,\"ok\":true,\"rev\":4}\n",
     ),
     (
-        Told::Who,
+        Sample::Who,
         "{\"now\":1,\"ok\":true,\"who\":[{\"author\":\"ann@1\",\"caret\":2,\"visit\":1}]}\n",
     ),
 ];
 
 #[test]
 fn authors_are_shown_with_their_server(rt: HostRuntime) -> Result<(), Fail> {
-    for (told, line) in WITH_AUTHORS {
-        assert!(rt; is_line(rt.alloc(), *told, line)?, "{line}");
+    for (sample, line) in WITH_AUTHORS {
+        assert!(rt; is_line(rt.alloc(), *sample, line)?, "{line}");
     }
     Ok(())
 }
 
-const LISTS: &[(Told, &str)] = &[
+const LISTS: &[(Sample, &str)] = &[
     (
-        Told::Entries,
+        Sample::Entries,
         "{\"entries\":[{\"author\":\"ann@1\",\"kind\":\"insert\",\"name\":[1,1],\"rev\":1},{\"author\":\"bob@1\",\"kind\":\"edit\",\"name\":[1,2],\"rev\":2}],\"now\":2,\"ok\":true}\n",
     ),
     (
-        Told::Rights,
+        Sample::Rights,
         "{\"now\":2,\"ok\":true,\"rights\":[[\"ann\",\"own\"],[\"bob\",\"comment\"]]}\n",
     ),
     (
-        Told::Vector,
+        Sample::Vector,
         "{\"now\":2,\"ok\":true,\"seen\":[[1,2],[300,1]]}\n",
     ),
     (
-        Told::Pulled,
+        Sample::Pulled,
         "{\"now\":2,\"ok\":true,\"ops\":[{\"author\":\"ann\",\"kind\":\"delete\",\"name\":[1,2],\"seen\":[],\"spans\":[[2,1,2]]}]}\n",
     ),
 ];
 
 #[test]
 fn lists_are_written(rt: HostRuntime) -> Result<(), Fail> {
-    for (told, line) in LISTS {
-        assert!(rt; is_line(rt.alloc(), *told, line)?, "{line}");
+    for (sample, line) in LISTS {
+        assert!(rt; is_line(rt.alloc(), *sample, line)?, "{line}");
     }
     Ok(())
 }

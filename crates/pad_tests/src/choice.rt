@@ -2,9 +2,9 @@
 use dice::Dice;
 use std::alloc::{AllocError, Global};
 
-/// What an author does.
+/// What an author chooses to do.
 #[derive(Clone, Copy, PartialEq)]
-pub enum Deed {
+pub enum Choice {
     Type,
     Erase,
     Edit,
@@ -12,14 +12,14 @@ pub enum Deed {
     Resolve,
 }
 
-impl Deed {
-    pub fn pick(dice: &mut Dice) -> Deed {
+impl Choice {
+    pub fn pick(dice: &mut Dice) -> Choice {
         match dice.roll(20) {
-            0..=6 => Deed::Type,
-            7..=11 => Deed::Erase,
-            12..=13 => Deed::Edit,
-            14..=16 => Deed::Note,
-            _ => Deed::Resolve,
+            0..=6 => Choice::Type,
+            7..=11 => Choice::Erase,
+            12..=13 => Choice::Edit,
+            14..=16 => Choice::Note,
+            _ => Choice::Resolve,
         }
     }
 
@@ -36,23 +36,23 @@ impl Deed {
         let len = dice.roll(5).saturating_add(1);
         let text = some_text(dice);
         match self {
-            Deed::Type => {
+            Choice::Type => {
                 format!(in alloc;
                     "{{\"do\":\"insert\",\"pad\":\"p\",\"rev\":{rev},\"at\":{at},\"text\":\"{text}\"}}"
                 )
             }
-            Deed::Erase => {
+            Choice::Erase => {
                 format!(in alloc;
                     "{{\"do\":\"delete\",\"pad\":\"p\",\"rev\":{rev},\"at\":{at},\"len\":{len}}}"
                 )
             }
-            Deed::Edit => edit_line(alloc, dice, rev, length),
-            Deed::Note => {
+            Choice::Edit => edit_line(alloc, dice, rev, length),
+            Choice::Note => {
                 format!(in alloc;
                     "{{\"do\":\"comment\",\"pad\":\"p\",\"rev\":{rev},\"at\":{at},\"len\":{len},\"text\":\"{text}\"}}"
                 )
             }
-            Deed::Resolve => {
+            Choice::Resolve => {
                 format!(in alloc; "{{\"do\":\"resolve\",\"pad\":\"p\",\"comment\":{noted}}}")
             }
         }

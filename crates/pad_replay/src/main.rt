@@ -11,7 +11,7 @@ mod args;
 mod fault;
 mod line;
 mod play;
-mod stage;
+mod story_server;
 
 use args::{Asked, parse};
 use block_seq::{BlockSeq, PlainSeq};
@@ -19,10 +19,10 @@ use command_line::report;
 use fault::Fault;
 use pad_model::Sequence;
 use play::play;
-use stage::Stage;
 use std::fs;
 use std::io::{BufReader, BufWriter};
 use std::process::ExitCode;
+use story_server::StoryServer;
 
 fn main(rt: HostRuntime) -> anyhow::Result<ExitCode> {
     let alloc = rt.alloc();
@@ -61,8 +61,8 @@ fn play_all<S: Sequence>(rt: &HostRuntime, asked: Asked<'_>, accounts: Vec<u8>) 
     requires { (1 ≤ asked.replica) × (asked.cells ≤ MAX_CELLS) }
 {
     let alloc = rt.alloc();
-    let mut stage: Stage<S> = Stage::new(alloc, asked.replica, asked.cells, accounts)?;
+    let mut server: StoryServer<S> = StoryServer::new(alloc, asked.replica, asked.cells, accounts)?;
     let mut input = BufReader::new(alloc, rt.reader())?;
     let mut output = BufWriter::new(alloc, std::io::writer(rt))?;
-    play(alloc, &mut stage, &mut input, &mut output)
+    play(alloc, &mut server, &mut input, &mut output)
 }

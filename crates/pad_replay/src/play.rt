@@ -1,7 +1,7 @@
 //! Playing a story: its lines in, what is repeated and the replies out.
 use crate::fault::Fault;
 use crate::line::Line;
-use crate::stage::Stage;
+use crate::story_server::StoryServer;
 use pad_model::Sequence;
 use std::alloc::Global;
 use std::io::{BufRead, Write};
@@ -9,7 +9,7 @@ use std::io::{BufRead, Write};
 /// Plays the lines of a reader to its end. Each line is answered before the next one is read.
 pub fn play<S: Sequence, R: BufRead, W: Write>(
     alloc: Global,
-    stage: &mut Stage<S>,
+    server: &mut StoryServer<S>,
     reader: &mut R,
     writer: &mut W,
 ) -> Result<(), Fault> {
@@ -19,7 +19,7 @@ pub fn play<S: Sequence, R: BufRead, W: Write>(
         if reader.read_until(b'\n', &mut line)? == 0 {
             return Ok(());
         }
-        play_line(alloc, stage, without_end(line.as_slice()), number, writer)?;
+        play_line(alloc, server, without_end(line.as_slice()), number, writer)?;
         writer.flush()?;
     }
     Ok(())
@@ -35,7 +35,7 @@ fn without_end(line: &[u8]) -> &[u8] {
 
 fn play_line<S: Sequence, W: Write>(
     alloc: Global,
-    stage: &mut Stage<S>,
+    server: &mut StoryServer<S>,
     line: &[u8],
     number: u64,
     writer: &mut W,
@@ -43,11 +43,11 @@ fn play_line<S: Sequence, W: Write>(
     match Line::read(line) {
         Line::Note => repeat(line, writer),
         Line::Title { replica } => {
-            stage.renew(alloc, replica)?;
+            server.renew(alloc, replica)?;
             repeat(line, writer)
         }
-        Line::End { name } => stage.end(alloc, name),
-        Line::Ask { name, request } => tell(alloc, stage, name, request, writer),
+        Line::End { name } => server.end(alloc, name),
+        Line::Ask { name, request } => tell(alloc, server, name, request, writer),
         Line::NoReplica => Err(Fault::NoReplica { line: number }),
         Line::Unknown => Err(Fault::NoStory { line: number }),
     }
@@ -62,7 +62,7 @@ fn repeat<W: Write>(line: &[u8], writer: &mut W) -> Result<(), Fault> {
 /// Asks, and writes the reply behind the session's name. An empty request has no reply.
 fn tell<S: Sequence, W: Write>(
     alloc: Global,
-    stage: &mut Stage<S>,
+    server: &mut StoryServer<S>,
     name: &[u8],
     request: &[u8],
     writer: &mut W,
@@ -70,7 +70,7 @@ fn tell<S: Sequence, W: Write>(
     if request.is_empty() {
         return Ok(());
     }
-    let reply = stage.ask(alloc, name, request)?;
+    let reply = server.ask(alloc, name, request)?;
     writer.write_all(name)?;
     writer.write_all(b"\t")?;
     writer.write_all(reply.as_bytes())?;

@@ -13,7 +13,7 @@ use wire_json::{read_request, reply_line};
 
 /// A server whose pads keep their characters in a sequence of this kind, and the names of its sessions in the order of their first use: the place of a name is its actor's number.
 #[derive(Drop)]
-pub struct Stage<S: Sequence> {
+pub struct StoryServer<S: Sequence> {
     /// The replica number of a server whose title names none.
     replica: u16,
     cells: u32,
@@ -41,19 +41,19 @@ fn step_of(alloc: Global, line: &[u8]) -> Result<Step, Refusal> {
     Ok(Step::Ask(read_request(alloc, line)?))
 }
 
-impl<S: Sequence> Stage<S> {
+impl<S: Sequence> StoryServer<S> {
     /// A new server, of which each later one takes the row and the accounts.
     pub fn new(
         alloc: Global,
         replica: u16,
         cells: u32,
         accounts: Vec<u8>,
-    ) -> Result<Stage<S>, Fault>
+    ) -> Result<StoryServer<S>, Fault>
         requires numbered { 1 ≤ replica }
         requires row { cells ≤ MAX_CELLS }
     {
         let server = make_server(alloc, replica, cells, accounts.as_slice())?;
-        Ok(Stage {
+        Ok(StoryServer {
             replica,
             cells,
             accounts,

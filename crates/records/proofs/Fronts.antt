@@ -42,28 +42,8 @@ few_of_claim (who.Author owner) name (Err e) more = inl (omega arith)
 
 few_of_act : (this : Act) (answer : Answer) (more : List Op) → IsFew (act_records this answer more) more
 few_of_act act.Join (Ok (Some reply)) more = inl (omega arith)
-few_of_act act.Join (Ok None) more = inr refl
-few_of_act act.Join (Err e) more = inr refl
 few_of_act (act.Grant author right) (Ok (Some reply)) more = inl (omega arith)
-few_of_act (act.Grant author right) (Ok None) more = inr refl
-few_of_act (act.Grant author right) (Err e) more = inr refl
-few_of_act act.Leave answer more = inr refl
-few_of_act (act.Insert rev at text) answer more = inr refl
-few_of_act (act.Delete rev at len) answer more = inr refl
-few_of_act (act.Edit rev changes) answer more = inr refl
-few_of_act (act.Comment rev at len text) answer more = inr refl
-few_of_act (act.Resolve resolved) answer more = inr refl
-few_of_act (act.Text rev) answer more = inr refl
-few_of_act (act.Runs rev) answer more = inr refl
-few_of_act (act.Comments rev) answer more = inr refl
-few_of_act act.Revs answer more = inr refl
-few_of_act (act.Entries from count) answer more = inr refl
-few_of_act (act.Caret rev at) answer more = inr refl
-few_of_act act.Who answer more = inr refl
-few_of_act act.Rights answer more = inr refl
-few_of_act act.Vector answer more = inr refl
-few_of_act (act.Push op) answer more = inr refl
-few_of_act (act.Pull seen max) answer more = inr refl
+few_of_act other answer more = inr refl
 
 few : (w : Who) (this : Request) (answer : Answer) (more : List Op) → IsFew (records_of w this answer more) more
 few w (request.On name this) answer more = few_of_act this answer more

@@ -36,46 +36,16 @@ abbrev machine : Option Owned → ℕ → List Op → List Op → Presence → M
 machine o replica log held p = record { owned = o; replica = replica; log = log; held = held; presence = p }
 
 author_stays : (owned : Owned) (name : List ℕ) (visit : ℕ) (this : Act) (m : Machine) → Stays this m.log (author_act owned name visit this m).1.log
-author_stays owned name visit act.Join m = inr refl
-author_stays owned name visit act.Leave m = inl refl
 author_stays owned name visit (act.Insert rev at text) m = inr refl
 author_stays owned name visit (act.Delete rev at len) m = inr refl
 author_stays owned name visit (act.Edit rev changes) m = inr refl
 author_stays owned name visit (act.Comment rev at len text) m = inr refl
 author_stays owned name visit (act.Resolve resolved) m = inr refl
-author_stays owned name visit (act.Text rev) m = inl refl
-author_stays owned name visit (act.Runs rev) m = inl refl
-author_stays owned name visit (act.Comments rev) m = inl refl
-author_stays owned name visit act.Revs m = inl refl
-author_stays owned name visit (act.Entries from count) m = inl refl
-author_stays owned name visit (act.Caret rev at) m = inl refl
-author_stays owned name visit act.Who m = inl refl
-author_stays owned name visit (act.Grant author right) m = inr refl
-author_stays owned name visit act.Rights m = inl refl
-author_stays owned name visit act.Vector m = inl refl
-author_stays owned name visit (act.Push op) m = inr refl
-author_stays owned name visit (act.Pull seen max) m = inl refl
+author_stays owned name visit other m = inl refl
 
 peer_stays : (version : Version) (this : Act) (m : Machine) → Stays this m.log (peer_act version this m).1.log
-peer_stays version act.Join m = inr refl
-peer_stays version act.Leave m = inl refl
-peer_stays version (act.Insert rev at text) m = inr refl
-peer_stays version (act.Delete rev at len) m = inr refl
-peer_stays version (act.Edit rev changes) m = inr refl
-peer_stays version (act.Comment rev at len text) m = inr refl
-peer_stays version (act.Resolve resolved) m = inr refl
-peer_stays version (act.Text rev) m = inl refl
-peer_stays version (act.Runs rev) m = inl refl
-peer_stays version (act.Comments rev) m = inl refl
-peer_stays version act.Revs m = inl refl
-peer_stays version (act.Entries from count) m = inl refl
-peer_stays version (act.Caret rev at) m = inl refl
-peer_stays version act.Who m = inl refl
-peer_stays version (act.Grant author right) m = inr refl
-peer_stays version act.Rights m = inl refl
-peer_stays version act.Vector m = inl refl
 peer_stays version (act.Push op) m = inr refl
-peer_stays version (act.Pull seen max) m = inl refl
+peer_stays version other m = inl refl
 
 session_stays : (owned : Owned) (w : Who) (visit : Option ℕ) (this : Act) (m : Machine) → Stays this m.log (session_step owned w visit this m).1.log
 session_stays owned who.Nobody visit this m = inl refl
@@ -105,24 +75,8 @@ step_stays name w visit this (Some owned) replica log held p =
 -- without operations, what is kept of an act is nothing
 without : (this : Act) (answer : Answer) → (act_records this answer [] ≡ []) ⊎ (is_kept this ≡ true)
 without act.Join answer = inr refl
-without act.Leave answer = inl refl
-without (act.Insert rev at text) answer = inr refl
-without (act.Delete rev at len) answer = inr refl
-without (act.Edit rev changes) answer = inr refl
-without (act.Comment rev at len text) answer = inr refl
-without (act.Resolve resolved) answer = inr refl
-without (act.Text rev) answer = inl refl
-without (act.Runs rev) answer = inl refl
-without (act.Comments rev) answer = inl refl
-without act.Revs answer = inl refl
-without (act.Entries from count) answer = inl refl
-without (act.Caret rev at) answer = inl refl
-without act.Who answer = inl refl
 without (act.Grant author right) answer = inr refl
-without act.Rights answer = inl refl
-without act.Vector answer = inl refl
-without (act.Push op) answer = inr refl
-without (act.Pull seen max) answer = inl refl
+without other answer = inl refl
 
 -- an act that leaves the operations as they are leaves no records, or may be kept
 act_idle : (this : Act) (answer : Answer) (old after more : List Op) → Stays this old after → after ≡ old ++ more → (act_records this answer more ≡ []) ⊎ (is_kept this ≡ true)

@@ -147,90 +147,31 @@ carets rev at visit log m = present_alone m (put_caret rev at visit log m.presen
 author_leads : (owned : Owned) (name : List ℕ) (visit : ℕ) (this : Act) (m : Machine) → m.owned ≡ Some owned → ((author : List ℕ) (right : Option Right) → this ≡ act.Grant author right → is_name author ≡ true) →
     Leads (act_records this) m (passed_on (author_act owned name visit this m).0) (author_act owned name visit this m).1
 author_leads owned name visit act.Join m is named = joins owned name m is
-author_leads owned name visit act.Leave m is named = λ more grown d. quiet m (author_act owned name visit act.Leave m).1 more refl refl refl grown d
+author_leads owned name visit act.Leave m is named =
+    λ more grown d. quiet m (author_act owned name visit act.Leave m).1 more refl refl refl grown d
 author_leads owned name visit (act.Insert rev at text) m is named = logs m _
 author_leads owned name visit (act.Delete rev at len) m is named = logs m _
 author_leads owned name visit (act.Edit rev changes) m is named = logs m _
 author_leads owned name visit (act.Comment rev at len text) m is named = logs m _
 author_leads owned name visit (act.Resolve resolved) m is named = logs m _
-author_leads owned name visit (act.Text rev) m is named = same m
-author_leads owned name visit (act.Runs rev) m is named = same m
-author_leads owned name visit (act.Comments rev) m is named = same m
-author_leads owned name visit act.Revs m is named = same m
-author_leads owned name visit (act.Entries from count) m is named = same m
 author_leads owned name visit (act.Caret rev at) m is named = carets rev at visit m.log m
-author_leads owned name visit act.Who m is named = same m
 author_leads owned name visit (act.Grant author right) m is named = gives owned author right m is (named author right refl)
-author_leads owned name visit act.Rights m is named = same m
-author_leads owned name visit act.Vector m is named = same m
-author_leads owned name visit (act.Push op) m is named = same m
-author_leads owned name visit (act.Pull seen max) m is named = same m
+author_leads owned name visit other m is named = same m
 
 -- where an act is refused, nothing is recorded but that nothing has changed
 idle : (this : Act) (e : Refusal) (m : Machine) → Leads (act_records this) m (Err e) m
 idle act.Join e m = same m
-idle act.Leave e m = same m
-idle (act.Insert rev at text) e m = same m
-idle (act.Delete rev at len) e m = same m
-idle (act.Edit rev changes) e m = same m
-idle (act.Comment rev at len text) e m = same m
-idle (act.Resolve resolved) e m = same m
-idle (act.Text rev) e m = same m
-idle (act.Runs rev) e m = same m
-idle (act.Comments rev) e m = same m
-idle act.Revs e m = same m
-idle (act.Entries from count) e m = same m
-idle (act.Caret rev at) e m = same m
-idle act.Who e m = same m
-idle (act.Grant author right) e m = same m
-idle act.Rights e m = same m
-idle act.Vector e m = same m
-idle (act.Push op) e m = same m
-idle (act.Pull seen max) e m = same m
+idle other e m = same m
 
 -- at a pad of another name
 elsewhere : (this : Act) (m : Machine) → Leads (act_records this) m (Ok None) m
 elsewhere act.Join m = same m
-elsewhere act.Leave m = same m
-elsewhere (act.Insert rev at text) m = same m
-elsewhere (act.Delete rev at len) m = same m
-elsewhere (act.Edit rev changes) m = same m
-elsewhere (act.Comment rev at len text) m = same m
-elsewhere (act.Resolve resolved) m = same m
-elsewhere (act.Text rev) m = same m
-elsewhere (act.Runs rev) m = same m
-elsewhere (act.Comments rev) m = same m
-elsewhere act.Revs m = same m
-elsewhere (act.Entries from count) m = same m
-elsewhere (act.Caret rev at) m = same m
-elsewhere act.Who m = same m
-elsewhere (act.Grant author right) m = same m
-elsewhere act.Rights m = same m
-elsewhere act.Vector m = same m
-elsewhere (act.Push op) m = same m
-elsewhere (act.Pull seen max) m = same m
+elsewhere other m = same m
 
 -- what a peer's act does
 peer_leads : (version : Version) (this : Act) (m : Machine) → Leads (act_records this) m (passed_on (peer_act version this m).0) (peer_act version this m).1
-peer_leads version act.Join m = idle act.Join NoSession m
-peer_leads version act.Leave m = same m
-peer_leads version (act.Insert rev at text) m = same m
-peer_leads version (act.Delete rev at len) m = same m
-peer_leads version (act.Edit rev changes) m = same m
-peer_leads version (act.Comment rev at len text) m = same m
-peer_leads version (act.Resolve resolved) m = same m
-peer_leads version (act.Text rev) m = same m
-peer_leads version (act.Runs rev) m = same m
-peer_leads version (act.Comments rev) m = same m
-peer_leads version act.Revs m = same m
-peer_leads version (act.Entries from count) m = same m
-peer_leads version (act.Caret rev at) m = same m
-peer_leads version act.Who m = same m
-peer_leads version (act.Grant author right) m = idle (act.Grant author right) NoSession m
-peer_leads version act.Rights m = same m
-peer_leads version act.Vector m = same m
 peer_leads version (act.Push op) m = λ more grown d. quiet m (peer_act version (act.Push op) m).1 more refl refl refl grown d
-peer_leads version (act.Pull seen max) m = same m
+peer_leads version other m = same m
 
 session_leads : (owned : Owned) (w : Who) (visit : Option ℕ) (this : Act) (m : Machine) → m.owned ≡ Some owned → Leads (act_records this) m (passed_on (session_step owned w visit this m).0) (session_step owned w visit this m).1
 session_leads owned who.Nobody visit this m is = idle this (nobody_refusal (need_of this)) m

@@ -27,16 +27,6 @@ fn is_kept(act: &Act) -> bool
         | Act::Comment { .. }
         | Act::Resolve { .. }
         | Act::Push { .. } => true,
-        Act::Leave
-        | Act::Text { .. }
-        | Act::Runs { .. }
-        | Act::Comments { .. }
-        | Act::Revs
-        | Act::Entries { .. }
-        | Act::Caret { .. }
-        | Act::Who
-        | Act::Rights
-        | Act::Vector
-        | Act::Pull { .. } => false,
+        _ => false,
     }
 }

@@ -186,47 +186,21 @@ stops n own op log held = at (receives own op log held) (all_steps n (unsettled 
 
 -- what an author's act does
 author_grows : (owned : Owned) (name : List ℕ) (visit : ℕ) (act : Act) (m : Machine) → GrownBy (effect_of act) (passed_on (author_act owned name visit act m).0) m.log (author_act owned name visit act m).1.log
-author_grows owned name visit act.Join m = kept (Ok None) m.log
-author_grows owned name visit act.Leave m = kept (Ok None) m.log
-author_grows owned name visit (act.Insert rev at text) m = written m.log _ (named m.log _ (changed m.replica name rev (Insert at text ∷ []) m.log))
-author_grows owned name visit (act.Delete rev at len) m = written m.log _ (hiding m.log _ (changed m.replica name rev (Delete at len ∷ []) m.log))
+author_grows owned name visit (act.Insert rev at text) m =
+    written m.log _ (named m.log _ (changed m.replica name rev (Insert at text ∷ []) m.log))
+author_grows owned name visit (act.Delete rev at len) m =
+    written m.log _ (hiding m.log _ (changed m.replica name rev (Delete at len ∷ []) m.log))
 author_grows owned name visit (act.Edit rev changes) m = written m.log _ (hiding m.log _ (changed m.replica name rev changes m.log))
 author_grows owned name visit (act.Comment rev at len text) m = written m.log _ (note _ m.replica name _ m.log)
 author_grows owned name visit (act.Resolve resolved) m = written m.log _ (note _ m.replica name _ m.log)
-author_grows owned name visit (act.Text rev) m = kept (Ok None) m.log
-author_grows owned name visit (act.Runs rev) m = kept (Ok None) m.log
-author_grows owned name visit (act.Comments rev) m = kept (Ok None) m.log
-author_grows owned name visit act.Revs m = kept (Ok None) m.log
-author_grows owned name visit (act.Entries from count) m = kept (Ok None) m.log
-author_grows owned name visit (act.Caret rev at) m = kept (Ok None) m.log
-author_grows owned name visit act.Who m = kept (Ok None) m.log
-author_grows owned name visit (act.Grant author given) m = kept (Ok None) m.log
-author_grows owned name visit act.Rights m = kept (Ok None) m.log
-author_grows owned name visit act.Vector m = kept (Ok None) m.log
 author_grows owned name visit (act.Push op) m = refused Takes NotPeer m.log
-author_grows owned name visit (act.Pull seen max) m = kept (Ok None) m.log
+author_grows owned name visit other m = kept (Ok None) m.log
 
 -- what a peer's act does
 peer_grows : (version : Version) (act : Act) (m : Machine) → GrownBy (effect_of act) (passed_on (peer_act version act m).0) m.log (peer_act version act m).1.log
-peer_grows version act.Join m = kept (Ok None) m.log
-peer_grows version act.Leave m = kept (Ok None) m.log
-peer_grows version (act.Insert rev at text) m = refused Makes NoSession m.log
-peer_grows version (act.Delete rev at len) m = refused Makes NoSession m.log
-peer_grows version (act.Edit rev changes) m = refused Makes NoSession m.log
-peer_grows version (act.Comment rev at len text) m = refused Makes NoSession m.log
-peer_grows version (act.Resolve resolved) m = refused Makes NoSession m.log
-peer_grows version (act.Text rev) m = kept (Ok None) m.log
-peer_grows version (act.Runs rev) m = kept (Ok None) m.log
-peer_grows version (act.Comments rev) m = kept (Ok None) m.log
-peer_grows version act.Revs m = kept (Ok None) m.log
-peer_grows version (act.Entries from count) m = kept (Ok None) m.log
-peer_grows version (act.Caret rev at) m = kept (Ok None) m.log
-peer_grows version act.Who m = kept (Ok None) m.log
-peer_grows version (act.Grant author given) m = kept (Ok None) m.log
-peer_grows version act.Rights m = kept (Ok None) m.log
-peer_grows version act.Vector m = kept (Ok None) m.log
-peer_grows version (act.Push op) m = settles m.log (received m.replica op (m.log, m.held)) (receives m.replica op m.log m.held)
-peer_grows version (act.Pull seen max) m = kept (Ok None) m.log
+peer_grows version (act.Push op) m =
+    settles m.log (received m.replica op (m.log, m.held)) (receives m.replica op m.log m.held)
+peer_grows version other m = refused (effect_of other) NoSession m.log
 
 -- what a session does on a pad that has a name
 session_grows : (owned : Owned) (who : Who) (visit : Option ℕ) (act : Act) (m : Machine) → GrownBy (effect_of act) (passed_on (session_step owned who visit act m).0) m.log (session_step owned who visit act m).1.log

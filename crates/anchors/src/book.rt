@@ -3,10 +3,10 @@ ghost use Rattle.std.specs.Prelude.{◌≡◌, ◌≤◌, ◌<◌, [], false, tr
 ghost use Rattle.pad_model.specs.declared.limits.TheConstants.{MAX_COMMENTS};
 ghost use Rattle.anchors.specs.Comments.{IsBook, is_comment, comment_of, earlier, refusal_of, with_comment, with_resolution, born_by, range_of, comments_at, AreHeld};
 
-use crate::comment::Comment;
+use crate::comment::{Comment, NewComment};
 use crate::find::{find, place_of};
 use crate::show::{Range, Shown, list, range_between};
-use pad_model::{Author, MAX_COMMENTS, Name, OpName, Refusal, Row, Sequence, Stamp, Text};
+use pad_model::{Author, MAX_COMMENTS, Name, OpName, Refusal, Row, Sequence};
 use std::alloc::Global;
 use std::marker::Model;
 
@@ -54,25 +54,24 @@ impl CommentBook {
         find(self.comments.as_slice(), name).is_some()
     }
 
-    /// Enters a comment on the characters from one stamp to another, made at a revision.
-    pub fn add(
-        &mut self,
-        alloc: Global,
-        name: OpName,
-        first: Stamp,
-        last: Stamp,
-        author: &Author,
-        text: &Text,
-        rev: u64,
-    ) -> Result<(), Refusal>
-        requires { is_comment name self.old ≡ false }
+    /// Enters a comment, which has a new name. It is not resolved.
+    pub fn add(&mut self, alloc: Global, given: NewComment<'_>) -> Result<(), Refusal>
+        requires { is_comment given.name self.old ≡ false }
         ensures room { OnOk result (length self.old < MAX_COMMENTS) }
-        ensures ok { OnOk result (self.new ≡ with_comment (record { name = name; first = first; last = last; author = author.now; text = text.now; born = rev; resolved = None }) self.old) }
+        ensures ok { OnOk result (self.new ≡ with_comment (record { name = given.entry.name; first = given.entry.first; last = given.entry.last; author = given.entry.author.now; text = given.entry.text.now; born = given.entry.rev; resolved = None }) self.old) }
         ensures err { IfErr result (λ e. (e ≡ refusal_of self.old) × (self.new ≡ self.old)) }
     {
         if self.len() >= MAX_COMMENTS {
             return Err(Refusal::CommentsFull);
         }
+        let NewComment {
+            name,
+            first,
+            last,
+            author,
+            text,
+            rev,
+        } = given;
         let author = Author {
             name: Name::from_str(alloc, author.name.as_str())?,
             origin: author.origin,

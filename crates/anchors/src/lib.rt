@@ -9,4 +9,5 @@ mod find;
 mod show;
 
 pub use book::CommentBook;
+pub use comment::NewComment;
 pub use show::{Range, Shown};

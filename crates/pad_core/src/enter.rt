@@ -8,7 +8,7 @@ ghost use Rattle.pad_core.specs.Book.{book_of, entered, may_enter};
 ghost use Rattle.pad_core.specs.Counts.{counted, vector_of};
 ghost use Rattle.pad_core.specs.Delivered.{Enters, IsDelivered, IsLedger, delivery_refusal};
 
-use anchors::CommentBook;
+use anchors::{CommentBook, NewComment};
 use pad_model::{Author, Op, Part, Refusal, Seen, Sequence};
 use revisions::OpLog;
 use std::alloc::Global;
@@ -86,7 +86,15 @@ fn enter_note(
 {
     match part {
         Part::Comment { first, last, text } => {
-            comments.add(alloc, op.name, *first, *last, author, text, rev)
+            let given = NewComment {
+                name: op.name,
+                first: *first,
+                last: *last,
+                author,
+                text,
+                rev,
+            };
+            comments.add(alloc, given)
         }
         Part::Resolve { comment } => comments.resolve(*comment, rev),
         Part::Insert(_) | Part::Delete(_) => Ok(()),

@@ -1,5 +1,5 @@
 //! Comments that are found by their names, and how many a book takes.
-use anchors::CommentBook;
+use anchors::{CommentBook, NewComment};
 use pad_model::{Author, Name, OpName, Refusal, Stamp, Text};
 use std::alloc::Global;
 use std::test::Fail;
@@ -19,7 +19,15 @@ fn add(book: &mut CommentBook, alloc: Global, name: OpName) -> Result<bool, Refu
         origin: 1,
     };
     let text = Text::from_str(alloc, "why?")?;
-    book.add(alloc, name, at, at, &author, &text, 1)?;
+    let given = NewComment {
+        name,
+        first: at,
+        last: at,
+        author: &author,
+        text: &text,
+        rev: 1,
+    };
+    book.add(alloc, given)?;
     Ok(true)
 }
 

@@ -5,7 +5,7 @@ ghost use Rattle.pad_model.specs.Cell.{Cell};
 
 use crate::site::Sketch::{Erased, Typed};
 use crate::site::{Named, Site, stamp_of};
-use anchors::{CommentBook, Shown};
+use anchors::{CommentBook, NewComment, Shown};
 use pad_model::{Author, Name, OpName, Refusal, Sequence, Stamp, Text};
 use std::alloc::Global;
 use std::test::Fail;
@@ -45,7 +45,15 @@ fn book_of(alloc: Global, draft: Draft) -> Result<CommentBook, Refusal>
     };
     let text = Text::from_str(alloc, "c")?;
     let mut book = CommentBook::new(alloc);
-    book.add(alloc, COMMENT, draft.first, draft.last, &author, &text, 1)?;
+    let given = NewComment {
+        name: COMMENT,
+        first: draft.first,
+        last: draft.last,
+        author: &author,
+        text: &text,
+        rev: 1,
+    };
+    book.add(alloc, given)?;
     if let Some(rev) = draft.resolved {
         book.resolve(COMMENT, rev)?;
     }

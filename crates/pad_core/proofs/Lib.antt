@@ -8,6 +8,7 @@ pub mod ByName
 pub mod Commented
 pub mod Counted
 pub mod Entered
+pub mod Exits
 pub mod Histories
 pub mod Judged
 pub mod Listed

@@ -57,17 +57,12 @@ pub fn pull<S: Sequence>(
     if !can_give(ledger, version, seen) {
         return Err(Refusal::OldPeer);
     }
-    let missing = match ledger.missing(alloc, seen, max) {
-        Ok(missing) => missing,
-        Err(refusal) => return Err(refusal),
-    };
-    match give(alloc, version, missing) {
-        Ok(ops) => Ok(PadReply::Pulled {
-            now: ledger.len(),
-            ops,
-        }),
-        Err(refusal) => Err(refusal),
-    }
+    let missing = ledger.missing(alloc, seen, max)?;
+    let ops = give(alloc, version, missing)?;
+    Ok(PadReply::Pulled {
+        now: ledger.len(),
+        ops,
+    })
 }
 
 /// Whether a peer can be given anything: an old one has to be able to read the first operation that it lacks, if any.

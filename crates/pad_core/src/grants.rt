@@ -18,18 +18,14 @@ pub fn grant(
 ) -> Result<PadReply, Refusal>
     ensures { Answers rights.old (granted now author.now right rights.old) result rights.new }
 {
-    match rights.grant(author, right) {
-        Ok(()) => Ok(PadReply::Done { now }),
-        Err(refusal) => Err(refusal),
-    }
+    rights.grant(author, right)?;
+    Ok(PadReply::Done { now })
 }
 
 /// All names with their rights.
 pub fn read_rights(alloc: Global, rights: &RightsBook, now: u64) -> Result<PadReply, Refusal>
     ensures { Tells (rights_read now rights.now) result }
 {
-    match rights.list(alloc) {
-        Ok(rights) => Ok(PadReply::Rights { now, rights }),
-        Err(refusal) => Err(refusal),
-    }
+    let rights = rights.list(alloc)?;
+    Ok(PadReply::Rights { now, rights })
 }

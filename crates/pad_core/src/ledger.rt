@@ -50,15 +50,13 @@ impl<S: Sequence> Ledger<S> {
     pub fn new(alloc: Global) -> Result<Ledger<S>, Refusal>
         ensures { MatchResult result (λ ledger. ledger ≡ []) (λ e. e ≡ Refusal.Memory) }
     {
-        match S::empty(alloc) {
-            Ok(sequence) => Ok(Ledger {
-                log: OpLog::new(alloc),
-                seen: Seen::new(alloc),
-                comments: CommentBook::new(alloc),
-                sequence,
-            }),
-            Err(refusal) => Err(refusal),
-        }
+        let sequence = S::empty(alloc)?;
+        Ok(Ledger {
+            log: OpLog::new(alloc),
+            seen: Seen::new(alloc),
+            comments: CommentBook::new(alloc),
+            sequence,
+        })
     }
 
     /// How many operations there are, which is the present revision.
@@ -225,20 +223,16 @@ impl<S: Sequence> Ledger<S> {
         requires allowed { delivery_refusal op self.old ≡ None }
         ensures { Answers self.old (Ok (hidden_by (erased_by op) (characters_in self.old)), self.old ++ op ∷ []) result self.new }
     {
-        match count_and_enter(
+        let hidden = count_and_enter(
             alloc,
             &mut self.log,
             &mut self.seen,
             &mut self.comments,
             &mut self.sequence,
             &op,
-        ) {
-            Ok(hidden) => {
-                self.log.push(fitted(op));
-                Ok(hidden)
-            }
-            Err(refusal) => Err(refusal),
-        }
+        )?;
+        self.log.push(fitted(op));
+        Ok(hidden)
     }
 }
 

@@ -42,15 +42,8 @@ pub fn own(
     requires { presence.old ≡ nobody_present }
     ensures { Answers {S = Option Owned × Presence} (owned.old, presence.old) (Ok (Claim.Created (presence.old.given + 1)), (Some (record { name = name.now; rights = record { owner = owner.now; grants = [] } }), joined owner.now presence.old)) result (owned.new, presence.new) }
 {
-    let named = match Owned::new(alloc, name, owner) {
-        Ok(named) => named,
-        Err(refusal) => return Err(refusal),
-    };
-    match presence.join(alloc, owner) {
-        Ok(visit) => {
-            *owned = Some(named);
-            Ok(Claim::Created { visit })
-        }
-        Err(refusal) => Err(refusal),
-    }
+    let named = Owned::new(alloc, name, owner)?;
+    let visit = presence.join(alloc, owner)?;
+    *owned = Some(named);
+    Ok(Claim::Created { visit })
 }

@@ -22,10 +22,8 @@ pub fn join(
 ) -> Result<PadReply, Refusal>
     ensures { Answers presence.old (joined now author.now presence.old) result presence.new }
 {
-    match presence.join(alloc, author.as_str()) {
-        Ok(visit) => Ok(PadReply::Joined { now, visit }),
-        Err(refusal) => Err(refusal),
-    }
+    let visit = presence.join(alloc, author.as_str())?;
+    Ok(PadReply::Joined { now, visit })
 }
 
 /// The end of a visit.
@@ -33,10 +31,8 @@ pub fn leave(presence: &mut PresenceBook, now: u64, visit: u64) -> Result<PadRep
     requires { list_any (has_number visit) presence.old.present ≡ true }
     ensures { left now visit presence.old ≡ (result, presence.new) }
 {
-    match presence.leave(visit) {
-        Ok(()) => Ok(PadReply::Done { now }),
-        Err(refusal) => Err(refusal),
-    }
+    presence.leave(visit)?;
+    Ok(PadReply::Done { now })
 }
 
 /// Ends a visit where it is present and this author's; else it does nothing.
@@ -67,10 +63,8 @@ pub fn put_caret<S: Sequence>(
     if ledger.len_at(rev) < at {
         return Err(Refusal::OutOfRange);
     }
-    match presence.caret(visit, stamp_before(ledger, rev, at)) {
-        Ok(()) => Ok(PadReply::Done { now }),
-        Err(refusal) => Err(refusal),
-    }
+    presence.caret(visit, stamp_before(ledger, rev, at))?;
+    Ok(PadReply::Done { now })
 }
 
 /// Who is present, in order of joining.
@@ -82,10 +76,7 @@ pub fn read_who<S: Sequence>(
 ) -> Result<PadReply, Refusal>
     ensures { Tells (who_read replica ledger.now presence.now) result }
 {
-    let visits = match presence.who(alloc) {
-        Ok(visits) => visits,
-        Err(refusal) => return Err(refusal),
-    };
+    let visits = presence.who(alloc)?;
     let who = show(alloc, ledger, replica, visits.as_slice())?;
     Ok(PadReply::Who {
         now: ledger.len(),

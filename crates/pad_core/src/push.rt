@@ -36,19 +36,14 @@ pub fn push<S: Sequence>(
     ensures answer { Answers (ledger.old, held.old) (pushed replica op.now (ledger.old, held.old)) result (ledger.new, held.new) ⊎ ((result ≡ Err Refusal.Memory) × Stopped replica op.now (ledger.old, held.old) (ledger.new, held.new)) }
     ensures held { AllByRecursion (λ op. IsTrue (is_checked op)) held.new }
 {
-    let state = match receive(alloc, ledger, held, replica, op) {
-        Ok(state) => state,
-        Err(refusal) => return Err(refusal),
-    };
-    match settle(alloc, ledger, held) {
-        Ok(released) => Ok(PadReply::Pushed {
-            now: ledger.len(),
-            state,
-            released: released.delivered,
-            dropped: released.dropped,
-        }),
-        Err(refusal) => Err(refusal),
-    }
+    let state = receive(alloc, ledger, held, replica, op)?;
+    let released = settle(alloc, ledger, held)?;
+    Ok(PadReply::Pushed {
+        now: ledger.len(),
+        state,
+        released: released.delivered,
+        dropped: released.dropped,
+    })
 }
 
 /// Delivers an operation, holds it back or knows it already, unless it is refused.
@@ -86,10 +81,9 @@ fn hold_back(held: &mut Hold, op: &Op, seen: &Seen) -> Result<Pushed, Refusal>
         return Err(Refusal::HoldFull);
     }
     let op = op.clone()?;
-    match held.offer(op, seen) {
-        Ok(Offer::Held) => Ok(Pushed::Held),
-        Ok(Offer::Ready(_)) | Ok(Offer::Repeat) => unreachable!(),
-        Err(refusal) => Err(refusal),
+    match held.offer(op, seen)? {
+        Offer::Held => Ok(Pushed::Held),
+        Offer::Ready(_) | Offer::Repeat => unreachable!(),
     }
 }
 
@@ -116,10 +110,8 @@ fn deliver<S: Sequence>(alloc: Global, ledger: &mut Ledger<S>, op: &Op) -> Resul
         return Err(refusal);
     }
     let op = op.clone()?;
-    match ledger.append(alloc, op) {
-        Ok(_) => Ok(Pushed::Delivered),
-        Err(refusal) => Err(refusal),
-    }
+    ledger.append(alloc, op)?;
+    Ok(Pushed::Delivered)
 }
 
 /// Releases held operations while one is ready.
@@ -138,10 +130,8 @@ fn settle<S: Sequence>(
         dropped: 0,
     };
     for _n in 0..held.len() {
-        match release(alloc, ledger, held, &mut released) {
-            Ok(true) => {}
-            Ok(false) => return Ok(released),
-            Err(refusal) => return Err(refusal),
+        if !release(alloc, ledger, held, &mut released)? {
+            return Ok(released);
         }
     }
     Ok(released)
@@ -172,14 +162,10 @@ fn release<S: Sequence>(
         return Ok(true);
     }
     let op = op.clone()?;
-    match ledger.append(alloc, op) {
-        Ok(_) => {
-            held.take(name);
-            released.delivered += 1;
-            Ok(true)
-        }
-        Err(refusal) => Err(refusal),
-    }
+    ledger.append(alloc, op)?;
+    held.take(name);
+    released.delivered += 1;
+    Ok(true)
 }
 
 /// The ready operation of the least origin.

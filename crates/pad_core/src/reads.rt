@@ -24,10 +24,8 @@ pub fn read_text<S: Sequence>(
     if now < rev {
         return Err(Refusal::NoRevision);
     }
-    match ledger.text_at(alloc, rev) {
-        Ok(text) => Ok(PadReply::Text { now, rev, text }),
-        Err(refusal) => Err(refusal),
-    }
+    let text = ledger.text_at(alloc, rev)?;
+    Ok(PadReply::Text { now, rev, text })
 }
 
 /// Who wrote the text of a revision.
@@ -43,10 +41,8 @@ pub fn read_runs<S: Sequence>(
     if now < rev {
         return Err(Refusal::NoRevision);
     }
-    match ledger.runs_at(alloc, rev) {
-        Ok(runs) => Ok(PadReply::Runs { now, rev, runs }),
-        Err(refusal) => Err(refusal),
-    }
+    let runs = ledger.runs_at(alloc, rev)?;
+    Ok(PadReply::Runs { now, rev, runs })
 }
 
 /// The comments of a revision.
@@ -62,10 +58,8 @@ pub fn read_comments<S: Sequence>(
     if now < rev {
         return Err(Refusal::NoRevision);
     }
-    match ledger.comments_at(alloc, rev) {
-        Ok(comments) => Ok(PadReply::Comments { now, rev, comments }),
-        Err(refusal) => Err(refusal),
-    }
+    let comments = ledger.comments_at(alloc, rev)?;
+    Ok(PadReply::Comments { now, rev, comments })
 }
 
 /// How long the pad is, with and without what was erased.

@@ -24,26 +24,18 @@ pub fn own_again(
     requires { presence.old ≡ nobody_present }
     ensures { Answers {S = Option Owned × Presence} (owned.old, presence.old) (Ok tt, (Some (record { name = name.now; rights = record { owner = owner.now; grants = [] } }), ended (joined owner.now presence.old))) result (owned.new, presence.new) }
 {
-    match own(alloc, owned, presence, name, owner) {
-        Ok(_claim) => {
-            let _left = presence.leave(1);
-            Ok(())
-        }
-        Err(refusal) => Err(refusal),
-    }
+    own(alloc, owned, presence, name, owner)?;
+    let _left = presence.leave(1);
+    Ok(())
 }
 
 /// One more visit, which has ended.
 pub fn visit_again(alloc: Global, presence: &mut PresenceBook, author: &str) -> Result<(), Refusal>
     ensures { Answers presence.old (visited author.now presence.old) result presence.new }
 {
-    match presence.join(alloc, author) {
-        Ok(visit) => {
-            let _left = presence.leave(visit);
-            Ok(())
-        }
-        Err(refusal) => Err(refusal),
-    }
+    let visit = presence.join(alloc, author)?;
+    let _left = presence.leave(visit);
+    Ok(())
 }
 
 /// Gives a right, or takes it away, where a pad has a name.
@@ -75,10 +67,8 @@ pub fn deliver_again<S: Sequence>(
     if let Some(refusal) = ledger.refusal_of(&op) {
         return Err(refusal);
     }
-    match ledger.append(alloc, op) {
-        Ok(_hidden) => Ok(()),
-        Err(refusal) => Err(refusal),
-    }
+    ledger.append(alloc, op)?;
+    Ok(())
 }
 
 /// Whether a name is the next of its origin.

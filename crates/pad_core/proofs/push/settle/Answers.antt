@@ -1,6 +1,7 @@
 use Rattle.std.proofs.Common.{refl, ap, ◌∙◌, arith, Ok}
 use Rattle.pad_core.specs.Exchange.{both_of, unsettled}
 use Rattle.pad_core.specs.Released.{delivery}
+use Rattle.pad_core.proofs.Exits.{fails_passed}
 use Rattle.pad_core.proofs.Releases.{step_more, few_at, settled_idle, settled_all}
 use Rattle.pad_core.proofs.push.settle.Goals as goal
 
@@ -20,22 +21,23 @@ release-requires-clause-few g c =
 pub release-requires-clause-held : goal.release-requires-clause-held
 release-requires-clause-held g c = c.loop-n.invariant.checked
 
-pub returns-in-Ok-false-clause-ok : goal.returns-in-Ok-false-clause-ok
-returns-in-Ok-false-clause-ok g c =
+pub returns-then-not-branch-clause-ok : goal.returns-then-not-branch-clause-ok
+returns-then-not-branch-clause-ok g c =
     let test = c.loop-n-test.true in
     let len = c.len-n-end.ensures.value in
     settled_idle c.loop-n._n (unsettled (c.args.ledger.now, c.args.held.now)) (delivery c.loop-n.released c.loop-n.ledger c.loop-n.held) (delivery c.release.new.released c.release.new.ledger c.release.new.held)
-    c.loop-n.invariant.done (c.in-Ok-false.ensures.settled (ap Ok c.in-Ok-false.field-0-test)) c.in-Ok-false.ensures.ok (omega arith)
+    c.loop-n.invariant.done (c.in_ok-release.ensures.settled (ap Ok c.if-not-branch.true)) c.in_ok-release.ensures.ok (omega arith)
 
-pub returns-in-Err-clause-memory : goal.returns-in-Err-clause-memory
-returns-in-Err-clause-memory g c =
-    (c.in-Err.ensures.memory.0, c.loop-n._n, ap both_of (c.in-Err.ensures.memory.1 ∙ c.loop-n.invariant.done), c.in-Err.ensures.memory.2)
+pub returns-in_err-release-clause-memory : goal.returns-in_err-release-clause-memory
+returns-in_err-release-clause-memory g c =
+    fails_passed _ c.from_residual.result c.from_residual.ensures.1
+    (c.in_err-release.ensures.memory.0, c.loop-n._n, ap both_of (c.in_err-release.ensures.memory.1 ∙ c.loop-n.invariant.done), c.in_err-release.ensures.memory.2)
 
 pub loop-n-preserved : goal.loop-n-preserved
 loop-n-preserved g c = record {
   done =
       step_more c.loop-n._n (unsettled (c.args.ledger.now, c.args.held.now)) (delivery c.loop-n.released c.loop-n.ledger c.loop-n.held) (delivery c.release.new.released c.release.new.ledger c.release.new.held)
-      c.loop-n.invariant.done c.in-Ok-true.ensures.ok;
+      c.loop-n.invariant.done c.in_ok-release.ensures.ok;
   checked = c.release.ensures.held;
 }
 

@@ -1,10 +1,11 @@
-use Rattle.std.proofs.Common.{◌≡◌, ◌+◌, ◌∷◌, [], ◌++◌, Ok, Err, sym, ap, subst, ◌∙◌}
+use Rattle.std.proofs.Common.{◌≡◌, ◌+◌, ◌∷◌, [], ◌++◌, Ok, sym, ap, subst, ◌∙◌}
 use Rattle.pad_model.specs.Answers.{Answers}
 use Rattle.pad_model.specs.Operation.{characters_in, erased_by}
 use Rattle.pad_model.specs.Seen.{count_in}
 use Rattle.pad_model.specs.Visible.{hidden_by}
 use Rattle.pad_core.specs.Counts.{vector_of}
 use Rattle.pad_core.specs.Delivered.{delivery_refusal}
+use Rattle.pad_core.proofs.Exits.{answers_passed}
 use Rattle.pad_core.proofs.Entered.{IsLedger-push, IsLedger-kept, append_answers, append_fails}
 use Rattle.pad_core.proofs.ledger.Ledger.append.Goals as goal
 
@@ -17,25 +18,25 @@ count_and_enter-requires-clause-next g c = subst (λ log. c.args.op.name.number 
 pub count_and_enter-requires-clause-allowed : goal.count_and_enter-requires-clause-allowed
 count_and_enter-requires-clause-allowed g c = ap (delivery_refusal c.args.op) c.self.view_is ∙ c.requires.allowed
 
-pub invariant_of-self : goal.invariant_of-self
-invariant_of-self g c =
-    IsLedger-push c.self.inside.log.operations c.push.new.self.operations c.args.op c.self.inside.seen c.count_and_enter.new.seen (g.S.Sequence.cells c.self.inside.sequence) (g.S.Sequence.cells c.count_and_enter.new.sequence) c.self.inside.comments c.count_and_enter.new.comments c.in-Ok.hidden
+pub invariant_of-self-2 : goal.invariant_of-self-2
+invariant_of-self-2 g c =
+    IsLedger-push c.self.inside.log.operations c.push.new.self.operations c.args.op c.self.inside.seen c.count_and_enter.new.seen (g.S.Sequence.cells c.self.inside.sequence) (g.S.Sequence.cells c.count_and_enter.new.sequence) c.self.inside.comments c.count_and_enter.new.comments c.in_ok-hidden.hidden
     c.self.invariant c.requires.checked (subst (λ log. c.args.op.name.number ≡ count_in (vector_of log) c.args.op.name.origin + 1) (sym c.self.view_is) c.requires.next)
-    (ap (delivery_refusal c.args.op) c.self.view_is ∙ c.requires.allowed) c.in-Ok.ensures.entered (c.push.ensures.operations ∙ (ap (λ op. c.count_and_enter.new.log.operations ++ op ∷ []) c.fitted.ensures ∙ ap (λ log. log ++ c.args.op ∷ []) c.count_and_enter.ensures.log)) c.in-Ok.ensures.counted
+    (ap (delivery_refusal c.args.op) c.self.view_is ∙ c.requires.allowed) c.in_ok-hidden.ensures.entered (c.push.ensures.operations ∙ (ap (λ op. c.count_and_enter.new.log.operations ++ op ∷ []) c.fitted.ensures ∙ ap (λ log. log ++ c.args.op ∷ []) c.count_and_enter.ensures.log)) c.in_ok-hidden.ensures.counted
 
-pub returns-in-Ok : goal.returns-in-Ok
-returns-in-Ok g c =
-    subst (λ log. Answers log (Ok (hidden_by (erased_by c.args.op) (characters_in log)), log ++ c.args.op ∷ []) (Ok c.in-Ok.hidden) c.push.new.self.operations) c.self.view_is
-    (append_answers c.self.inside.log.operations c.push.new.self.operations c.args.op (g.S.Sequence.cells c.self.inside.sequence, c.self.inside.comments) (g.S.Sequence.cells c.count_and_enter.new.sequence, c.count_and_enter.new.comments) c.in-Ok.hidden c.in-Ok.ensures.entered
+pub returns : goal.returns
+returns g c =
+    subst (λ log. Answers log (Ok (hidden_by (erased_by c.args.op) (characters_in log)), log ++ c.args.op ∷ []) (Ok c.in_ok-hidden.hidden) c.push.new.self.operations) c.self.view_is
+    (append_answers c.self.inside.log.operations c.push.new.self.operations c.args.op (g.S.Sequence.cells c.self.inside.sequence, c.self.inside.comments) (g.S.Sequence.cells c.count_and_enter.new.sequence, c.count_and_enter.new.comments) c.in_ok-hidden.hidden c.in_ok-hidden.ensures.entered
     (c.push.ensures.operations ∙ (ap (λ op. c.count_and_enter.new.log.operations ++ op ∷ []) c.fitted.ensures ∙ ap (λ log. log ++ c.args.op ∷ []) c.count_and_enter.ensures.log)))
 
-pub invariant_of-self-in-Err-1 : goal.invariant_of-self-in-Err-1
-invariant_of-self-in-Err-1 g c =
-    IsLedger-kept c.self.inside.log.operations c.count_and_enter.new.log.operations c.args.op c.self.inside.seen c.count_and_enter.new.seen (g.S.Sequence.cells c.self.inside.sequence) (g.S.Sequence.cells c.count_and_enter.new.sequence) c.self.inside.comments c.count_and_enter.new.comments c.in-Err.refusal
-    c.self.invariant c.count_and_enter.ensures.log c.in-Err.ensures.uncounted c.in-Err.ensures.entered
+pub invariant_of-self : goal.invariant_of-self
+invariant_of-self g c =
+    IsLedger-kept c.self.inside.log.operations c.count_and_enter.new.log.operations c.args.op c.self.inside.seen c.count_and_enter.new.seen (g.S.Sequence.cells c.self.inside.sequence) (g.S.Sequence.cells c.count_and_enter.new.sequence) c.self.inside.comments c.count_and_enter.new.comments c.in_err-hidden.field-0.0
+    c.self.invariant c.count_and_enter.ensures.log c.in_err-hidden.ensures.uncounted c.in_err-hidden.ensures.entered
 
-pub returns-in-Err : goal.returns-in-Err
-returns-in-Err g c =
-    subst (λ log. Answers log (Ok (hidden_by (erased_by c.args.op) (characters_in log)), log ++ c.args.op ∷ []) (Err c.in-Err.refusal) c.count_and_enter.new.log.operations) c.self.view_is
-    (append_fails c.self.inside.log.operations c.count_and_enter.new.log.operations c.args.op (g.S.Sequence.cells c.self.inside.sequence, c.self.inside.comments) (g.S.Sequence.cells c.count_and_enter.new.sequence, c.count_and_enter.new.comments) c.in-Err.refusal c.in-Err.ensures.entered
-    c.count_and_enter.ensures.log)
+pub returns-in_err-hidden : goal.returns-in_err-hidden
+returns-in_err-hidden g c =
+    subst (λ log. Answers log (Ok (hidden_by (erased_by c.args.op) (characters_in log)), log ++ c.args.op ∷ []) c.from_residual.result c.count_and_enter.new.log.operations) c.self.view_is
+    (answers_passed c.from_residual.result c.from_residual.ensures.1 (append_fails c.self.inside.log.operations c.count_and_enter.new.log.operations c.args.op (g.S.Sequence.cells c.self.inside.sequence, c.self.inside.comments) (g.S.Sequence.cells c.count_and_enter.new.sequence, c.count_and_enter.new.comments) c.in_err-hidden.field-0.0 c.in_err-hidden.ensures.entered
+    c.count_and_enter.ensures.log))

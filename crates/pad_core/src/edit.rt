@@ -13,9 +13,10 @@ use crate::act::Change;
 use crate::ledger::Ledger;
 use crate::make::{make_insertion, make_parts};
 use crate::reply::PadReply;
+use crate::writer::{Passage, Writer};
 use pad_model::{
-    MAX_CHARACTERS, MAX_COUNTER, MAX_OPERATIONS, MAX_PARTS, MAX_TEXT, Name, Op, OpName, Part,
-    Refusal, Row, Sequence, Text,
+    MAX_CHARACTERS, MAX_COUNTER, MAX_OPERATIONS, MAX_PARTS, MAX_TEXT, Op, OpName, Part, Refusal,
+    Row, Sequence, Text,
 };
 use std::alloc::Global;
 
@@ -30,113 +31,96 @@ pub struct Edited {
 pub fn insert<S: Sequence>(
     alloc: Global,
     ledger: &mut Ledger<S>,
-    replica: u16,
-    author: &Name,
+    writer: Writer<'_>,
     rev: u64,
     at: u64,
     text: &Text,
 ) -> Result<PadReply, Refusal>
-    requires replica { 1 ≤ replica }
-    requires author { IsTrue (is_name author.now) }
-    ensures { Answers ledger.old (inserted replica author.now rev at text.now ledger.old) result ledger.new }
+    requires replica { 1 ≤ writer.replica }
+    requires author { IsTrue (is_name writer.author.now) }
+    ensures { Answers ledger.old (inserted writer.entry.replica writer.entry.author.now rev at text.now ledger.old) result ledger.new }
 {
     if let Some(refusal) = refuse_insert(ledger, rev, at, text) {
         return Err(refusal);
     }
-    let parts = match make_insertion(alloc, ledger, replica, rev, at, text) {
-        Ok(parts) => parts,
-        Err(refusal) => return Err(refusal),
-    };
-    match append_parts(alloc, ledger, replica, author, parts) {
-        Ok(edit) => Ok(PadReply::Made {
-            now: ledger.len(),
-            name: edit.name,
-        }),
-        Err(refusal) => Err(refusal),
-    }
+    let parts = make_insertion(alloc, ledger, writer.replica, rev, at, text)?;
+    let edit = append_parts(alloc, ledger, writer, parts)?;
+    Ok(PadReply::Made {
+        now: ledger.len(),
+        name: edit.name,
+    })
 }
 
-/// Erases some characters that a revision shows.
+/// Erases a passage.
 pub fn delete<S: Sequence>(
     alloc: Global,
     ledger: &mut Ledger<S>,
-    replica: u16,
-    author: &Name,
-    rev: u64,
-    at: u64,
-    len: u64,
+    writer: Writer<'_>,
+    passage: Passage,
 ) -> Result<PadReply, Refusal>
-    requires replica { 1 ≤ replica }
-    requires author { IsTrue (is_name author.now) }
-    ensures { Answers ledger.old (deleted replica author.now rev at len ledger.old) result ledger.new }
+    requires replica { 1 ≤ writer.replica }
+    requires author { IsTrue (is_name writer.author.now) }
+    ensures { Answers ledger.old (deleted writer.entry.replica writer.entry.author.now passage.rev passage.at passage.len ledger.old) result ledger.new }
 {
+    let Passage { rev, at, len } = passage;
     let changes = [Change::Delete { at, len }];
-    edit(alloc, ledger, replica, author, rev, changes.as_slice())
+    edit(alloc, ledger, writer, rev, changes.as_slice())
 }
 
 /// Makes several changes of a revision as one operation.
 pub fn edit<S: Sequence>(
     alloc: Global,
     ledger: &mut Ledger<S>,
-    replica: u16,
-    author: &Name,
+    writer: Writer<'_>,
     rev: u64,
     changes: &[Change],
 ) -> Result<PadReply, Refusal>
-    requires replica { 1 ≤ replica }
-    requires author { IsTrue (is_name author.now) }
-    ensures { Answers ledger.old (many_edited replica author.now rev changes.now ledger.old) result ledger.new }
+    requires replica { 1 ≤ writer.replica }
+    requires author { IsTrue (is_name writer.author.now) }
+    ensures { Answers ledger.old (many_edited writer.entry.replica writer.entry.author.now rev changes.now ledger.old) result ledger.new }
 {
-    match make_edit(alloc, ledger, replica, author, rev, changes) {
-        Ok(edit) => Ok(PadReply::Changed {
-            now: ledger.len(),
-            name: edit.name,
-            hidden: edit.hidden,
-        }),
-        Err(refusal) => Err(refusal),
-    }
+    let edit = make_edit(alloc, ledger, writer, rev, changes)?;
+    Ok(PadReply::Changed {
+        now: ledger.len(),
+        name: edit.name,
+        hidden: edit.hidden,
+    })
 }
 
 /// Makes the operation of some changes and delivers it, unless it is refused.
 fn make_edit<S: Sequence>(
     alloc: Global,
     ledger: &mut Ledger<S>,
-    replica: u16,
-    author: &Name,
+    writer: Writer<'_>,
     rev: u64,
     changes: &[Change],
 ) -> Result<Edited, Refusal>
-    requires replica { 1 ≤ replica }
-    requires author { IsTrue (is_name author.now) }
-    ensures { Answers ledger.old (edited replica author.now rev changes.now ledger.old) result ledger.new }
+    requires replica { 1 ≤ writer.replica }
+    requires author { IsTrue (is_name writer.author.now) }
+    ensures { Answers ledger.old (edited writer.entry.replica writer.entry.author.now rev changes.now ledger.old) result ledger.new }
 {
     if let Some(refusal) = refuse_edit(ledger, rev, changes) {
         return Err(refusal);
     }
-    match make_parts(alloc, ledger, replica, rev, changes) {
-        Ok(parts) => append_parts(alloc, ledger, replica, author, parts),
-        Err(refusal) => Err(refusal),
-    }
+    let parts = make_parts(alloc, ledger, writer.replica, rev, changes)?;
+    append_parts(alloc, ledger, writer, parts)
 }
 
 /// Delivers the next operation of an author, which nothing speaks against.
 fn append_parts<S: Sequence>(
     alloc: Global,
     ledger: &mut Ledger<S>,
-    replica: u16,
-    author: &Name,
+    writer: Writer<'_>,
     parts: Row<Part>,
 ) -> Result<Edited, Refusal>
-    requires checked { IsTrue (is_checked (op_of replica author.now parts ledger.old)) }
-    requires allowed { delivery_refusal (op_of replica author.now parts ledger.old) ledger.old ≡ None }
-    ensures { Answers ledger.old (appended replica author.now parts ledger.old) result ledger.new }
+    requires checked { IsTrue (is_checked (op_of writer.replica writer.author.now parts ledger.old)) }
+    requires allowed { delivery_refusal (op_of writer.replica writer.author.now parts ledger.old) ledger.old ≡ None }
+    ensures { Answers ledger.old (appended writer.entry.replica writer.entry.author.now parts ledger.old) result ledger.new }
 {
-    let op = make_op(ledger, replica, author, parts)?;
+    let op = make_op(ledger, writer, parts)?;
     let name = op.name;
-    match ledger.append(alloc, op) {
-        Ok(hidden) => Ok(Edited { name, hidden }),
-        Err(refusal) => Err(refusal),
-    }
+    let hidden = ledger.append(alloc, op)?;
+    Ok(Edited { name, hidden })
 }
 
 /// The name of the next operation of a replica.
@@ -154,18 +138,17 @@ pub fn next_name<S: Sequence>(ledger: &Ledger<S>, replica: u16) -> OpName
 /// The next operation of an author on this replica.
 pub fn make_op<S: Sequence>(
     ledger: &Ledger<S>,
-    replica: u16,
-    author: &Name,
+    writer: Writer<'_>,
     parts: Row<Part>,
 ) -> Result<Op, Refusal>
-    ensures { MatchResult result (λ op. op ≡ op_of replica author.now parts ledger.now) (λ e. e ≡ Refusal.Memory) }
+    ensures { MatchResult result (λ op. op ≡ op_of writer.entry.replica writer.entry.author.now parts ledger.now) (λ e. e ≡ Refusal.Memory) }
 {
     let mut seen = ledger.seen().clone()?;
-    seen.set(replica, 0)?;
+    seen.set(writer.replica, 0)?;
     Ok(Op {
-        name: next_name(ledger, replica),
+        name: next_name(ledger, writer.replica),
         seen,
-        author: author.clone()?,
+        author: writer.author.clone()?,
         parts,
     })
 }

@@ -22,6 +22,7 @@ mod recorded;
 mod reply;
 mod request;
 mod restart;
+mod writer;
 
 pub use act::{Act, Change};
 pub use admit::session_refusal;

@@ -10,48 +10,41 @@ ghost use Rattle.pad_core.specs.Notes.{comment as commented, comment_parts, comm
 use crate::edit::make_op;
 use crate::ledger::Ledger;
 use crate::reply::PadReply;
+use crate::writer::{Passage, Writer};
 use pad_model::{
-    MAX_COMMENT, MAX_COMMENTS, MAX_OPERATIONS, Name, OpName, Part, Refusal, Row, Sequence, Stamp,
-    Text,
+    MAX_COMMENT, MAX_COMMENTS, MAX_OPERATIONS, OpName, Part, Refusal, Row, Sequence, Stamp, Text,
 };
 use std::alloc::Global;
 
-/// Comments on the `len` characters that a revision shows from a place on.
+/// Comments on a passage.
 pub fn comment<S: Sequence>(
     alloc: Global,
     ledger: &mut Ledger<S>,
-    replica: u16,
-    author: &Name,
-    rev: u64,
-    at: u64,
-    len: u64,
+    writer: Writer<'_>,
+    passage: Passage,
     text: &Text,
 ) -> Result<PadReply, Refusal>
-    requires replica { 1 ≤ replica }
-    requires author { IsTrue (is_name author.now) }
-    ensures { Answers ledger.old (commented replica author.now rev at len text.now ledger.old) result ledger.new }
+    requires replica { 1 ≤ writer.replica }
+    requires author { IsTrue (is_name writer.author.now) }
+    ensures { Answers ledger.old (commented writer.entry.replica writer.entry.author.now passage.rev passage.at passage.len text.now ledger.old) result ledger.new }
 {
-    if let Some(refusal) = refuse_comment(ledger, rev, at, len, text) {
+    if let Some(refusal) = refuse_comment(ledger, passage, text) {
         return Err(refusal);
     }
-    let part = match make_comment(ledger, rev, at, len, text) {
-        Ok(part) => part,
-        Err(refusal) => return Err(refusal),
-    };
-    note(alloc, ledger, replica, author, part)
+    let part = make_comment(ledger, passage, text)?;
+    note(alloc, ledger, writer, part)
 }
 
 /// Resolves a comment.
 pub fn resolve<S: Sequence>(
     alloc: Global,
     ledger: &mut Ledger<S>,
-    replica: u16,
-    author: &Name,
+    writer: Writer<'_>,
     comment: OpName,
 ) -> Result<PadReply, Refusal>
-    requires replica { 1 ≤ replica }
-    requires author { IsTrue (is_name author.now) }
-    ensures { Answers ledger.old (resolved replica author.now comment ledger.old) result ledger.new }
+    requires replica { 1 ≤ writer.replica }
+    requires author { IsTrue (is_name writer.author.now) }
+    ensures { Answers ledger.old (resolved writer.entry.replica writer.entry.author.now comment ledger.old) result ledger.new }
 {
     if !ledger.has_comment(comment) {
         return Err(Refusal::NoComment);
@@ -59,45 +52,37 @@ pub fn resolve<S: Sequence>(
     if MAX_OPERATIONS <= ledger.len() {
         return Err(Refusal::LogFull);
     }
-    note(alloc, ledger, replica, author, Part::Resolve { comment })
+    note(alloc, ledger, writer, Part::Resolve { comment })
 }
 
 /// Makes the operation of one comment or resolution and delivers it.
 fn note<S: Sequence>(
     alloc: Global,
     ledger: &mut Ledger<S>,
-    replica: u16,
-    author: &Name,
+    writer: Writer<'_>,
     part: Part,
 ) -> Result<PadReply, Refusal>
-    requires checked { IsTrue (is_checked (op_of replica author.now (part ∷ []) ledger.old)) }
-    requires allowed { delivery_refusal (op_of replica author.now (part ∷ []) ledger.old) ledger.old ≡ None }
-    ensures { Answers ledger.old (noted None replica author.now (part ∷ []) ledger.old) result ledger.new }
+    requires checked { IsTrue (is_checked (op_of writer.replica writer.author.now (part ∷ []) ledger.old)) }
+    requires allowed { delivery_refusal (op_of writer.replica writer.author.now (part ∷ []) ledger.old) ledger.old ≡ None }
+    ensures { Answers ledger.old (noted None writer.entry.replica writer.entry.author.now (part ∷ []) ledger.old) result ledger.new }
 {
     let mut parts = Row::new(alloc);
     parts.push(part)?;
-    let op = make_op(ledger, replica, author, parts)?;
+    let op = make_op(ledger, writer, parts)?;
     let name = op.name;
-    match ledger.append(alloc, op) {
-        Ok(_) => Ok(PadReply::Made {
-            now: ledger.len(),
-            name,
-        }),
-        Err(refusal) => Err(refusal),
-    }
+    ledger.append(alloc, op)?;
+    Ok(PadReply::Made {
+        now: ledger.len(),
+        name,
+    })
 }
 
 /// Why a comment is refused, if it is. The first that holds is the answer.
-fn refuse_comment<S: Sequence>(
-    ledger: &Ledger<S>,
-    rev: u64,
-    at: u64,
-    len: u64,
-    text: &Text,
-) -> Option<Refusal>
-    ensures value { result ≡ comment_refusal rev at len text.now ledger.now }
+fn refuse_comment<S: Sequence>(ledger: &Ledger<S>, passage: Passage, text: &Text) -> Option<Refusal>
+    ensures value { result ≡ comment_refusal passage.rev passage.at passage.len text.now ledger.now }
     ensures sound { IsDelivered ledger.now }
 {
+    let Passage { rev, at, len } = passage;
     if ledger.len() < rev {
         return Some(Refusal::NoRevision);
     }
@@ -123,15 +108,14 @@ fn refuse_comment<S: Sequence>(
 /// The part of a comment: it keeps the stamps of its first and its last character.
 fn make_comment<S: Sequence>(
     ledger: &Ledger<S>,
-    rev: u64,
-    at: u64,
-    len: u64,
+    passage: Passage,
     text: &Text,
 ) -> Result<Part, Refusal>
     requires sound { IsDelivered ledger.now }
-    requires allowed { comment_refusal rev at len text.now ledger.now ≡ None }
-    ensures { MatchResult result (λ part. comment_parts (characters_at rev ledger.now) at len text.now ≡ part ∷ []) (λ e. e ≡ Refusal.Memory) }
+    requires allowed { comment_refusal passage.rev passage.at passage.len text.now ledger.now ≡ None }
+    ensures { MatchResult result (λ part. comment_parts (characters_at passage.rev ledger.now) passage.at passage.len text.now ≡ part ∷ []) (λ e. e ≡ Refusal.Memory) }
 {
+    let Passage { rev, at, len } = passage;
     Ok(Part::Comment {
         first: shown_stamp(ledger, rev, at),
         last: shown_stamp(ledger, rev, at + len - 1),

@@ -25,6 +25,7 @@ use crate::push::push;
 use crate::reads::{read_comments, read_entries, read_revs, read_runs, read_text};
 use crate::reply::PadReply;
 use crate::restart::{deliver_again, grant_again, own_again, visit_again};
+use crate::writer::{Passage, Writer};
 use holdback::Hold;
 use pad_model::{Name, Op, Refusal, Sequence, Version, Who};
 use rights::Right;
@@ -269,24 +270,24 @@ impl<S: Sequence> Pad<S> {
     {
         let visit = visit.unwrap_or(0);
         let ledger = &mut self.ledger;
+        let writer = Writer {
+            replica: self.replica,
+            author: name,
+        };
         match act {
             Act::Join => join(alloc, &mut self.presence, ledger.len(), name),
             Act::Leave => leave(&mut self.presence, ledger.len(), visit),
             Act::Caret { rev, at } => put_caret(ledger, &mut self.presence, visit, *rev, *at),
             Act::Who => read_who(alloc, ledger, &self.presence, self.replica),
-            Act::Insert { rev, at, text } => {
-                insert(alloc, ledger, self.replica, name, *rev, *at, text)
-            }
+            Act::Insert { rev, at, text } => insert(alloc, ledger, writer, *rev, *at, text),
             Act::Delete { rev, at, len } => {
-                delete(alloc, ledger, self.replica, name, *rev, *at, *len)
+                delete(alloc, ledger, writer, Passage::new(*rev, *at, *len))
             }
-            Act::Edit { rev, changes } => {
-                edit(alloc, ledger, self.replica, name, *rev, changes.as_slice())
-            }
+            Act::Edit { rev, changes } => edit(alloc, ledger, writer, *rev, changes.as_slice()),
             Act::Comment { rev, at, len, text } => {
-                comment(alloc, ledger, self.replica, name, *rev, *at, *len, text)
+                comment(alloc, ledger, writer, Passage::new(*rev, *at, *len), text)
             }
-            Act::Resolve { comment } => resolve(alloc, ledger, self.replica, name, *comment),
+            Act::Resolve { comment } => resolve(alloc, ledger, writer, *comment),
             Act::Text { rev } => read_text(alloc, ledger, *rev),
             Act::Runs { rev } => read_runs(alloc, ledger, *rev),
             Act::Comments { rev } => read_comments(alloc, ledger, *rev),

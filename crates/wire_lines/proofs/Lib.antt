@@ -1,3 +1,4 @@
+-- The lemmas, by topic.
 pub mod Counts
 pub mod Feeds
 pub mod InOrder

@@ -1,3 +1,4 @@
+-- The definitions that the contracts cite, by topic.
 pub mod Buffer
 pub mod Causes
 pub mod Device

@@ -149,10 +149,7 @@ impl LineBuffer {
             if self.reads >= MAX_READS {
                 return Err(Fault::ReadFault);
             }
-            match self.read_more(source) {
-                Ok(()) => {}
-                Err(fault) => return Err(fault),
-            }
+            self.read_more(source)?;
         }
     }
 

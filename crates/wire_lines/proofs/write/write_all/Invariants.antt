@@ -1,3 +1,4 @@
+-- The loop of `write_all`: so many bytes were written, no call has failed, and the loop ends.
 use Rattle.std.proofs.Common.{◌≡◌, ◌≤◌, ◌-◌, take, length}
 use Rattle.std.specs.Io.KnownBytes.{Appends}
 use Rattle.wire_lines.proofs.write.write_all.Given as goal

@@ -1,3 +1,4 @@
+-- The loop of `search`: no byte to come was lost, no call has failed, and the loop ends.
 use Rattle.std.proofs.Common.{◌≡◌, ◌≤◌}
 use Rattle.std.specs.Io.KnownBytes.{Keeps}
 use Rattle.wire_lines.specs.Buffer.{ahead, budget}

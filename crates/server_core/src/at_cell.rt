@@ -121,10 +121,9 @@ fn keep_rooms(
 fn pass_on(answer: Result<PadReply, Refusal>) -> Result<Option<Reply>, Refusal>
     ensures { result ≡ passed answer }
 {
-    match answer {
-        Ok(PadReply::Elsewhere) => Ok(None),
-        Ok(reply) => Ok(Some(Reply::Pad(reply))),
-        Err(refusal) => Err(refusal),
+    match answer? {
+        PadReply::Elsewhere => Ok(None),
+        reply => Ok(Some(Reply::Pad(reply))),
     }
 }
 
@@ -144,8 +143,8 @@ fn create_at<S: Sequence>(
     let Who::Author(owner) = session.who() else {
         return Err(Refusal::NoSession);
     };
-    match cell.claim(alloc, pad.as_str(), owner.as_str()) {
-        Ok(Claim::Created { visit }) => {
+    match cell.claim(alloc, pad.as_str(), owner.as_str())? {
+        Claim::Created { visit } => {
             session.enter(Room {
                 pad: name,
                 cell: place,
@@ -156,8 +155,7 @@ fn create_at<S: Sequence>(
                 visit,
             })))
         }
-        Ok(Claim::Exists) => Err(Refusal::PadExists),
-        Ok(Claim::Other) => Ok(None),
-        Err(refusal) => Err(refusal),
+        Claim::Exists => Err(Refusal::PadExists),
+        Claim::Other => Ok(None),
     }
 }

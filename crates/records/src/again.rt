@@ -29,15 +29,9 @@ pub fn rebuild<S: Sequence>(
     requires { 1 ≤ replica }
     ensures { MatchResult result (λ pad. rebuilt replica records.items ≡ Ok pad) (λ e. (e ≡ Refusal.Memory) ⊎ (rebuilt replica records.items ≡ Err e)) }
 {
-    let mut pad = match Pad::new(alloc, replica) {
-        Ok(pad) => pad,
-        Err(refusal) => return Err(refusal),
-    };
+    let mut pad = Pad::new(alloc, replica)?;
     for kept in records {
-        match replay(alloc, &mut pad, kept) {
-            Ok(()) => {}
-            Err(refusal) => return Err(refusal),
-        }
+        replay(alloc, &mut pad, kept)?;
     }
     Ok(pad)
 }

@@ -16,9 +16,9 @@ cells_seen e = ap (λ (x : CellsInBlocks). x.cells) e
 pub blocks_seen : {v w : CellsInBlocks} → v ≡ w → v.blocks ≡ w.blocks
 blocks_seen e = ap (λ (x : CellsInBlocks). x.blocks) e
 
--- what has the cells and the number of blocks of a view equals it
-pub seen_as : (v : CellsInBlocks) (cells : List Cell) (blocks : ℕ) → cells ≡ v.cells → blocks ≡ v.blocks → (let it : CellsInBlocks = record { cells = cells; blocks = blocks } in it) ≡ v
-seen_as v cells blocks e f = ap₂ (λ l n. let it : CellsInBlocks = record { cells = l; blocks = n } in it) e f
+-- and so is its count of respacings
+pub respaced_seen : {v w : CellsInBlocks} → v ≡ w → v.respaced ≡ w.respaced
+respaced_seen e = ap (λ (x : CellsInBlocks). x.respaced) e
 
 -- other labels, and as many blocks
 pub same_number : (old new : List Block) → without_labels new ≡ without_labels old → length new ≡ length old

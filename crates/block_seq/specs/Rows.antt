@@ -23,14 +23,15 @@ pub record IsBlockSeq (latest clock : ℕ) (authors : List Author) (text : List 
   pub dated : AllByRecursion (IsBy latest) (cells_of authors text bs)
   pub newest : clock_of (cells_of authors text bs) ≡ clock
 
--- what callers see of a sequence of blocks: its cells, and how many blocks keep them
+-- what callers see of a sequence of blocks: its cells, how many blocks keep them, and how many times blocks got new labels
 pub record CellsInBlocks : Type 0 where
   pub cells : List Cell
   pub blocks : ℕ
+  pub respaced : ℕ
 
--- the cells of blocks, and how many blocks there are
-abbrev pub cells_in : List Author → List ℕ → List Block → CellsInBlocks
-cells_in authors text bs = record { cells = cells_of authors text bs; blocks = length bs }
+-- the cells of blocks, how many blocks there are, and a count of respacings
+abbrev pub cells_in : List Author → List ℕ → List Block → ℕ → CellsInBlocks
+cells_in authors text bs n = record { cells = cells_of authors text bs; blocks = length bs; respaced = n }
 
 -- the cells are those of these blocks, over some text and some authors, and the index has just these blocks
 pub record IsRowOf (cells : List Cell) (m : Index) (bs : List Block) : Type 0 where

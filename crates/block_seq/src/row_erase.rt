@@ -53,6 +53,7 @@ fn cut_span(
     alloc: Global,
     tree: &mut WeightTree<Block>,
     index: &mut IdentIndex,
+    respacings: &mut u64,
     span: &Span,
 ) -> Result<(), Refusal>
     requires kept { IsKept index.old tree.old.items }
@@ -63,10 +64,12 @@ fn cut_span(
     ensures cut { OnOk result (IsCutOut index.new span.now) }
     ensures memory { IfErr result (λ e. e ≡ Refusal.Memory) }
     ensures more { length tree.new.items ≤ length tree.old.items + 2 }
+    ensures counts { respacings.old ≤ respacings.new }
+    ensures few { respacings.new ≤ respacings.old + 2 }
 {
-    cut_at(alloc, tree, index, span.first)?;
+    cut_at(alloc, tree, index, respacings, span.first)?;
     match Stamp::new(span.first.counter() + span.len, span.first.replica()) {
-        Ok(end) => cut_at(alloc, tree, index, end),
+        Ok(end) => cut_at(alloc, tree, index, respacings, end),
         Err(_) => Ok(()),
     }
 }
@@ -76,6 +79,7 @@ pub fn cut_spans(
     alloc: Global,
     tree: &mut WeightTree<Block>,
     index: &mut IdentIndex,
+    respacings: &mut u64,
     spans: &[Span],
 ) -> Result<(), Refusal>
     requires kept { IsKept index.old tree.old.items }
@@ -85,9 +89,11 @@ pub fn cut_spans(
     ensures cut { OnOk result (AllByRecursion (IsCutOut index.new) spans.now) }
     ensures memory { IfErr result (λ e. e ≡ Refusal.Memory) }
     ensures more { length tree.new.items ≤ length tree.old.items + 2 * length spans.now }
+    ensures counts { respacings.old ≤ respacings.new }
+    ensures few { respacings.new ≤ respacings.old + 2 * length spans.now }
 {
     for span in spans {
-        cut_span(alloc, tree, index, span)?;
+        cut_span(alloc, tree, index, respacings, span)?;
     }
     Ok(())
 }

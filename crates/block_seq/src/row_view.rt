@@ -53,6 +53,15 @@ impl BlockSeq {
         &self.index
     }
 
+    /// How many times blocks got new labels because one was sought where none was free: those of a window, or all. It stops
+    /// at `u64::MAX`. What a call cuts or labels before memory is refused stays, so that is counted too.
+    pub fn respaced(&self) -> u64
+        ensures { result ≡ self.now.respaced }
+    {
+        let _kept = &self.tree;
+        self.respaced
+    }
+
     /// How many blocks there are. An edit adds at most two for each insertion and each span of a deletion.
     pub fn blocks(&self) -> u64
         ensures row { (m : Index) × (bs : List BlockValue) × IsRowOf self.now.cells m bs × (result ≡ length bs) }

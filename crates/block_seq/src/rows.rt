@@ -44,6 +44,8 @@ pub struct BlockSeq {
     latest: u64,
     /// The greatest counter of any character, or 0.
     clock: u64,
+    /// How many times blocks got new labels, of one window or of all.
+    pub(crate) respaced: u64,
 }
 
 impl Model for BlockSeq {
@@ -53,7 +55,7 @@ impl Model for BlockSeq {
 
     ghost use Rattle.block_seq.specs.RowSlides.{IsSlidRow};
 
-    ghost view = { λ s. cells_in s.authors.items s.text.items s.tree.items };
+    ghost view = { λ s. cells_in s.authors.items s.text.items s.tree.items s.respaced };
 
     ghost invariant = { λ s. IsSlidRow s.latest s.clock s.authors.items s.text.items s.slides.items s.index s.tree.items };
 }
@@ -77,9 +79,13 @@ impl BlockSeq {
         requires latest { AllByRecursion (IsBy rev) self.old.cells }
         ensures answers { Answers self.old.cells (Ok (count_by (is_hidden_by spans.now) self.old.cells), with_all rev author.now (without_spans rev spans.now self.old.cells) (map (λ run. run.now) runs.now)) result self.new.cells }
         ensures rises { self.new.blocks ≤ self.old.blocks + 2 * (length runs.now + length spans.now) }
+        ensures counts { self.old.respaced ≤ self.new.respaced }
+        ensures few { self.new.respaced ≤ self.old.respaced + 2 * (length runs.now + length spans.now) }
     {
-        cut_spans(alloc, &mut self.tree, &mut self.index, spans)?;
-        cut_parents(alloc, &mut self.tree, &mut self.index, runs)?;
+        let counted = &mut self.respaced;
+        cut_spans(alloc, &mut self.tree, &mut self.index, counted, spans)?;
+        let counted = &mut self.respaced;
+        cut_parents(alloc, &mut self.tree, &mut self.index, counted, runs)?;
         let author = place_author(&mut self.authors, author)?;
         self.text.reserve(count_text(runs))?;
         let kills = count_kills(&self.tree, spans);
@@ -93,6 +99,7 @@ impl BlockSeq {
         let clock = put_runs(
             &mut self.tree,
             &mut self.index,
+            &mut self.respaced,
             &mut self.text,
             &mut self.slides,
             runs,
@@ -112,6 +119,8 @@ impl BlockSeq {
         requires latest { AllByRecursion (IsBy rev) self.old.cells }
         ensures answers { Answers self.old.cells (Ok tt, with_run rev run.now author.now self.old.cells) result self.new.cells }
         ensures rises { self.new.blocks ≤ self.old.blocks + 2 }
+        ensures counts { self.old.respaced ≤ self.new.respaced }
+        ensures few { self.new.respaced ≤ self.old.respaced + 2 }
     {
         self.change(alloc, &[], &[run], author, rev)?;
         Ok(())
@@ -124,8 +133,11 @@ impl BlockSeq {
         requires latest { AllByRecursion (IsBy rev) self.old.cells }
         ensures answers { Answers self.old.cells (Ok (count_by (is_hidden_by spans.now) self.old.cells), without_spans rev spans.now self.old.cells) result self.new.cells }
         ensures rises { self.new.blocks ≤ self.old.blocks + 2 * length spans.now }
+        ensures counts { self.old.respaced ≤ self.new.respaced }
+        ensures few { self.new.respaced ≤ self.old.respaced + 2 * length spans.now }
     {
-        cut_spans(alloc, &mut self.tree, &mut self.index, spans)?;
+        let counted = &mut self.respaced;
+        cut_spans(alloc, &mut self.tree, &mut self.index, counted, spans)?;
         let kills = count_kills(&self.tree, spans);
         self.slides.reserve(kills)?;
         let hidden = kill_named(&mut self.tree, &self.index, &mut self.slides, spans, rev);
@@ -146,6 +158,7 @@ impl Sequence for BlockSeq {
             slides: Vec::new(alloc),
             latest: 0,
             clock: 0,
+            respaced: 0,
         })
     }
 
@@ -160,6 +173,8 @@ impl Sequence for BlockSeq {
         requires latest { AllByRecursion (IsBy rev) self.old.cells }
         ensures answers { Answers self.old.cells (insert_cells rev run.now author.now self.old.cells) result self.new.cells }
         ensures rises { self.new.blocks ≤ self.old.blocks + 2 }
+        ensures counts { self.old.respaced ≤ self.new.respaced }
+        ensures few { self.new.respaced ≤ self.old.respaced + 2 }
     {
         if !run_fits(&self.tree, &self.index, run.first, run.after) {
             return Err(Refusal::PeerFault);
@@ -175,6 +190,8 @@ impl Sequence for BlockSeq {
         requires latest { AllByRecursion (IsBy rev) self.old.cells }
         ensures answers { Answers self.old.cells (delete_cells rev spans.now self.old.cells) result self.new.cells }
         ensures rises { self.new.blocks ≤ self.old.blocks + 2 * length spans.now }
+        ensures counts { self.old.respaced ≤ self.new.respaced }
+        ensures few { self.new.respaced ≤ self.old.respaced + 2 * length spans.now }
     {
         if !has_spans(&self.tree, &self.index, spans) {
             return Err(Refusal::PeerFault);
@@ -195,6 +212,8 @@ impl Sequence for BlockSeq {
         requires latest { AllByRecursion (IsBy rev) self.old.cells }
         ensures answers { Answers self.old.cells (apply_parts rev parts.now author.now self.old.cells) result self.new.cells }
         ensures rises { self.new.blocks ≤ self.old.blocks + 2 * count_changes parts.now }
+        ensures counts { self.old.respaced ≤ self.new.respaced }
+        ensures few { self.new.respaced ≤ self.old.respaced + 2 * count_changes parts.now }
     {
         if !parts_fit(&self.tree, &self.index, parts) {
             return Err(Refusal::PeerFault);

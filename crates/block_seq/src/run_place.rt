@@ -83,6 +83,7 @@ pub fn cut_parent(
     alloc: Global,
     tree: &mut WeightTree<Block>,
     index: &mut IdentIndex,
+    respacings: &mut u64,
     first: Stamp,
     parent: Option<Stamp>,
 ) -> Result<(), Refusal>
@@ -94,11 +95,13 @@ pub fn cut_parent(
     ensures cut { OnOk result (IsCutBehind index.new parent) }
     ensures memory { IfErr result (λ e. e ≡ Refusal.Memory) }
     ensures more { length tree.new.items ≤ length tree.old.items + 1 }
+    ensures counts { respacings.old ≤ respacings.new }
+    ensures few { respacings.new ≤ respacings.old + 1 }
 {
     let _limit = first.counter();
     match parent {
         None => Ok(()),
-        Some(stamp) => cut_at(alloc, tree, index, stamp.plus(1)),
+        Some(stamp) => cut_at(alloc, tree, index, respacings, stamp.plus(1)),
     }
 }
 
@@ -107,6 +110,7 @@ pub fn cut_parents(
     alloc: Global,
     tree: &mut WeightTree<Block>,
     index: &mut IdentIndex,
+    respacings: &mut u64,
     runs: &[&Run],
 ) -> Result<(), Refusal>
     requires kept { IsKept index.old tree.old.items }
@@ -117,9 +121,11 @@ pub fn cut_parents(
     ensures cut { OnOk result (AllByRecursion (λ run. IsCutBehind index.new run.now.after) runs.now) }
     ensures memory { IfErr result (λ e. e ≡ Refusal.Memory) }
     ensures more { length tree.new.items ≤ length tree.old.items + length runs.now }
+    ensures counts { respacings.old ≤ respacings.new }
+    ensures few { respacings.new ≤ respacings.old + length runs.now }
 {
     for run in runs {
-        cut_parent(alloc, tree, index, run.first, run.after)?;
+        cut_parent(alloc, tree, index, respacings, run.first, run.after)?;
     }
     Ok(())
 }

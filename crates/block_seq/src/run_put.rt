@@ -38,6 +38,7 @@ pub struct Batch<'a> {
 fn put_run(
     tree: &mut WeightTree<Block>,
     index: &mut IdentIndex,
+    respacings: &mut u64,
     text: &mut Vec<char>,
     slides: &mut Vec<Slide>,
     run: &Run,
@@ -66,6 +67,8 @@ fn put_run(
     ensures same_blocks { OnErr result (without_labels tree.new.items ≡ without_labels tree.old.items) }
     ensures same_text { OnErr result (text.new.items ≡ text.old.items) }
     ensures same_slides { OnErr result (slides.new.items ≡ slides.old.items) }
+    ensures counts { respacings.old ≤ respacings.new }
+    ensures few { respacings.new ≤ respacings.old + 1 }
     ensures memory { IfErr result (λ e. e ≡ Refusal.Memory) }
 {
     let rank = find_place(tree, index, run.first, run.after);
@@ -81,7 +84,7 @@ fn put_run(
         start,
         len: run.text.len() as u64,
     };
-    put_block(*text.allocator(), tree, index, rank, block)?;
+    put_block(*text.allocator(), tree, index, respacings, rank, block)?;
     push_text(text, run.text.as_slice());
     push_shown(slides, batch.rev, at, run);
     Ok(rank)
@@ -106,6 +109,7 @@ fn take_blocks(tree: &mut WeightTree<Block>, index: &mut IdentIndex, ranks: &[us
 pub fn put_runs(
     tree: &mut WeightTree<Block>,
     index: &mut IdentIndex,
+    respacings: &mut u64,
     text: &mut Vec<char>,
     slides: &mut Vec<Slide>,
     runs: &[&Run],
@@ -127,6 +131,8 @@ pub fn put_runs(
     ensures same_blocks { OnErr result (without_labels tree.new.items ≡ without_labels tree.old.items) }
     ensures same_text { OnErr result (text.new.items ≡ text.old.items) }
     ensures same_slides { OnErr result (slides.new.items ≡ slides.old.items) }
+    ensures counts { respacings.old ≤ respacings.new }
+    ensures few { respacings.new ≤ respacings.old + length runs.now }
     ensures memory { IfErr result (λ e. e ≡ Refusal.Memory) }
 {
     let (start, known) = (text.len(), slides.len());
@@ -135,7 +141,7 @@ pub fn put_runs(
     let mut clock = batch.clock;
     for run in runs {
         let next = Batch { clock, ..*batch };
-        match put_run(tree, index, text, slides, run, &next) {
+        match put_run(tree, index, respacings, text, slides, run, &next) {
             Ok(rank) => ranks.push_reserved(rank),
             Err(refusal) => {
                 take_blocks(tree, index, ranks.as_slice());

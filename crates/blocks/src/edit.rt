@@ -5,7 +5,7 @@ ghost use Rattle.std.specs.Option.{IsSomeAnd};
 ghost use Rattle.pad_model.specs.declared.limits.TheConstants.{MAX_CHARACTERS};
 ghost use Rattle.ident_index.specs.Index.{Covers, IsNew, stamp_behind};
 ghost use Rattle.pad_model.specs.Stamp.{Stamp as StampValue};
-ghost use Rattle.blocks.specs.Blocks.{IsKept, IsSized, HoldsNoMore, IsEdge, KeepsEdges, left_part, right_part, unlabelled, without_labels};
+ghost use Rattle.blocks.specs.Blocks.{IsKept, IsSized, HoldsNoMore, IsEdge, IsCutCounted, KeepsEdges, counted, left_part, right_part, unlabelled, without_labels};
 ghost use Rattle.blocks.specs.Cells.{SameCells};
 ghost use Rattle.blocks.specs.declared.block.Block.{Block as BlockValue};
 
@@ -48,6 +48,7 @@ fn cut_block(
     alloc: Global,
     tree: &mut WeightTree<Block>,
     index: &mut IdentIndex,
+    respacings: &mut u64,
     rank: usize,
     offset: u64,
 ) -> Result<(), Refusal>
@@ -58,9 +59,12 @@ fn cut_block(
     ensures more { length tree.new.items ≤ length tree.old.items + 1 }
     ensures edges { KeepsEdges index.old index.new }
     ensures edge { (b : BlockValue) → slice_get tree.old.items rank ≡ Some b → OnOk result (IsEdge index.new (stamp_behind b.first offset)) }
+    ensures counted { respacings.new ≡ counted respacings.old tree.old.items (rank + 1) }
+    ensures counts { respacings.old ≤ respacings.new }
+    ensures few { respacings.new ≤ respacings.old + 1 }
     ensures memory { IfErr result (λ e. e ≡ Refusal.Memory) }
 {
-    let label = free_label(tree, index, rank + 1);
+    let label = free_label(tree, index, respacings, rank + 1);
     let whole = tree.get(rank);
     let first = whole.first;
     let left = left_of(whole, offset);
@@ -73,11 +77,13 @@ fn cut_block(
     Ok(())
 }
 
-/// Cuts so that the block that holds a stamp begins with it. No character changes.
+/// Cuts so that the block that holds a stamp begins with it. No character changes. A respacing is counted also where
+/// memory is refused after it.
 pub fn cut_at(
     alloc: Global,
     tree: &mut WeightTree<Block>,
     index: &mut IdentIndex,
+    respacings: &mut u64,
     stamp: Stamp,
 ) -> Result<(), Refusal>
     requires kept { IsKept index.old tree.old.items }
@@ -86,6 +92,9 @@ pub fn cut_at(
     ensures more { length tree.new.items ≤ length tree.old.items + 1 }
     ensures edges { KeepsEdges index.old index.new }
     ensures edge { OnOk result (IsEdge index.new stamp) }
+    ensures counted { IsCutCounted index.old tree.old.items stamp respacings.old respacings.new }
+    ensures counts { respacings.old ≤ respacings.new }
+    ensures few { respacings.new ≤ respacings.old + 1 }
     ensures memory { IfErr result (λ e. e ≡ Refusal.Memory) }
 {
     let Some(spot) = find_block(tree, index, stamp) else {
@@ -94,14 +103,15 @@ pub fn cut_at(
     if spot.offset == 0 {
         return Ok(());
     }
-    cut_block(alloc, tree, index, spot.rank, spot.offset)
+    cut_block(alloc, tree, index, respacings, spot.rank, spot.offset)
 }
 
-/// Puts a block at a rank. It gets a label of its own there.
+/// Puts a block at a rank. It gets a label of its own there. A respacing is counted also where memory is refused after it.
 pub fn put_block(
     alloc: Global,
     tree: &mut WeightTree<Block>,
     index: &mut IdentIndex,
+    respacings: &mut u64,
     rank: usize,
     block: Block,
 ) -> Result<(), Refusal>
@@ -114,9 +124,12 @@ pub fn put_block(
     ensures ok { OnOk result (without_labels tree.new.items ≡ insert (without_labels tree.old.items) rank (unlabelled block)) }
     ensures err { OnErr result (without_labels tree.new.items ≡ without_labels tree.old.items) }
     ensures edges { OnOk result ((s : StampValue) → IsEdge index.old s → (Covers block.first block.len s → block.first ≡ s) → IsEdge index.new s) }
+    ensures counted { respacings.new ≡ counted respacings.old tree.old.items rank }
+    ensures counts { respacings.old ≤ respacings.new }
+    ensures few { respacings.new ≤ respacings.old + 1 }
     ensures memory { IfErr result (λ e. e ≡ Refusal.Memory) }
 {
-    let label = free_label(tree, index, rank);
+    let label = free_label(tree, index, respacings, rank);
     let first = block.first;
     let len = block.len;
     index.note_sound();

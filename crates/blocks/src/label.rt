@@ -1,8 +1,9 @@
 //! Labels for new blocks.
-ghost use Rattle.std.specs.Prelude.{◌≡◌, ℕ, ◌+◌, ◌-◌, ◌*◌, ◌/◌, ◌<◌, ◌≤◌, length, slice_get, slice_set, Some, MatchOption};
-ghost use Rattle.blocks.specs.Blocks.{Rises, IsListed, IsKept, IsWindow, below, above, respaced, without_labels, HoldsNoMore};
+ghost use Rattle.std.specs.Prelude.{◌≡◌, ℕ, true, false, ◌+◌, ◌-◌, ◌*◌, ◌/◌, ◌<◌, ◌≤◌, length, slice_get, slice_set, Some, MatchOption};
+ghost use Rattle.blocks.specs.Blocks.{Rises, IsListed, IsKept, IsWindow, below, above, counted, is_full, respaced, without_labels, HoldsNoMore};
 ghost use Rattle.pad_model.specs.declared.limits.TheConstants.{MAX_CHARACTERS};
 ghost use Rattle.blocks.specs.declared.block.Block.{Block as BlockValue};
+ghost use Rattle.blocks.specs.declared.label.Window.{Window as WindowValue};
 
 use crate::block::{Block, LAST_LABEL};
 use ident_index::IdentIndex;
@@ -132,8 +133,13 @@ fn label_between(tree: &WeightTree<Block>, rank: usize) -> Option<u64>
     Some(left + (gap / 2).min(STRIDE))
 }
 
-/// A label for a new block at a rank. Where there is none, the blocks round it get new labels first.
-pub fn free_label(tree: &mut WeightTree<Block>, index: &mut IdentIndex, rank: usize) -> u64
+/// A label for a new block at a rank. Where there is none, the blocks round it get new labels first, which is counted.
+pub fn free_label(
+    tree: &mut WeightTree<Block>,
+    index: &mut IdentIndex,
+    respacings: &mut u64,
+    rank: usize,
+) -> u64
     requires kept { IsKept index.old tree.old.items }
     requires within { rank ≤ length tree.old.items }
     ensures kept { IsKept index.new tree.new.items }
@@ -141,12 +147,18 @@ pub fn free_label(tree: &mut WeightTree<Block>, index: &mut IdentIndex, rank: us
     ensures labels { without_labels tree.new.items ≡ without_labels tree.old.items }
     ensures above { below 0 tree.new.items rank < result }
     ensures below { result < above tree.new.items rank LAST_LABEL }
+    ensures counted { respacings.new ≡ counted respacings.old tree.old.items rank }
+    ensures counts { respacings.old ≤ respacings.new }
+    ensures few { respacings.new ≤ respacings.old + 1 }
+    ensures free { is_full tree.old.items rank ≡ false → tree.new.items ≡ tree.old.items }
+    ensures full { is_full tree.old.items rank ≡ true → (w : WindowValue) × IsWindow tree.old.items rank w × (tree.new.items ≡ respaced w tree.old.items) }
 {
     if let Some(label) = label_between(tree, rank) {
         return label;
     }
     let window = window_round(tree, rank);
     respace(tree, index, window);
+    *respacings = respacings.saturating_add(1);
     let Some(label) = label_between(tree, rank) else {
         unreachable!()
     };

@@ -12,4 +12,6 @@ loop-span-preserved c = record {
   cells = same_then c.args.tree.now.items c.loop-span.tree.items c.cut_span.new.tree.items c.loop-span.invariant.cells c.cut_span.ensures.cells;
   cut = cut_out_more c.loop-span.index c.cut_span.new.index c.args.spans.now c.loop-span.span-index _ c.span-item.result c.loop-span-test.true c.span-item.is refl c.cut_span.ensures.edges c.loop-span.invariant.cut c.in_ok-cut_span.ensures.cut;
   more = omega (arith, c.loop-span.invariant.more, c.cut_span.ensures.more);
+  counts = omega (arith, c.loop-span.invariant.counts, c.cut_span.ensures.counts);
+  few = omega (arith, c.loop-span.invariant.few, c.cut_span.ensures.few);
 }

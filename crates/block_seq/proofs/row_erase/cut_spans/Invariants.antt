@@ -12,4 +12,6 @@ invariant-loop-span l = record {
   cells : SameCells l.initial.tree.items l.tree.items;
   cut : AllByRecursion (IsCutOut l.index) (take l.span-index l.spans);
   more : length l.tree.items ≤ length l.initial.tree.items + 2 * l.span-index;
+  counts : l.initial.respacings ≤ l.respacings;
+  few : l.respacings ≤ l.initial.respacings + 2 * l.span-index;
 }

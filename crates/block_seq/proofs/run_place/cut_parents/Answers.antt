@@ -18,4 +18,6 @@ loop-run-preserved c = record {
       all_more (λ (run : Bor Run). IsCutBehind c.loop-run.index run.now.after) (λ run. IsCutBehind c.cut_parent.new.index run.now.after) c.args.runs.now c.loop-run.run-index _ c.run-item.result c.loop-run-test.true c.run-item.is refl
       (λ run. still_behind c.loop-run.index c.cut_parent.new.index run.now.after c.cut_parent.ensures.edges) c.loop-run.invariant.cut c.in_ok-cut_parent.ensures.cut;
   more = omega (arith, c.loop-run.invariant.more, c.cut_parent.ensures.more);
+  counts = omega (arith, c.loop-run.invariant.counts, c.cut_parent.ensures.counts);
+  few = omega (arith, c.loop-run.invariant.few, c.cut_parent.ensures.few);
 }

@@ -13,4 +13,6 @@ invariant-loop-run l = record {
   edges : KeepsEdges l.initial.index l.index;
   cut : AllByRecursion (λ run. IsCutBehind l.index run.now.after) (take l.run-index l.runs);
   more : length l.tree.items ≤ length l.initial.tree.items + l.run-index;
+  counts : l.initial.respacings ≤ l.respacings;
+  few : l.respacings ≤ l.initial.respacings + l.run-index;
 }

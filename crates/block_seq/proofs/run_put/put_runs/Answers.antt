@@ -34,6 +34,8 @@ loop-run-init c =
       slides_room = refl;
       live = omega arith;
       more = omega arith;
+      counts = omega arith;
+      few = omega arith;
     }
   where
     take_all : {X : Type 0} (xs : List X) → take (length xs) xs ≡ xs
@@ -158,6 +160,8 @@ loop-run-preserved c =
       slides_room = c.put_run.ensures.slides_capacity ∙ inv.slides_room;
       live = omega (arith, inv.live, c.in-Ok.ensures.live);
       more = omega (arith, inv.more, fewer, before, new_size, old_size);
+      counts = omega (arith, inv.counts, c.put_run.ensures.counts);
+      few = omega (arith, inv.few, c.put_run.ensures.few);
     }
 
 pub returns-clause-row : goal.returns-clause-row
@@ -180,6 +184,9 @@ returns-clause-live c = omega (arith, c.loop-run.invariant.live, c.loop-run.auto
 
 pub returns-clause-more : goal.returns-clause-more
 returns-clause-more c = omega (arith, c.loop-run.invariant.more, c.loop-run.auto.run-index-end)
+
+pub returns-clause-few : goal.returns-clause-few
+returns-clause-few c = omega (arith, c.loop-run.invariant.few, c.loop-run.auto.run-index-end)
 
 pub returns-clause-cells : goal.returns-clause-cells
 returns-clause-cells c =

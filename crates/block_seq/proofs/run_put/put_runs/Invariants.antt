@@ -33,4 +33,6 @@ invariant-loop-run l =
       slides_room : vec_capacity l.slides ≡ vec_capacity l.initial.slides;
       live : live_blocks l.tree.items ≤ live_blocks l.initial.tree.items + l.run-index;
       more : length l.tree.items ≤ length l.initial.tree.items + l.run-index;
+      counts : l.initial.respacings ≤ l.respacings;
+      few : l.respacings ≤ l.initial.respacings + l.run-index;
     }

@@ -3,6 +3,8 @@ use Rattle.std.specs.Prelude.{◌≡◌, ℕ, ◌+◌, ◌≤◌, ◌<◌, true,
 use Rattle.std.specs.List.{AllByRecursion, list_all, remove}
 use Rattle.ident_index.specs.Index.{Index, stamp_behind}
 use Rattle.blocks.specs.Blocks.{IsEdge}
+use Rattle.blocks.specs.Counts.{KeepsLabels, Labelled}
+use Rattle.blocks.specs.declared.block.Block.{Block}
 use Rattle.pad_model.specs.Checked.{is_run}
 use Rattle.pad_model.specs.Legal.{has_parent}
 use Rattle.pad_model.specs.Stamp.{Stamp}
@@ -52,6 +54,10 @@ pub record MayPut (rev : ℕ) (author : Author) (cells : List Cell) (m : Index) 
   pub rooted : list_all (λ run. has_parent character_of cells run.after) runs ≡ true
   pub cut : AllByRecursion (λ run. IsCutBehind m run.after) runs
   pub room : length cells + sum_by (λ run. length run.text) runs ≤ MAX_CHARACTERS
+
+-- how blocks came about, and a count of respacings, where those that were put are taken out again: what is left keeps its labels
+abbrev pub IsUndone : List Block → ℕ → List Block → ℕ → Type 0
+IsUndone old n new m = (mid : List Block) × Labelled old n mid m × KeepsLabels new mid
 
 -- the items without those at some ranks, the last rank taken first
 abbrev pub without_ranks : {A : Type 0} → List A → List ℕ → List A

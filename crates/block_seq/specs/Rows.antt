@@ -23,15 +23,16 @@ pub record IsBlockSeq (latest clock : ℕ) (authors : List Author) (text : List 
   pub dated : AllByRecursion (IsBy latest) (cells_of authors text bs)
   pub newest : clock_of (cells_of authors text bs) ≡ clock
 
--- what callers see of a sequence of blocks: its cells, how many blocks keep them, and how many times blocks got new labels
+-- what callers see of a sequence of blocks: its cells, the blocks that keep them and their number, and how often blocks got new labels
 pub record CellsInBlocks : Type 0 where
   pub cells : List Cell
+  pub tree : List Block
   pub blocks : ℕ
   pub respaced : ℕ
 
--- the cells of blocks, how many blocks there are, and a count of respacings
+-- the cells of blocks, the blocks and their number, and a count of respacings
 abbrev pub cells_in : List Author → List ℕ → List Block → ℕ → CellsInBlocks
-cells_in authors text bs n = record { cells = cells_of authors text bs; blocks = length bs; respaced = n }
+cells_in authors text bs n = record { cells = cells_of authors text bs; tree = bs; blocks = length bs; respaced = n }
 
 -- the cells are those of these blocks, over some text and some authors, and the index has just these blocks
 pub record IsRowOf (cells : List Cell) (m : Index) (bs : List Block) : Type 0 where

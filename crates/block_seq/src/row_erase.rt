@@ -8,6 +8,7 @@ ghost use Rattle.pad_model.specs.Log.{has_spans as holds_spans};
 ghost use Rattle.pad_model.specs.Operation.{span_stamps};
 ghost use Rattle.pad_model.specs.declared.who.Author.{Author as AuthorValue};
 ghost use Rattle.blocks.specs.Blocks.{IsKept, KeepsEdges};
+ghost use Rattle.blocks.specs.Counts.{Labelled};
 ghost use Rattle.blocks.specs.Cells.{cells_of, IsWithin, SameCells};
 ghost use Rattle.block_seq.specs.Rows.{IsCutOut, is_killed, killed, hidden_len};
 ghost use Rattle.blocks.specs.declared.block.Block.{Block as BlockValue};
@@ -64,6 +65,7 @@ fn cut_span(
     ensures cut { OnOk result (IsCutOut index.new span.now) }
     ensures memory { IfErr result (λ e. e ≡ Refusal.Memory) }
     ensures more { length tree.new.items ≤ length tree.old.items + 2 }
+    ensures labelled { Labelled tree.old.items respacings.old tree.new.items respacings.new }
     ensures counts { respacings.old ≤ respacings.new }
     ensures few { respacings.new ≤ respacings.old + 2 }
 {
@@ -89,6 +91,7 @@ pub fn cut_spans(
     ensures cut { OnOk result (AllByRecursion (IsCutOut index.new) spans.now) }
     ensures memory { IfErr result (λ e. e ≡ Refusal.Memory) }
     ensures more { length tree.new.items ≤ length tree.old.items + 2 * length spans.now }
+    ensures labelled { Labelled tree.old.items respacings.old tree.new.items respacings.new }
     ensures counts { respacings.old ≤ respacings.new }
     ensures few { respacings.new ≤ respacings.old + 2 * length spans.now }
 {

@@ -27,6 +27,7 @@ impl BlockSeq {
     pub fn kept(&self) -> KeptRow<'_>
         ensures index { IsKept result.index.now result.tree.now.items }
         ensures full { length result.text.now ≡ sum_by (λ b. b.len) result.tree.now.items }
+        ensures items { result.tree.now.items ≡ self.now.tree }
         ensures blocks { length result.tree.now.items ≡ self.now.blocks }
         ensures cells { cells_of result.authors.now result.text.now result.tree.now.items ≡ self.now.cells }
     {
@@ -41,6 +42,7 @@ impl BlockSeq {
     /// The blocks, in the order of the text.
     pub fn tree(&self) -> &WeightTree<Block>
         ensures row { (m : Index) × IsRowOf self.now.cells m result.now.items }
+        ensures items { result.now.items ≡ self.now.tree }
         ensures blocks { length result.now.items ≡ self.now.blocks }
     {
         &self.tree

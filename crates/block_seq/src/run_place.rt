@@ -7,6 +7,7 @@ ghost use Rattle.pad_model.specs.Log.{run_may_join};
 ghost use Rattle.pad_model.specs.declared.who.Author.{Author as AuthorValue};
 ghost use Rattle.ident_index.specs.Index.{stamp_behind};
 ghost use Rattle.blocks.specs.Blocks.{IsEdge, IsKept, KeepsEdges};
+ghost use Rattle.blocks.specs.Counts.{Labelled};
 ghost use Rattle.blocks.specs.Cells.{cells_of, IsWithin, SameCells};
 ghost use Rattle.block_seq.specs.RowParts.{IsCutBehind};
 ghost use Rattle.block_seq.specs.Rows.{IsBehind, StartsAt, IsPlaceFor, passes};
@@ -95,6 +96,7 @@ pub fn cut_parent(
     ensures cut { OnOk result (IsCutBehind index.new parent) }
     ensures memory { IfErr result (λ e. e ≡ Refusal.Memory) }
     ensures more { length tree.new.items ≤ length tree.old.items + 1 }
+    ensures labelled { Labelled tree.old.items respacings.old tree.new.items respacings.new }
     ensures counts { respacings.old ≤ respacings.new }
     ensures few { respacings.new ≤ respacings.old + 1 }
 {
@@ -121,6 +123,7 @@ pub fn cut_parents(
     ensures cut { OnOk result (AllByRecursion (λ run. IsCutBehind index.new run.now.after) runs.now) }
     ensures memory { IfErr result (λ e. e ≡ Refusal.Memory) }
     ensures more { length tree.new.items ≤ length tree.old.items + length runs.now }
+    ensures labelled { Labelled tree.old.items respacings.old tree.new.items respacings.new }
     ensures counts { respacings.old ≤ respacings.new }
     ensures few { respacings.new ≤ respacings.old + length runs.now }
 {

@@ -9,8 +9,9 @@ ghost use Rattle.pad_model.specs.declared.limits.TheConstants.{MAX_CHARACTERS};
 ghost use Rattle.pad_model.specs.declared.op.Span.{Span as SpanValue};
 ghost use Rattle.ident_index.specs.Index.{Covers};
 ghost use Rattle.blocks.specs.Blocks.{IsEdge, IsKept, without_labels};
+ghost use Rattle.blocks.specs.Counts.{KeepsLabels, Labelled};
 ghost use Rattle.blocks.specs.Cells.{author_at, cells_of};
-ghost use Rattle.block_seq.specs.RowParts.{AreRanks, IsCutBehind, MayPut, with_all, without_ranks};
+ghost use Rattle.block_seq.specs.RowParts.{AreRanks, IsCutBehind, IsUndone, MayPut, with_all, without_ranks};
 ghost use Rattle.block_seq.specs.Rows.{IsCutOut};
 ghost use Rattle.block_seq.specs.RowSlides.{IsSlidRow, live_blocks};
 
@@ -67,6 +68,7 @@ fn put_run(
     ensures same_blocks { OnErr result (without_labels tree.new.items ≡ without_labels tree.old.items) }
     ensures same_text { OnErr result (text.new.items ≡ text.old.items) }
     ensures same_slides { OnErr result (slides.new.items ≡ slides.old.items) }
+    ensures labelled { Labelled tree.old.items respacings.old tree.new.items respacings.new }
     ensures counts { respacings.old ≤ respacings.new }
     ensures few { respacings.new ≤ respacings.old + 1 }
     ensures memory { IfErr result (λ e. e ≡ Refusal.Memory) }
@@ -96,6 +98,7 @@ fn take_blocks(tree: &mut WeightTree<Block>, index: &mut IdentIndex, ranks: &[us
     requires ranks { AreRanks (without_labels tree.old.items) ranks.now }
     ensures kept { IsKept index.new tree.new.items }
     ensures taken { without_labels tree.new.items ≡ without_ranks (without_labels tree.old.items) ranks.now }
+    ensures labels { KeepsLabels tree.new.items tree.old.items }
 {
     let mut left = ranks.len();
     while 0 < left {
@@ -131,6 +134,8 @@ pub fn put_runs(
     ensures same_blocks { OnErr result (without_labels tree.new.items ≡ without_labels tree.old.items) }
     ensures same_text { OnErr result (text.new.items ≡ text.old.items) }
     ensures same_slides { OnErr result (slides.new.items ≡ slides.old.items) }
+    ensures labelled { OnOk result (Labelled tree.old.items respacings.old tree.new.items respacings.new) }
+    ensures undone { OnErr result (IsUndone tree.old.items respacings.old tree.new.items respacings.new) }
     ensures counts { respacings.old ≤ respacings.new }
     ensures few { respacings.new ≤ respacings.old + length runs.now }
     ensures memory { IfErr result (λ e. e ≡ Refusal.Memory) }

@@ -1,4 +1,5 @@
 pub mod Cells
+pub mod Counts
 pub mod Entries
 pub mod Labels
 pub mod Parts

@@ -17,7 +17,9 @@ use Rattle.blocks.specs.declared.block.Block.{Block}
 use Rattle.blocks.specs.declared.block.TheConstants.{LAST_LABEL}
 use Rattle.blocks.specs.Blocks.{entry, entry_of, weight_of, IsSized, IsListed, IsKept, IsEdge, KeepsEdges, below, above, left_part, right_part, without_labels, unlabelled}
 use Rattle.blocks.specs.Cells.{SameCells}
+use Rattle.blocks.specs.Counts.{KeepsLabels}
 use Rattle.blocks.proofs.Cells.{cells-cut, within_cut}
+use Rattle.blocks.proofs.Counts.{keeps_insert, keeps_set, keeps_then}
 use Rattle.blocks.proofs.Entries.{entry_here, entry_set, listed_set, listed_insert, listed_removed, each_get, weights_small, weight-le-len, len_small, count_small}
 use Rattle.blocks.proofs.Labels.{Rises-insert, Rises-removed, Rises-set, below-get, above-set, get-set}
 
@@ -84,6 +86,7 @@ pub record IsCutBlock (m n : Index) (bs after : List Block) (s : Stamp) : Type 0
   pub cells : SameCells bs after
   pub edges : KeepsEdges m n
   pub edge : IsEdge n s
+  pub labels : KeepsLabels bs after
 
 pub cut_leaves : (m n : Index) (bs : List Block) (i j : ℕ) (b : Block) (offset label : ℕ) → IsSound m → IsKept m bs → slice_get bs i ≡ Some b → j ≡ suc i → i < length bs → 0 < offset → offset < b.len
     → below 0 bs j < label → label < above bs j LAST_LABEL → n ≡ map.insert (map.insert m b.first (entry (left_part b offset))) (stamp_behind b.first offset) (entry (right_part b offset label))
@@ -114,6 +117,7 @@ cut_leaves m n bs i j b offset label sound k e is within lo hi under over cut =
       };
       edges = edges_cut m n b.first (entry b) (entry l) (entry r) offset sound here lo hi refl refl cut;
       edge = edge_cut m n b.first (entry b) (entry l) (entry r) offset sound here lo hi refl refl cut;
+      labels = keeps_then bs (slice_set bs i l) (insert (slice_set bs i l) j r) (keeps_set bs i b l k.listed.apart e refl refl) (keeps_insert (slice_set bs i l) j r fresh);
     }
 
 -- one more block fits
@@ -133,6 +137,10 @@ put_leaves m n bs i b sound k within sized fresh room under over put = record {
   listed = listed_insert m n bs i b k.listed (sym (k.listed.index b.first) ∙ get-from_new m b.first b.len sound sized.0 fresh) sized room (λ q. ap (λ x. get x q) put ∙ get-insert stamp_cmp_total m b.first (entry b) q);
   rises = Rises-insert 0 LAST_LABEL bs i b k.rises within under over;
 }
+
+-- and the labels stay
+pub put_keeps : (m : Index) (bs : List Block) (i : ℕ) (b : Block) → IsSound m → IsKept m bs → IsSized b → IsNew m b.first b.len → KeepsLabels bs (insert bs i b)
+put_keeps m bs i b sound k sized fresh = keeps_insert bs i b (sym (k.listed.index b.first) ∙ get-from_new m b.first b.len sound sized.0 fresh)
 
 -- what a block less leaves
 pub take_leaves : (m n : Index) (bs : List Block) (i : ℕ) (b : Block) → IsKept m bs → slice_get bs i ≡ Some b → n ≡ map.remove m b.first → IsKept n (remove bs i)

@@ -1,5 +1,5 @@
 -- Blocks in a row, and the index that finds them.
-use Rattle.std.specs.Prelude.{◌≡◌, ◌⊎◌, ℕ, zero, suc, ◌+◌, ◌-◌, ◌*◌, ◌≤◌, ◌<◌, Bool, nat_lt, min, List, [], ◌∷◌, ◌++◌, length, take, drop, map, sum_by, Option, Some, None, if◌then◌else◌, is_none, slice_get, IsSomeAnd}
+use Rattle.std.specs.Prelude.{◌≡◌, ℕ, zero, suc, ◌+◌, ◌-◌, ◌*◌, ◌≤◌, ◌<◌, List, [], ◌∷◌, ◌++◌, length, take, drop, map, sum_by, Option, Some, None, if◌then◌else◌, is_none, slice_get, IsSomeAnd}
 use Rattle.std.specs.FinMap.{get}
 use Rattle.std.specs.List.{AllByRecursion}
 use Rattle.std.specs.Ordering.{eq_by_cmp}
@@ -80,14 +80,6 @@ pub record IsWindow (bs : List Block) (rank : ℕ) (w : Window) : Type 0 where
   pub low : w.low ≡ below 0 bs w.from
   pub fits : w.low + w.step * (w.to - w.from + 1) ≤ above bs w.to LAST_LABEL
 
--- whether no label is free at a rank
-abbrev pub is_full : List Block → ℕ → Bool
-is_full bs rank = nat_lt (above bs rank LAST_LABEL) (below 0 bs rank + 2)
-
--- a count of respacings, when a label has been sought at a rank: one more where none was free there, up to the greatest number
-abbrev pub counted : ℕ → List Block → ℕ → ℕ
-counted n bs rank = if is_full bs rank then min (n + 1) LAST_LABEL else n
-
 -- a block without its label
 abbrev pub unlabelled : Block → Block
 unlabelled b = record b { label = 0 }
@@ -119,8 +111,3 @@ IsEdge m s = (first : Stamp) → Holds m first s → first ≡ s
 -- each edge of old is one of new
 abbrev pub KeepsEdges : Index → Index → Type 0
 KeepsEdges old new = (s : Stamp) → IsEdge old s → IsEdge new s
-
--- a count of respacings, when the blocks have been cut before a stamp: it stays where they are cut there, or do not hold the stamp,
--- and else it is as for a block behind the one that is cut
-abbrev pub IsCutCounted : Index → List Block → Stamp → ℕ → ℕ → Type 0
-IsCutCounted m bs s old new = (IsEdge m s × (new ≡ old)) ⊎ ((rank : ℕ) × (offset : ℕ) × IsSpot bs s rank offset × (0 < offset) × (new ≡ counted old bs (rank + 1)))

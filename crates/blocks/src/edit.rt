@@ -5,7 +5,8 @@ ghost use Rattle.std.specs.Option.{IsSomeAnd};
 ghost use Rattle.pad_model.specs.declared.limits.TheConstants.{MAX_CHARACTERS};
 ghost use Rattle.ident_index.specs.Index.{Covers, IsNew, stamp_behind};
 ghost use Rattle.pad_model.specs.Stamp.{Stamp as StampValue};
-ghost use Rattle.blocks.specs.Blocks.{IsKept, IsSized, HoldsNoMore, IsEdge, IsCutCounted, KeepsEdges, counted, left_part, right_part, unlabelled, without_labels};
+ghost use Rattle.blocks.specs.Blocks.{IsKept, IsSized, HoldsNoMore, IsEdge, KeepsEdges, left_part, right_part, unlabelled, without_labels};
+ghost use Rattle.blocks.specs.Counts.{IsCutCounted, KeepsLabels, Labelled, counted};
 ghost use Rattle.blocks.specs.Cells.{SameCells};
 ghost use Rattle.blocks.specs.declared.block.Block.{Block as BlockValue};
 
@@ -60,6 +61,7 @@ fn cut_block(
     ensures edges { KeepsEdges index.old index.new }
     ensures edge { (b : BlockValue) → slice_get tree.old.items rank ≡ Some b → OnOk result (IsEdge index.new (stamp_behind b.first offset)) }
     ensures counted { respacings.new ≡ counted respacings.old tree.old.items (rank + 1) }
+    ensures labelled { Labelled tree.old.items respacings.old tree.new.items respacings.new }
     ensures counts { respacings.old ≤ respacings.new }
     ensures few { respacings.new ≤ respacings.old + 1 }
     ensures memory { IfErr result (λ e. e ≡ Refusal.Memory) }
@@ -93,6 +95,7 @@ pub fn cut_at(
     ensures edges { KeepsEdges index.old index.new }
     ensures edge { OnOk result (IsEdge index.new stamp) }
     ensures counted { IsCutCounted index.old tree.old.items stamp respacings.old respacings.new }
+    ensures labelled { Labelled tree.old.items respacings.old tree.new.items respacings.new }
     ensures counts { respacings.old ≤ respacings.new }
     ensures few { respacings.new ≤ respacings.old + 1 }
     ensures memory { IfErr result (λ e. e ≡ Refusal.Memory) }
@@ -125,6 +128,7 @@ pub fn put_block(
     ensures err { OnErr result (without_labels tree.new.items ≡ without_labels tree.old.items) }
     ensures edges { OnOk result ((s : StampValue) → IsEdge index.old s → (Covers block.first block.len s → block.first ≡ s) → IsEdge index.new s) }
     ensures counted { respacings.new ≡ counted respacings.old tree.old.items rank }
+    ensures labelled { Labelled tree.old.items respacings.old tree.new.items respacings.new }
     ensures counts { respacings.old ≤ respacings.new }
     ensures few { respacings.new ≤ respacings.old + 1 }
     ensures memory { IfErr result (λ e. e ≡ Refusal.Memory) }
@@ -145,6 +149,7 @@ pub fn take_block(tree: &mut WeightTree<Block>, index: &mut IdentIndex, rank: us
     requires within { rank < length tree.old.items }
     ensures kept { IsKept index.new tree.new.items }
     ensures taken { tree.new.items ≡ remove tree.old.items rank }
+    ensures labels { KeepsLabels tree.new.items tree.old.items }
 {
     let block = tree.remove(rank);
     index.remove(block.first);

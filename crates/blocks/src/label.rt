@@ -1,6 +1,7 @@
 //! Labels for new blocks.
 ghost use Rattle.std.specs.Prelude.{◌≡◌, ℕ, true, false, ◌+◌, ◌-◌, ◌*◌, ◌/◌, ◌<◌, ◌≤◌, length, slice_get, slice_set, Some, MatchOption};
-ghost use Rattle.blocks.specs.Blocks.{Rises, IsListed, IsKept, IsWindow, below, above, counted, is_full, respaced, without_labels, HoldsNoMore};
+ghost use Rattle.blocks.specs.Blocks.{Rises, IsListed, IsKept, IsWindow, below, above, respaced, without_labels, HoldsNoMore};
+ghost use Rattle.blocks.specs.Counts.{counted, is_full};
 ghost use Rattle.pad_model.specs.declared.limits.TheConstants.{MAX_CHARACTERS};
 ghost use Rattle.blocks.specs.declared.block.Block.{Block as BlockValue};
 ghost use Rattle.blocks.specs.declared.label.Window.{Window as WindowValue};

@@ -1,13 +1,30 @@
 use Rattle.std.proofs.Common.{refl, arith}
 use Rattle.std.specs.Borrow.{Bor}
 use Rattle.pad_model.specs.declared.op.Run.{Run}
-use Rattle.blocks.proofs.Cells.{same_then}
+use Rattle.blocks.proofs.Cells.{same_itself, same_then}
+use Rattle.blocks.specs.Counts.Labelled.{begins}
+use Rattle.blocks.proofs.Counts.{labelled_then}
 use Rattle.block_seq.specs.RowParts.{IsCutBehind}
 use Rattle.block_seq.proofs.RowRuns.{all_more, still_behind}
 use Rattle.block_seq.proofs.run_place.cut_parents.Goals as goal
 
+pub loop-run-init : goal.loop-run-init
+loop-run-init c = record {
+  kept = c.requires.kept;
+  cells = same_itself c.args.tree.now.items;
+  edges = λ s edge. edge;
+  cut = tt;
+  more = omega arith;
+  labelled = begins;
+  counts = omega arith;
+  few = omega arith;
+}
+
 pub returns-in_err-cut_parent-clause-cells : goal.returns-in_err-cut_parent-clause-cells
 returns-in_err-cut_parent-clause-cells c = same_then c.args.tree.now.items c.loop-run.tree.items c.cut_parent.new.tree.items c.loop-run.invariant.cells c.cut_parent.ensures.cells
+
+pub returns-in_err-cut_parent-clause-labelled : goal.returns-in_err-cut_parent-clause-labelled
+returns-in_err-cut_parent-clause-labelled c = labelled_then c.loop-run.invariant.labelled c.cut_parent.ensures.labelled
 
 pub loop-run-preserved : goal.loop-run-preserved
 loop-run-preserved c = record {
@@ -18,6 +35,7 @@ loop-run-preserved c = record {
       all_more (λ (run : Bor Run). IsCutBehind c.loop-run.index run.now.after) (λ run. IsCutBehind c.cut_parent.new.index run.now.after) c.args.runs.now c.loop-run.run-index _ c.run-item.result c.loop-run-test.true c.run-item.is refl
       (λ run. still_behind c.loop-run.index c.cut_parent.new.index run.now.after c.cut_parent.ensures.edges) c.loop-run.invariant.cut c.in_ok-cut_parent.ensures.cut;
   more = omega (arith, c.loop-run.invariant.more, c.cut_parent.ensures.more);
+  labelled = labelled_then c.loop-run.invariant.labelled c.cut_parent.ensures.labelled;
   counts = omega (arith, c.loop-run.invariant.counts, c.cut_parent.ensures.counts);
   few = omega (arith, c.loop-run.invariant.few, c.cut_parent.ensures.few);
 }

@@ -7,9 +7,12 @@ use Rattle.pad_model.specs.Log.{has_spans}
 use Rattle.pad_model.specs.declared.op.Run.{Run}
 use Rattle.blocks.specs.Blocks.{without_labels}
 use Rattle.blocks.specs.Cells.{author_at, cells_of}
+use Rattle.blocks.specs.Counts.Labelled.{begins}
 use Rattle.blocks.proofs.Cells.{length-without_labels}
+use Rattle.blocks.proofs.Counts.{labelled_then}
 use Rattle.block_seq.specs.RowParts.{AreRanks, MayPut, with_all, without_ranks}
 use Rattle.block_seq.specs.RowSlides.{IsSlidRow}
+use Rattle.block_seq.proofs.RowCounts.{on_error, undone_nothing}
 use Rattle.block_seq.proofs.RowChange.{cut_out_put, lent_from, lent_sizes, named_below, run_sized}
 use Rattle.block_seq.proofs.RowRuns.{front_of_front, may_put_next, one_rank_more, spans_stay, take_front, without_ranks-last}
 use Rattle.block_seq.proofs.run_put.put_runs.Goals as goal
@@ -34,6 +37,7 @@ loop-run-init c =
       slides_room = refl;
       live = omega arith;
       more = omega arith;
+      labelled = begins;
       counts = omega arith;
       few = omega arith;
     }
@@ -109,6 +113,12 @@ returns-in-Err-clause-more c =
     let size = sym (length-without_labels c.take_blocks.new.tree.items) ∙ ap length same ∙ length-without_labels c.args.tree.now.items in
     omega (arith, size)
 
+pub returns-in_err-reserve-clause-undone : goal.returns-in_err-reserve-clause-undone
+returns-in_err-reserve-clause-undone c = on_error c.from_residual.result (undone_nothing c.args.tree.now.items c.args.respacings.now)
+
+pub returns-in-Err-clause-undone : goal.returns-in-Err-clause-undone
+returns-in-Err-clause-undone c = (c.put_run.new.tree.items, labelled_then c.loop-run.invariant.labelled c.put_run.ensures.labelled, c.take_blocks.ensures.labels)
+
 pub returns-in-Err-clause-same_text : goal.returns-in-Err-clause-same_text
 returns-in-Err-clause-same_text c = c.truncate.ensures.items ∙ ap₂ (λ n l. take n l) (c.len-start.ensures ∙ c.args.text.now.ok.0) c.in-Err.ensures.same_text ∙ c.loop-run.invariant.text
 
@@ -160,6 +170,7 @@ loop-run-preserved c =
       slides_room = c.put_run.ensures.slides_capacity ∙ inv.slides_room;
       live = omega (arith, inv.live, c.in-Ok.ensures.live);
       more = omega (arith, inv.more, fewer, before, new_size, old_size);
+      labelled = labelled_then inv.labelled c.put_run.ensures.labelled;
       counts = omega (arith, inv.counts, c.put_run.ensures.counts);
       few = omega (arith, inv.few, c.put_run.ensures.few);
     }

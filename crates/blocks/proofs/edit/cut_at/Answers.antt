@@ -4,6 +4,7 @@ use Rattle.ident_index.specs.Index.{Holds, stamp_behind}
 use Rattle.ident_index.proofs.Order.{same_stamps}
 use Rattle.blocks.specs.declared.block.Block.{Block}
 use Rattle.blocks.specs.Blocks.{IsEdge}
+use Rattle.blocks.specs.Counts.Labelled.{begins as no_change}
 use Rattle.blocks.proofs.Parts.{holds_here, some_block}
 use Rattle.blocks.proofs.edit.cut_at.Goals as goal
 use Rattle.blocks.proofs.edit.cut_at.Goals.{Then-spot-eq0}
@@ -26,3 +27,9 @@ returns-then-spot-eq0-clause-edge c = begins (goal.at.returns-then-spot-eq0-clau
 
 pub returns-then-spot-eq0-clause-counted : goal.returns-then-spot-eq0-clause-counted
 returns-then-spot-eq0-clause-counted c = inl (begins (goal.at.returns-then-spot-eq0-clause-counted c).Then-spot-eq0, refl)
+
+pub returns-in_default-clause-labelled : goal.returns-in_default-clause-labelled
+returns-in_default-clause-labelled c = no_change
+
+pub returns-then-spot-eq0-clause-labelled : goal.returns-then-spot-eq0-clause-labelled
+returns-then-spot-eq0-clause-labelled c = no_change

@@ -8,7 +8,10 @@ use Rattle.pad_model.proofs.Exits.{answers_memory}
 use Rattle.ident_index.specs.Index.{Index}
 use Rattle.blocks.specs.Blocks.{IsKept}
 use Rattle.blocks.specs.Cells.{author_at, cells_of, SameCells}
+use Rattle.blocks.specs.Counts.{Labelled}
+use Rattle.blocks.specs.Counts.Labelled.{changed}
 use Rattle.blocks.proofs.Cells.{same_unlabelled, same_then}
+use Rattle.blocks.proofs.Counts.{keeps_listed, labelled_then}
 use Rattle.block_seq.specs.RowParts.{IsCutBehind, MayPut, with_all}
 use Rattle.block_seq.specs.Rows.{IsBlockSeq, IsCutOut}
 use Rattle.block_seq.specs.RowSlides.{IsSlid, IsSlidRow}
@@ -18,7 +21,7 @@ use Rattle.block_seq.proofs.RowChange.{cut_out_kept, lent_checked, lent_sizes}
 use Rattle.block_seq.proofs.RowErase.{all_aligned, killed_count, row_killed}
 use Rattle.block_seq.proofs.RowRuns.{all_commute, all_hidden, all_later, all_lent, all_rooted, few_runs}
 use Rattle.block_seq.proofs.RowSteps.{unchanged, same_cells_kept}
-use Rattle.block_seq.proofs.RowCounts.{cells_seen}
+use Rattle.block_seq.proofs.RowCounts.{cells_seen, labelled_seen, on_error, undone_seen}
 use Rattle.block_seq.proofs.rows.BlockSeq.change.Goals as goal
 use Rattle.block_seq.proofs.rows.BlockSeq.change.Goals.{After-cut_parents, After-place_author, After-as_slice, In_ok-clock, After-kill_named-hidden}
 
@@ -214,3 +217,38 @@ returns-clause-answers c =
     let same = seen g.After-as_slice (moved g.After-place_author c.reserve.new.self.items c.cut_parents.new.index c.cut_parents.new.tree.items c.reserve.ensures.items c.cut_parents.ensures.kept (cut g.After-cut_parents)).1 in
     let d = done g.After-kill_named-hidden (still_cut g.In_ok-clock same) same (who g.After-as_slice) in
     inr (ap₂ (λ n l. (Ok n, l)) (sym d.1) (sym d.0.1))
+
+pub returns-in_err-cut_spans-clause-undone : goal.returns-in_err-cut_spans-clause-undone
+returns-in_err-cut_spans-clause-undone c = on_error c.from_residual.result (undone_seen c.self.view_is c.cut_spans.new.tree.items c.cut_spans.new.respacings c.cut_spans.ensures.labelled)
+
+-- how the blocks came about when they are cut
+when_cut : (c : After-cut_parents) → Labelled c.self.inside.tree.items c.self.inside.respaced c.cut_parents.new.tree.items c.cut_parents.new.respacings
+when_cut c = labelled_then c.cut_spans.ensures.labelled c.cut_parents.ensures.labelled
+
+pub returns-in_err-cut_parents-clause-undone : goal.returns-in_err-cut_parents-clause-undone
+returns-in_err-cut_parents-clause-undone c =
+    on_error c.from_residual-in_err-cut_parents.result (undone_seen c.self.view_is c.cut_parents.new.tree.items c.cut_parents.new.respacings (when_cut (goal.at.returns-in_err-cut_parents-clause-undone c).After-cut_parents))
+
+pub returns-in_err-author-clause-undone : goal.returns-in_err-author-clause-undone
+returns-in_err-author-clause-undone c =
+    on_error c.from_residual-in_err-author.result (undone_seen c.self.view_is c.cut_parents.new.tree.items c.cut_parents.new.respacings (when_cut (goal.at.returns-in_err-author-clause-undone c).After-cut_parents))
+
+pub returns-in_err-reserve-clause-undone : goal.returns-in_err-reserve-clause-undone
+returns-in_err-reserve-clause-undone c =
+    on_error c.from_residual-in_err-reserve.result (undone_seen c.self.view_is c.cut_parents.new.tree.items c.cut_parents.new.respacings (when_cut (goal.at.returns-in_err-reserve-clause-undone c).After-cut_parents))
+
+pub returns-in_err-reserve-2-clause-undone : goal.returns-in_err-reserve-2-clause-undone
+returns-in_err-reserve-2-clause-undone c =
+    on_error c.from_residual-in_err-reserve-2.result (undone_seen c.self.view_is c.cut_parents.new.tree.items c.cut_parents.new.respacings (when_cut (goal.at.returns-in_err-reserve-2-clause-undone c).After-cut_parents))
+
+pub returns-in_err-clock-clause-undone : goal.returns-in_err-clock-clause-undone
+returns-in_err-clock-clause-undone c =
+    let undone = c.in_err-clock.ensures.undone in
+    let made = labelled_then (when_cut (goal.at.returns-in_err-clock-clause-undone c).After-cut_parents) undone.1 in
+    on_error c.from_residual-in_err-clock.result (undone.0, labelled_seen c.self.view_is undone.0 c.put_runs.new.respacings made, undone.2)
+
+pub returns-clause-labelled : goal.returns-clause-labelled
+returns-clause-labelled c =
+    let made = labelled_then (when_cut (goal.at.returns-clause-labelled c).After-cut_parents) c.in_ok-clock.ensures.labelled in
+    changed c.put_runs.new.tree.items c.kill_named-hidden.new.tree.items c.put_runs.new.respacings (labelled_seen c.self.view_is c.put_runs.new.tree.items c.put_runs.new.respacings made)
+    (keeps_listed c.put_runs.new.index c.put_runs.new.tree.items c.kill_named-hidden.new.tree.items c.put_runs.ensures.kept.listed c.kill_named-hidden.ensures.kept.listed)

@@ -16,7 +16,7 @@ use Rattle.block_seq.specs.RowParts.{AllJoin, with_all}
 use Rattle.block_seq.proofs.RowChange.{lent_checked, lent_sizes, no_run}
 use Rattle.pad_model.specs.Log.{run_may_join}
 use Rattle.block_seq.proofs.RowRuns.{all_fit, join_before, runs_fit}
-use Rattle.block_seq.proofs.RowCounts.{cells_seen}
+use Rattle.block_seq.proofs.RowCounts.{cells_seen, on_error, undone_nothing}
 use Rattle.block_seq.proofs.rows.BlockSeqSequence.apply.Goals as goal
 use Rattle.block_seq.proofs.rows.BlockSeqSequence.apply.Goals.{After-parts_fit, After-count_inserted-more, In_ok-runs}
 
@@ -145,3 +145,15 @@ returns-clause-answers c =
     let f = facts g.In_ok-runs c.as_slice-2.result.now c.as_slice-2.ensures.value (fit g.After-parts_fit true c.if-not-parts_fit.false) small in
     subst (λ x. Answers c.args.self.now.cells x c.change.result c.change.new.self.cells)
     (sym (f.made ∙ ap (λ l. (Ok (count_by (is_hidden_by c.as_slice-2.result.now) c.args.self.now.cells), with_all c.args.rev c.args.author.now (without_spans c.args.rev c.as_slice-2.result.now c.args.self.now.cells) (map (λ run. run.now) l))) (sym c.as_slice-3.ensures.value))) c.change.ensures.answers
+
+pub returns-then-not-parts_fit-clause-undone : goal.returns-then-not-parts_fit-clause-undone
+returns-then-not-parts_fit-clause-undone c = undone_nothing c.args.self.now.tree c.args.self.now.respaced
+
+pub returns-then-len-more-gt-MAX_CHARACTERS-clause-undone : goal.returns-then-len-more-gt-MAX_CHARACTERS-clause-undone
+returns-then-len-more-gt-MAX_CHARACTERS-clause-undone c = undone_nothing c.args.self.now.tree c.args.self.now.respaced
+
+pub returns-in_err-spans-clause-undone : goal.returns-in_err-spans-clause-undone
+returns-in_err-spans-clause-undone c = on_error c.from_residual.result (undone_nothing c.args.self.now.tree c.args.self.now.respaced)
+
+pub returns-in_err-runs-clause-undone : goal.returns-in_err-runs-clause-undone
+returns-in_err-runs-clause-undone c = on_error c.from_residual-in_err-runs.result (undone_nothing c.args.self.now.tree c.args.self.now.respaced)

@@ -4,7 +4,7 @@ use Rattle.pad_model.specs.Cell.{character_of}
 use Rattle.pad_model.specs.Log.{has_spans}
 use Rattle.block_seq.proofs.Kept.{delete-fault}
 use Rattle.block_seq.proofs.RowSteps.{delete-ok}
-use Rattle.block_seq.proofs.RowCounts.{cells_seen}
+use Rattle.block_seq.proofs.RowCounts.{cells_seen, undone_nothing}
 use Rattle.block_seq.proofs.rows.BlockSeqSequence.delete_spans.Goals as goal
 use Rattle.block_seq.proofs.rows.BlockSeqSequence.delete_spans.Goals.{After-has_spans}
 
@@ -22,3 +22,6 @@ pub returns-clause-answers : goal.returns-clause-answers
 returns-clause-answers c =
     subst (λ x. Answers c.args.self.now.cells x c.erase.result c.erase.new.self.cells)
     (sym (delete-ok c.args.rev c.args.spans.now c.args.self.now.cells (there (goal.at.returns-clause-answers c).After-has_spans true c.if-not-has_spans.false))) c.erase.ensures.answers
+
+pub returns-then-not-has_spans-clause-undone : goal.returns-then-not-has_spans-clause-undone
+returns-then-not-has_spans-clause-undone c = undone_nothing c.args.self.now.tree c.args.self.now.respaced

@@ -2,6 +2,7 @@
 mod block_run;
 mod counts;
 mod places;
+mod removed;
 mod stone;
 mod stone_run;
 mod trees;

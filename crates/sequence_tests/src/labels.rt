@@ -1,7 +1,8 @@
-//! How many labels are written while somebody types at one place: that of each new block, and those of others that change.
+//! How many labels are written while somebody types at one place: that of each new block, and those of others that change;
+//! and how often others change.
 use crate::side_by_side::{Pair, author_of};
 use block_seq::BlockSeq;
-use pad_model::{Part, Refusal, Run, Stamp, Text};
+use pad_model::{Part, Refusal, Run, Sequence, Stamp, Text};
 use std::alloc::Global;
 use std::test::Fail;
 
@@ -35,15 +36,16 @@ fn count_new(before: &[u64], after: &[u64]) -> u64 {
     new
 }
 
-/// Types a character behind another one, or at the start.
-fn type_one(
+/// Types a text behind a character, or at the start.
+fn type_text(
     alloc: Global,
     pair: &mut Pair,
     counter: u64,
     after: Option<Stamp>,
+    text: &str,
 ) -> Result<bool, Refusal> {
     let first = Stamp::new(counter, 1)?;
-    let text = Text::from_str(alloc, "x")?;
+    let text = Text::from_str(alloc, text)?;
     let part = Part::Insert(Run { first, after, text });
     Ok(pair.take(alloc, &part, &author_of(alloc, 1)?))
 }
@@ -57,7 +59,7 @@ fn count_writes(alloc: Global, backward: bool) -> Result<Option<u64>, Refusal> {
     for counter in 1..=TYPED {
         let behind = if backward { 1 } else { counter - 1 };
         let after = Stamp::new(behind, 1).ok().filter(|_| counter > 1);
-        let is_taken = type_one(alloc, &mut pair, counter, after)?;
+        let is_taken = type_text(alloc, &mut pair, counter, after, "x")?;
         let now = labels_of(alloc, pair.rows())?;
         if !is_taken || !rise(now.as_slice()) {
             return Ok(None);
@@ -81,5 +83,54 @@ fn typing_backward_writes_few_labels(rt: HostRuntime) -> Result<(), Fail> {
         writes.is_some_and(|writes| writes < 10 * TYPED),
         "{writes:?}"
     );
+    Ok(())
+}
+
+/// Types "ab" and then a hundred times "x" behind the first character; at which of these a block lost the label that it had.
+/// None where a text is refused.
+fn type_behind_the_first(alloc: Global, pair: &mut Pair) -> Result<Option<Vec<u64>>, Refusal> {
+    let mut changes = Vec::new(alloc);
+    let mut is_taken = type_text(alloc, pair, 1, None, "ab")?;
+    for time in 1..=100 {
+        let before = labels_of(alloc, pair.rows())?;
+        is_taken = is_taken && type_text(alloc, pair, time + 2, Stamp::new(1, 1).ok(), "x")?;
+        let now = labels_of(alloc, pair.rows())?;
+        if count_new(now.as_slice(), before.as_slice()) > 0 {
+            changes.push(time)?;
+        }
+    }
+    Ok(if is_taken { Some(changes) } else { None })
+}
+
+/// Whether the text is "a", a hundred times "x" and "b", and all of its characters are found.
+fn has_hundred(alloc: Global, rows: &BlockSeq, rev: u64) -> Result<bool, Refusal> {
+    let text = rows.text_at(alloc, rev)?;
+    let typed = text.as_slice().iter().skip(1).take(100);
+    let all = (1..=102).all(|counter| {
+        Stamp::new(counter, 1)
+            .ok()
+            .is_some_and(|stamp| rows.has(stamp))
+    });
+    Ok(
+        all && text.len() == 102
+            && text.as_slice().first() == Some(&'a')
+            && text.as_slice().last() == Some(&'b')
+            && typed.filter(|character| **character == 'x').count() == 100,
+    )
+}
+
+// Between the labels 65,536 and 131,072 there is room for 16 halves of the gap. The later times follow from the rule by which a
+// window is chosen: they were worked out apart from the program.
+#[test]
+fn respacings_are_those_that_the_labels_show(rt: HostRuntime) -> Result<(), Fail> {
+    let mut pair = Pair::new(rt.alloc())?;
+    assert!(rt; pair.rows().respaced() == 0);
+    let changes = type_behind_the_first(rt.alloc(), &mut pair)?;
+    let rows = pair.rows();
+    let times = [17, 31, 43, 54, 63, 71, 77, 81, 84];
+    assert!(rt; changes.is_some_and(|changes| changes.as_slice() == times.as_slice()));
+    assert!(rt; rows.respaced() == 9);
+    assert!(rt; has_hundred(rt.alloc(), rows, 101)?);
+    assert!(rt; rows.stamp_at(101, 1) == Stamp::new(102, 1).ok());
     Ok(())
 }

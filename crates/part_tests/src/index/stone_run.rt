@@ -29,12 +29,24 @@ fn walk_to(list: &[Stone], mut number: u64) -> Option<(usize, u64)> {
 
 // A tree and the list that it should be, with the stones in the order of their numbers.
 #[derive(Drop)]
-struct Both {
+pub struct Both {
     tree: WeightTree<Stone>,
     list: Vec<Stone>,
 }
 
 impl Both {
+    pub fn new(alloc: Global) -> Both {
+        Both {
+            tree: WeightTree::new(),
+            list: Vec::new(alloc),
+        }
+    }
+
+    // How many stones there are, and how high the tree is.
+    pub fn size(&self) -> (usize, usize) {
+        (self.list.len(), self.tree.height())
+    }
+
     // The rank before the first stone whose number is not below this one.
     fn rank_of(&self, rt: &impl Abort, number: u64) -> usize {
         let rank = self.list.partition_point(|stone| stone.number < number);
@@ -43,11 +55,17 @@ impl Both {
         rank
     }
 
-    fn insert(&mut self, rt: &impl Abort, alloc: Global, stone: Stone) -> Result<(), Fail> {
+    pub fn insert(&mut self, rt: &impl Abort, alloc: Global, stone: Stone) -> Result<(), Fail> {
         let rank = self.rank_of(rt, stone.number);
         assert!(rt; rank <= self.list.len());
         self.list.insert(rank, stone)?;
         put(rt, alloc, &mut self.tree, rank, stone)
+    }
+
+    pub fn remove(&mut self, rt: &impl Abort, rank: usize) {
+        assert!(rt; rank < self.tree.len() && rank < self.list.len());
+        let stone = self.list.remove(rank);
+        assert!(rt; self.tree.remove(rank) == stone);
     }
 
     #[tactic(auto, using(weight_tree::proofs::CallerLemmas::sum_replaced_le))]
@@ -68,13 +86,13 @@ impl Both {
         assert!(rt; Some(self.tree.get(rank)) == self.list.get(rank));
     }
 
-    fn before(&self, rt: &impl Abort, rank: usize) {
+    pub fn before(&self, rt: &impl Abort, rank: usize) {
         assert!(rt; rank <= self.tree.len());
         assert!(rt; self.tree.before(rank) == weight_of(self.list.as_slice(), rank));
     }
 
     // Whether the number falls in a stone.
-    fn find(&self, rt: &impl Abort, number: u64) -> bool {
+    pub fn find(&self, rt: &impl Abort, number: u64) -> bool {
         let walked = walk_to(self.list.as_slice(), number);
         match self.tree.find(number) {
             None => assert!(rt; walked.is_none()),
@@ -83,15 +101,15 @@ impl Both {
         walked.is_some()
     }
 
-    fn weight(&self, rt: &impl Abort) {
+    pub fn weight(&self, rt: &impl Abort) {
         assert!(rt; self.tree.weight() == weight_of(self.list.as_slice(), self.list.len()));
     }
 
-    fn len(&self, rt: &impl Abort) {
+    pub fn len(&self, rt: &impl Abort) {
         assert!(rt; self.tree.len() == self.list.len());
     }
 
-    fn items(&self, rt: &impl Abort) {
+    pub fn items(&self, rt: &impl Abort) {
         let mut stones = self.tree.iter();
         for other in self.list.iter() {
             assert!(rt; stones.next() == Some(other));
@@ -131,10 +149,7 @@ impl Both {
 #[test]
 fn a_hundred_thousand_operations_as_on_a_list(rt: HostRuntime) -> Result<(), Fail> {
     let mut dice = Dice::new(2026);
-    let mut both = Both {
-        tree: WeightTree::new(),
-        list: Vec::new(rt.alloc()),
-    };
+    let mut both = Both::new(rt.alloc());
     let mut kinds = [0u64; 10];
     let mut hits = [0u64; 10];
     for round in 0..100_000u64 {

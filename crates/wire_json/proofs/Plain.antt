@@ -1,5 +1,5 @@
 -- What is written is plain: it holds no float, so its text is known, and it nests a few levels deep, so it can be read.
-use Rattle.std.proofs.Common.{◌≡◌, ℕ, suc, ◌≤◌, List, [], ◌∷◌, map, false, Option, Some, None, Result, Ok, Err, refl, arith, lit≤}
+use Rattle.std.proofs.Common.{◌≡◌, ℕ, ◌≤◌, List, [], ◌∷◌, map, false, Option, Some, None, Result, Ok, Err, refl, arith, lit≤}
 use Rattle.serde_json.specs.Data.{Data, depth, items_depth}
 use Rattle.serde_json.specs.View.{items_of}
 use Rattle.serde_json.specs.Written.{has_float, items_have_float}
@@ -59,18 +59,25 @@ part_of (part.Delete spans) =
     record { floatless = rw gone.floatless refl; shallow = omega (arith, gone.shallow) }
 part_of other = record { floatless = refl; shallow = lit≤ tt }
 
-fields_of : (name : OpName) (seen : List Counted) (author : List ℕ) (parts : List Part) → IsPlain 5 (op_data (op_of name seen author parts))
+fields_of : (name : OpName) (seen : List Counted) (author : List ℕ) (parts : List Part) →
+    IsPlain 5 (op_data (op_of name seen author parts))
 fields_of name seen author [] =
     let known = seen_of seen in
     record { floatless = rw known.floatless refl; shallow = omega (arith, known.shallow) }
 fields_of name seen author (part.Insert run ∷ []) =
     let known = seen_of seen in
     let after = parent_of run.after in
-    record { floatless = rw (known.floatless, after.floatless) refl; shallow = omega (arith, known.shallow, after.shallow) }
+    record {
+      floatless = rw (known.floatless, after.floatless) refl;
+      shallow = omega (arith, known.shallow, after.shallow);
+    }
 fields_of name seen author (part.Delete spans ∷ []) =
     let known = seen_of seen in
     let gone = spans_of spans in
-    record { floatless = rw (known.floatless, gone.floatless) refl; shallow = omega (arith, known.shallow, gone.shallow) }
+    record {
+      floatless = rw (known.floatless, gone.floatless) refl;
+      shallow = omega (arith, known.shallow, gone.shallow);
+    }
 fields_of name seen author (p ∷ []) =
     let known = seen_of seen in
     record { floatless = rw known.floatless refl; shallow = omega (arith, known.shallow) }

@@ -1,3 +1,4 @@
+-- The lemmas, by topic.
 pub mod At
 pub mod CallerLemmas
 pub mod Changes

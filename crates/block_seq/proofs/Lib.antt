@@ -1,3 +1,4 @@
+-- The lemmas, by topic.
 pub mod Applied
 pub mod BlockCells
 pub mod ByRevision

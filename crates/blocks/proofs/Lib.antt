@@ -1,3 +1,4 @@
+-- The lemmas, by topic.
 pub mod Cells
 pub mod Counts
 pub mod Entries

@@ -1,3 +1,4 @@
+-- The definitions that the contracts cite, by topic.
 pub mod Blocks
 pub mod Cells
 pub mod Counts

@@ -1,1 +1,2 @@
+-- The lemmas, by topic.
 pub mod CallerLemmas

@@ -1,3 +1,4 @@
+-- The lemmas, by topic.
 pub mod Acts
 pub mod Carries
 pub mod Federated

@@ -1,3 +1,4 @@
+-- The definitions that the contracts cite, by topic.
 pub mod Past
 pub mod World
 pub mod Holds

@@ -1,3 +1,4 @@
+-- The lemmas, by topic.
 pub mod Kept
 pub mod Members
 pub mod Next

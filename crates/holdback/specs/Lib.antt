@@ -1,3 +1,4 @@
+-- The definitions that the contracts cite, by topic.
 pub mod Held
 pub mod Inside
 pub mod Laws

@@ -1,3 +1,4 @@
+-- The lemmas, by topic.
 pub mod Order
 pub mod CallerLemmas
 pub mod Count

@@ -1,3 +1,4 @@
+-- The lemmas, by topic.
 pub mod Acted
 pub mod Admitted
 pub mod Alike

@@ -1,3 +1,4 @@
+-- The lemmas, by topic.
 pub mod Cells
 pub mod CheckedLemmas
 pub mod Each

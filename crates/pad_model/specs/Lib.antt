@@ -1,3 +1,4 @@
+-- The definitions that the contracts cite, by topic.
 pub mod Answers
 pub mod Cell
 pub mod CellLaws

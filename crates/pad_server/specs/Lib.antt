@@ -1,3 +1,4 @@
+-- The definitions that the contracts cite, by topic.
 pub mod CommandLine
 pub mod Modes
 pub mod Status

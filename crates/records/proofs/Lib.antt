@@ -1,3 +1,4 @@
+-- The lemmas, by topic.
 pub mod Deliveries
 pub mod Fronts
 pub mod Idle

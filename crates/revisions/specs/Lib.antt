@@ -1,3 +1,4 @@
+-- The definitions that the contracts cite, by topic.
 pub mod Index
 pub mod Inside
 pub mod Log

@@ -1,3 +1,4 @@
+-- The lemmas, by topic.
 pub mod Lengths
 pub mod NameRuns
 pub mod NameSteps

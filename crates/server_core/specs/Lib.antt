@@ -1,3 +1,4 @@
+-- The definitions that the contracts cite, by topic.
 pub mod Actor
 pub mod AtCell
 pub mod Machine

@@ -1,3 +1,4 @@
+-- The definitions that the contracts cite, by topic.
 pub mod Accounts
 pub mod AccountsFile
 pub mod Inside

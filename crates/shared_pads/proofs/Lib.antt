@@ -1,3 +1,4 @@
+-- The lemmas, by topic.
 pub mod Calls
 pub mod Grows
 pub mod Seated

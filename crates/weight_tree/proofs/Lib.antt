@@ -1,3 +1,4 @@
+-- The lemmas, by topic.
 pub mod Around
 pub mod AtBranch
 pub mod CallerLemmas

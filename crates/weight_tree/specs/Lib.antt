@@ -1,3 +1,4 @@
+-- The definitions that the contracts cite, by topic.
 pub mod Balance
 pub mod Find
 pub mod ItemsAndHeight

@@ -1,3 +1,4 @@
+-- The loop of `list`: the rows made so far are those of the comments passed so far.
 use Rattle.std.proofs.Common.{◌≡◌, take}
 use Rattle.anchors.specs.Comments.{comments_at}
 use Rattle.anchors.proofs.show.list.Given as goal

@@ -1,3 +1,4 @@
+-- The loop of `place_of`: the runs passed so far and what is left make up the place.
 use Rattle.std.proofs.Common.{◌≡◌, ◌+◌, take}
 use Rattle.authorship.specs.Kept.{characters}
 use Rattle.authorship.proofs.find.place_of.Given as goal

@@ -1,3 +1,4 @@
+-- The loop of `author_runs`: the rows made so far are those of the runs passed so far.
 use Rattle.std.proofs.Common.{◌≡◌, map, take}
 use Rattle.authorship.specs.Kept.{author_run}
 use Rattle.authorship.proofs.run_list.author_runs.Given as goal

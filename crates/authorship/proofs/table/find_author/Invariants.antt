@@ -1,3 +1,4 @@
+-- The loop of `find_author`: no author passed so far is the one that is looked for.
 use Rattle.std.proofs.Common.{◌≢◌, ℕ, ◌<◌}
 use Rattle.authorship.specs.Kept.{author_in}
 use Rattle.authorship.proofs.table.find_author.Given as goal

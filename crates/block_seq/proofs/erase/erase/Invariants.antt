@@ -1,3 +1,4 @@
+-- The loop of `erase`: the cells passed so far are marked as erased where a span names them.
 use Rattle.std.proofs.Common.{◌≡◌, ◌++◌, map, take, drop}
 use Rattle.block_seq.specs.Plain.{erased_at}
 use Rattle.block_seq.proofs.erase.erase.Given as goal

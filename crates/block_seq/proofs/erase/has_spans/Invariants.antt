@@ -1,3 +1,4 @@
+-- The loop of `has_spans`: the characters of the spans passed so far are there.
 use Rattle.std.proofs.Common.{◌≡◌, drop}
 use Rattle.std.specs.List.{list_all}
 use Rattle.pad_model.specs.Legal.{has_stamp}

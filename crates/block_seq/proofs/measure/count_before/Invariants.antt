@@ -1,3 +1,4 @@
+-- The loop of `count_before`: the characters counted and those left to count before the stamp are all.
 use Rattle.std.proofs.Common.{◌≡◌, ◌+◌, ◌≤◌, drop}
 use Rattle.pad_model.specs.Visible.{shown_before}
 use Rattle.block_seq.specs.Plain.{kept_character, is_shown}

@@ -1,3 +1,4 @@
+-- The loop of `count_through`: the characters counted and those left to count up to the stamp are all.
 use Rattle.std.proofs.Common.{◌≡◌, ◌+◌, ◌≤◌, drop}
 use Rattle.pad_model.specs.Visible.{shown_through}
 use Rattle.block_seq.specs.Plain.{kept_character, is_shown}

@@ -1,3 +1,4 @@
+-- The loop of `stands_before`: once the first character is passed, the last one has to be in what is left.
 use Rattle.std.proofs.Common.{◌≡◌, drop, cond}
 use Rattle.pad_model.specs.Legal.{has_stamp}
 use Rattle.pad_model.specs.Log.{stands_before}

@@ -1,3 +1,4 @@
+-- The loop of `count_inserted`: the characters that the parts passed so far insert are counted.
 use Rattle.std.proofs.Common.{◌≡◌, take, sum_by}
 use Rattle.block_seq.specs.KeptParts.{inserted_size}
 use Rattle.block_seq.proofs.parts.count_inserted.Given as goal

@@ -1,3 +1,4 @@
+-- The loop of `each_fits`: the parts passed so far fit, so whether all do depends on the others.
 use Rattle.std.proofs.Common.{◌≡◌, drop}
 use Rattle.std.specs.List.{list_all}
 use Rattle.pad_model.specs.Parts.{part_fits}

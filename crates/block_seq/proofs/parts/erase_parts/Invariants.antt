@@ -1,3 +1,4 @@
+-- The loop of `erase_parts`: the cells that the parts passed so far hide are marked, and counted.
 use Rattle.std.proofs.Common.{◌≡◌, take, map, count_by}
 use Rattle.pad_model.specs.Parts.{spans_in}
 use Rattle.block_seq.specs.Plain.{erased_at, is_hidden_by}

@@ -1,3 +1,4 @@
+-- The loop of `put_runs`: the runs that are left make the rest of the cells, and there is room for them.
 use Rattle.std.proofs.Common.{◌≡◌, ◌+◌, ◌≤◌, drop, fold, sum_by, vec_len, vec_capacity}
 use Rattle.block_seq.specs.KeptParts.{inserted_size, with_kept_part}
 use Rattle.block_seq.proofs.parts.put_runs.Given as goal

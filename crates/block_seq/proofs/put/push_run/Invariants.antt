@@ -1,3 +1,4 @@
+-- The loop of `push_run`: the cells that stand there and those left to add make the whole run.
 use Rattle.std.proofs.Common.{◌≡◌, ◌+◌, ◌++◌, drop, vec_len, vec_capacity}
 use Rattle.block_seq.specs.Plain.{kept_run}
 use Rattle.block_seq.proofs.put.push_run.Given as goal

@@ -1,3 +1,4 @@
+-- The loop of `shown_authors`: the authors listed so far and those of the cells that are left are all.
 use Rattle.std.proofs.Common.{◌≡◌, ◌++◌, drop, map, filter}
 use Rattle.block_seq.specs.Plain.{author_at, is_shown}
 use Rattle.block_seq.proofs.readers.shown_authors.Given as goal

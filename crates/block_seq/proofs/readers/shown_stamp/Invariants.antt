@@ -1,3 +1,4 @@
+-- The loop of `shown_stamp`: the character that is looked for is among the cells that are left.
 use Rattle.std.proofs.Common.{◌≡◌, slice_get, filter, drop}
 use Rattle.block_seq.specs.Plain.{is_shown}
 use Rattle.block_seq.proofs.readers.shown_stamp.Given as goal

@@ -1,3 +1,4 @@
+-- The loop of `cut_spans`: the spans passed so far are cut out of their blocks, and no character changed.
 use Rattle.std.proofs.Common.{◌≤◌, ◌+◌, ◌*◌, length, take}
 use Rattle.std.specs.List.{AllByRecursion}
 use Rattle.blocks.specs.Blocks.{IsKept}

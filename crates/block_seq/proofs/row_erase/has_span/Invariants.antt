@@ -1,3 +1,4 @@
+-- The loop of `has_span`: the characters of the span passed so far are there, and the loop ends.
 use Rattle.std.proofs.Common.{ℕ, ◌<◌, ◌-◌}
 use Rattle.pad_model.specs.Stamp.{Stamp}
 use Rattle.ident_index.specs.Index.{Holds, stamp_behind}

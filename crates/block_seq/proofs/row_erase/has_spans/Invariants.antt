@@ -1,3 +1,4 @@
+-- The loop of `has_spans`: the characters of the spans passed so far are in the blocks.
 use Rattle.std.proofs.Common.{◌≡◌, ℕ, List, length}
 use Rattle.std.specs.List.{list_all, AllByRecursion}
 use Rattle.pad_model.specs.Cell.{character_of}

@@ -1,3 +1,4 @@
+-- The loop of `kill_named`: the blocks of the spans passed so far are dead and counted, and the row stays in order.
 use Rattle.std.proofs.Common.{◌≡◌, take, map, sum_by}
 use Rattle.blocks.specs.Blocks.{IsKept}
 use Rattle.std.specs.List.{AllByRecursion}

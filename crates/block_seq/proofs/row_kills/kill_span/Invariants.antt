@@ -1,3 +1,4 @@
+-- The loop of `kill_span`: the blocks passed so far are dead and counted, and the next stamp begins a block.
 use Rattle.std.proofs.Common.{◌≡◌, ◌-◌, ◌≤◌, map, sum_by}
 use Rattle.ident_index.specs.Index.{stamp_behind}
 use Rattle.blocks.specs.Blocks.{IsKept, IsEdge}

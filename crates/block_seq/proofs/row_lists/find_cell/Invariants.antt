@@ -1,3 +1,4 @@
+-- The loop of `find_cell`: the place among all cells is the place left among those of the blocks to come.
 use Rattle.std.proofs.Common.{◌≡◌, length, slice_get}
 use Rattle.std.specs.List.{AllByRecursion}
 use Rattle.blocks.specs.Blocks.{IsSized}

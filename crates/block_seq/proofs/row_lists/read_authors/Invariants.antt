@@ -1,3 +1,4 @@
+-- The loop of `read_authors`: the runs are those of the authors so far, and these with those to come are all.
 use Rattle.std.proofs.Common.{◌≡◌, ◌+◌, ◌≤◌, ◌++◌, List, flat_map, sum_by, length}
 use Rattle.std.specs.List.{AllByRecursion}
 use Rattle.pad_model.specs.Visible.{runs}

@@ -1,3 +1,4 @@
+-- The loop of `count_text`: the characters of the runs passed so far are counted.
 use Rattle.std.proofs.Common.{◌≡◌, length, take, sum_by}
 use Rattle.block_seq.proofs.row_parts.count_text.Given as goal
 

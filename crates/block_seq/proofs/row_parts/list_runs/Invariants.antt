@@ -1,3 +1,4 @@
+-- The loop of `list_runs`: the runs of the parts passed so far are listed.
 use Rattle.std.proofs.Common.{◌≡◌, take, map}
 use Rattle.block_seq.specs.RowParts.{runs_in}
 use Rattle.block_seq.proofs.row_parts.list_runs.Given as goal

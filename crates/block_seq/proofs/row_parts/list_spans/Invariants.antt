@@ -1,3 +1,4 @@
+-- The loop of `list_spans`: the spans of the parts passed so far are listed.
 use Rattle.std.proofs.Common.{◌≡◌, take}
 use Rattle.pad_model.specs.Parts.{spans_in}
 use Rattle.block_seq.proofs.row_parts.list_spans.Given as goal

@@ -1,3 +1,4 @@
+-- The loop of `parts_fit`: the parts passed so far fit the cells of the blocks.
 use Rattle.std.proofs.Common.{◌≡◌, ℕ, List, length, drop}
 use Rattle.std.specs.List.{list_all, AllByRecursion}
 use Rattle.pad_model.specs.Cell.{character_of}

@@ -1,3 +1,4 @@
+-- The loop of `count_front`: the number that is looked for lies between the bounds, which approach each other.
 use Rattle.std.proofs.Common.{◌≡◌, ◌-◌, ◌≤◌, Some, slice_get, sum_by}
 use Rattle.blocks.specs.declared.block.Block.{Block}
 use Rattle.block_seq.specs.RowLists.{shown_front}

@@ -1,3 +1,4 @@
+-- The loop of `read_spans`: the spans are those of the stamps so far, and these with what is left are the window.
 use Rattle.std.proofs.Common.{◌≡◌, ◌+◌, ◌≤◌, ◌++◌, List, take, drop, flat_map, sum_by}
 use Rattle.pad_model.specs.Stamp.{Stamp}
 use Rattle.pad_model.specs.Visible.{spans}

@@ -1,3 +1,4 @@
+-- The loop of `read_text`: the text read so far and the text of the blocks to come are the whole text.
 use Rattle.std.proofs.Common.{◌≡◌, ◌++◌, flat_map, length}
 use Rattle.std.specs.List.{AllByRecursion}
 use Rattle.blocks.specs.Cells.{IsWithin}

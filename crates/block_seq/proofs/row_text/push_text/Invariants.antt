@@ -1,3 +1,4 @@
+-- The loop of `push_text`: the characters passed so far stand behind the text, whose room stays.
 use Rattle.std.proofs.Common.{◌≡◌, ◌+◌, ◌++◌, take, vec_len, vec_capacity}
 use Rattle.block_seq.proofs.row_text.push_text.Given as goal
 

@@ -1,3 +1,4 @@
+-- The loop of `cut_parents`: the blocks are cut behind the parents of the runs passed so far, and no character changed.
 use Rattle.std.proofs.Common.{◌≤◌, ◌+◌, length, take}
 use Rattle.std.specs.List.{AllByRecursion}
 use Rattle.blocks.specs.Blocks.{IsKept, KeepsEdges}

@@ -1,3 +1,4 @@
+-- The loop of `scan_blocks`: the scan passes all blocks up to here.
 use Rattle.std.proofs.Common.{◌≡◌, ◌+◌, drop}
 use Rattle.block_seq.specs.Rows.{passes}
 use Rattle.block_seq.proofs.run_place.scan_blocks.Given as goal

@@ -1,3 +1,4 @@
+-- The loop of `put_runs`: the runs passed so far are put, the others may be, and the ranks lead back.
 use Rattle.std.proofs.Common.{◌≡◌, ◌+◌, ◌≤◌, true, List, length, map, drop, take, sum_by, vec_len, vec_capacity}
 use Rattle.std.specs.List.{AllByRecursion, list_all}
 use Rattle.pad_model.specs.Cell.{character_of}

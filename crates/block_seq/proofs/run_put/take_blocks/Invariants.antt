@@ -1,3 +1,4 @@
+-- The loop of `take_blocks`: the blocks of the ranks from here on are taken out, and the loop ends.
 use Rattle.std.proofs.Common.{◌≡◌, ◌≤◌, length, take}
 use Rattle.blocks.specs.Blocks.{IsKept, without_labels}
 use Rattle.blocks.specs.Counts.{KeepsLabels}

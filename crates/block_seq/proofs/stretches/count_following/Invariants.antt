@@ -1,3 +1,4 @@
+-- The loop of `count_following`: all stamps so far follow on one another.
 use Rattle.std.proofs.Common.{◌≡◌, ◌+◌, drop}
 use Rattle.block_seq.specs.KeptParts.{following}
 use Rattle.block_seq.proofs.stretches.count_following.Given as goal

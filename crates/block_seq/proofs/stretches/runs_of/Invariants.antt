@@ -1,3 +1,4 @@
+-- The loop of `runs_of`: the runs so far and those of the authors that are left are all, and the loop ends.
 use Rattle.std.proofs.Common.{◌≡◌, ◌-◌, ◌≤◌, ◌++◌, drop, map, length}
 use Rattle.pad_model.specs.Visible.{runs}
 use Rattle.block_seq.proofs.stretches.runs_of.Given as goal

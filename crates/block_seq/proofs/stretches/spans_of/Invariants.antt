@@ -1,3 +1,4 @@
+-- The loop of `spans_of`: the spans so far and those of the stamps that are left are all, and the loop ends.
 use Rattle.std.proofs.Common.{◌≡◌, ◌-◌, ◌≤◌, ◌++◌, drop, length}
 use Rattle.pad_model.specs.Visible.{spans}
 use Rattle.block_seq.proofs.stretches.spans_of.Given as goal

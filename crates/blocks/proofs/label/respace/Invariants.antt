@@ -1,3 +1,4 @@
+-- The loop of `respace`: the blocks of the window passed so far have their new labels.
 use Rattle.std.proofs.Common.{◌≡◌, ◌+◌, ◌-◌, ◌*◌, ◌≤◌, ◌++◌, take, drop}
 use Rattle.blocks.specs.Blocks.{IsListed, HoldsNoMore, spread}
 use Rattle.blocks.proofs.label.respace.Given as goal

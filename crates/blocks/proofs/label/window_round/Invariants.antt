@@ -1,3 +1,4 @@
+-- The loop of `window_round`: the reach is at least 1, and it grows up to the number of blocks, so the loop ends.
 use Rattle.std.proofs.Common.{◌≤◌, ◌-◌, length}
 use Rattle.blocks.proofs.label.window_round.Given as goal
 

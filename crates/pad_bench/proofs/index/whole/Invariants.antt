@@ -1,3 +1,4 @@
+-- The loop of `whole`: no stamp of a later replica is in the index.
 use Rattle.std.proofs.Common.{◌+◌, ◌≤◌}
 use Rattle.pad_model.specs.Stamp.{Stamp}
 use Rattle.ident_index.specs.Index.{HoldsNone}

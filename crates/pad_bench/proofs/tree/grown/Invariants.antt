@@ -1,3 +1,4 @@
+-- The loop of `grown`: the tree has as many items as turns were made, each of a weight of at most 10.
 use Rattle.std.proofs.Common.{◌≡◌, ◌*◌, ◌≤◌, length, sum_by}
 use Rattle.pad_bench.proofs.tree.grown.Given as goal
 

@@ -1,3 +1,4 @@
+-- The loop of `copy_sayable`: the copies so far and what may be said of the rest are all.
 use Rattle.std.proofs.Common.{◌≡◌, ◌++◌, drop}
 use Rattle.pad_core.specs.Exchange.{sayable}
 use Rattle.pad_core.proofs.exchange.copy_sayable.Given as goal

@@ -1,3 +1,4 @@
+-- The loop of `make_parts`: the parts so far and those of the other changes are all, and counters remain for them.
 use Rattle.std.proofs.Common.{◌≡◌, ◌+◌, ◌≤◌, ◌++◌, drop, sum_by}
 use Rattle.pad_model.specs.declared.limits.TheConstants.{MAX_COUNTER}
 use Rattle.pad_core.specs.Counts.{characters_at}

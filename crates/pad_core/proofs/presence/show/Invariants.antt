@@ -1,3 +1,4 @@
+-- The loop of `show`: the visits shown so far and the rest are all.
 use Rattle.std.proofs.Common.{◌≡◌, ◌++◌, drop, map}
 use Rattle.pad_core.specs.Presence.{shown_visit}
 use Rattle.pad_core.proofs.presence.show.Given as goal

@@ -1,3 +1,4 @@
+-- The loop of `settle`: the release made one step in each turn so far.
 use Rattle.std.proofs.Common.{◌≡◌}
 use Rattle.pad_core.specs.Exchange.{steps, unsettled}
 use Rattle.pad_core.specs.Released.{delivery}

@@ -1,3 +1,4 @@
+-- The loop of `list`: the entries so far and those of the rest are all, and their revisions count on.
 use Rattle.std.proofs.Common.{◌≡◌, ◌+◌, ◌++◌, drop}
 use Rattle.pad_core.specs.Reads.{entries_from}
 use Rattle.pad_core.proofs.reads.list.Given as goal

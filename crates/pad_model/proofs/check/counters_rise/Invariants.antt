@@ -1,3 +1,4 @@
+-- The loop of `counters_rise`: the counters rise in all parts just when they do in those that are left.
 use Rattle.std.proofs.Common.{◌≡◌, drop}
 use Rattle.pad_model.specs.Checked.{counters_rise}
 use Rattle.pad_model.proofs.check.counters_rise.Given as goal

@@ -1,3 +1,4 @@
+-- The loop of `rebuild`: the records that are left lead from the pad so far to where all lead.
 use Rattle.std.proofs.Common.{◌≡◌}
 use Rattle.records.specs.Records.{rebuilt, replay_all}
 use Rattle.records.proofs.again.rebuild.Given as goal

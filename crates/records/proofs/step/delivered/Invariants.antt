@@ -1,3 +1,4 @@
+-- The loop of `delivered`: the records so far and those of the rest are all.
 use Rattle.std.proofs.Common.{◌≡◌, ◌++◌, drop, map}
 use Rattle.records.specs.declared.kept_record.Record.TheVariants.{Delivered}
 use Rattle.records.proofs.step.delivered.Given as goal

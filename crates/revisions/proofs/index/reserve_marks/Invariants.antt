@@ -1,3 +1,4 @@
+-- The loop of `reserve_marks`: the tracks passed so far have room for one more mark, and all keep their marks.
 use Rattle.std.proofs.Common.{◌≡◌, take, map}
 use Rattle.std.specs.List.{AllByRecursion}
 use Rattle.revisions.specs.Index.{kept, HasRoom}

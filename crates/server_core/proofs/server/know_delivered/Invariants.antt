@@ -1,3 +1,4 @@
+-- The loop of `know_delivered`: the logs of the cells passed so far are delivered ones.
 use Rattle.std.proofs.Common.{take}
 use Rattle.std.specs.List.{AllByRecursion}
 use Rattle.pad_core.specs.Delivered.{IsDelivered}

@@ -1,3 +1,4 @@
+-- The loop of `make_row`: the cells made so far are pads without a name.
 use Rattle.std.proofs.Common.{◌≡◌, ◌∷◌, []}
 use Rattle.std.specs.List.{repeat}
 use Rattle.server_core.specs.Machine.{unnamed}

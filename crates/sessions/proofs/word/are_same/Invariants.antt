@@ -1,3 +1,4 @@
+-- The loop of `are_same`: the bytes compared so far are equal just when no difference was found.
 use Rattle.std.proofs.Common.{◌≡◌, take, not, bytes_eq}
 use Rattle.sessions.proofs.word.are_same.Given as goal
 

@@ -1,3 +1,4 @@
+-- The calls of `are_apart`: the recursion ends: each call has one seat less.
 use Rattle.std.proofs.Common.{length}
 use Rattle.shared_pads.proofs.sums.+are_apart.Given as goal
 

@@ -1,3 +1,4 @@
+-- The calls of `sums_of`: the recursion ends: each call has one seat less.
 use Rattle.std.proofs.Common.{length}
 use Rattle.shared_pads.proofs.sums.+sums_of.Given as goal
 

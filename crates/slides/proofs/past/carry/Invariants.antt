@@ -1,3 +1,4 @@
+-- The loop of `carry`: the slides that are left lead on from where the character was carried so far.
 use Rattle.std.proofs.Common.{◌≡◌, List, drop, slice_get}
 use Rattle.pad_model.specs.Stamp.{Stamp}
 use Rattle.slides.specs.Slides.{Leads}

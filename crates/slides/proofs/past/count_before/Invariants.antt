@@ -1,3 +1,4 @@
+-- The loop of `count_before`: the slides from here on lead from as many characters as were counted.
 use Rattle.std.proofs.Common.{◌≡◌, List, length, drop}
 use Rattle.pad_model.specs.Stamp.{Stamp}
 use Rattle.slides.specs.Slides.{Leads}

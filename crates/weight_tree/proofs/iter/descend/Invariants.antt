@@ -1,3 +1,4 @@
+-- The loop of `descend`: the tree and those that wait keep all items, and there is room for more on the way down.
 use Rattle.std.proofs.Common.{◌≡◌, ◌+◌, ◌≤◌, ◌++◌, take, length}
 use Rattle.weight_tree.specs.Waiting.{from_waiting, IsWaiting}
 use Rattle.weight_tree.proofs.iter.descend.Given as goal

@@ -1,3 +1,4 @@
+-- The loop of `delete_each`: the first places are deleted, and the room stays.
 use Rattle.std.proofs.Common.{◌≡◌, drop}
 use Rattle.authorship.proofs.Spread.{IsPartlyOut}
 use Rattle.authorship.proofs.run_list.RunList.delete_each.Given as goal

@@ -1,3 +1,4 @@
+-- The loop of `insert_each`: the first places are inserted, and there is room for the others.
 use Rattle.std.proofs.Common.{◌≤◌, drop, length}
 use Rattle.authorship.specs.Authors.{left_for}
 use Rattle.authorship.proofs.Spread.{IsPartlyIn}

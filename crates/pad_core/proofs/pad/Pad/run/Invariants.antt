@@ -1,3 +1,4 @@
+-- The loop of `run`: the events so far were answered, and there is room for the other replies.
 use Rattle.std.proofs.Common.{◌+◌, ◌≤◌, ◌-◌, take, length, vec_len, vec_capacity}
 use Rattle.pad_core.specs.Ran.{Ran}
 use Rattle.pad_core.proofs.pad.Pad.run.Given as goal

@@ -1,3 +1,4 @@
+-- The loop of `missing`: the copies so far and the missing operations that are left are all.
 use Rattle.std.proofs.Common.{◌≡◌, ◌-◌, ◌++◌, take}
 use Rattle.revisions.specs.Log.{is_missing, missing}
 use Rattle.revisions.proofs.Places.{picked}

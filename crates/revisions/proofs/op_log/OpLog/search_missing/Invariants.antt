@@ -1,3 +1,4 @@
+-- The loop of `search_missing`: the place so far is that of the first operation that is missing by the tracks passed.
 use Rattle.std.proofs.Common.{◌≡◌, map, take}
 use Rattle.revisions.specs.Index.{kept, first_place}
 use Rattle.revisions.proofs.Next.{is_next}

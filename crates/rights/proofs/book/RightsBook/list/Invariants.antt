@@ -1,3 +1,4 @@
+-- The loop of `list`: the rows so far and those of the grants that are left are all.
 use Rattle.std.proofs.Common.{◌≡◌, ◌++◌, map}
 use Rattle.rights.specs.Rights.{listed}
 use Rattle.rights.specs.declared.book.Grant.{Grant}

@@ -1,3 +1,4 @@
+-- The loop of `run`: the steps so far were made, and there is room for the other answers.
 use Rattle.std.proofs.Common.{◌+◌, ◌≤◌, ◌-◌, take, length, vec_len, vec_capacity}
 use Rattle.server_core.specs.Served.{Ran}
 use Rattle.server_core.proofs.server.Server.run.Given as goal

@@ -1,3 +1,4 @@
+-- The loop of `read`: the accounts so far with the lines that are left make all accounts, and the loop ends.
 use Rattle.std.proofs.Common.{◌≡◌, ◌+◌, ◌≤◌, length}
 use Rattle.std.specs.Str.Lines.{lines}
 use Rattle.sessions.specs.Accounts.{with_lines, accounts_of}

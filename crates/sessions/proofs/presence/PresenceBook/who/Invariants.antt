@@ -1,3 +1,4 @@
+-- The loop of `who`: the visits listed so far and those to come are all.
 use Rattle.std.proofs.Common.{◌≡◌, ◌++◌}
 use Rattle.sessions.specs.Inside.{visits_of}
 use Rattle.sessions.proofs.presence.PresenceBook.who.Given as goal

@@ -1,3 +1,4 @@
+-- The calls of `has_all`: the recursion ends: each call has one seat less.
 use Rattle.std.proofs.Common.{length}
 use Rattle.shared_pads.proofs.kept.Kept.+has_all.Given as goal
 

@@ -4,6 +4,7 @@ pub mod BlockCells
 pub mod ByRevision
 pub mod BlockScan
 pub mod RowChange
+pub mod RowCell
 pub mod RowCounts
 pub mod RowErase
 pub mod RowKills

@@ -2,7 +2,7 @@ use Rattle.std.proofs.Common.{sym, ◌∙◌, arith, subst, length}
 use Rattle.std.specs.List.{AllByRecursion}
 use Rattle.blocks.specs.Blocks.{IsSized}
 use Rattle.blocks.specs.Cells.{IsWithin}
-use Rattle.block_seq.proofs.RowLists.{cell_behind}
+use Rattle.block_seq.proofs.RowCell.{cell_behind}
 use Rattle.block_seq.proofs.row_lists.find_cell.Goals as goal
 
 pub loop-block-preserved : goal.loop-block-preserved

@@ -1,5 +1,6 @@
 use Rattle.std.proofs.Common.{◌≡◌, ◌+◌, ap, sym, refl, ◌∙◌, arith, Some}
-use Rattle.block_seq.proofs.RowLists.{get_here, author_here, cell_in_block, parent_in, parent_first, parent_later}
+use Rattle.block_seq.proofs.RowCell.{cell_in_block, parent_in, parent_first, parent_later}
+use Rattle.block_seq.proofs.RowLists.{get_here, author_here}
 use Rattle.block_seq.proofs.row_lists.view_at.Goals as goal
 use Rattle.block_seq.proofs.row_lists.view_at.Goals.{then-offset-eq0, else-offset-eq0}
 

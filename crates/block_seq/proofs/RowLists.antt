@@ -21,6 +21,7 @@ use Rattle.blocks.specs.Cells.{author_at, run_cells, stretch, cells_of, IsWithin
 use Rattle.slides.proofs.Carrying.{length-stamps}
 use Rattle.block_seq.specs.Rows.{shows, shown_len}
 use Rattle.block_seq.specs.RowLists.{shown_by, shown_stamps, with_more, with_stamps}
+use Rattle.block_seq.proofs.BlockCells.{length-stretch}
 use Rattle.block_seq.proofs.Fronts.{same_author-true}
 use Rattle.block_seq.proofs.RowReads.{shown_cells, cells_at-blocks}
 

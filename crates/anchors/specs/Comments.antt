@@ -1,5 +1,6 @@
 -- The comments of a pad.
-use Rattle.std.specs.Prelude.{◌≡◌, ℕ, ◌≤◌, ◌-◌, Bool, true, false, ◌&&◌, ◌||◌, ◌==◌, nat_lt, nat_le, if◌then◌else◌, min, List, [], ◌∷◌, length, map, filter, find, Option, Some, None}
+use Rattle.std.specs.Prelude.{◌≡◌, ℕ, ◌≤◌, ◌-◌, Bool, true, false, ◌&&◌, ◌||◌, ◌==◌, nat_lt, nat_le, if◌then◌else◌, min}
+use Rattle.std.specs.Prelude.{List, [], ◌∷◌, length, map, filter, find, Option, Some, None}
 use Rattle.std.specs.List.{AllByRecursion, insert, list_any, prefix_len}
 use Rattle.pad_model.specs.Cell.{Cell, character_of, shown_at}
 use Rattle.pad_model.specs.Legal.{has_stamp}
@@ -16,7 +17,8 @@ use Rattle.anchors.specs.declared.show.Shown.{Shown}
 -- the names rise
 abbrev pub IsByName : List Comment → Type 0
 IsByName [] = Unit {0}
-IsByName (comment ∷ comments) = AllByRecursion (λ later. precedes comment.name later.name ≡ true) comments × IsByName comments
+IsByName (comment ∷ comments) = AllByRecursion (λ later. precedes comment.name later.name ≡ true) comments
+    × IsByName comments
 
 -- the names rise, and there are no more comments than a pad may have
 pub record IsBook (comments : List Comment) : Type 0 where
@@ -68,7 +70,8 @@ is_resolved rev (Some resolved) = nat_le resolved rev
 -- what is visible before a comment's first character, and from it to the last one, both included
 abbrev pub range_in : ℕ → List Cell → Stamp → Stamp → Range
 range_in rev cells first last =
-    let at = shown_before character_of (shown_at rev) cells first in record { at = at; len = shown_through character_of (shown_at rev) cells last - at }
+    let at = shown_before character_of (shown_at rev) cells first in
+    record { at = at; len = shown_through character_of (shown_at rev) cells last - at }
 
 -- whether both stamps are in the sequence, erased or not
 abbrev pub has_both : List Cell → Stamp → Stamp → Bool

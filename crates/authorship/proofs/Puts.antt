@@ -1,14 +1,17 @@
 -- Runs with characters put in.
-use Rattle.std.proofs.Common.{◌≡◌, ◌≢◌, ℕ, zero, suc, ◌+◌, ◌-◌, ◌≤◌, ◌<◌, List, [], ◌∷◌, ◌++◌, length, take, drop, set, refl, sym, ap, ap₂, ◌∙◌, subst, zero-add, arith, append_assoc, append-nil}
+use Rattle.std.proofs.Common.{◌≡◌, ◌≢◌, ℕ, zero, suc, ◌+◌, ◌-◌, ◌≤◌, ◌<◌, List, [], ◌∷◌, ◌++◌, length, take, drop, set}
+use Rattle.std.proofs.Common.{refl, sym, ap, ap₂, ◌∙◌, subst, zero-add, arith, append_assoc, append-nil}
 use Rattle.std.specs.List.{insert}
 use Rattle.std.proofs.Math.ListN.{replicate}
 use Rattle.std.proofs.lemmas.List.{replicate-append-replicate}
 use Rattle.std.proofs.lemmas.List.Concat.{flat_map-append}
 use Rattle.authorship.specs.Kept.{characters, places, StartsApart, EndsApart, IsProper}
-use Rattle.authorship.specs.Cut.{first_part, without_part, front, back, position, run_at, IsInside, IsPlace, IsApart, Touches}
+use Rattle.authorship.specs.Cut.{first_part, without_part, front, back, position, run_at, IsInside, IsPlace, IsApart}
+use Rattle.authorship.specs.Cut.{Touches}
 use Rattle.authorship.specs.declared.kept.KeptRun.{KeptRun}
 use Rattle.authorship.specs.declared.kept.Place.{Place}
-use Rattle.authorship.proofs.Cuts.{characters-cons, take_past, drop_past, take_part, drop_part, places-front, places-back, proper-front, proper-back}
+use Rattle.authorship.proofs.Cuts.{characters-cons, take_past, drop_past, take_part, drop_part, places-front}
+use Rattle.authorship.proofs.Cuts.{places-back, proper-front, proper-back}
 
 pub places-append : (xs ys : List KeptRun) → places (xs ++ ys) ≡ places xs ++ places ys
 places-append xs ys = flat_map-append (λ (run : KeptRun). replicate run.len run.author) xs ys
@@ -16,7 +19,8 @@ places-append xs ys = flat_map-append (λ (run : KeptRun). replicate run.len run
 -- more characters in a run, seen from a place in it or at either end of it
 places-longer : (run : KeptRun) (rest : List ℕ) (o n : ℕ) → o ≤ run.len →
     replicate (run.len + n) run.author ++ rest
-    ≡ take o (replicate run.len run.author ++ rest) ++ replicate n run.author ++ drop o (replicate run.len run.author ++ rest)
+    ≡ take o (replicate run.len run.author ++ rest) ++ replicate n run.author
+    ++ drop o (replicate run.len run.author ++ rest)
 places-longer run rest o n h =
     let a = run.author in
     let whole : replicate (o + n) a ++ replicate (run.len - o) a ≡ replicate (run.len + n) a =
@@ -30,7 +34,8 @@ places-longer run rest o n h =
 
 pub places-set : (runs : List KeptRun) (i o n : ℕ) → i < length runs → o ≤ (run_at runs i).len →
     places (set runs i (record (run_at runs i) { len = (run_at runs i).len + n }))
-    ≡ take (characters (take i runs) + o) (places runs) ++ replicate n (run_at runs i).author ++ drop (characters (take i runs) + o) (places runs)
+    ≡ take (characters (take i runs) + o) (places runs) ++ replicate n (run_at runs i).author
+    ++ drop (characters (take i runs) + o) (places runs)
 places-set [] i o n within h = absurd (omega arith)
 places-set (run ∷ runs) zero o n within h =
     rw zero-add (places-longer run (places runs) o n h)
@@ -43,27 +48,33 @@ places-set (run ∷ runs) (suc i) o n within h =
     ∙ sym (append_assoc front (take (k + o) (places runs) ++ mid) (drop (k + o) (places runs)))
     ∙ ap (λ l. l ++ drop (k + o) (places runs)) (sym (append_assoc front (take (k + o) (places runs)) mid))))
 
-starts-set : (author : ℕ) (runs : List KeptRun) (i n : ℕ) → StartsApart author runs → StartsApart author (set runs i (record (run_at runs i) { len = n }))
+starts-set : (author : ℕ) (runs : List KeptRun) (i n : ℕ) → StartsApart author runs →
+    StartsApart author (set runs i (record (run_at runs i) { len = n }))
 starts-set author [] i n h = tt
 starts-set author (run ∷ runs) zero n h = h
 starts-set author (run ∷ runs) (suc i) n h = h
 
 -- runs of which one gets another length
-pub proper-set : (runs : List KeptRun) (i n : ℕ) → 1 ≤ n → IsProper runs → IsProper (set runs i (record (run_at runs i) { len = n }))
+pub proper-set : (runs : List KeptRun) (i n : ℕ) → 1 ≤ n → IsProper runs →
+    IsProper (set runs i (record (run_at runs i) { len = n }))
 proper-set [] i n some h = tt
 proper-set (run ∷ runs) zero n some h = (some, h.1, h.2)
 proper-set (run ∷ runs) (suc i) n some h = (h.0, starts-set run.author runs i n h.1, proper-set runs i n some h.2)
 
 -- runs in front of and behind a run of another author
-pub proper-between : (xs : List KeptRun) (run : KeptRun) (ys : List KeptRun) → IsProper xs → IsProper ys → EndsApart xs run.author → StartsApart run.author ys → 1 ≤ run.len
+pub proper-between : (xs : List KeptRun) (run : KeptRun) (ys : List KeptRun) → IsProper xs → IsProper ys →
+    EndsApart xs run.author → StartsApart run.author ys → 1 ≤ run.len
     → IsProper (xs ++ run ∷ ys)
 proper-between [] run ys p q ends starts some = (some, starts, q)
 proper-between (x ∷ []) run ys p q ends starts some = (p.0, ends, (some, starts, q))
-proper-between (x ∷ y ∷ xs) run ys p q ends starts some = (p.0, p.1, proper-between (y ∷ xs) run ys p.2 q ends starts some)
+proper-between (x ∷ y ∷ xs) run ys p q ends starts some =
+    (p.0, p.1, proper-between (y ∷ xs) run ys p.2 q ends starts some)
 
 -- what stands before a place that is apart from an author ends with another one's run
-ends-apart : (runs : List KeptRun) (i o author : ℕ) → i ≤ length runs → IsInside (drop i runs) o → (i < length runs → (run_at runs i).author ≢ author)
-    → ((j : ℕ) → i ≡ suc j → o ≡ 0 → (run_at runs j).author ≢ author) → EndsApart (take i runs ++ first_part (drop i runs) o) author
+ends-apart : (runs : List KeptRun) (i o author : ℕ) → i ≤ length runs → IsInside (drop i runs) o →
+    (i < length runs → (run_at runs i).author ≢ author)
+    → ((j : ℕ) → i ≡ suc j → o ≡ 0 → (run_at runs j).author ≢ author) →
+    EndsApart (take i runs ++ first_part (drop i runs) o) author
 ends-apart [] zero o author le inside here before = tt
 ends-apart [] (suc i) o author le inside here before = tt
 ends-apart (run ∷ runs) zero zero author le inside here before = tt
@@ -73,31 +84,39 @@ ends-apart (run ∷ []) (suc (suc i)) o author le inside here before = absurd (o
 ends-apart (run ∷ next ∷ runs) (suc zero) zero author le inside here before = before zero refl refl
 ends-apart (run ∷ next ∷ runs) (suc zero) (suc o) author le inside here before = here (omega arith)
 ends-apart (run ∷ next ∷ runs) (suc (suc i)) o author le inside here before =
-    ends-apart (next ∷ runs) (suc i) o author (omega arith) inside (λ h. here (omega arith)) (λ j e none. before (suc j) (ap suc e) none)
+    ends-apart (next ∷ runs) (suc i) o author (omega arith) inside (λ h. here (omega arith))
+    (λ j e none. before (suc j) (ap suc e) none)
 
 -- what stands from such a place on begins with another one's run
-starts-apart : (runs : List KeptRun) (i o author : ℕ) → (i < length runs → (run_at runs i).author ≢ author) → StartsApart author (without_part (drop i runs) o)
+starts-apart : (runs : List KeptRun) (i o author : ℕ) → (i < length runs → (run_at runs i).author ≢ author) →
+    StartsApart author (without_part (drop i runs) o)
 starts-apart [] zero o author here = tt
 starts-apart [] (suc i) o author here = tt
 starts-apart (run ∷ runs) zero o author here = λ e. here (omega arith) (sym e)
 starts-apart (run ∷ runs) (suc i) o author here = starts-apart runs i o author (λ h. here (omega arith))
 
 -- a run put in at a place that is apart from its author
-pub proper-put : (runs : List KeptRun) (place : Place) (run : KeptRun) → IsPlace runs place → IsApart runs place run.author → IsProper runs → 1 ≤ run.len
+pub proper-put : (runs : List KeptRun) (place : Place) (run : KeptRun) → IsPlace runs place →
+    IsApart runs place run.author → IsProper runs → 1 ≤ run.len
     → IsProper (front runs place ++ run ∷ back runs place)
 proper-put runs place run at apart p some =
-    proper-between (front runs place) run (back runs place) (proper-front runs place.index place.offset p) (proper-back runs place.index place.offset p at.inside)
+    proper-between (front runs place) run (back runs place) (proper-front runs place.index place.offset p)
+    (proper-back runs place.index place.offset p at.inside)
     (ends-apart runs place.index place.offset run.author at.within at.inside apart.here
-    (λ j e none. let before : place.index - 1 ≡ j = omega arith in subst (λ k. (run_at runs k).author ≢ run.author) before (apart.before none (omega arith))))
+    (λ j e none. let before : place.index - 1 ≡ j = omega arith in
+    subst (λ k. (run_at runs k).author ≢ run.author) before (apart.before none (omega arith))))
     (starts-apart runs place.index place.offset run.author apart.here) some
 
 pub places-put : (runs : List KeptRun) (place : Place) (run : KeptRun) → IsPlace runs place →
     places (front runs place ++ run ∷ back runs place)
-    ≡ take (position runs place) (places runs) ++ replicate run.len run.author ++ drop (position runs place) (places runs)
+    ≡ take (position runs place) (places runs) ++ replicate run.len run.author ++ drop (position runs place)
+    (places runs)
 places-put runs place run at =
     places-append (front runs place) (run ∷ back runs place)
-    ∙ ap₂ (λ l r. l ++ (replicate run.len run.author ++ r)) (places-front runs place.index place.offset at.inside) (places-back runs place.index place.offset at.inside)
-    ∙ sym (append_assoc (take (position runs place) (places runs)) (replicate run.len run.author) (drop (position runs place) (places runs)))
+    ∙ ap₂ (λ l r. l ++ (replicate run.len run.author ++ r)) (places-front runs place.index place.offset at.inside)
+    (places-back runs place.index place.offset at.inside)
+    ∙ sym (append_assoc (take (position runs place) (places runs)) (replicate run.len run.author)
+    (drop (position runs place) (places runs)))
 
 -- a run made longer that a place stands in or at either end of
 pub places-touched : (runs : List KeptRun) (place : Place) (author index n : ℕ) → Touches runs place author index →
@@ -116,10 +135,13 @@ first_part-none (run ∷ runs) = refl
 
 without_part-none : (runs : List KeptRun) → without_part runs 0 ≡ runs
 without_part-none [] = refl
-without_part-none (run ∷ runs) = let same : run.len - 0 ≡ run.len = omega arith in ap (λ (n : ℕ). record run { len = n } ∷ runs) same
+without_part-none (run ∷ runs) = let same : run.len - 0 ≡ run.len = omega arith in
+    ap (λ (n : ℕ). record run { len = n } ∷ runs) same
 
 -- a run put in between two others stands at its place
-pub put-seam : (runs new : List KeptRun) (place : Place) (run : KeptRun) → new ≡ insert runs place.index run → place.offset ≡ 0
+pub put-seam : (runs new : List KeptRun) (place : Place) (run : KeptRun) → new ≡ insert runs place.index run →
+    place.offset ≡ 0
     → new ≡ front runs place ++ run ∷ back runs place
 put-seam runs new place run is seam =
-    is ∙ rw (seam, first_part-none, without_part-none) (ap (λ l. l ++ run ∷ drop place.index runs) (sym (append-nil (take place.index runs))))
+    is ∙ rw (seam, first_part-none, without_part-none)
+    (ap (λ l. l ++ run ∷ drop place.index runs) (sym (append-nil (take place.index runs))))

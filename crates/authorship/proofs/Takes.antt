@@ -1,5 +1,7 @@
 -- Runs with characters taken out, and runs joined at a seam.
-use Rattle.std.proofs.Common.{◌≡◌, ◌≢◌, ℕ, zero, suc, ◌+◌, ◌-◌, ◌≤◌, ◌<◌, List, [], ◌∷◌, ◌++◌, length, take, drop, set, get_or, refl, sym, ap, ap₂, ◌∙◌, subst, zero-add, arith, length-append, length-take, length-drop, append_assoc, inl, inr}
+use Rattle.std.proofs.Common.{◌≡◌, ◌≢◌, ℕ, zero, suc, ◌+◌, ◌-◌, ◌≤◌, ◌<◌, List, [], ◌∷◌, ◌++◌, length, take, drop, set}
+use Rattle.std.proofs.Common.{get_or, refl, sym, ap, ap₂, ◌∙◌, subst, zero-add, arith, length-append, length-take}
+use Rattle.std.proofs.Common.{length-drop, append_assoc, inl, inr}
 use Rattle.std.proofs.Math.ListN.{replicate}
 use Rattle.std.proofs.Math.Seq.{take-append_seam, drop-append_seam}
 use Rattle.std.proofs.lemmas.List.{replicate-append-replicate, take-take, get_or_read}
@@ -9,7 +11,8 @@ use Rattle.authorship.specs.Kept.{characters, places, StartsApart, IsProper}
 use Rattle.authorship.specs.Cut.{front, back, position, run_at, joined, IsInside, IsPlace}
 use Rattle.authorship.specs.declared.kept.KeptRun.{KeptRun}
 use Rattle.authorship.specs.declared.kept.Place.{Place}
-use Rattle.authorship.proofs.Cuts.{characters-cons, length-places, take_past, drop_past, take_part, drop_part, places-front, places-back, proper-front, proper-back}
+use Rattle.authorship.proofs.Cuts.{characters-cons, length-places, take_past, drop_past, take_part, drop_part}
+use Rattle.authorship.proofs.Cuts.{places-front, places-back, proper-front, proper-back}
 use Rattle.authorship.proofs.Puts.{places-append}
 
 -- proper runs in front of and behind a seam between two authors are proper
@@ -23,43 +26,59 @@ proper-apart (run ∷ next ∷ runs) (suc (suc seam)) p q apart =
     (p.0, p.1, proper-apart (next ∷ runs) (suc seam) p.2 q (λ j e h. apart (suc j) (ap suc e) (omega arith)))
 
 -- what was read at an index is the run there
-pub read_run : (runs : List KeptRun) (i j : ℕ) (run : KeptRun) → i ≡ j → j < length runs → run ≡ get_or runs i run → run ≡ run_at runs j
-read_run runs i j run same h read = get_or_read runs j run h (read ∙ ap (λ k. get_or runs k run) same) (record { author = 0; len = 0 })
+pub read_run : (runs : List KeptRun) (i j : ℕ) (run : KeptRun) → i ≡ j → j < length runs → run ≡ get_or runs i run →
+    run ≡ run_at runs j
+read_run runs i j run same h read = get_or_read runs j run h (read ∙ ap (λ k. get_or runs k run) same)
+    (record { author = 0; len = 0 })
 
 -- two neighbours are no longer than all runs
-pub two_fit : (runs : List KeptRun) (j : ℕ) (left right : KeptRun) → j + 1 < length runs → left ≡ get_or runs j left → right ≡ get_or runs (j + 1) right
+pub two_fit : (runs : List KeptRun) (j : ℕ) (left right : KeptRun) → j + 1 < length runs → left ≡ get_or runs j left →
+    right ≡ get_or runs (j + 1) right
     → left.len + right.len ≤ characters runs
 two_fit runs j left right h first second =
     let more = sum_by_more (λ (r : KeptRun). r.len) runs j left (omega arith) in
     let most = sum_by_more_le (λ (r : KeptRun). r.len) runs (j + 1) right h in
     omega (arith, ap (λ (r : KeptRun). r.len) first, ap (λ (r : KeptRun). r.len) second)
 
-pub places-joined : (runs : List KeptRun) (j : ℕ) → suc j < length runs → (run_at runs j).author ≡ (run_at runs (suc j)).author → places (joined runs j) ≡ places runs
+pub places-joined : (runs : List KeptRun) (j : ℕ) → suc j < length runs → (run_at runs j).author
+    ≡ (run_at runs (suc j)).author → places (joined runs j) ≡ places runs
 places-joined [] j h same = absurd (omega arith)
 places-joined (run ∷ []) j h same = absurd (omega arith)
 places-joined (run ∷ next ∷ runs) zero h same =
     rw (← same)
-    (ap (λ l. l ++ places runs) (sym (replicate-append-replicate run.len next.len run.author)) ∙ append_assoc (replicate run.len run.author) (replicate next.len run.author) (places runs))
-places-joined (run ∷ next ∷ runs) (suc j) h same = ap (λ l. replicate run.len run.author ++ l) (places-joined (next ∷ runs) j (omega arith) same)
+    (ap (λ l. l ++ places runs) (sym (replicate-append-replicate run.len next.len run.author))
+    ∙ append_assoc (replicate run.len run.author) (replicate next.len run.author) (places runs))
+places-joined (run ∷ next ∷ runs) (suc j) h same = ap (λ l. replicate run.len run.author ++ l)
+    (places-joined (next ∷ runs) j (omega arith) same)
 
-pub proper-joined : (runs : List KeptRun) (j : ℕ) → suc j < length runs → (run_at runs j).author ≡ (run_at runs (suc j)).author
+pub proper-joined : (runs : List KeptRun) (j : ℕ) → suc j < length runs → (run_at runs j).author
+    ≡ (run_at runs (suc j)).author
     → IsProper (take (suc j) runs) → IsProper (drop (suc j) runs) → IsProper (joined runs j)
 proper-joined [] j h same p q = absurd (omega arith)
 proper-joined (run ∷ []) j h same p q = absurd (omega arith)
-proper-joined (run ∷ next ∷ runs) zero h same p q = (omega (arith, p.0), subst (λ a. StartsApart a runs) (sym same) q.1, q.2)
-proper-joined (run ∷ next ∷ runs) (suc zero) h same p q = (p.0, p.1, proper-joined (next ∷ runs) zero (omega arith) same p.2 q)
-proper-joined (run ∷ next ∷ runs) (suc (suc j)) h same p q = (p.0, p.1, proper-joined (next ∷ runs) (suc j) (omega arith) same p.2 q)
+proper-joined (run ∷ next ∷ runs) zero h same p q = (
+  omega (arith, p.0),
+  subst (λ a. StartsApart a runs) (sym same) q.1,
+  q.2,
+)
+proper-joined (run ∷ next ∷ runs) (suc zero) h same p q =
+    (p.0, p.1, proper-joined (next ∷ runs) zero (omega arith) same p.2 q)
+proper-joined (run ∷ next ∷ runs) (suc (suc j)) h same p q =
+    (p.0, p.1, proper-joined (next ∷ runs) (suc j) (omega arith) same p.2 q)
 
 -- the two runs next to a seam made one
-pub joined-seam : (runs new : List KeptRun) (seam : ℕ) (left right : KeptRun) → 0 < seam → seam < length runs → left ≡ get_or runs (seam - 1) left → right ≡ get_or runs seam right
-    → left.author ≡ right.author → new ≡ joined runs (seam - 1) → IsProper (take seam runs) → IsProper (drop seam runs) → (places new ≡ places runs) × IsProper new
+pub joined-seam : (runs new : List KeptRun) (seam : ℕ) (left right : KeptRun) → 0 < seam → seam < length runs →
+    left ≡ get_or runs (seam - 1) left → right ≡ get_or runs seam right
+    → left.author ≡ right.author → new ≡ joined runs (seam - 1) → IsProper (take seam runs) →
+    IsProper (drop seam runs) → (places new ≡ places runs) × IsProper new
 joined-seam runs new zero left right some h first second same is p q = absurd (omega arith)
 joined-seam runs new (suc j) left right some h first second same is p q =
     let back : suc j - 1 ≡ j = omega arith in
     let is_joined : new ≡ joined runs j = is ∙ ap (joined runs) back in
     let left_is = read_run runs (suc j - 1) j left back (omega arith) first in
     let right_is = read_run runs (suc j) (suc j) right refl h second in
-    let one : (run_at runs j).author ≡ (run_at runs (suc j)).author = sym (ap (λ (r : KeptRun). r.author) left_is) ∙ same ∙ ap (λ (r : KeptRun). r.author) right_is in
+    let one : (run_at runs j).author ≡ (run_at runs (suc j)).author = sym (ap (λ (r : KeptRun). r.author) left_is)
+    ∙ same ∙ ap (λ (r : KeptRun). r.author) right_is in
     (ap places is_joined ∙ places-joined runs j h one, subst IsProper (sym is_joined) (proper-joined runs j h one p q))
 
 -- fewer characters in a run, seen from a place in it
@@ -96,46 +115,56 @@ before_end (run ∷ runs) (suc i) o h inside = before_end runs i o (omega arith)
 
 -- more runs have no fewer characters
 more_runs : (runs : List KeptRun) (i j : ℕ) → i ≤ j → characters (take i runs) ≤ characters (take j runs)
-more_runs runs i j h = subst (λ l. characters l ≤ characters (take j runs)) (take-take i j runs h) (sum_by-take-le (λ (r : KeptRun). r.len) (take j runs) i)
+more_runs runs i j h = subst (λ l. characters l ≤ characters (take j runs)) (take-take i j runs h)
+    (sum_by-take-le (λ (r : KeptRun). r.len) (take j runs) i)
 
 -- a later place does not stand in an earlier run
-pub in_order : (runs : List KeptRun) (first last : Place) → IsPlace runs first → IsPlace runs last → position runs first ≤ position runs last → first.index ≤ last.index
+pub in_order : (runs : List KeptRun) (first last : Place) → IsPlace runs first → IsPlace runs last → position runs first
+    ≤ position runs last → first.index ≤ last.index
 in_order runs first last p q le =
     elim (cases_lt last.index first.index) [
       | inl h ↦
           let end = before_end runs last.index last.offset (omega (arith, p.within)) q.inside in
-          let run = sum_by_more (λ (r : KeptRun). r.len) runs last.index (record { author = 0; len = 0 }) (omega (arith, p.within)) in
+          let run = sum_by_more (λ (r : KeptRun). r.len) runs last.index (record { author = 0; len = 0 })
+          (omega (arith, p.within)) in
           let passed = more_runs runs (last.index + 1) first.index (omega arith) in
           absurd (omega arith)
       | inr h ↦ h
     ]
 
 -- a place behind some characters of a run is in that run
-some_inside : (runs : List KeptRun) (i o : ℕ) → IsInside (drop i runs) o → 1 ≤ o → (i < length runs) × (o < (run_at runs i).len)
+some_inside : (runs : List KeptRun) (i o : ℕ) → IsInside (drop i runs) o → 1 ≤ o → (i < length runs)
+    × (o < (run_at runs i).len)
 some_inside [] zero o inside some = absurd (omega arith)
 some_inside [] (suc i) o inside some = absurd (omega arith)
 some_inside (run ∷ runs) zero o inside some = (omega arith, inside)
-some_inside (run ∷ runs) (suc i) o inside some = let rest = some_inside runs i o inside some in (omega (arith, rest.0), rest.1)
+some_inside (run ∷ runs) (suc i) o inside some = let rest = some_inside runs i o inside some in
+    (omega (arith, rest.0), rest.1)
 
 -- a stretch inside one run, taken out of it
-pub places-cut : (runs : List KeptRun) (first last : Place) (pos n : ℕ) → IsPlace runs first → IsPlace runs last → first.index ≡ last.index
+pub places-cut : (runs : List KeptRun) (first last : Place) (pos n : ℕ) → IsPlace runs first → IsPlace runs last →
+    first.index ≡ last.index
     → position runs first ≡ pos → position runs last ≡ pos + n → 1 ≤ n →
-    (places (set runs first.index (record (run_at runs first.index) { len = (run_at runs first.index).len - n })) ≡ take pos (places runs) ++ drop (pos + n) (places runs))
+    (places (set runs first.index (record (run_at runs first.index) { len = (run_at runs first.index).len - n }))
+    ≡ take pos (places runs) ++ drop (pos + n) (places runs))
     × (1 ≤ (run_at runs first.index).len - n) × (n ≤ (run_at runs first.index).len) × (first.index < length runs)
 places-cut runs first last pos n p q same from to some =
     let start = characters (take first.index runs) in
     let starts : characters (take last.index runs) ≡ start = ap (λ i. characters (take i runs)) (sym same) in
     let end : last.offset ≡ first.offset + n = omega (arith, from, to) in
-    let inside = some_inside runs first.index last.offset (subst (λ i. IsInside (drop i runs) last.offset) (sym same) q.inside) (omega arith) in
+    let inside = some_inside runs first.index last.offset (subst (λ i. IsInside (drop i runs) last.offset)
+    (sym same) q.inside) (omega arith) in
     let to_end : start + (first.offset + n) ≡ pos + n = omega (arith, from) in (
-      places-shorter runs first.index first.offset n inside.0 (omega (arith, inside.1)) ∙ ap₂ (λ i j. take i (places runs) ++ drop j (places runs)) from to_end,
+      places-shorter runs first.index first.offset n inside.0 (omega (arith, inside.1))
+          ∙ ap₂ (λ i j. take i (places runs) ++ drop j (places runs)) from to_end,
       omega (arith, inside.1),
       omega (arith, inside.1),
       inside.0,
     )
 
 -- what is left of runs between two places
-pub places-rest : (runs : List KeptRun) (first last : Place) (pos end : ℕ) → IsPlace runs first → IsPlace runs last → position runs first ≡ pos → position runs last ≡ end →
+pub places-rest : (runs : List KeptRun) (first last : Place) (pos end : ℕ) → IsPlace runs first → IsPlace runs last →
+    position runs first ≡ pos → position runs last ≡ end →
     places (front runs first ++ back runs last) ≡ take pos (places runs) ++ drop end (places runs)
 places-rest runs first last pos end p q from to =
     places-append (front runs first) (back runs last)
@@ -143,20 +172,34 @@ places-rest runs first last pos end p q from to =
     (places-front runs first.index first.offset p.inside ∙ ap (λ k. take k (places runs)) from)
     (places-back runs last.index last.offset q.inside ∙ ap (λ k. drop k (places runs)) to)
 
-pub fewer : (runs : List KeptRun) (first last : Place) → IsPlace runs first → IsPlace runs last → position runs first ≤ position runs last
+pub fewer : (runs : List KeptRun) (first last : Place) → IsPlace runs first → IsPlace runs last → position runs first
+    ≤ position runs last
     → characters (front runs first ++ back runs last) ≤ characters runs
 fewer runs first last p q le =
     let left = take (position runs first) (places runs) in
     let right = drop (position runs last) (places runs) in
     let count : characters (front runs first ++ back runs last) ≡ length left + length right =
-    sym (length-places (front runs first ++ back runs last)) ∙ ap length (places-rest runs first last (position runs first) (position runs last) p q refl refl) ∙ length-append left right
+    sym (length-places (front runs first ++ back runs last))
+    ∙ ap length (places-rest runs first last (position runs first) (position runs last) p q refl refl)
+    ∙ length-append left right
     in
-    omega (arith, count, length-take (position runs first) (places runs), length-drop (position runs last) (places runs), length-places runs)
+    omega (
+      arith,
+      count,
+      length-take (position runs first) (places runs),
+      length-drop (position runs last)
+          (places runs),
+      length-places runs,
+    )
 
-pub proper-left : (runs : List KeptRun) (first last : Place) → IsProper runs → IsProper (take (length (front runs first)) (front runs first ++ back runs last))
+pub proper-left : (runs : List KeptRun) (first last : Place) → IsProper runs →
+    IsProper (take (length (front runs first)) (front runs first ++ back runs last))
 proper-left runs first last p =
-    subst IsProper (sym (take-append_seam (front runs first) (back runs last))) (proper-front runs first.index first.offset p)
+    subst IsProper (sym (take-append_seam (front runs first) (back runs last)))
+    (proper-front runs first.index first.offset p)
 
-pub proper-right : (runs : List KeptRun) (first last : Place) → IsPlace runs last → IsProper runs → IsProper (drop (length (front runs first)) (front runs first ++ back runs last))
+pub proper-right : (runs : List KeptRun) (first last : Place) → IsPlace runs last → IsProper runs →
+    IsProper (drop (length (front runs first)) (front runs first ++ back runs last))
 proper-right runs first last q p =
-    subst IsProper (sym (drop-append_seam (front runs first) (back runs last))) (proper-back runs last.index last.offset p q.inside)
+    subst IsProper (sym (drop-append_seam (front runs first) (back runs last)))
+    (proper-back runs last.index last.offset p q.inside)

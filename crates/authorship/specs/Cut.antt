@@ -1,5 +1,6 @@
 -- Runs cut at a place between two characters.
-use Rattle.std.specs.Prelude.{◌≡◌, ◌≢◌, ℕ, zero, suc, ◌+◌, ◌-◌, ◌≤◌, ◌<◌, List, [], ◌∷◌, ◌++◌, length, take, drop, remove, slice_index_or, slice_set}
+use Rattle.std.specs.Prelude.{◌≡◌, ◌≢◌, ℕ, zero, suc, ◌+◌, ◌-◌, ◌≤◌, ◌<◌, List, [], ◌∷◌, ◌++◌, length, take, drop}
+use Rattle.std.specs.Prelude.{remove, slice_index_or, slice_set}
 use Rattle.authorship.specs.Kept.{characters}
 use Rattle.authorship.specs.declared.kept.KeptRun.{KeptRun}
 use Rattle.authorship.specs.declared.kept.Place.{Place}
@@ -55,4 +56,5 @@ pub record IsApart (runs : List KeptRun) (place : Place) (author : ℕ) : Type 0
 
 -- the runs with the one at an index and the next one made one
 abbrev pub joined : List KeptRun → ℕ → List KeptRun
-joined runs left = slice_set (remove runs (suc left)) left (record (run_at runs left) { len = (run_at runs left).len + (run_at runs (suc left)).len })
+joined runs left = slice_set (remove runs (suc left)) left
+    (record (run_at runs left) { len = (run_at runs left).len + (run_at runs (suc left)).len })

@@ -1,5 +1,6 @@
 -- How a list of authors is kept: as runs of places in a table of authors.
-use Rattle.std.specs.Prelude.{◌≡◌, ◌≢◌, ℕ, ◌+◌, ◌*◌, ◌^◌, ◌≤◌, ◌<◌, List, [], ◌∷◌, length, map, replicate, flat_map, sum_by, slice_index_or, Option, Some, None}
+use Rattle.std.specs.Prelude.{◌≡◌, ◌≢◌, ℕ, ◌+◌, ◌*◌, ◌^◌, ◌≤◌, ◌<◌, List, [], ◌∷◌, length, map, replicate, flat_map}
+use Rattle.std.specs.Prelude.{sum_by, slice_index_or, Option, Some, None}
 use Rattle.std.specs.List.{AllByRecursion}
 use Rattle.pad_model.specs.declared.who.Author.{Author}
 use Rattle.pad_model.specs.declared.who.AuthorRun.{AuthorRun}
@@ -66,7 +67,8 @@ HasRoom authors runs capacity None = Unit {0}
 HasRoom authors runs capacity (Some spare) = (spare.author < authors) × (runs + 2 * spare.left ≤ capacity)
 
 -- the runs are proper, and fit the table and the room
-pub record IsKept (table : List Author) (runs : List KeptRun) (len capacity : ℕ) (spare : Option KeptSpare) : Type 0 where
+pub record IsKept (table : List Author) (runs : List KeptRun) (len capacity : ℕ)
+    (spare : Option KeptSpare) : Type 0 where
   pub proper : IsProper runs
   pub known : AllByRecursion (λ place. place < length table) (places runs)
   pub once : IsOnce table

@@ -20,7 +20,8 @@ left_out n (place ∷ places) xs = take (place - n) xs ++ left_out (suc place) p
 -- the authors with one more put in, who stands at these places once all are in
 abbrev pub put_at : Author → ℕ → List ℕ → List Author → List Author
 put_at author n [] authors = authors
-put_at author n (place ∷ places) authors = take (place - n) authors ++ author ∷ put_at author (suc place) places (drop (place - n) authors)
+put_at author n (place ∷ places) authors = take (place - n) authors ++ author
+    ∷ put_at author (suc place) places (drop (place - n) authors)
 
 -- the places of the elements that pass a test
 abbrev pub places_where : {A : Type 0} → (A → Bool) → ℕ → List A → List ℕ

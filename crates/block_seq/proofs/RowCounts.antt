@@ -22,11 +22,13 @@ pub blocks_seen : {v w : CellsInBlocks} → v ≡ w → v.blocks ≡ w.blocks
 blocks_seen e = ap (λ (x : CellsInBlocks). x.blocks) e
 
 -- what comes about from the blocks of one view comes about from those of the other
-pub labelled_seen : {v w : CellsInBlocks} → v ≡ w → (new : List Block) (m : ℕ) → Labelled v.tree v.respaced new m → Labelled w.tree w.respaced new m
+pub labelled_seen : {v w : CellsInBlocks} → v ≡ w → (new : List Block) (m : ℕ) → Labelled v.tree v.respaced new m →
+    Labelled w.tree w.respaced new m
 labelled_seen e new m h = subst (λ (x : CellsInBlocks). Labelled x.tree x.respaced new m) e h
 
 -- also where blocks are taken out again
-pub undone_seen : {v w : CellsInBlocks} → v ≡ w → (new : List Block) (m : ℕ) → Labelled v.tree v.respaced new m → IsUndone w.tree w.respaced new m
+pub undone_seen : {v w : CellsInBlocks} → v ≡ w → (new : List Block) (m : ℕ) → Labelled v.tree v.respaced new m →
+    IsUndone w.tree w.respaced new m
 undone_seen e new m h = (new, labelled_seen e new m h, keeps_itself new)
 
 -- what holds anyway holds where there is an error
@@ -47,6 +49,8 @@ pub same_number : (old new : List Block) → without_labels new ≡ without_labe
 same_number old new e = sym (length-without_labels new) ∙ ap length e ∙ length-without_labels old
 
 -- one block is put among others
-pub one_more_block : (mid after : List Block) (k : ℕ) (b : Block) → k ≤ length mid → without_labels after ≡ insert (without_labels mid) k (unlabelled b) → length after ≡ length mid + 1
+pub one_more_block : (mid after : List Block) (k : ℕ) (b : Block) → k ≤ length mid → without_labels after
+    ≡ insert (without_labels mid) k (unlabelled b) → length after ≡ length mid + 1
 one_more_block mid after k b h put =
-    sym (length-without_labels after) ∙ ap length put ∙ length-insert (without_labels mid) k (unlabelled b) (rw (length-without_labels mid) h) ∙ ap (λ n. n + 1) (length-without_labels mid)
+    sym (length-without_labels after) ∙ ap length put ∙ length-insert (without_labels mid) k (unlabelled b)
+    (rw (length-without_labels mid) h) ∙ ap (λ n. n + 1) (length-without_labels mid)

@@ -1,5 +1,8 @@
 -- What a row showed at a revision: how much it was, and where it stands in the blocks.
-use Rattle.std.proofs.Common.{◌≡◌, ℕ, zero, suc, ◌+◌, ◌-◌, ◌≤◌, ◌<◌, ◌⊎◌, inl, inr, not, ◌&&◌, ◌||◌, List, [], ◌∷◌, ◌++◌, length, take, drop, flat_map, sum_by, Option, Some, None, is_none, slice_get, MatchOption, IsSomeAnd, drop-cons, cond, eqb, leb, ltb, refl, sym, ap, ap₂, ◌∙◌, subst, arith, length-append, eq-eqb, le-leb, lt-ltb, le-ltb}
+use Rattle.std.proofs.Common.{◌≡◌, ℕ, zero, suc, ◌+◌, ◌-◌, ◌≤◌, ◌<◌, ◌⊎◌, inl, inr, not, ◌&&◌, ◌||◌, List, [], ◌∷◌}
+use Rattle.std.proofs.Common.{◌++◌, length, take, drop, flat_map, sum_by, Option, Some, None, is_none, slice_get}
+use Rattle.std.proofs.Common.{MatchOption, IsSomeAnd, drop-cons, cond, eqb, leb, ltb, refl, sym, ap, ap₂, ◌∙◌, subst}
+use Rattle.std.proofs.Common.{arith, length-append, eq-eqb, le-leb, lt-ltb, le-ltb}
 use Rattle.std.specs.List.{AllByRecursion}
 use Rattle.std.proofs.lemmas.Bool.{cases_lt, lt-leb, ne_eqb}
 use Rattle.std.proofs.lemmas.List.Sums.{sum_by-cons}
@@ -40,7 +43,8 @@ length-live (b ∷ bs) =
     ∙ ap₂ (λ x y. x + y) (length-live_stamps b) (length-live bs) ∙ sym (sum_by-cons weight_of b bs)
 
 -- ---- the stamp at a place
-stamp_shown : (rev : ℕ) (b : Block) (i : ℕ) → i < shown_len rev b → slice_get (shown_stamps rev b) i ≡ Some (stamp_behind b.first i)
+stamp_shown : (rev : ℕ) (b : Block) (i : ℕ) → i < shown_len rev b → slice_get (shown_stamps rev b) i
+    ≡ Some (stamp_behind b.first i)
 stamp_shown rev b i h =
     split (shows rev b)
     (λ e. let h' = rw e at h in rw e (get_stamp b.first b.len i h'))
@@ -52,8 +56,12 @@ stamp-shown rev [] (suc i) = refl
 stamp-shown rev (b ∷ bs) i =
     let size = length-shown_stamps rev b in
     elim (cases_lt i (shown_len rev b)) [
-      | inl here ↦ rw (lt-ltb i (shown_len rev b) here) (sym (get_front (shown_stamps rev b) (flat_map (shown_stamps rev) bs) i (omega (arith, size)) ∙ stamp_shown rev b i here))
-      | inr past ↦ rw (le-ltb i (shown_len rev b) past) (stamp-shown rev bs (i - shown_len rev b) ∙ sym (get_back (shown_stamps rev b) (flat_map (shown_stamps rev) bs) i (i - shown_len rev b) (omega (arith, size))))
+      | inl here ↦ rw (lt-ltb i (shown_len rev b) here)
+          (sym (get_front (shown_stamps rev b) (flat_map (shown_stamps rev) bs) i (omega (arith, size))
+          ∙ stamp_shown rev b i here))
+      | inr past ↦ rw (le-ltb i (shown_len rev b) past) (stamp-shown rev bs (i - shown_len rev b)
+          ∙ sym (get_back (shown_stamps rev b) (flat_map (shown_stamps rev) bs) i (i - shown_len rev b)
+          (omega (arith, size))))
     ]
 
 stamp_alive : (b : Block) (i : ℕ) → i < weight_of b → slice_get (live_stamps b) i ≡ Some (stamp_behind b.first i)
@@ -63,7 +71,8 @@ stamp_alive b i h =
     (λ e. let h' = rw e at h in absurd (omega arith))
 
 -- the place of those alive that falls in a block
-pub alive_at : (bs : List Block) (i rank offset : ℕ) (b : Block) → sum_by weight_of (take rank bs) + offset ≡ i → offset < weight_of b → slice_get bs rank ≡ Some b
+pub alive_at : (bs : List Block) (i rank offset : ℕ) (b : Block) → sum_by weight_of (take rank bs) + offset ≡ i →
+    offset < weight_of b → slice_get bs rank ≡ Some b
     → slice_get (flat_map live_stamps bs) i ≡ Some (stamp_behind b.first offset)
 alive_at [] i rank offset b e h is = absurd (cc)
 alive_at (x ∷ bs) i zero offset b e h is =
@@ -76,22 +85,29 @@ alive_at (x ∷ bs) i zero offset b e h is =
 alive_at (x ∷ bs) i (suc rank) offset b e h is =
     let size = length-live_stamps x in
     let sum = sum_by-cons weight_of x (take rank bs) in
-    get_back (live_stamps x) (flat_map live_stamps bs) i (sum_by weight_of (take rank bs) + offset) (omega (arith, size, sum))
+    get_back (live_stamps x) (flat_map live_stamps bs) i (sum_by weight_of (take rank bs) + offset)
+    (omega (arith, size, sum))
     ∙ alive_at bs (sum_by weight_of (take rank bs) + offset) rank offset b refl h is
 
 -- ---- the slides since a revision
-pub leads-past : (slides recent : List Slide) (bs : List Block) (rev : ℕ) → IsSlid slides bs → recent ≡ since rev slides → Leads recent (flat_map (shown_stamps rev) bs) (flat_map live_stamps bs)
-leads-past slides recent bs rev slid e = subst (λ l. Leads l (flat_map (shown_stamps rev) bs) (flat_map live_stamps bs)) (sym e) (slid.leads rev)
+pub leads-past : (slides recent : List Slide) (bs : List Block) (rev : ℕ) → IsSlid slides bs →
+    recent ≡ since rev slides → Leads recent (flat_map (shown_stamps rev) bs) (flat_map live_stamps bs)
+leads-past slides recent bs rev slid e = subst (λ l. Leads l (flat_map (shown_stamps rev) bs) (flat_map live_stamps bs))
+    (sym e) (slid.leads rev)
 
-pub lead-to : (slides recent : List Slide) (bs : List Block) (rev many : ℕ) → IsSlid slides bs → recent ≡ since rev slides → many ≡ sum_by weight_of bs → LeadTo recent many
+pub lead-to : (slides recent : List Slide) (bs : List Block) (rev many : ℕ) → IsSlid slides bs →
+    recent ≡ since rev slides → many ≡ sum_by weight_of bs → LeadTo recent many
 lead-to slides recent bs rev many slid e is =
     record { old = flat_map (shown_stamps rev) bs; new = flat_map live_stamps bs; leads = leads-past slides recent bs rev slid e; size = length-live bs ∙ sym is }
 
 -- how many were visible
-pub counted-past : (slides recent : List Slide) (bs : List Block) (rev many count : ℕ) → IsSlid slides bs → recent ≡ since rev slides → many ≡ sum_by weight_of bs
-    → ((old new : List Stamp) → Leads recent old new → length new ≡ many → count ≡ length old) → count ≡ sum_by (shown_len rev) bs
+pub counted-past : (slides recent : List Slide) (bs : List Block) (rev many count : ℕ) → IsSlid slides bs →
+    recent ≡ since rev slides → many ≡ sum_by weight_of bs
+    → ((old new : List Stamp) → Leads recent old new → length new ≡ many → count ≡ length old) →
+    count ≡ sum_by (shown_len rev) bs
 counted-past slides recent bs rev many count slid e is counts =
-    counts (flat_map (shown_stamps rev) bs) (flat_map live_stamps bs) (leads-past slides recent bs rev slid e) (length-live bs ∙ sym is) ∙ length-shown rev bs
+    counts (flat_map (shown_stamps rev) bs) (flat_map live_stamps bs) (leads-past slides recent bs rev slid e)
+    (length-live bs ∙ sym is) ∙ length-shown rev bs
 
 -- ---- where a visible character is
 pub shown_inside : (rev : ℕ) (b : Block) (i : ℕ) → i < shown_len rev b → i < b.len
@@ -103,19 +119,25 @@ behind_covers b s i e h =
     (sym (ap (λ (k : Stamp). k.replica) e), omega arith, omega arith)
 
 -- the stamp in the first block that a place falls in, and behind it
-stamp_first : (rev : ℕ) (b : Block) (bs : List Block) (i : ℕ) (s : Stamp) → slice_get (flat_map (shown_stamps rev) (b ∷ bs)) i ≡ Some s → i < shown_len rev b → s ≡ stamp_behind b.first i
+stamp_first : (rev : ℕ) (b : Block) (bs : List Block) (i : ℕ) (s : Stamp) →
+    slice_get (flat_map (shown_stamps rev) (b ∷ bs)) i ≡ Some s → i < shown_len rev b → s ≡ stamp_behind b.first i
 stamp_first rev b bs i s e h =
     let size = length-shown_stamps rev b in
-    let is : Some s ≡ Some (stamp_behind b.first i) = sym e ∙ get_front (shown_stamps rev b) (flat_map (shown_stamps rev) bs) i (omega (arith, size)) ∙ stamp_shown rev b i h in
+    let is : Some s ≡ Some (stamp_behind b.first i) = sym e ∙ get_front (shown_stamps rev b)
+    (flat_map (shown_stamps rev) bs) i (omega (arith, size)) ∙ stamp_shown rev b i h in
     cc
 
-stamp_later : (rev : ℕ) (b : Block) (bs : List Block) (i : ℕ) (s : Stamp) → slice_get (flat_map (shown_stamps rev) (b ∷ bs)) i ≡ Some s → shown_len rev b ≤ i → slice_get (flat_map (shown_stamps rev) bs) (i - shown_len rev b) ≡ Some s
+stamp_later : (rev : ℕ) (b : Block) (bs : List Block) (i : ℕ) (s : Stamp) →
+    slice_get (flat_map (shown_stamps rev) (b ∷ bs)) i ≡ Some s → shown_len rev b ≤ i →
+    slice_get (flat_map (shown_stamps rev) bs) (i - shown_len rev b) ≡ Some s
 stamp_later rev b bs i s e h =
     let size = length-shown_stamps rev b in
-    sym (get_back (shown_stamps rev b) (flat_map (shown_stamps rev) bs) i (i - shown_len rev b) (omega (arith, size))) ∙ e
+    sym (get_back (shown_stamps rev b) (flat_map (shown_stamps rev) bs) i (i - shown_len rev b) (omega (arith, size)))
+    ∙ e
 
 -- a visible stamp is in some block
-shown_in : (rev : ℕ) (bs : List Block) (i : ℕ) (s : Stamp) → slice_get (flat_map (shown_stamps rev) bs) i ≡ Some s → (r : ℕ) × (b : Block) × (slice_get bs r ≡ Some b) × Covers b.first b.len s
+shown_in : (rev : ℕ) (bs : List Block) (i : ℕ) (s : Stamp) → slice_get (flat_map (shown_stamps rev) bs) i ≡ Some s →
+    (r : ℕ) × (b : Block) × (slice_get bs r ≡ Some b) × Covers b.first b.len s
 shown_in rev [] i s e = absurd (cc)
 shown_in rev (b ∷ bs) i s e = elim (cases_lt i (shown_len rev b)) [
   | inl here ↦ (0, b, refl, behind_covers b s i (stamp_first rev b bs i s e here) (shown_inside rev b i here))
@@ -129,11 +151,15 @@ drop_back [] ys i j e = ap (λ n. drop n ys) (let same : i ≡ j = omega (arith,
 drop_back (x ∷ xs) ys zero j e = absurd (omega arith)
 drop_back (x ∷ xs) ys (suc i) j e = drop_back xs ys i j (omega arith)
 
-pub drop_some : {A : Type 0} (xs : List A) (i j : ℕ) (x : A) → slice_get xs i ≡ Some x → j ≡ suc i → drop i xs ≡ x ∷ drop j xs
-drop_some xs i j x e is = drop-cons xs i x (slice_get_within xs i x e) ∙ ap₂ (λ y n. y ∷ drop n xs) (get_or_from_slice_get xs i x x e) (sym is)
+pub drop_some : {A : Type 0} (xs : List A) (i j : ℕ) (x : A) → slice_get xs i ≡ Some x → j ≡ suc i → drop i xs ≡ x
+    ∷ drop j xs
+drop_some xs i j x e is = drop-cons xs i x (slice_get_within xs i x e) ∙ ap₂ (λ y n. y ∷ drop n xs)
+    (get_or_from_slice_get xs i x x e) (sym is)
 
 -- the place of a visible character, by the one block that holds its stamp
-place_shown : (rev : ℕ) (bs : List Block) (at rank offset : ℕ) (b : Block) (s : Stamp) → slice_get (flat_map (shown_stamps rev) bs) at ≡ Some s → slice_get bs rank ≡ Some b → s ≡ stamp_behind b.first offset → offset < b.len
+place_shown : (rev : ℕ) (bs : List Block) (at rank offset : ℕ) (b : Block) (s : Stamp) →
+    slice_get (flat_map (shown_stamps rev) bs) at ≡ Some s → slice_get bs rank ≡ Some b →
+    s ≡ stamp_behind b.first offset → offset < b.len
     → ((i : ℕ) (z : Block) → slice_get bs i ≡ Some z → Covers z.first z.len s → i ≡ rank)
     → (at ≡ sum_by (shown_len rev) (take rank bs) + offset) × (offset < shown_len rev b)
 place_shown rev [] at rank offset b s e is f h one = absurd (cc)
@@ -152,7 +178,8 @@ place_shown rev (x ∷ bs) at zero offset b s e is f h one = elim (cases_lt at (
 ]
 place_shown rev (x ∷ bs) at (suc rank) offset b s e is f h one = elim (cases_lt at (shown_len rev x)) [
   | inl here ↦
-      let never : 0 ≡ suc rank = one 0 x refl (behind_covers x s at (stamp_first rev x bs at s e here) (shown_inside rev x at here)) in
+      let never : 0 ≡ suc rank = one 0 x refl (behind_covers x s at (stamp_first rev x bs at s e here)
+      (shown_inside rev x at here)) in
       absurd (omega arith)
   | inr past ↦
       let sum = sum_by-cons (shown_len rev) x (take rank bs) in
@@ -163,7 +190,8 @@ place_shown rev (x ∷ bs) at (suc rank) offset b s e is f h one = elim (cases_l
 ]
 
 -- and as a search for that block answers
-pub spot-shown : (m : Index) (bs : List Block) (rev at : ℕ) (s : Stamp) (found : Option Spot) → IsListed m bs → IsSound m → slice_get (flat_map (shown_stamps rev) bs) at ≡ Some s
+pub spot-shown : (m : Index) (bs : List Block) (rev at : ℕ) (s : Stamp) (found : Option Spot) → IsListed m bs →
+    IsSound m → slice_get (flat_map (shown_stamps rev) bs) at ≡ Some s
     → MatchOption found (HoldsNone m s) (λ spot. IsSpot bs s spot.rank spot.offset)
     → MatchOption found (sum_by (shown_len rev) bs ≤ at) (IsSeenAt rev bs at)
 spot-shown m bs rev at s None listed sound e h =
@@ -171,8 +199,10 @@ spot-shown m bs rev at s None listed sound e h =
     absurd (h there.1.first (holds_here m bs there.0 there.1 s listed there.2 there.3))
 spot-shown m bs rev at s (Some spot) listed sound e h =
     let block = spot_block bs s spot.rank spot.offset h in
-    let inside = subst (λ o. IsSomeAnd o (λ b. (s ≡ stamp_behind b.first spot.offset) × (spot.offset < b.len))) block.1 h in
-    let place = place_shown rev bs at spot.rank spot.offset block.0 s e block.1 inside.0 inside.1 (only_rank m bs spot.rank block.0 s listed sound block.1 block.2) in
+    let inside = subst (λ o. IsSomeAnd o (λ b. (s ≡ stamp_behind b.first spot.offset) × (spot.offset < b.len))) block.1
+    h in
+    let place = place_shown rev bs at spot.rank spot.offset block.0 s e block.1 inside.0 inside.1
+    (only_rank m bs spot.rank block.0 s listed sound block.1 block.2) in
     (subst (λ o. IsSomeAnd o (λ b. spot.offset < shown_len rev b)) (sym block.1) place.1, place.0)
 
 -- no place has no character but those behind all
@@ -188,13 +218,17 @@ none-shown rev bs at e =
     past_end (x ∷ xs) (suc i) e = let rest = past_end xs i e in omega arith
 
 -- what is visible from there on
-pub drop_seen : (rev : ℕ) (bs : List Block) (place rank offset : ℕ) → place ≡ sum_by (shown_len rev) (take rank bs) + offset → drop place (flat_map (shown_stamps rev) bs) ≡ drop offset (flat_map (shown_stamps rev) (drop rank bs))
-drop_seen rev bs place zero offset e = ap (λ n. drop n (flat_map (shown_stamps rev) bs)) (let same : place ≡ offset = omega (arith, e) in same)
-drop_seen rev [] place (suc rank) offset e = ap (λ n. drop {A = Stamp} n []) (let same : place ≡ offset = omega (arith, e) in same)
+pub drop_seen : (rev : ℕ) (bs : List Block) (place rank offset : ℕ) → place ≡ sum_by (shown_len rev) (take rank bs)
+    + offset → drop place (flat_map (shown_stamps rev) bs) ≡ drop offset (flat_map (shown_stamps rev) (drop rank bs))
+drop_seen rev bs place zero offset e = ap (λ n. drop n (flat_map (shown_stamps rev) bs))
+    (let same : place ≡ offset = omega (arith, e) in same)
+drop_seen rev [] place (suc rank) offset e = ap (λ n. drop {A = Stamp} n [])
+    (let same : place ≡ offset = omega (arith, e) in same)
 drop_seen rev (x ∷ bs) place (suc rank) offset e =
     let size = length-shown_stamps rev x in
     let sum = sum_by-cons (shown_len rev) x (take rank bs) in
-    drop_back (shown_stamps rev x) (flat_map (shown_stamps rev) bs) place (sum_by (shown_len rev) (take rank bs) + offset) (omega (arith, size, sum))
+    drop_back (shown_stamps rev x) (flat_map (shown_stamps rev) bs) place (sum_by (shown_len rev) (take rank bs)
+    + offset) (omega (arith, size, sum))
     ∙ drop_seen rev bs (sum_by (shown_len rev) (take rank bs) + offset) rank offset refl
 
 -- the blocks from a rank on show no more than all
@@ -206,7 +240,8 @@ dropped_small f (x ∷ xs) (suc i) =
     rw (sum_by-cons f x xs) (omega (arith, rest))
 
 -- ---- how many visible characters stand before a spot
-front_grows : {A : Type 0} (f : A → ℕ) (xs : List A) (i j : ℕ) (x : A) → slice_get xs i ≡ Some x → i < j → sum_by f (take i xs) + f x ≤ sum_by f (take j xs)
+front_grows : {A : Type 0} (f : A → ℕ) (xs : List A) (i j : ℕ) (x : A) → slice_get xs i ≡ Some x → i < j →
+    sum_by f (take i xs) + f x ≤ sum_by f (take j xs)
 front_grows f [] i j x e h = absurd (cc)
 front_grows f (y ∷ xs) zero zero x e h = absurd (omega arith)
 front_grows f (y ∷ xs) zero (suc j) x e h =
@@ -218,7 +253,8 @@ front_grows f (y ∷ xs) (suc i) (suc j) x e h =
     let rest = front_grows f xs i j x e (omega arith) in
     rw (sum_by-cons f y (take i xs), sum_by-cons f y (take j xs)) (omega (arith, rest))
 
-front_most : {A : Type 0} (f : A → ℕ) (xs : List A) (i : ℕ) (x : A) → slice_get xs i ≡ Some x → sum_by f (take i xs) + f x ≤ sum_by f xs
+front_most : {A : Type 0} (f : A → ℕ) (xs : List A) (i : ℕ) (x : A) → slice_get xs i ≡ Some x → sum_by f (take i xs)
+    + f x ≤ sum_by f xs
 front_most f [] i x e = absurd (cc)
 front_most f (y ∷ xs) zero x e =
     let same : y ≡ x = cc in
@@ -232,16 +268,20 @@ front_most f (y ∷ xs) (suc i) x e =
 part_shown : (rev : ℕ) (b : Block) (offset : ℕ) → offset ≤ b.len → cond (shows rev b) offset 0 ≤ shown_len rev b
 part_shown rev b offset h = split (shows rev b) (λ e. rw e h) (λ e. rw e (omega arith))
 
-pub shown_front-most : (rev : ℕ) (bs : List Block) (rank offset : ℕ) (b : Block) → slice_get bs rank ≡ Some b → offset ≤ b.len → shown_front rev bs rank offset b ≤ sum_by (shown_len rev) bs
+pub shown_front-most : (rev : ℕ) (bs : List Block) (rank offset : ℕ) (b : Block) → slice_get bs rank ≡ Some b →
+    offset ≤ b.len → shown_front rev bs rank offset b ≤ sum_by (shown_len rev) bs
 shown_front-most rev bs rank offset b e h =
     let most = front_most (shown_len rev) bs rank b e in
     let part = part_shown rev b offset h in
     omega arith
 
 -- a visible character before the spot, and one that is not
-seen_before : (rev : ℕ) (bs : List Block) (r o rank offset : ℕ) (x b : Block) → slice_get bs r ≡ Some x → o < shown_len rev x → slice_get bs rank ≡ Some b → offset ≤ b.len
-    → (r < rank) ⊎ ((r ≡ rank) × (o < offset)) → sum_by (shown_len rev) (take r bs) + o < shown_front rev bs rank offset b
-seen_before rev bs r o rank offset x b f inside e h (inl less) = let grows = front_grows (shown_len rev) bs r rank x f less in omega arith
+seen_before : (rev : ℕ) (bs : List Block) (r o rank offset : ℕ) (x b : Block) → slice_get bs r ≡ Some x →
+    o < shown_len rev x → slice_get bs rank ≡ Some b → offset ≤ b.len
+    → (r < rank) ⊎ ((r ≡ rank) × (o < offset)) → sum_by (shown_len rev) (take r bs) + o
+    < shown_front rev bs rank offset b
+seen_before rev bs r o rank offset x b f inside e h (inl less) = let grows =
+    front_grows (shown_len rev) bs r rank x f less in omega arith
 seen_before rev bs r o rank offset x b f inside e h (inr here) =
     let same : x ≡ b = cc (ap (slice_get bs) here.0, e, f) in
     let size = ap (shown_len rev) same in
@@ -251,7 +291,8 @@ seen_before rev bs r o rank offset x b f inside e h (inr here) =
     split (shows rev b) (λ q. rw q (omega arith)) (λ q. let none = rw q at room in absurd (omega arith))
 
 seen_past : (rev : ℕ) (bs : List Block) (r o rank offset : ℕ) (b : Block) → slice_get bs rank ≡ Some b → offset ≤ b.len
-    → (rank < r) ⊎ ((r ≡ rank) × (offset ≤ o)) → shown_front rev bs rank offset b ≤ sum_by (shown_len rev) (take r bs) + o
+    → (rank < r) ⊎ ((r ≡ rank) × (offset ≤ o)) → shown_front rev bs rank offset b ≤ sum_by (shown_len rev) (take r bs)
+    + o
 seen_past rev bs r o rank offset b e h (inl less) =
     let grows = front_grows (shown_len rev) bs rank r b e less in
     let part = part_shown rev b offset h in
@@ -261,14 +302,20 @@ seen_past rev bs r o rank offset b e h (inr here) =
     let past = here.1 in
     split (shows rev b) (λ q. rw q (omega arith)) (λ q. rw q (omega arith))
 
-pub seen-order : (rev : ℕ) (bs : List Block) (place r o rank offset : ℕ) (b : Block) → IsSomeAnd (slice_get bs r) (λ x. o < shown_len rev x) → place ≡ sum_by (shown_len rev) (take r bs) + o
-    → slice_get bs rank ≡ Some b → offset ≤ b.len → not (ltb rank r || (eqb rank r && leb offset o)) ≡ ltb place (shown_front rev bs rank offset b)
+pub seen-order : (rev : ℕ) (bs : List Block) (place r o rank offset : ℕ) (b : Block) → IsSomeAnd (slice_get bs r)
+    (λ x. o < shown_len rev x) → place ≡ sum_by (shown_len rev) (take r bs) + o
+    → slice_get bs rank ≡ Some b → offset ≤ b.len → not (ltb rank r || (eqb rank r && leb offset o))
+    ≡ ltb place (shown_front rev bs rank offset b)
 seen-order rev bs place r o rank offset b seen is e h =
     let block = some_block (slice_get bs r) (λ (x : Block). o < shown_len rev x) seen in
     elim (cases_lt r rank) [
       | inl less ↦
           let before = seen_before rev bs r o rank offset block.0 b block.1 block.2 e h (inl less) in
-          rw (le-ltb rank r (omega arith), ne_eqb rank r (λ same. omega arith), lt-ltb place (shown_front rev bs rank offset b) (omega arith)) refl
+          rw (
+            le-ltb rank r (omega arith),
+            ne_eqb rank r (λ same. omega arith),
+            lt-ltb place (shown_front rev bs rank offset b) (omega arith),
+          ) refl
       | inr more ↦ elim (cases_lt rank r) [
         | inl less ↦
             let past = seen_past rev bs r o rank offset b e h (inl less) in
@@ -279,16 +326,27 @@ seen-order rev bs place r o rank offset b seen is e h =
             elim (cases_lt o offset) [
               | inl less ↦
                   let before = seen_before rev bs r o rank offset block.0 b block.1 block.2 e h (inr (same, less)) in
-                  rw (le-ltb rank r (omega arith), eq-eqb rank r same', lt-leb offset o less, lt-ltb place (shown_front rev bs rank offset b) (omega arith)) refl
+                  rw (
+                    le-ltb rank r (omega arith),
+                    eq-eqb rank r same',
+                    lt-leb offset o less,
+                    lt-ltb place (shown_front rev bs rank offset b) (omega arith),
+                  ) refl
               | inr up ↦
                   let past = seen_past rev bs r o rank offset b e h (inr (same, up)) in
-                  rw (le-ltb rank r (omega arith), eq-eqb rank r same', le-leb offset o up, le-ltb place (shown_front rev bs rank offset b) (omega arith)) refl
+                  rw (
+                    le-ltb rank r (omega arith),
+                    eq-eqb rank r same',
+                    le-leb offset o up,
+                    le-ltb place (shown_front rev bs rank offset b) (omega arith),
+                  ) refl
             ]
       ]
     ]
 
 -- from the latest revision on it is how many of those alive do
-pub alive_front : (latest rev : ℕ) (bs : List Block) (rank offset : ℕ) (b : Block) → latest ≤ rev → AllByRecursion (IsDated latest) bs → slice_get bs rank ≡ Some b
+pub alive_front : (latest rev : ℕ) (bs : List Block) (rank offset : ℕ) (b : Block) → latest ≤ rev →
+    AllByRecursion (IsDated latest) bs → slice_get bs rank ≡ Some b
     → sum_by weight_of (take rank bs) + cond (is_none b.died) offset 0 ≡ shown_front rev bs rank offset b
 alive_front latest rev bs rank offset b l d e =
     let dated = each_get (IsDated latest) bs rank b d e in

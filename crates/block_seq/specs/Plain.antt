@@ -1,5 +1,6 @@
 -- What the plain sequence keeps.
-use Rattle.std.specs.Prelude.{ℕ, ◌<◌, List, [], ◌∷◌, length, map, slice_index_or, Option, Some, None, Bool, ◌&&◌, nat_le, if◌then◌else◌, is_none, flat_map}
+use Rattle.std.specs.Prelude.{ℕ, ◌<◌, List, [], ◌∷◌, length, map, slice_index_or, Option, Some, None, Bool, ◌&&◌}
+use Rattle.std.specs.Prelude.{nat_le, if◌then◌else◌, is_none, flat_map}
 use Rattle.std.specs.List.{AllByRecursion}
 use Rattle.pad_model.specs.Cell.{Cell, IsInOrder, character_of, is_after}
 use Rattle.pad_model.specs.Character.{Character, next}
@@ -43,7 +44,8 @@ is_shown rev c = nat_le c.born rev && is_after rev c.died
 abbrev pub kept_run : Stamp → Option Stamp → List ℕ → ℕ → ℕ → List PlainCell
 kept_run first parent [] author rev = []
 kept_run first parent (c ∷ text) author rev =
-    record { stamp = first; parent = parent; character = c; author = author; born = rev; died = None } ∷ kept_run (next first) (Some first) text author rev
+    record { stamp = first; parent = parent; character = c; author = author; born = rev; died = None }
+    ∷ kept_run (next first) (Some first) text author rev
 
 -- whether a deletion of these spans newly hides a kept cell
 abbrev pub is_hidden_by : List Span → PlainCell → Bool

@@ -1,5 +1,6 @@
 -- The runs of one operation's parts, and what they leave when each is put in its turn.
-use Rattle.std.specs.Prelude.{◌≡◌, ℕ, ◌+◌, ◌≤◌, ◌<◌, true, List, [], ◌∷◌, flat_map, fold, length, sum_by, Option, Some, None}
+use Rattle.std.specs.Prelude.{◌≡◌, ℕ, ◌+◌, ◌≤◌, ◌<◌, true, List, [], ◌∷◌, flat_map, fold, length, sum_by, Option, Some}
+use Rattle.std.specs.Prelude.{None}
 use Rattle.std.specs.List.{AllByRecursion, list_all, remove}
 use Rattle.ident_index.specs.Index.{Index, stamp_behind}
 use Rattle.blocks.specs.Blocks.{IsEdge}
@@ -39,14 +40,16 @@ with_all rev author cells runs = fold (λ cells run. with_run rev run author cel
 -- each run may join the cells when its turn comes
 abbrev pub AllJoin : ℕ → Author → List Cell → List Run → Type 0
 AllJoin rev author cells [] = Unit {0}
-AllJoin rev author cells (run ∷ runs) = (run_may_join character_of cells run.first run.after ≡ true) × AllJoin rev author (with_run rev run author cells) runs
+AllJoin rev author cells (run ∷ runs) = (run_may_join character_of cells run.first run.after ≡ true)
+    × AllJoin rev author (with_run rev run author cells) runs
 
 -- no block reaches over the place behind a run's parent
 abbrev pub IsCutBehind : Index → Option Stamp → Type 0
 IsCutBehind m None = Unit {0}
 IsCutBehind m (Some p) = IsEdge m (stamp_behind p 1)
 
--- the runs are checked, each joins the cells when its turn comes, their parents are there from the start with the blocks cut behind them,
+-- the runs are checked, each joins the cells when its turn comes, their parents are there from the start with the
+-- blocks cut behind them,
 -- and there is room for all
 pub record MayPut (rev : ℕ) (author : Author) (cells : List Cell) (m : Index) (runs : List Run) : Type 0 where
   pub checked : list_all (is_run author.origin) runs ≡ true
@@ -55,7 +58,8 @@ pub record MayPut (rev : ℕ) (author : Author) (cells : List Cell) (m : Index) 
   pub cut : AllByRecursion (λ run. IsCutBehind m run.after) runs
   pub room : length cells + sum_by (λ run. length run.text) runs ≤ MAX_CHARACTERS
 
--- how blocks came about, and a count of respacings, where those that were put are taken out again: what is left keeps its labels
+-- how blocks came about, and a count of respacings, where those that were put are taken out again: what is left keeps
+-- its labels
 abbrev pub IsUndone : List Block → ℕ → List Block → ℕ → Type 0
 IsUndone old n new m = (mid : List Block) × Labelled old n mid m × KeepsLabels new mid
 

@@ -31,6 +31,7 @@ pub record IsSlid (slides : List Slide) (bs : List Block) : Type 0 where
   pub leads : (rev : ℕ) → Leads (since rev slides) (flat_map (shown_stamps rev) bs) (flat_map live_stamps bs)
 
 -- what a row keeps, and its slides
-pub record IsSlidRow (latest clock : ℕ) (authors : List Author) (text : List ℕ) (slides : List Slide) (m : Index) (bs : List Block) : Type 0 where
+pub record IsSlidRow (latest clock : ℕ) (authors : List Author) (text : List ℕ) (slides : List Slide) (m : Index)
+    (bs : List Block) : Type 0 where
   pub row : IsBlockSeq latest clock authors text m bs
   pub slid : IsSlid slides bs

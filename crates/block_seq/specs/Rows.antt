@@ -1,5 +1,6 @@
 -- What the sequence of blocks keeps.
-use Rattle.std.specs.Prelude.{◌≡◌, ℕ, suc, ◌-◌, ◌≤◌, ◌<◌, List, ◌++◌, length, sum_by, take, drop, Option, Some, None, slice_get, [], ◌∷◌, Bool, nat_le, nat_lt, ◌&&◌, is_none, flat_map, if◌then◌else◌}
+use Rattle.std.specs.Prelude.{◌≡◌, ℕ, suc, ◌-◌, ◌≤◌, ◌<◌, List, ◌++◌, length, sum_by, take, drop, Option, Some, None}
+use Rattle.std.specs.Prelude.{slice_get, [], ◌∷◌, Bool, nat_le, nat_lt, ◌&&◌, is_none, flat_map, if◌then◌else◌}
 use Rattle.std.specs.List.{AllByRecursion, prefix_len}
 use Rattle.pad_model.specs.Cell.{Cell, IsBy, IsInOrder, character_of, clock_of, is_after}
 use Rattle.pad_model.specs.Scan.{put}
@@ -13,9 +14,11 @@ use Rattle.blocks.specs.Blocks.{IsKept, IsEdge}
 use Rattle.blocks.specs.Cells.{cells_of, stretch, IsWithin}
 use Rattle.blocks.specs.declared.block.Block.{Block}
 
--- the index is that of the blocks, their stretches and authors are there, they fill the text, the cells stand in preorder,
+-- the index is that of the blocks, their stretches and authors are there, they fill the text, the cells stand in
+-- preorder,
 -- none is later than the last revision, and the clock is their greatest counter
-pub record IsBlockSeq (latest clock : ℕ) (authors : List Author) (text : List ℕ) (m : Index) (bs : List Block) : Type 0 where
+pub record IsBlockSeq (latest clock : ℕ) (authors : List Author) (text : List ℕ) (m : Index)
+    (bs : List Block) : Type 0 where
   pub kept : IsKept m bs
   pub within : AllByRecursion (IsWithin (length authors) (length text)) bs
   pub full : length text ≡ sum_by (λ b. b.len) bs
@@ -23,7 +26,8 @@ pub record IsBlockSeq (latest clock : ℕ) (authors : List Author) (text : List 
   pub dated : AllByRecursion (IsBy latest) (cells_of authors text bs)
   pub newest : clock_of (cells_of authors text bs) ≡ clock
 
--- what callers see of a sequence of blocks: its cells, the blocks that keep them and their number, and how often blocks got new labels
+-- what callers see of a sequence of blocks: its cells, the blocks that keep them and their number, and how often blocks
+-- got new labels
 pub record CellsInBlocks : Type 0 where
   pub cells : List Cell
   pub tree : List Block
@@ -62,8 +66,10 @@ StartsAt (Some p) bs rank = IsBehind bs p rank
 -- a run goes to this rank: behind its parent, past each block that begins with a newer stamp
 abbrev pub IsPlaceFor : Option Stamp → Stamp → List Block → ℕ → Type 0
 IsPlaceFor parent first bs rank =
-    (authors : List Author) (text : List ℕ) → AllByRecursion (IsWithin (length authors) (length text)) bs → (new : List Cell) →
-    put character_of parent first new (cells_of authors text bs) ≡ cells_of authors text (take rank bs) ++ (new ++ cells_of authors text (drop rank bs))
+    (authors : List Author) (text : List ℕ) → AllByRecursion (IsWithin (length authors) (length text)) bs →
+    (new : List Cell) →
+    put character_of parent first new (cells_of authors text bs) ≡ cells_of authors text (take rank bs)
+    ++ (new ++ cells_of authors text (drop rank bs))
 
 -- how many blocks in front begin with a newer stamp
 abbrev pub passes : Stamp → List Block → ℕ
@@ -104,4 +110,5 @@ shown_stretch rev text b = if shows rev b then stretch text b else []
 -- the stamp of the visible character at a place
 abbrev pub stamp_in : ℕ → List Block → ℕ → Option Stamp
 stamp_in rev [] i = None
-stamp_in rev (b ∷ bs) i = if nat_lt i (shown_len rev b) then Some (stamp_behind b.first i) else stamp_in rev bs (i - shown_len rev b)
+stamp_in rev (b ∷ bs) i = if nat_lt i (shown_len rev b) then Some (stamp_behind b.first i)
+    else stamp_in rev bs (i - shown_len rev b)

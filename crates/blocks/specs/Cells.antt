@@ -1,5 +1,6 @@
 -- The cells that blocks stand for, over one text and one list of authors.
-use Rattle.std.specs.Prelude.{◌≡◌, ℕ, ◌+◌, ◌≤◌, ◌<◌, List, [], ◌∷◌, length, flat_map, take, drop, slice_index_or, Option, Some}
+use Rattle.std.specs.Prelude.{◌≡◌, ℕ, ◌+◌, ◌≤◌, ◌<◌, List, [], ◌∷◌, length, flat_map, take, drop, slice_index_or}
+use Rattle.std.specs.Prelude.{Option, Some}
 use Rattle.std.specs.List.{AllByRecursion}
 use Rattle.pad_model.specs.Cell.{Cell}
 use Rattle.pad_model.specs.Character.{next}
@@ -15,7 +16,8 @@ author_at authors i = slice_index_or authors i (record { name = []; origin = 0 }
 abbrev pub run_cells : Author → ℕ → Option ℕ → Stamp → Option Stamp → List ℕ → List Cell
 run_cells author born died first parent [] = []
 run_cells author born died first parent (c ∷ text) =
-    record { stamp = first; parent = parent; character = c; author = author; born = born; died = died } ∷ run_cells author born died (next first) (Some first) text
+    record { stamp = first; parent = parent; character = c; author = author; born = born; died = died }
+    ∷ run_cells author born died (next first) (Some first) text
 
 -- the characters of a block
 abbrev pub stretch : List ℕ → Block → List ℕ
@@ -35,5 +37,7 @@ IsWithin authors text b = (b.author < authors) × (b.start + b.len ≤ text)
 
 -- two rows of blocks stand for the same cells, whatever the text
 pub record SameCells (old new : List Block) : Type 0 where
-  pub within : (authors text : ℕ) → AllByRecursion (IsWithin authors text) old → AllByRecursion (IsWithin authors text) new
-  pub cells : (authors : List Author) (text : List ℕ) → AllByRecursion (IsWithin (length authors) (length text)) old → cells_of authors text new ≡ cells_of authors text old
+  pub within : (authors text : ℕ) → AllByRecursion (IsWithin authors text) old →
+      AllByRecursion (IsWithin authors text) new
+  pub cells : (authors : List Author) (text : List ℕ) → AllByRecursion (IsWithin (length authors) (length text)) old →
+      cells_of authors text new ≡ cells_of authors text old

@@ -1,5 +1,6 @@
 -- Every world that events lead to keeps what its servers need to take each other's operations.
-use Rattle.std.proofs.Common.{◌≡◌, ◌≢◌, ℕ, ◌+◌, ◌≤◌, ◌⊎◌, inl, inr, true, cond, eqb, List, [], ◌∷◌, ◌++◌, length, drop, refl, sym, ap, ◌∙◌, subst, arith, append-nil, eq-eqb, ne_eqb, le_antisymm}
+use Rattle.std.proofs.Common.{◌≡◌, ◌≢◌, ℕ, ◌+◌, ◌≤◌, ◌⊎◌, inl, inr, true, cond, eqb, List, [], ◌∷◌, ◌++◌, length, drop}
+use Rattle.std.proofs.Common.{refl, sym, ap, ◌∙◌, subst, arith, append-nil, eq-eqb, ne_eqb, le_antisymm}
 use Rattle.std.proofs.lemmas.Bool.{cases_eq, cond-true, cond-false}
 use Rattle.pad_model.specs.Log.{is_valid}
 use Rattle.pad_model.specs.Seen.{count_in, with_count}
@@ -25,7 +26,8 @@ use Rattle.federation.proofs.Acts.{IsLocal, Makes}
 use Rattle.federation.proofs.Carries.{carries}
 use Rattle.federation.proofs.Keeps.{IsMade, Keeps, keeps_steps, takes_in}
 use Rattle.federation.proofs.Numbers.{counts_most}
-use Rattle.federation.proofs.Steps.{ActsLocally, Leaves, nothing, answer, stopped, NoPush, left_by, local_step, push_or_not, push_step}
+use Rattle.federation.proofs.Steps.{ActsLocally, Leaves, nothing, answer, stopped, NoPush, left_by, local_step}
+use Rattle.federation.proofs.Steps.{push_or_not, push_step}
 
 -- what holds of a world along the way
 pub record Stands (world : World) : Type 0 where
@@ -38,26 +40,33 @@ behind_more : (made past : List Op) (op new : Op) → IsMadeBehind made past op 
 behind_more made past op new b = record {
   history = b.history;
   numbered = b.numbered;
-  within = λ one h. Contains-from_Has (made ++ new ∷ []) one (has_front made (new ∷ []) one (Has-from_Contains made one (b.within one h)));
+  within = λ one h. Contains-from_Has (made ++ new ∷ []) one
+      (has_front made (new ∷ []) one (Has-from_Contains made one (b.within one h)));
   next = b.next;
   seen = b.seen;
   valid = b.valid;
 }
 
 -- a server's own log counts its operations as all that were made do
-own_count : (made : List Op) (own : ℕ) (log held : List Op) → IsMade made → Keeps made own log held → count_in (vector_of log) own ≡ count_in (vector_of made) own
+own_count : (made : List Op) (own : ℕ) (log held : List Op) → IsMade made → Keeps made own log held →
+    count_in (vector_of log) own ≡ count_in (vector_of made) own
 own_count made own log held m k =
-    le_antisymm (counts_most log made own k.delivered.numbered m.numbered (λ op h same. k.within op h)) (counts_most made log own m.numbered k.delivered.numbered (λ op h same. k.mine op h same))
+    le_antisymm (counts_most log made own k.delivered.numbered m.numbered (λ op h same. k.within op h))
+    (counts_most made log own m.numbered k.delivered.numbered (λ op h same. k.mine op h same))
 
 -- an operation that a server makes is one of those that were made
-made_more : (made : List Op) (own : ℕ) (log held : List Op) (op : Op) → IsMade made → Keeps made own log held → IsLocal own log op → IsMade (made ++ op ∷ [])
+made_more : (made : List Op) (own : ℕ) (log held : List Op) (op : Op) → IsMade made → Keeps made own log held →
+    IsLocal own log op → IsMade (made ++ op ∷ [])
 made_more made own log held op m k local =
     let valid : is_valid op log ≡ true = (allowed log op local.allowed).valid in
-    let number : op.name.number ≡ count_in (vector_of made) own + 1 = local.number ∙ ap (λ n. n + 1) (own_count made own log held m k) in
+    let number : op.name.number ≡ count_in (vector_of made) own + 1 = local.number ∙ ap (λ n. n + 1)
+    (own_count made own log held m k) in
     record {
       history = IsHistory-push made op m.history local.checked
-          (carries log made op k.delivered.history m.history k.within (λ one h same. k.mine one h (same ∙ local.origin)) local.checked valid);
-      numbered = AreNumbered-push made op m.numbered (subst (λ o. op.name.number ≡ count_in (vector_of made) o + 1) (sym local.origin) number);
+          (carries log made op k.delivered.history m.history k.within (λ one h same. k.mine one h (same ∙ local.origin))
+          local.checked valid);
+      numbered = AreNumbered-push made op m.numbered (subst (λ o. op.name.number ≡ count_in (vector_of made) o + 1)
+          (sym local.origin) number);
       each = λ one h. at one valid (has_either made (op ∷ []) one h);
     }
   where
@@ -65,21 +74,25 @@ made_more made own log held op m k local =
     here valid = record {
       history = k.delivered.history;
       numbered = k.delivered.numbered;
-      within = λ one h. Contains-from_Has (made ++ op ∷ []) one (has_front made (op ∷ []) one (k.within one (Has-from_Contains log one h)));
+      within = λ one h. Contains-from_Has (made ++ op ∷ []) one
+          (has_front made (op ∷ []) one (k.within one (Has-from_Contains log one h)));
       next = subst (λ o. op.name.number ≡ count_in (vector_of log) o + 1) (sym local.origin) local.number;
       seen = subst (λ o. op.seen ≡ with_count (vector_of log) o 0) (sym local.origin) local.seen;
       valid = valid;
     }
 
-    at : (one : Op) → is_valid op log ≡ true → Has made one ⊎ Has (op ∷ []) one → (past : List Op) × IsMadeBehind (made ++ op ∷ []) past one
+    at : (one : Op) → is_valid op log ≡ true → Has made one ⊎ Has (op ∷ []) one → (past : List Op)
+        × IsMadeBehind (made ++ op ∷ []) past one
     at one valid (inl old) = let behind = m.each one old in (behind.0, behind_more made behind.0 one op behind.1)
     at one valid (inr (inl is)) = (log, subst (IsMadeBehind (made ++ op ∷ []) log) is (here valid))
     at one valid (inr (inr none)) = absurd none
 
 -- the server that made it keeps it
-keeps_own : (made : List Op) (own : ℕ) (log held : List Op) (op : Op) → Keeps made own log held → IsLocal own log op → Keeps (made ++ op ∷ []) own (log ++ op ∷ []) held
+keeps_own : (made : List Op) (own : ℕ) (log held : List Op) (op : Op) → Keeps made own log held → IsLocal own log op →
+    Keeps (made ++ op ∷ []) own (log ++ op ∷ []) held
 keeps_own made own log held op k local = record {
-  delivered = IsDelivered-push log op k.delivered local.checked (subst (λ o. op.name.number ≡ count_in (vector_of log) o + 1) (sym local.origin) local.number) local.allowed;
+  delivered = IsDelivered-push log op k.delivered local.checked
+      (subst (λ o. op.name.number ≡ count_in (vector_of log) o + 1) (sym local.origin) local.number) local.allowed;
   within = λ one h. into one (has_either log (op ∷ []) one h);
   waiting = λ one h. has_front made (op ∷ []) one (k.waiting one h);
   mine = λ one h same. back one same (has_either made (op ∷ []) one h);
@@ -94,7 +107,8 @@ keeps_own made own log held op k local = record {
     back one same (inr new) = has_behind log (op ∷ []) one new
 
 -- and each other server keeps what it has
-keeps_other : (made : List Op) (own other : ℕ) (log held : List Op) (op : Op) → Keeps made other log held → op.name.origin ≡ own → other ≢ own → Keeps (made ++ op ∷ []) other log held
+keeps_other : (made : List Op) (own other : ℕ) (log held : List Op) (op : Op) → Keeps made other log held →
+    op.name.origin ≡ own → other ≢ own → Keeps (made ++ op ∷ []) other log held
 keeps_other made own other log held op k origin apart = record {
   delivered = k.delivered;
   within = λ one h. has_front made (op ∷ []) one (k.within one h);
@@ -114,15 +128,20 @@ record Goes (made : List Op) (server : ℕ) (all : List Op) (new : Machine) : Ty
   kept : Keeps all server new.log new.held
   rest : (other : ℕ) (log held : List Op) → other ≢ server → Keeps made other log held → Keeps all other log held
 
-goes_same : (made : List Op) (server : ℕ) (new : Machine) → IsMade made → new.replica ≡ server → Keeps made server new.log new.held → Goes made server made new
-goes_same made server new m replica k = record { made_all = m; replica = replica; kept = k; rest = λ other log held apart old. old }
+goes_same : (made : List Op) (server : ℕ) (new : Machine) → IsMade made → new.replica ≡ server →
+    Keeps made server new.log new.held → Goes made server made new
+goes_same made server new m replica k = record
+    { made_all = m; replica = replica; kept = k; rest = λ other log held apart old. old }
 
-goes_local : (made : List Op) (server : ℕ) (log held : List Op) (op : Op) (new : Machine) → IsMade made → Keeps made server log held → IsLocal server log op → new.replica ≡ server → new.held ≡ held → new.log ≡ log ++ op ∷ [] →
+goes_local : (made : List Op) (server : ℕ) (log held : List Op) (op : Op) (new : Machine) → IsMade made →
+    Keeps made server log held → IsLocal server log op → new.replica ≡ server → new.held ≡ held → new.log ≡ log ++ op
+    ∷ [] →
     Goes made server (made ++ op ∷ []) new
 goes_local made server log held op new m k local replica waits more = record {
   made_all = made_more made server log held op m k local;
   replica = replica;
-  kept = subst (λ l. Keeps (made ++ op ∷ []) server l new.held) (sym more) (subst (Keeps (made ++ op ∷ []) server (log ++ op ∷ [])) (sym waits) (keeps_own made server log held op k local));
+  kept = subst (λ l. Keeps (made ++ op ∷ []) server l new.held) (sym more)
+      (subst (Keeps (made ++ op ∷ []) server (log ++ op ∷ [])) (sym waits) (keeps_own made server log held op k local));
   rest = λ other log held apart old. keeps_other made server other log held op old local.origin apart;
 }
 
@@ -147,16 +166,22 @@ made_nothing this log new same = at this (push_or_not this)
     at this (inr none) = made_local this log new none ∙ ap (drop (length log)) same ∙ drop_none log
 
 -- where nothing is made
-goes_on_same : (made : List Op) (server : ℕ) (more : List Op) (new : Machine) → more ≡ [] → IsMade made → new.replica ≡ server → Keeps made server new.log new.held → Goes made server (made ++ more) new
-goes_on_same made server more new none m replica k = subst (λ l. Goes made server l new) (sym (append-nil made) ∙ ap (λ l. made ++ l) (sym none)) (goes_same made server new m replica k)
+goes_on_same : (made : List Op) (server : ℕ) (more : List Op) (new : Machine) → more ≡ [] → IsMade made → new.replica
+    ≡ server → Keeps made server new.log new.held → Goes made server (made ++ more) new
+goes_on_same made server more new none m replica k = subst (λ l. Goes made server l new)
+    (sym (append-nil made) ∙ ap (λ l. made ++ l) (sym none)) (goes_same made server new m replica k)
 
-goes_makes : (made : List Op) (server : ℕ) (log held : List Op) (this : Act) (new : Machine) → IsMade made → Keeps made server log held → NoPush this → new.replica ≡ server → new.held ≡ held → Makes server log new.log →
+goes_makes : (made : List Op) (server : ℕ) (log held : List Op) (this : Act) (new : Machine) → IsMade made →
+    Keeps made server log held → NoPush this → new.replica ≡ server → new.held ≡ held → Makes server log new.log →
     Goes made server (made ++ made_by this log new.log) new
 goes_makes made server log held this new m k none replica waits (inl same) =
-    goes_on_same made server (made_by this log new.log) new (made_nothing this log new.log same) m replica (subst (λ l. Keeps made server l new.held) (sym same) (subst (Keeps made server log) (sym waits) k))
+    goes_on_same made server (made_by this log new.log) new (made_nothing this log new.log same) m replica
+    (subst (λ l. Keeps made server l new.held) (sym same) (subst (Keeps made server log) (sym waits) k))
 goes_makes made server log held this new m k none replica waits (inr (op, (local, more))) =
-    let one : made_by this log new.log ≡ op ∷ [] = made_local this log new.log none ∙ ap (drop (length log)) more ∙ drop_all log (op ∷ []) in
-    subst (λ l. Goes made server (made ++ l) new) (sym one) (goes_local made server log held op new m k local replica waits more)
+    let one : made_by this log new.log ≡ op ∷ [] = made_local this log new.log none ∙ ap (drop (length log)) more
+    ∙ drop_all log (op ∷ []) in
+    subst (λ l. Goes made server (made ++ l) new) (sym one)
+    (goes_local made server log held op new m k local replica waits more)
 
 -- a push makes nothing
 brings_nothing : (this : Act) (op : Op) (log new : List Op) → this ≡ act.Push op → made_by this log new ≡ []
@@ -170,11 +195,15 @@ abbrev pushed_to : PadEvent → Op → Machine → Machine
 pushed_to event op m = (step event.pad.now event.who.now event.visit (act.Push op) m).1
 
 -- a machine with the same operations keeps what the server's does
-keeps_same : (made : List Op) (server : ℕ) (old here : Machine) → HasSameOperations old here → Keeps made server old.log old.held → Keeps made server here.log here.held
-keeps_same made server old here same k = subst (λ l. Keeps made server l here.held) (sym same.log) (subst (Keeps made server old.log) (sym same.held) k)
+keeps_same : (made : List Op) (server : ℕ) (old here : Machine) → HasSameOperations old here →
+    Keeps made server old.log old.held → Keeps made server here.log here.held
+keeps_same made server old here same k = subst (λ l. Keeps made server l here.held) (sym same.log)
+    (subst (Keeps made server old.log) (sym same.held) k)
 
 -- the step of the machine of a server
-goes_step : (world : World) (server : ℕ) (event : PadEvent) (m : Machine) → Stands world → MayHappen world server event → HasSameOperations (world.machine_of server) m → (new : Machine) → new ≡ (event_step event m).1 →
+goes_step : (world : World) (server : ℕ) (event : PadEvent) (m : Machine) → Stands world →
+    MayHappen world server event → HasSameOperations (world.machine_of server) m → (new : Machine) →
+    new ≡ (event_step event m).1 →
     Goes world.made server (world.made ++ made_by event.act.now m.log new.log) new
 goes_step world server event m s may is new next = at (push_or_not event.act.now)
   where
@@ -187,34 +216,50 @@ goes_step world server event m s may is new next = at (push_or_not event.act.now
     kept_here : Keeps world.made m.replica m.log m.held
     kept_here = subst (λ n. Keeps world.made n m.log m.held) (sym replica) kept
 
-    at : ((op : Op) × (event.act.now ≡ act.Push op)) ⊎ NoPush event.act.now → Goes world.made server (world.made ++ made_by event.act.now m.log new.log) new
+    at : ((op : Op) × (event.act.now ≡ act.Push op)) ⊎ NoPush event.act.now →
+        Goes world.made server (world.made ++ made_by event.act.now m.log new.log) new
     at (inl p) =
         let there = honest_made event.act.now p.0 world.made p.1 may.honest in
-        let pushed = push_step world.made m.owned m.replica m.log m.held m.presence event.pad.now event.who.now event.visit p.0 s.made kept_here (takes_in world.made m.replica p.0 m.log m.held s.made kept_here there) in
-        let same : new ≡ pushed_to event p.0 m = next ∙ ap (λ (a : Act). (step event.pad.now event.who.now event.visit a m).1) p.1 in
+        let pushed = push_step world.made m.owned m.replica m.log m.held m.presence event.pad.now event.who.now
+        event.visit p.0 s.made kept_here (takes_in world.made m.replica p.0 m.log m.held s.made kept_here there) in
+        let same : new ≡ pushed_to event p.0 m =
+        next ∙ ap (λ (a : Act). (step event.pad.now event.who.now event.visit a m).1) p.1 in
         let number : new.replica ≡ server = ap (λ (x : Machine). x.replica) same ∙ pushed.replica ∙ replica in
-        goes_on_same world.made server (made_by event.act.now m.log new.log) new (brings_nothing event.act.now p.0 m.log new.log p.1) s.made number
-        (subst (λ (x : Machine). Keeps world.made server x.log x.held) (sym same) (subst (λ n. Keeps world.made n (pushed_to event p.0 m).log (pushed_to event p.0 m).held) replica pushed.kept))
+        goes_on_same world.made server (made_by event.act.now m.log new.log) new
+        (brings_nothing event.act.now p.0 m.log new.log p.1) s.made number
+        (subst (λ (x : Machine). Keeps world.made server x.log x.held) (sym same)
+        (subst (λ n. Keeps world.made n (pushed_to event p.0 m).log (pushed_to event p.0 m).held) replica pushed.kept))
     at (inr none) =
-        let acts = local_step m.owned m.replica m.log m.held m.presence event.pad.now event.who.now event.visit event.act.now kept.delivered may.named (subst (λ n. 1 ≤ n) (sym replica) may.number) none in
-        let done : ActsLocally m.replica m.log m.held new = subst (ActsLocally m.replica m.log m.held) (sym next) acts in
-        goes_makes world.made server m.log m.held event.act.now new s.made kept none (done.replica ∙ replica) done.waits (subst (λ n. Makes n m.log new.log) replica done.makes)
+        let acts = local_step m.owned m.replica m.log m.held m.presence event.pad.now event.who.now event.visit
+        event.act.now kept.delivered may.named (subst (λ n. 1 ≤ n) (sym replica) may.number) none in
+        let done : ActsLocally m.replica m.log m.held new = subst (ActsLocally m.replica m.log m.held)
+        (sym next) acts in
+        goes_makes world.made server m.log m.held event.act.now new s.made kept none (done.replica ∙ replica) done.waits
+        (subst (λ n. Makes n m.log new.log) replica done.makes)
 
 -- an event leaves the machine of its server so
-goes : (world : World) (server : ℕ) (event : PadEvent) (m new : Machine) → Stands world → MayHappen world server event → HasSameOperations (world.machine_of server) m → Leaves m event new →
+goes : (world : World) (server : ℕ) (event : PadEvent) (m new : Machine) → Stands world → MayHappen world server event →
+    HasSameOperations (world.machine_of server) m → Leaves m event new →
     Goes world.made server (world.made ++ made_by event.act.now m.log new.log) new
 goes world server event m new s may is (nothing same) =
-    goes_on_same world.made server (made_by event.act.now m.log new.log) new (made_nothing event.act.now m.log new.log (ap (λ (x : Machine). x.log) same)) s.made
+    goes_on_same world.made server (made_by event.act.now m.log new.log) new
+    (made_nothing event.act.now m.log new.log (ap (λ (x : Machine). x.log) same)) s.made
     (ap (λ (x : Machine). x.replica) same ∙ is.replica ∙ s.numbered server)
-    (subst (λ (x : Machine). Keeps world.made server x.log x.held) (sym same) (keeps_same world.made server (world.machine_of server) m is (s.keeps server)))
+    (subst (λ (x : Machine). Keeps world.made server x.log x.held) (sym same)
+    (keeps_same world.made server (world.machine_of server) m is (s.keeps server)))
 goes world server event m new s may is (answer next) = goes_step world server event m s may is new next
 goes world server event m new s may is (stopped op this n now replica) =
     let number : m.replica ≡ server = is.replica ∙ s.numbered server in
-    let kept : Keeps world.made m.replica m.log m.held = subst (λ k. Keeps world.made k m.log m.held) (sym number) (keeps_same world.made server (world.machine_of server) m is (s.keeps server)) in
-    let taken = takes_in world.made m.replica op m.log m.held s.made kept (honest_made event.act.now op world.made this may.honest) in
-    let released = keeps_steps world.made m.replica n (unsettled (received m.replica op (m.log, m.held)).1) s.made taken.kept in
-    goes_on_same world.made server (made_by event.act.now m.log new.log) new (brings_nothing event.act.now op m.log new.log this) s.made (replica ∙ number)
-    (subst (λ k. Keeps world.made k new.log new.held) number (subst (λ (p : List Op × List Op). Keeps world.made m.replica p.0 p.1) (sym now) released))
+    let kept : Keeps world.made m.replica m.log m.held = subst (λ k. Keeps world.made k m.log m.held) (sym number)
+    (keeps_same world.made server (world.machine_of server) m is (s.keeps server)) in
+    let taken = takes_in world.made m.replica op m.log m.held s.made kept
+    (honest_made event.act.now op world.made this may.honest) in
+    let released = keeps_steps world.made m.replica n (unsettled (received m.replica op (m.log, m.held)).1) s.made
+    taken.kept in
+    goes_on_same world.made server (made_by event.act.now m.log new.log) new
+    (brings_nothing event.act.now op m.log new.log this) s.made (replica ∙ number)
+    (subst (λ k. Keeps world.made k new.log new.held) number
+    (subst (λ (p : List Op × List Op). Keeps world.made m.replica p.0 p.1) (sym now) released))
 
 -- all that was made once an event has happened
 abbrev all_made : World → Machine → World → ℕ → PadEvent → List Op
@@ -223,30 +268,40 @@ all_made old here new server event = old.made ++ made_by event.act.now here.log 
 -- an event keeps what stands
 stands_on : (old new : World) (server : ℕ) (event : PadEvent) → Stands old → Happens server event old new → Stands new
 stands_on old new server event s h =
-    let g = goes old server event h.here (new.machine_of server) s h.may h.same (left_by h.here (new.machine_of server) event h.reply h.steps) in
+    let g = goes old server event h.here (new.machine_of server) s h.may h.same
+    (left_by h.here (new.machine_of server) event h.reply h.steps) in
     let all = sym h.made in
     record {
       made = subst IsMade all g.made_all;
       numbered = λ other. number g other (cases_eq other server);
-      keeps = λ other. subst (λ l. Keeps l other (new.machine_of other).log (new.machine_of other).held) all (keep g other (cases_eq other server));
+      keeps = λ other. subst (λ l. Keeps l other (new.machine_of other).log (new.machine_of other).held) all
+          (keep g other (cases_eq other server));
     }
   where
-    number : Goes old.made server (all_made old h.here new server event) (new.machine_of server) → (other : ℕ) → (other ≡ server) ⊎ (other ≡ server → ⊥) → (new.machine_of other).replica ≡ other
+    number : Goes old.made server (all_made old h.here new server event) (new.machine_of server) → (other : ℕ) →
+        (other ≡ server) ⊎ (other ≡ server → ⊥) → (new.machine_of other).replica ≡ other
     number g other (inl same) = subst (λ o. (new.machine_of o).replica ≡ o) (sym same) g.replica
     number g other (inr apart) = ap (λ (x : Machine). x.replica) (h.others other apart) ∙ s.numbered other
 
-    keep : Goes old.made server (all_made old h.here new server event) (new.machine_of server) → (other : ℕ) → (other ≡ server) ⊎ (other ≡ server → ⊥) → Keeps (all_made old h.here new server event) other (new.machine_of other).log (new.machine_of other).held
-    keep g other (inl same) = subst (λ o. Keeps (all_made old h.here new server event) o (new.machine_of o).log (new.machine_of o).held) (sym same) g.kept
+    keep : Goes old.made server (all_made old h.here new server event) (new.machine_of server) → (other : ℕ) →
+        (other ≡ server) ⊎ (other ≡ server → ⊥) → Keeps (all_made old h.here new server event) other
+        (new.machine_of other).log (new.machine_of other).held
+    keep g other (inl same) = subst (λ o. Keeps (all_made old h.here new server event) o (new.machine_of o).log
+        (new.machine_of o).held) (sym same) g.kept
     keep g other (inr apart) =
-        subst (λ (x : Machine). Keeps (all_made old h.here new server event) other x.log x.held) (sym (h.others other apart)) (g.rest other (old.machine_of other).log (old.machine_of other).held apart (s.keeps other))
+        subst (λ (x : Machine). Keeps (all_made old h.here new server event) other x.log x.held)
+        (sym (h.others other apart)) (g.rest other (old.machine_of other).log (old.machine_of other).held apart
+        (s.keeps other))
 
 -- at the beginning it stands
 stands_first : (world : World) → Begins world → Stands world
 stands_first world b = record {
   made = subst IsMade (sym b.made) no_made;
   numbered = λ server. (b.fresh server).replica;
-  keeps = λ server. subst (λ l. Keeps l server (world.machine_of server).log (world.machine_of server).held) (sym b.made)
-      (subst (λ l. Keeps [] server l (world.machine_of server).held) (sym (b.fresh server).log) (subst (Keeps [] server []) (sym (b.fresh server).held) (keeps_nothing server)));
+  keeps = λ server. subst (λ l. Keeps l server (world.machine_of server).log (world.machine_of server).held)
+      (sym b.made)
+      (subst (λ l. Keeps [] server l (world.machine_of server).held) (sym (b.fresh server).log)
+      (subst (Keeps [] server []) (sym (b.fresh server).held) (keeps_nothing server)));
 }
   where
     no_made : IsMade []
@@ -260,7 +315,8 @@ stands_first world b = record {
 
 stands_after : (old new : World) (events : List (ℕ × PadEvent)) → Stands old → Leads old events new → Stands new
 stands_after old new [] s l = subst Stands (sym l) s
-stands_after old new ((server, event) ∷ events) s l = stands_after l.0 new events (stands_on old l.0 server event s l.1) l.2
+stands_after old new ((server, event) ∷ events) s l = stands_after l.0 new events (stands_on old l.0 server event s l.1)
+    l.2
 
 -- so it stands in each world that events lead to
 pub stands : (start now : World) (events : List (ℕ × PadEvent)) → Begins start → Leads start events now → Stands now
@@ -282,7 +338,8 @@ goes_on world server event may =
       here = m;
       same = record { replica = refl; log = refl; held = refl };
       reply = (event_step event m).0;
-      steps = subst (Stepped m event (event_step event m).0) (sym (cond-true (eqb server server) next m (eq-eqb server server refl))) (inl (inr refl));
+      steps = subst (Stepped m event (event_step event m).0)
+          (sym (cond-true (eqb server server) next m (eq-eqb server server refl))) (inl (inr refl));
       others = λ other apart. cond-false (eqb other server) next (world.machine_of other) (ne_eqb other server apart);
       made = refl;
     }

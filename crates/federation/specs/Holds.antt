@@ -52,9 +52,11 @@ pub record IsUpToCounts (made log : List Op) : Type 0 where
 
 -- at each revision a log shows a part of the order of all characters
 abbrev pub ShowsPart : List Op → List Op → Type 0
-ShowsPart made log = (rev : ℕ) → IsSubsequence (visible (characters_at rev log)) (order itself (characters_in made).inserted)
+ShowsPart made log = (rev : ℕ) → IsSubsequence (visible (characters_at rev log))
+    (order itself (characters_in made).inserted)
 
--- a text that is put in at a place of the present revision stands at that place of the next one, and the rest is as it was
+-- a text that is put in at a place of the present revision stands at that place of the next one, and the rest is as it
+-- was
 abbrev pub TypesInPlace : Machine → Type 0
 TypesInPlace m =
     (pad : List ℕ) (who : Who) (visit : Option ℕ) (at : ℕ) (text : List ℕ) (now : ℕ) (name : OpName) (new : Machine) →

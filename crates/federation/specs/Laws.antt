@@ -9,7 +9,8 @@ use Rattle.federation.specs.Holds.{IsFederated}
 use Rattle.federation.specs.Past.{Extends}
 use Rattle.federation.specs.World.{World, Begins, Happens, Leads, MayHappen}
 
--- an operation that is valid behind a past is valid behind each log that has the past and no further operations of its origin
+-- an operation that is valid behind a past is valid behind each log that has the past and no further operations of its
+-- origin
 abbrev pub CarriesLaw : Type 0
 CarriesLaw =
     (past log : List Op) (op : Op) → IsHistory past → IsHistory log → Extends op.name.origin past log → IsTrue (is_checked op) →
@@ -17,9 +18,11 @@ CarriesLaw =
 
 -- whatever happens among servers
 abbrev pub FederationLaw : Type 0
-FederationLaw = (start now : World) (events : List (ℕ × PadEvent)) → Begins start → Leads start events now → IsFederated now
+FederationLaw = (start now : World) (events : List (ℕ × PadEvent)) → Begins start → Leads start events now →
+    IsFederated now
 
 -- whatever may happen leads on to a world
 abbrev pub GoesOnLaw : Type 0
 GoesOnLaw =
-    (world : World) (server : ℕ) (event : PadEvent) → MayHappen world server event → (next : World) × Happens server event world next
+    (world : World) (server : ℕ) (event : PadEvent) → MayHappen world server event → (next : World)
+    × Happens server event world next

@@ -14,7 +14,8 @@ IsWithin ops more = (op : Op) → Contains ops op → Contains more op
 abbrev pub IsWithinOf : ℕ → List Op → List Op → Type 0
 IsWithinOf origin ops more = (op : Op) → Contains ops op → op.name.origin ≡ origin → Contains more op
 
--- an operation was made behind a past of operations that were made: its number and its vector name just these, and it is valid behind them
+-- an operation was made behind a past of operations that were made: its number and its vector name just these, and it
+-- is valid behind them
 pub record IsMadeBehind (made past : List Op) (op : Op) : Type 0 where
   pub history : IsHistory past
   pub numbered : AreNumbered [] past

@@ -1,5 +1,6 @@
 -- Operations that wait for others, and when one may be delivered (causal delivery).
-use Rattle.std.specs.Prelude.{◌≡◌, ◌+◌, Bool, not, ◌&&◌, ◌||◌, ◌==◌, nat_lt, nat_le, if◌then◌else◌, true, List, [], ◌∷◌, filter}
+use Rattle.std.specs.Prelude.{◌≡◌, ◌+◌, Bool, not, ◌&&◌, ◌||◌, ◌==◌, nat_lt, nat_le, if◌then◌else◌, true, List, [], ◌∷◌}
+use Rattle.std.specs.Prelude.{filter}
 use Rattle.std.specs.List.{AllByRecursion, list_any, list_all}
 use Rattle.pad_model.specs.Log.{precedes, same_name}
 use Rattle.pad_model.specs.Seen.{count_in}

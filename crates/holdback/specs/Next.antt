@@ -14,4 +14,5 @@ NoneIsReady seen held = AllByRecursion (λ op. is_ready seen op ≡ false) held
 -- the operation with a name is among them and ready, and each other ready one is of a greater origin
 pub record IsNext (seen : List Counted) (held : List Op) (name : OpName) : Type 0 where
   pub ready : IsSomeAnd (find (has_name name) held) (λ op. is_ready seen op ≡ true)
-  pub least : AllByRecursion (λ op. is_ready seen op ≡ true → (has_name name op ≡ true) ⊎ (name.origin < op.name.origin)) held
+  pub least : AllByRecursion (λ op. is_ready seen op ≡ true → (has_name name op ≡ true)
+      ⊎ (name.origin < op.name.origin)) held

@@ -16,15 +16,18 @@ use Rattle.ident_index.specs.declared.index.Key.{Key}
 use Rattle.ident_index.proofs.Order.{stamp_cmp_total}
 use Rattle.ident_index.proofs.Kept.{key_cmp, get-index_of}
 
-none_at : (k : Key) (es : List (Key × Entry)) → AllByRecursion (λ y. key_cmp k y ≡ Less) (keys_of es) → NonePasses (is_at (key_cmp k)) es
+none_at : (k : Key) (es : List (Key × Entry)) → AllByRecursion (λ y. key_cmp k y ≡ Less) (keys_of es) →
+    NonePasses (is_at (key_cmp k)) es
 none_at k [] h = tt
 none_at k (e ∷ es) h = (ap is_eq h.0, none_at k es h.1)
 
 pub len-index_of : (es : List (Key × Entry)) → IsStrictlySortedBy key_cmp (keys_of es) → len (index_of es) ≡ length es
 len-index_of [] sorted = len-empty stamp_cmp Entry
 len-index_of (e ∷ es) sorted =
-    let fresh = get-index_of es (stamp_of e.0) ∙ lookup-none (is_at (key_cmp e.0)) es (none_at e.0 es (sorted_head key_cmp _ _ sorted)) in
+    let fresh = get-index_of es (stamp_of e.0) ∙ lookup-none (is_at (key_cmp e.0)) es
+    (none_at e.0 es (sorted_head key_cmp _ _ sorted)) in
     let rest = len-index_of es (sorted_tail key_cmp _ _ sorted) in
     let one : len (index_of (e ∷ es)) ≡ len (index_of es) + 1 =
-    len-insert stamp_cmp_total (index_of es) (stamp_of e.0) e.1 ∙ ap (λ o. cond (is_some o) (len (index_of es)) (len (index_of es) + 1)) fresh in
+    len-insert stamp_cmp_total (index_of es) (stamp_of e.0) e.1
+    ∙ ap (λ o. cond (is_some o) (len (index_of es)) (len (index_of es) + 1)) fresh in
     omega arith

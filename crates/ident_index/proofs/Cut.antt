@@ -14,35 +14,45 @@ use Rattle.ident_index.proofs.Order.{stamp_cmp_total, stamp_cmp-IsAntisymmetric,
 use Rattle.ident_index.proofs.Kept.{key_cmp, key_of, get-kept, Updated, kept_insert}
 use Rattle.ident_index.proofs.Sound.{get_beside}
 
-in_turn : (a b : Bool) (x y z : Option Entry) → (a ≡ true → b ≡ true → ⊥) → cond a x (cond b y z) ≡ cond b y (cond a x z)
+in_turn : (a b : Bool) (x y z : Option Entry) → (a ≡ true → b ≡ true → ⊥) → cond a x (cond b y z)
+    ≡ cond b y (cond a x z)
 in_turn true true x y z apart = absurd (apart refl refl)
 in_turn true false x y z apart = refl
 in_turn false b x y z apart = refl
 
 -- entries at two stamps are put in either order
-insert_swap : (m : Index) (j k : Stamp) (a b : Entry) → (k ≡ j → ⊥) → insert (insert m j a) k b ≡ insert (insert m k b) j a
+insert_swap : (m : Index) (j k : Stamp) (a b : Entry) → (k ≡ j → ⊥) → insert (insert m j a) k b
+    ≡ insert (insert m k b) j a
 insert_swap m j k a b differ =
     same_map stamp_cmp_total stamp_cmp-IsAntisymmetric _ _
     (λ q.
-    get-insert stamp_cmp_total (insert m j a) k b q ∙ ap (cond (eq_by_cmp stamp_cmp q k) (Some b)) (get-insert stamp_cmp_total m j a q)
+    get-insert stamp_cmp_total (insert m j a) k b q ∙ ap (cond (eq_by_cmp stamp_cmp q k) (Some b))
+    (get-insert stamp_cmp_total m j a q)
     ∙ in_turn _ _ _ _ _ (λ x y. differ (sym (same_from_tied q k x) ∙ same_from_tied q j y))
-    ∙ sym (get-insert stamp_cmp_total (insert m k b) j a q ∙ ap (cond (eq_by_cmp stamp_cmp q j) (Some a)) (get-insert stamp_cmp_total m k b q)))
+    ∙ sym (get-insert stamp_cmp_total (insert m k b) j a q ∙ ap (cond (eq_by_cmp stamp_cmp q j) (Some a))
+    (get-insert stamp_cmp_total m k b q)))
 
 first_differs : (first : Stamp) (offset : ℕ) → 0 < offset → first ≡ stamp_behind first offset → ⊥
-first_differs first offset inside same = let counters : first.counter ≡ first.counter + offset = ap (λ (s : Stamp). s.counter) same in omega arith
+first_differs first offset inside same = let counters : first.counter ≡ first.counter + offset =
+    ap (λ (s : Stamp). s.counter) same in omega arith
 
 -- where the right part stands, the block is still found under its first stamp
-pub still_there : (es : List (Key × Entry)) (m : Index) (first : Stamp) (offset : ℕ) (whole right : Entry) → 0 < offset → get m first ≡ Some whole
+pub still_there : (es : List (Key × Entry)) (m : Index) (first : Stamp) (offset : ℕ) (whole right : Entry) →
+    0 < offset → get m first ≡ Some whole
     → index_of es ≡ insert m (stamp_behind first offset) right → lookup (is_at (key_cmp (key_of first))) es ≡ Some whole
 still_there es m first offset whole right inside is entered =
-    sym (get-kept es _ first entered) ∙ get_beside m (stamp_behind first offset) right first (apart_stamps _ _ (first_differs first offset inside)) ∙ is
+    sym (get-kept es _ first entered) ∙ get_beside m (stamp_behind first offset) right first
+    (apart_stamps _ _ (first_differs first offset inside)) ∙ is
 
 -- and once the left part is shortened, the block is cut
-pub cut_kept : (es fs : List (Key × Entry)) (m : Index) (first : Stamp) (offset : ℕ) (whole right left : Entry) → 0 < offset
-    → index_of es ≡ insert m (stamp_behind first offset) right → Updated es fs first (Some left) → left ≡ record whole { len = offset }
+pub cut_kept : (es fs : List (Key × Entry)) (m : Index) (first : Stamp) (offset : ℕ) (whole right left : Entry) →
+    0 < offset
+    → index_of es ≡ insert m (stamp_behind first offset) right → Updated es fs first (Some left) →
+    left ≡ record whole { len = offset }
     → index_of fs ≡ insert (insert m first (record whole { len = offset })) (stamp_behind first offset) right
 cut_kept es fs m first offset whole right left inside entered shortened is =
-    kept_insert es fs _ first left entered shortened ∙ insert_swap m (stamp_behind first offset) first right left (first_differs first offset inside)
+    kept_insert es fs _ first left entered shortened ∙ insert_swap m (stamp_behind first offset) first right left
+    (first_differs first offset inside)
     ∙ ap (λ (e : Entry). insert (insert m first e) (stamp_behind first offset) right) is
 
 pub same_entry : (a b : Entry) → Some a ≡ Some b → a ≡ b

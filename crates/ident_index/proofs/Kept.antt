@@ -25,7 +25,8 @@ key_cmp a b = ordering_then (nat_cmp a.replica b.replica) (nat_cmp a.counter b.c
 abbrev pub key_of : Stamp → Key
 key_of s = record { replica = s.replica; counter = s.counter }
 
-find-by_stamp : (s : Stamp) (es : List (Key × Entry)) → find stamp_cmp s (by_stamp es) ≡ lookup (is_at (key_cmp (key_of s))) es
+find-by_stamp : (s : Stamp) (es : List (Key × Entry)) → find stamp_cmp s (by_stamp es)
+    ≡ lookup (is_at (key_cmp (key_of s))) es
 find-by_stamp s [] = refl
 find-by_stamp s (e ∷ es) = ap (cond (eq_by_cmp stamp_cmp s (stamp_of e.0)) (Some e.1)) (find-by_stamp s es)
 
@@ -34,28 +35,35 @@ pub get-index_of : (es : List (Key × Entry)) (s : Stamp) → get (index_of es) 
 get-index_of es s = get-from_entries stamp_cmp_total (by_stamp es) s ∙ find-by_stamp s es
 
 -- the same of an index that is known to be kept so
-pub get-kept : (es : List (Key × Entry)) (m : Index) (s : Stamp) → index_of es ≡ m → get m s ≡ lookup (is_at (key_cmp (key_of s))) es
+pub get-kept : (es : List (Key × Entry)) (m : Index) (s : Stamp) → index_of es ≡ m →
+    get m s ≡ lookup (is_at (key_cmp (key_of s))) es
 get-kept es m s is = ap (λ n. get n s) (sym is) ∙ get-index_of es s
 
 -- the entries fs have w at the key of k, and else what es has
 abbrev pub Updated : List (Key × Entry) → List (Key × Entry) → Stamp → Option Entry → Type 0
-Updated es fs k w = (q : Key) → lookup (is_at (key_cmp q)) fs ≡ cond (is_at (key_cmp (key_of k)) q) w (lookup (is_at (key_cmp q)) es)
+Updated es fs k w = (q : Key) → lookup (is_at (key_cmp q)) fs ≡ cond (is_at (key_cmp (key_of k)) q) w
+    (lookup (is_at (key_cmp q)) es)
 
-get_updated : (es fs : List (Key × Entry)) (m : Index) (k : Stamp) (w : Option Entry) → index_of es ≡ m → Updated es fs k w
+get_updated : (es fs : List (Key × Entry)) (m : Index) (k : Stamp) (w : Option Entry) → index_of es ≡ m →
+    Updated es fs k w
     → (q : Stamp) → get (index_of fs) q ≡ cond (eq_by_cmp stamp_cmp q k) w (get m q)
 get_updated es fs m k w is updated q =
     get-index_of fs q ∙ updated (key_of q) ∙ ap (λ b. cond b w (lookup (is_at (key_cmp (key_of q))) es)) (flipped k q)
     ∙ ap (cond (eq_by_cmp stamp_cmp q k) w) (sym (get-kept es m q is))
 
 -- a map that has e at the key of k is kept as the index with e at k
-pub kept_insert : (es fs : List (Key × Entry)) (m : Index) (k : Stamp) (e : Entry) → index_of es ≡ m → Updated es fs k (Some e) → index_of fs ≡ insert m k e
+pub kept_insert : (es fs : List (Key × Entry)) (m : Index) (k : Stamp) (e : Entry) → index_of es ≡ m →
+    Updated es fs k (Some e) → index_of fs ≡ insert m k e
 kept_insert es fs m k e is updated =
-    same_map stamp_cmp_total stamp_cmp-IsAntisymmetric _ _ (λ q. get_updated es fs m k (Some e) is updated q ∙ sym (get-insert stamp_cmp_total m k e q))
+    same_map stamp_cmp_total stamp_cmp-IsAntisymmetric _ _ (λ q. get_updated es fs m k (Some e) is updated q
+    ∙ sym (get-insert stamp_cmp_total m k e q))
 
 -- a map that has nothing at the key of k is kept as the index without k
-pub kept_remove : (es fs : List (Key × Entry)) (m : Index) (k : Stamp) → index_of es ≡ m → Updated es fs k None → index_of fs ≡ remove m k
+pub kept_remove : (es fs : List (Key × Entry)) (m : Index) (k : Stamp) → index_of es ≡ m → Updated es fs k None →
+    index_of fs ≡ remove m k
 kept_remove es fs m k is updated =
-    same_map stamp_cmp_total stamp_cmp-IsAntisymmetric _ _ (λ q. get_updated es fs m k None is updated q ∙ sym (get-remove stamp_cmp_total m k q))
+    same_map stamp_cmp_total stamp_cmp-IsAntisymmetric _ _ (λ q. get_updated es fs m k None is updated q
+    ∙ sym (get-remove stamp_cmp_total m k q))
 
 -- what is there is not absent
 pub there : (o : Option Entry) → IsSome o → o ≡ None → ⊥

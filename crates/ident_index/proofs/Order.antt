@@ -10,7 +10,8 @@ use Rattle.pad_model.specs.Stamp.{Stamp}
 use Rattle.ident_index.specs.Index.{stamp_cmp}
 
 pub stamp_cmp_total : IsTotalOrder stamp_cmp
-stamp_cmp_total = then_total (on_total (λ (s : Stamp). s.replica) nat_cmp_total) (on_total (λ (s : Stamp). s.counter) nat_cmp_total)
+stamp_cmp_total = then_total (on_total (λ (s : Stamp). s.replica) nat_cmp_total)
+    (on_total (λ (s : Stamp). s.counter) nat_cmp_total)
 
 then_first : (r s : Ordering) → ordering_then r s ≡ Equal → r ≡ Equal
 then_first Less s e = e

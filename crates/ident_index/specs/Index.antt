@@ -21,11 +21,13 @@ Index = FinMap stamp_cmp Entry
 
 -- a stamp is stored as its counter and its replica
 abbrev pub stamp_code : Coded Stamp
-stamp_code = code_by (ℕ × ℕ) (coded× coded_ℕ coded_ℕ) (λ s. (s.counter, s.replica)) (λ p. record { counter = p.0; replica = p.1 }) (λ _. refl)
+stamp_code = code_by (ℕ × ℕ) (coded× coded_ℕ coded_ℕ) (λ s. (s.counter, s.replica))
+    (λ p. record { counter = p.0; replica = p.1 }) (λ _. refl)
 
 -- an entry is stored as its length and its label
 abbrev pub entry_code : Coded Entry
-entry_code = code_by (ℕ × ℕ) (coded× coded_ℕ coded_ℕ) (λ e. (e.len, e.label)) (λ p. record { len = p.0; label = p.1 }) (λ _. refl)
+entry_code = code_by (ℕ × ℕ) (coded× coded_ℕ coded_ℕ) (λ e. (e.len, e.label)) (λ p. record { len = p.0; label = p.1 })
+    (λ _. refl)
 
 -- an index is stored as its entries in order
 abbrev pub index_code : Coded Index
@@ -72,7 +74,8 @@ pub record IsPlace (m : Index) (s : Stamp) (p : Place) : Type 0 where
 abbrev pub IsCut : Index → Index → Stamp → ℕ → ℕ → Type 0
 IsCut old new first offset label =
     IsSomeAnd (get old first) (λ e.
-    new ≡ insert (insert old first (record e { len = offset })) (stamp_behind first offset) (record { len = e.len - offset; label = label }))
+    new ≡ insert (insert old first (record e { len = offset })) (stamp_behind first offset)
+    (record { len = e.len - offset; label = label }))
 
 -- new is old with the label of the block changed
 abbrev pub IsRelabelled : Index → Index → Stamp → ℕ → Type 0

@@ -1,12 +1,14 @@
 -- What changes that are not refused keep to.
-use Rattle.std.proofs.Common.{◌≡◌, ℕ, ◌+◌, ◌≤◌, ◌<◌, Bool, true, false, ◌||◌, cond, eqb, ltb, List, [], ◌∷◌, length, min, sum_by, Option, Some, None, refl, arith, ltb-false, leb-false, le-ltb}
+use Rattle.std.proofs.Common.{◌≡◌, ℕ, ◌+◌, ◌≤◌, ◌<◌, Bool, true, false, ◌||◌, cond, eqb, ltb, List, [], ◌∷◌, length}
+use Rattle.std.proofs.Common.{min, sum_by, Option, Some, None, refl, arith, ltb-false, leb-false, le-ltb}
 use Rattle.std.proofs.lemmas.Bool.{or_parts}
 use Rattle.std.proofs.lemmas.List.Sums.{sum_by-cons}
 use Rattle.std.specs.List.{AllByRecursion, list_any}
 use Rattle.pad_model.specs.History.{IsHistory, clock_of_characters}
 use Rattle.pad_model.specs.Operation.{characters_in}
 use Rattle.pad_model.specs.Visible.{visible}
-use Rattle.pad_model.specs.declared.limits.TheConstants.{MAX_TEXT, MAX_PARTS, MAX_CHARACTERS, MAX_COUNTER, MAX_OPERATIONS}
+use Rattle.pad_model.specs.declared.limits.TheConstants.{MAX_TEXT, MAX_PARTS, MAX_CHARACTERS, MAX_COUNTER}
+use Rattle.pad_model.specs.declared.limits.TheConstants.{MAX_OPERATIONS}
 use Rattle.pad_model.specs.declared.op.Op.{Op}
 use Rattle.pad_model.specs.declared.refusal.Refusal.{Refusal}
 use Rattle.pad_model.specs.declared.refusal.Refusal.TheVariants.{Empty, TooMuch}
@@ -21,10 +23,12 @@ use Rattle.pad_core.proofs.Others.{not_zero}
 
 -- the greatest counter of a history is within the limit
 pub clock_low : (log : List Op) → IsHistory log → clock_of_characters (characters_in log).inserted ≤ MAX_COUNTER
-clock_low log h = greatest_least (λ c. c) (characters_in log).inserted 0 MAX_COUNTER (omega arith) (low_continues [] log h)
+clock_low log h = greatest_least (λ c. c) (characters_in log).inserted 0 MAX_COUNTER (omega arith)
+    (low_continues [] log h)
 
 -- a check that does not refuse is passed, and the others too
-pub unless : (b : Bool) (r : Refusal) (rest : Option Refusal) → cond b (Some r) rest ≡ None → (b ≡ false) × (rest ≡ None)
+pub unless : (b : Bool) (r : Refusal) (rest : Option Refusal) → cond b (Some r) rest ≡ None → (b ≡ false)
+    × (rest ≡ None)
 unless true r rest e = absurd (cc)
 unless false r rest e = (refl, e)
 
@@ -57,7 +61,8 @@ pub record Allowed (rev : ℕ) (changes : List Change) (log : List Op) : Type 0 
   pub grows : HasRoom (sum_by growth_of changes) log
 
 -- changes that are not refused keep to it
-pub allowed : (rev : ℕ) (changes : List Change) (log : List Op) → edit_refusal rev changes log ≡ None → Allowed rev changes log
+pub allowed : (rev : ℕ) (changes : List Change) (log : List Op) → edit_refusal rev changes log ≡ None →
+    Allowed rev changes log
 allowed rev changes log e =
     let a = unless _ _ _ e in
     let b = unless _ _ _ a.1 in
@@ -87,23 +92,34 @@ growth-le-size (change ∷ changes) =
     let rest = growth-le-size changes in
     omega (arith, sum_by-cons growth_of change changes, sum_by-cons size_of change changes)
 
--- changes that the revision shows are refused where they do nothing, then where they are too much, and else where there is no room
-pub refused_idle : (rev : ℕ) (changes : List Change) (log : List Op) → rev ≤ length log → list_any (is_outside (length (visible (characters_at rev log)))) changes ≡ false →
+-- changes that the revision shows are refused where they do nothing, then where they are too much, and else where there
+-- is no room
+pub refused_idle : (rev : ℕ) (changes : List Change) (log : List Op) → rev ≤ length log →
+    list_any (is_outside (length (visible (characters_at rev log)))) changes ≡ false →
     (eqb (length changes) 0 || list_any is_blank changes) ≡ true → edit_refusal rev changes log ≡ Some Empty
 refused_idle rev changes log known within idle = rw (le-ltb (length log) rev known, within, idle) refl
 
-pub refused_much : (rev : ℕ) (changes : List Change) (log : List Op) → rev ≤ length log → list_any (is_outside (length (visible (characters_at rev log)))) changes ≡ false →
-    (eqb (length changes) 0 || list_any is_blank changes) ≡ false → (ltb MAX_PARTS (length changes) || ltb MAX_TEXT (sum_by size_of changes)) ≡ true → edit_refusal rev changes log ≡ Some TooMuch
+pub refused_much : (rev : ℕ) (changes : List Change) (log : List Op) → rev ≤ length log →
+    list_any (is_outside (length (visible (characters_at rev log)))) changes ≡ false →
+    (eqb (length changes) 0 || list_any is_blank changes) ≡ false →
+    (ltb MAX_PARTS (length changes) || ltb MAX_TEXT (sum_by size_of changes)) ≡ true → edit_refusal rev changes log
+    ≡ Some TooMuch
 refused_much rev changes log known within idle much = rw (le-ltb (length log) rev known, within, idle, much) refl
 
-pub refused_growth : (rev : ℕ) (changes : List Change) (log : List Op) → rev ≤ length log → list_any (is_outside (length (visible (characters_at rev log)))) changes ≡ false →
-    (eqb (length changes) 0 || list_any is_blank changes) ≡ false → (ltb MAX_PARTS (length changes) || ltb MAX_TEXT (sum_by size_of changes)) ≡ false → edit_refusal rev changes log ≡ growth_refusal (sum_by growth_of changes) log
+pub refused_growth : (rev : ℕ) (changes : List Change) (log : List Op) → rev ≤ length log →
+    list_any (is_outside (length (visible (characters_at rev log)))) changes ≡ false →
+    (eqb (length changes) 0 || list_any is_blank changes) ≡ false →
+    (ltb MAX_PARTS (length changes) || ltb MAX_TEXT (sum_by size_of changes)) ≡ false → edit_refusal rev changes log
+    ≡ growth_refusal (sum_by growth_of changes) log
 refused_growth rev changes log known within idle much = rw (le-ltb (length log) rev known, within, idle, much) refl
 
 -- the growth of changes that are not too much was counted in full
-pub grown : (changes : List Change) (total : ℕ) → (ltb MAX_PARTS (length changes) || ltb MAX_TEXT (sum_by size_of changes)) ≡ false → total ≡ min (sum_by growth_of changes) 18446744073709551615 →
+pub grown : (changes : List Change) (total : ℕ) →
+    (ltb MAX_PARTS (length changes) || ltb MAX_TEXT (sum_by size_of changes)) ≡ false →
+    total ≡ min (sum_by growth_of changes) 18446744073709551615 →
     (total ≡ sum_by growth_of changes) × (total ≤ MAX_TEXT)
 grown changes total few is =
-    let small = ltb-false MAX_TEXT (sum_by size_of changes) (or_parts (ltb MAX_PARTS (length changes)) (ltb MAX_TEXT (sum_by size_of changes)) few).1 in
+    let small = ltb-false MAX_TEXT (sum_by size_of changes)
+    (or_parts (ltb MAX_PARTS (length changes)) (ltb MAX_TEXT (sum_by size_of changes)) few).1 in
     let less = growth-le-size changes in
     (omega arith, omega arith)

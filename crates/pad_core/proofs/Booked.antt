@@ -1,5 +1,6 @@
 -- The book of a log, as the log grows.
-use Rattle.std.proofs.Common.{◌≡◌, ◌⊎◌, inl, inr, ℕ, suc, ◌+◌, ◌≤◌, Bool, true, false, ◌&&◌, ◌||◌, cond, leb, leb-true, List, [], ◌∷◌, ◌++◌, length, fold, count_by, None, refl, sym, ap, ◌∙◌, arith}
+use Rattle.std.proofs.Common.{◌≡◌, ◌⊎◌, inl, inr, ℕ, suc, ◌+◌, ◌≤◌, Bool, true, false, ◌&&◌, ◌||◌, cond, leb, leb-true}
+use Rattle.std.proofs.Common.{List, [], ◌∷◌, ◌++◌, length, fold, count_by, None, refl, sym, ap, ◌∙◌, arith}
 use Rattle.std.specs.List.{AllByRecursion, list_any, list_all}
 use Rattle.std.proofs.Math.Bool.{or-false, or_assoc}
 use Rattle.std.proofs.lemmas.Bool.{and_parts, or_cases, false≢true}
@@ -14,20 +15,24 @@ use Rattle.pad_model.specs.declared.op.Part.{Part}
 use Rattle.pad_model.specs.declared.op.Part.TheVariants.{Insert, Delete, Comment, Resolve}
 use Rattle.anchors.specs.Comments as book
 use Rattle.anchors.specs.declared.comment.Comment as kept
-use Rattle.anchors.proofs.CallerLemmas.{is_comment-with_comment, is_comment-with_resolution, length-with_comment, length-with_resolution}
+use Rattle.anchors.proofs.CallerLemmas.{is_comment-with_comment, is_comment-with_resolution, length-with_comment}
+use Rattle.anchors.proofs.CallerLemmas.{length-with_resolution}
 use Rattle.pad_core.specs.Book.{entered, book_from, book_of}
 use Rattle.pad_core.specs.Delivered.{IsDelivered}
 use Rattle.pad_core.specs.Notes.{has_comment}
 
-book_from-push : (rev : ℕ) (comments : List kept.Comment) (log : List Op) (op : Op) → book_from rev comments (log ++ op ∷ []) ≡ fold (entered (rev + length log) op) (book_from rev comments log) op.parts
-book_from-push rev comments [] op = let at : rev ≡ rev + 0 = omega arith in ap (λ now. fold (entered now op) comments op.parts) at
+book_from-push : (rev : ℕ) (comments : List kept.Comment) (log : List Op) (op : Op) →
+    book_from rev comments (log ++ op ∷ []) ≡ fold (entered (rev + length log) op) (book_from rev comments log) op.parts
+book_from-push rev comments [] op = let at : rev ≡ rev + 0 = omega arith in
+    ap (λ now. fold (entered now op) comments op.parts) at
 book_from-push rev comments (x ∷ log) op =
     let later : suc rev + length log ≡ rev + length (x ∷ log) = omega arith in
     book_from-push (suc rev) (fold (entered rev x) comments x.parts) log op
     ∙ ap (λ at. fold (entered at op) (book_from (suc rev) (fold (entered rev x) comments x.parts) log) op.parts) later
 
 -- one more operation enters its parts
-pub book_of-push : (log : List Op) (op : Op) → book_of (log ++ op ∷ []) ≡ fold (entered (length log + 1) op) (book_of log) op.parts
+pub book_of-push : (log : List Op) (op : Op) → book_of (log ++ op ∷ []) ≡ fold (entered (length log + 1) op)
+    (book_of log) op.parts
 book_of-push log op =
     let at : 1 + length log ≡ length log + 1 = omega arith in
     book_from-push 1 [] log op ∙ ap (λ rev. fold (entered rev op) (book_of log) op.parts) at
@@ -41,7 +46,8 @@ or_again false false false = refl
 
 -- the names of a book once parts are entered
 named_entered : (rev : ℕ) (op : Op) (comments : List kept.Comment) (parts : List Part) (name : OpName) →
-    book.is_comment name (fold (entered rev op) comments parts) ≡ (book.is_comment name comments || (list_any is_comment_part parts && same_name op.name name))
+    book.is_comment name (fold (entered rev op) comments parts)
+    ≡ (book.is_comment name comments || (list_any is_comment_part parts && same_name op.name name))
 named_entered rev op comments [] name = sym (or-false (book.is_comment name comments))
 named_entered rev op comments (Insert run ∷ parts) name = named_entered rev op comments parts name
 named_entered rev op comments (Delete spans ∷ parts) name = named_entered rev op comments parts name
@@ -55,9 +61,11 @@ named_entered rev op comments (Comment first last text ∷ parts) name =
     ∙ or_again s b c
 named_entered rev op comments (Resolve comment ∷ parts) name =
     named_entered rev op (book.with_resolution comment rev comments) parts name
-    ∙ ap (λ x. x || (list_any is_comment_part parts && same_name op.name name)) (is_comment-with_resolution comment rev comments name)
+    ∙ ap (λ x. x || (list_any is_comment_part parts && same_name op.name name))
+    (is_comment-with_resolution comment rev comments name)
 
-named_from : (rev : ℕ) (comments : List kept.Comment) (log : List Op) (name : OpName) → book.is_comment name (book_from rev comments log) ≡ (book.is_comment name comments || has_comment name log)
+named_from : (rev : ℕ) (comments : List kept.Comment) (log : List Op) (name : OpName) →
+    book.is_comment name (book_from rev comments log) ≡ (book.is_comment name comments || has_comment name log)
 named_from rev comments [] name = sym (or-false (book.is_comment name comments))
 named_from rev comments (op ∷ log) name =
     named_from (suc rev) (fold (entered rev op) comments op.parts) log name
@@ -69,15 +77,19 @@ pub named_in_book : (log : List Op) (name : OpName) → book.is_comment name (bo
 named_in_book log name = named_from 1 [] log name
 
 -- and so those of a delivered one
-pub is_comment-book_of : (log : List Op) → IsDelivered log → (name : OpName) → book.is_comment name (book_of log) ≡ has_comment name log
+pub is_comment-book_of : (log : List Op) → IsDelivered log → (name : OpName) → book.is_comment name (book_of log)
+    ≡ has_comment name log
 is_comment-book_of log delivered name = named_in_book log name
 
--- what holds of insertions and deletions, of one comment and of one resolution holds of the parts of an operation in the limits
-pub by_parts : (P : List Part → Type 0) → ((parts : List Part) → list_all is_edit parts ≡ true → P parts) → ((first last : Stamp) (text : List ℕ) → P (Comment first last text ∷ [])) →
+-- what holds of insertions and deletions, of one comment and of one resolution holds of the parts of an operation in
+-- the limits
+pub by_parts : (P : List Part → Type 0) → ((parts : List Part) → list_all is_edit parts ≡ true → P parts) →
+    ((first last : Stamp) (text : List ℕ) → P (Comment first last text ∷ [])) →
     ((comment : OpName) → P (Resolve comment ∷ [])) → (op : Op) → is_checked op ≡ true → P op.parts
 by_parts P edits comments resolves op checked =
     let parts = (and_parts _ _ checked).1 in
-    cases op.parts (or_cases (leb (length op.parts) 1) (list_all is_edit op.parts) (and_parts _ _ (and_parts _ _ (and_parts _ _ (and_parts _ _ parts).0).0).0).1)
+    cases op.parts (or_cases (leb (length op.parts) 1) (list_all is_edit op.parts)
+    (and_parts _ _ (and_parts _ _ (and_parts _ _ (and_parts _ _ parts).0).0).0).1)
   where
     cases : (parts : List Part) → (leb (length parts) 1 ≡ true) ⊎ (list_all is_edit parts ≡ true) → P parts
     cases parts (inr all) = edits parts all
@@ -89,7 +101,8 @@ by_parts P edits comments resolves op checked =
     cases (x ∷ y ∷ parts) (inl one) = absurd (let few : suc (suc (length parts)) ≤ 1 = leb-true _ _ one in omega arith)
 
 -- insertions and deletions enter nothing
-pub edits_enter : (rev : ℕ) (op : Op) (comments : List kept.Comment) (parts : List Part) → list_all is_edit parts ≡ true → fold (entered rev op) comments parts ≡ comments
+pub edits_enter : (rev : ℕ) (op : Op) (comments : List kept.Comment) (parts : List Part) → list_all is_edit parts
+    ≡ true → fold (entered rev op) comments parts ≡ comments
 edits_enter rev op comments [] edits = refl
 edits_enter rev op comments (Insert run ∷ parts) edits = edits_enter rev op comments parts edits
 edits_enter rev op comments (Delete spans ∷ parts) edits = edits_enter rev op comments parts edits
@@ -105,18 +118,24 @@ edits_comment (Comment first last text ∷ parts) edits = absurd (false≢true e
 edits_comment (Resolve comment ∷ parts) edits = absurd (false≢true edits)
 
 -- how long a book is once an operation is entered
-length_entered : (rev : ℕ) (op : Op) (comments : List kept.Comment) → is_checked op ≡ true → length (fold (entered rev op) comments op.parts) ≡ length comments + cond (is_comment op) 1 0
+length_entered : (rev : ℕ) (op : Op) (comments : List kept.Comment) → is_checked op ≡ true →
+    length (fold (entered rev op) comments op.parts) ≡ length comments + cond (is_comment op) 1 0
 length_entered rev op comments checked =
-    by_parts (λ parts. length (fold (entered rev op) comments parts) ≡ length comments + cond (list_any is_comment_part parts) 1 0)
-    (λ parts edits. no_more (ap length (edits_enter rev op comments parts edits)) ∙ ap (λ b. length comments + cond b 1 0) (sym (edits_comment parts edits)))
-    (λ first last text. length-with_comment comments (record { name = op.name; first = first; last = last; author = author_of op; text = text; born = rev; resolved = None }))
+    by_parts (λ parts. length (fold (entered rev op) comments parts) ≡ length comments
+    + cond (list_any is_comment_part parts) 1 0)
+    (λ parts edits. no_more (ap length (edits_enter rev op comments parts edits))
+    ∙ ap (λ b. length comments + cond b 1 0) (sym (edits_comment parts edits)))
+    (λ first last text. length-with_comment comments
+    (record { name = op.name; first = first; last = last; author = author_of op; text = text; born = rev; resolved = None }))
     (λ comment. no_more (length-with_resolution comment rev comments))
     op checked
   where
     no_more : {n m : ℕ} → n ≡ m → n ≡ m + 0
     no_more same = omega arith
 
-length_from : (rev : ℕ) (comments : List kept.Comment) (log : List Op) → AllByRecursion (λ op. is_checked op ≡ true) log → length (book_from rev comments log) ≡ fold (λ n op. n + cond (is_comment op) 1 0) (length comments) log
+length_from : (rev : ℕ) (comments : List kept.Comment) (log : List Op) →
+    AllByRecursion (λ op. is_checked op ≡ true) log → length (book_from rev comments log)
+    ≡ fold (λ n op. n + cond (is_comment op) 1 0) (length comments) log
 length_from rev comments [] checked = refl
 length_from rev comments (op ∷ log) checked =
     length_from (suc rev) (fold (entered rev op) comments op.parts) log checked.1

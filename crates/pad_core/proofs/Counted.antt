@@ -1,5 +1,6 @@
 -- Counts of a log's operations, and names that follow from them.
-use Rattle.std.proofs.Common.{◌≡◌, ◌≢◌, ℕ, ◌+◌, ◌≤◌, ◌<◌, false, eqb, List, [], ◌∷◌, ◌++◌, length, fold, refl, sym, subst, arith, eqb-true}
+use Rattle.std.proofs.Common.{◌≡◌, ◌≢◌, ℕ, ◌+◌, ◌≤◌, ◌<◌, false, eqb, List, [], ◌∷◌, ◌++◌, length, fold, refl, sym}
+use Rattle.std.proofs.Common.{subst, arith, eqb-true}
 use Rattle.std.proofs.lemmas.Bool.{eqb-false, and_parts}
 use Rattle.std.specs.List.{AllByRecursion, list_any}
 use Rattle.pad_model.specs.Log.{same_name}
@@ -11,7 +12,8 @@ use Rattle.pad_model.proofs.Newer.{split}
 use Rattle.pad_model.proofs.SeenLemmas.{count_in-with_count, count_in-with_other, IsVector-with_count}
 use Rattle.pad_core.specs.Counts.{counted, vector_of, AreNumbered}
 
-fold-push : (v : List Counted) (log : List Op) (op : Op) → fold counted v (log ++ op ∷ []) ≡ counted (fold counted v log) op
+fold-push : (v : List Counted) (log : List Op) (op : Op) → fold counted v (log ++ op ∷ [])
+    ≡ counted (fold counted v log) op
 fold-push v [] op = refl
 fold-push v (x ∷ log) op = fold-push (counted v x) log op
 
@@ -21,62 +23,79 @@ vector_of-push log op = fold-push [] log op
 
 vector-fold : (v : List Counted) (log : List Op) → IsVector v → IsVector (fold counted v log)
 vector-fold v [] h = h
-vector-fold v (op ∷ log) h = vector-fold (counted v op) log (IsVector-with_count v op.name.origin (count_in v op.name.origin + 1) h)
+vector-fold v (op ∷ log) h = vector-fold (counted v op) log
+    (IsVector-with_count v op.name.origin (count_in v op.name.origin + 1) h)
 
 -- the counts are a version vector
 pub IsVector-vector_of : (log : List Op) → IsVector (vector_of log)
 IsVector-vector_of log = vector-fold [] log tt
 
 -- the count of its origin rises by one, and no other
-pub count_in-counted : (v : List Counted) (op : Op) → IsVector v → count_in (counted v op) op.name.origin ≡ count_in v op.name.origin + 1
+pub count_in-counted : (v : List Counted) (op : Op) → IsVector v → count_in (counted v op) op.name.origin
+    ≡ count_in v op.name.origin + 1
 count_in-counted v op h = count_in-with_count v h op.name.origin (count_in v op.name.origin + 1)
 
-pub count_in-other : (v : List Counted) (op : Op) (origin : ℕ) → origin ≢ op.name.origin → count_in (counted v op) origin ≡ count_in v origin
+pub count_in-other : (v : List Counted) (op : Op) (origin : ℕ) → origin ≢ op.name.origin →
+    count_in (counted v op) origin ≡ count_in v origin
 count_in-other v op origin differs = count_in-with_other v op.name.origin (count_in v op.name.origin + 1) origin differs
 
-pub counted_most : (v : List Counted) (op : Op) (origin : ℕ) → IsVector v → (count_in (counted v op) origin ≤ count_in v origin + 1) × (count_in v origin ≤ count_in (counted v op) origin)
+pub counted_most : (v : List Counted) (op : Op) (origin : ℕ) → IsVector v →
+    (count_in (counted v op) origin ≤ count_in v origin + 1) × (count_in v origin ≤ count_in (counted v op) origin)
 counted_most v op origin h =
     split (eqb origin op.name.origin)
     (λ e. let same : origin ≡ op.name.origin = eqb-true origin op.name.origin e in
-    let more : count_in (counted v op) origin ≡ count_in v origin + 1 = subst (λ o. count_in (counted v op) o ≡ count_in v o + 1) (sym same) (count_in-counted v op h) in
+    let more : count_in (counted v op) origin ≡ count_in v origin + 1 =
+    subst (λ o. count_in (counted v op) o ≡ count_in v o + 1) (sym same) (count_in-counted v op h) in
     (omega arith, omega arith))
-    (λ e. let other : count_in (counted v op) origin ≡ count_in v origin = count_in-other v op origin (λ same. eqb-false origin op.name.origin e same) in
+    (λ e. let other : count_in (counted v op) origin ≡ count_in v origin = count_in-other v op origin
+    (λ same. eqb-false origin op.name.origin e same) in
     (omega arith, omega arith))
 
-fold_most : (v : List Counted) (log : List Op) (origin : ℕ) → IsVector v → (count_in (fold counted v log) origin ≤ count_in v origin + length log) × (count_in v origin ≤ count_in (fold counted v log) origin)
+fold_most : (v : List Counted) (log : List Op) (origin : ℕ) → IsVector v →
+    (count_in (fold counted v log) origin ≤ count_in v origin + length log)
+    × (count_in v origin ≤ count_in (fold counted v log) origin)
 fold_most v [] origin h = (omega arith, omega arith)
 fold_most v (op ∷ log) origin h =
     let one = counted_most v op origin h in
-    let rest = fold_most (counted v op) log origin (IsVector-with_count v op.name.origin (count_in v op.name.origin + 1) h) in
+    let rest = fold_most (counted v op) log origin (IsVector-with_count v op.name.origin (count_in v op.name.origin
+    + 1) h) in
     let a = one.0 in let b = one.1 in let c = rest.0 in let d = rest.1 in
     (omega arith, omega arith)
 
 -- no count is above the number of operations
 pub count_in-le-length : (log : List Op) (origin : ℕ) → count_in (vector_of log) origin ≤ length log
-count_in-le-length log origin = let most : count_in (vector_of log) origin ≤ 0 + length log = (fold_most [] log origin tt).0 in omega arith
+count_in-le-length log origin = let most : count_in (vector_of log) origin ≤ 0 + length log =
+    (fold_most [] log origin tt).0 in omega arith
 
-numbered-push : (v : List Counted) (log : List Op) (op : Op) → AreNumbered v log → op.name.number ≡ count_in (fold counted v log) op.name.origin + 1 → AreNumbered v (log ++ op ∷ [])
+numbered-push : (v : List Counted) (log : List Op) (op : Op) → AreNumbered v log → op.name.number
+    ≡ count_in (fold counted v log) op.name.origin + 1 → AreNumbered v (log ++ op ∷ [])
 numbered-push v [] op n e = (e, tt)
 numbered-push v (x ∷ log) op n e = (n.0, numbered-push (counted v x) log op n.1 e)
 
 -- the next operation of an origin is numbered so
-pub AreNumbered-push : (log : List Op) (op : Op) → AreNumbered [] log → op.name.number ≡ count_in (vector_of log) op.name.origin + 1 → AreNumbered [] (log ++ op ∷ [])
+pub AreNumbered-push : (log : List Op) (op : Op) → AreNumbered [] log → op.name.number
+    ≡ count_in (vector_of log) op.name.origin + 1 → AreNumbered [] (log ++ op ∷ [])
 AreNumbered-push log op n e = numbered-push [] log op n e
 
-numbers_from : (v : List Counted) (log : List Op) → IsVector v → AreNumbered v log → AllByRecursion (λ op. op.name.number ≤ count_in (fold counted v log) op.name.origin) log
+numbers_from : (v : List Counted) (log : List Op) → IsVector v → AreNumbered v log →
+    AllByRecursion (λ op. op.name.number ≤ count_in (fold counted v log) op.name.origin) log
 numbers_from v [] h n = tt
 numbers_from v (op ∷ log) h n =
     let wide = IsVector-with_count v op.name.origin (count_in v op.name.origin + 1) h in
     let number : op.name.number ≡ count_in v op.name.origin + 1 = n.0 in
     let here : count_in (counted v op) op.name.origin ≡ count_in v op.name.origin + 1 = count_in-counted v op h in
-    let later : count_in (counted v op) op.name.origin ≤ count_in (fold counted (counted v op) log) op.name.origin = (fold_most (counted v op) log op.name.origin wide).1 in
+    let later : count_in (counted v op) op.name.origin ≤ count_in (fold counted (counted v op) log) op.name.origin =
+    (fold_most (counted v op) log op.name.origin wide).1 in
     (omega arith, numbers_from (counted v op) log wide n.1)
 
 -- no operation has a number above the count of its origin
-pub numbers_low : (log : List Op) → AreNumbered [] log → AllByRecursion (λ op. op.name.number ≤ count_in (vector_of log) op.name.origin) log
+pub numbers_low : (log : List Op) → AreNumbered [] log →
+    AllByRecursion (λ op. op.name.number ≤ count_in (vector_of log) op.name.origin) log
 numbers_low log n = numbers_from [] log tt n
 
-none_named : (v : List Counted) (log : List Op) (name : OpName) → AllByRecursion (λ op. op.name.number ≤ count_in v op.name.origin) log → count_in v name.origin < name.number → list_any (λ op. same_name op.name name) log ≡ false
+none_named : (v : List Counted) (log : List Op) (name : OpName) →
+    AllByRecursion (λ op. op.name.number ≤ count_in v op.name.origin) log → count_in v name.origin < name.number →
+    list_any (λ op. same_name op.name name) log ≡ false
 none_named v [] name low above = refl
 none_named v (op ∷ log) name low above =
     let rest = none_named v log name low.1 above in
@@ -89,5 +108,6 @@ none_named v (op ∷ log) name low above =
     (λ e. rw e rest)
 
 -- so a number above it is new
-pub name_fresh : (log : List Op) (name : OpName) → AreNumbered [] log → count_in (vector_of log) name.origin < name.number → list_any (λ op. same_name op.name name) log ≡ false
+pub name_fresh : (log : List Op) (name : OpName) → AreNumbered [] log → count_in (vector_of log) name.origin
+    < name.number → list_any (λ op. same_name op.name name) log ≡ false
 name_fresh log name n above = none_named (vector_of log) log name (numbers_low log n) above

@@ -1,5 +1,7 @@
 -- A log that goes on by an operation, and what is kept beside it.
-use Rattle.std.proofs.Common.{◌≡◌, ℕ, ◌+◌, ◌≤◌, ◌<◌, inl, inr, true, false, not, ◌&&◌, ◌||◌, cond, List, [], ◌∷◌, ◌++◌, length, map, fold, flat_map, count_by, slice_get, Option, Some, None, Result, Ok, Err, refl, sym, ap, ap₂, ◌∙◌, subst, arith, append-nil, lt-ltb}
+use Rattle.std.proofs.Common.{◌≡◌, ℕ, ◌+◌, ◌≤◌, ◌<◌, inl, inr, true, false, not, ◌&&◌, ◌||◌, cond, List, [], ◌∷◌, ◌++◌}
+use Rattle.std.proofs.Common.{length, map, fold, flat_map, count_by, slice_get, Option, Some, None, Result, Ok, Err}
+use Rattle.std.proofs.Common.{refl, sym, ap, ap₂, ◌∙◌, subst, arith, append-nil, lt-ltb}
 use Rattle.std.proofs.lemmas.Bool.{and_parts, and_from, false≢true}
 use Rattle.std.proofs.lemmas.List.{length-append}
 use Rattle.std.proofs.lemmas.List.Concat.{flat_map-append}
@@ -45,14 +47,18 @@ use Rattle.pad_core.proofs.Counted.{AreNumbered-push, name_fresh, vector_of-push
 use Rattle.pad_core.proofs.Judged.{Allowed, allowed}
 
 -- the characters of a longer log
-pub inserted-push : (log : List Op) (op : Op) → (characters_in (log ++ op ∷ [])).inserted ≡ (characters_in log).inserted ++ inserted_by op
-inserted-push log op = flat_map-append inserted_by log (op ∷ []) ∙ ap (λ l. (characters_in log).inserted ++ l) (append-nil (inserted_by op))
+pub inserted-push : (log : List Op) (op : Op) → (characters_in (log ++ op ∷ [])).inserted ≡ (characters_in log).inserted
+    ++ inserted_by op
+inserted-push log op = flat_map-append inserted_by log (op ∷ []) ∙ ap (λ l. (characters_in log).inserted ++ l)
+    (append-nil (inserted_by op))
 
 -- a log that may be delivered, with an operation that may be delivered next
-pub IsDelivered-push : (log : List Op) (op : Op) → IsDelivered log → is_checked op ≡ true → op.name.number ≡ count_in (vector_of log) op.name.origin + 1 → delivery_refusal op log ≡ None → IsDelivered (log ++ op ∷ [])
+pub IsDelivered-push : (log : List Op) (op : Op) → IsDelivered log → is_checked op ≡ true → op.name.number
+    ≡ count_in (vector_of log) op.name.origin + 1 → delivery_refusal op log ≡ None → IsDelivered (log ++ op ∷ [])
 IsDelivered-push log op d checked next none =
     let a : Allowed log op = allowed log op none in
-    let characters : length (characters_in (log ++ op ∷ [])).inserted ≡ length (characters_in log).inserted + length (inserted_by op) =
+    let characters : length (characters_in (log ++ op ∷ [])).inserted ≡ length (characters_in log).inserted
+    + length (inserted_by op) =
     ap length (inserted-push log op) ∙ length-append (characters_in log).inserted (inserted_by op) in
     let operations : length (log ++ op ∷ []) ≡ length log + 1 = length-append log (op ∷ []) in
     let room = a.room in
@@ -64,18 +70,22 @@ IsDelivered-push log op d checked next none =
       short = omega arith;
       few = split (is_comment op)
           (λ e.
-          let one_more : count_by is_comment (log ++ op ∷ []) ≡ count_by is_comment log + 1 = sum_by_push (λ o. cond (is_comment o) 1 0) log op ∙ ap (λ b. count_by is_comment log + cond b 1 0) e in
+          let one_more : count_by is_comment (log ++ op ∷ []) ≡ count_by is_comment log + 1 =
+          sum_by_push (λ o. cond (is_comment o) 1 0) log op ∙ ap (λ b. count_by is_comment log + cond b 1 0) e in
           let less : count_by is_comment log < MAX_COMMENTS = a.few e in
           omega arith)
           (λ e.
-          let as_many : count_by is_comment (log ++ op ∷ []) ≡ count_by is_comment log + 0 = sum_by_push (λ o. cond (is_comment o) 1 0) log op ∙ ap (λ b. count_by is_comment log + cond b 1 0) e in
+          let as_many : count_by is_comment (log ++ op ∷ []) ≡ count_by is_comment log + 0 =
+          sum_by_push (λ o. cond (is_comment o) 1 0) log op ∙ ap (λ b. count_by is_comment log + cond b 1 0) e in
           let few : count_by is_comment log ≤ MAX_COMMENTS = d.few in
           omega arith);
     }
 
 -- what an edit answers and leaves
-edit-made : (log : List Op) (op : Op) (cells : List Cell) (parts : List Part) (author : Author) (rev : ℕ) → IsHistory log → cells ≡ cells_of log → parts ≡ op.parts → author ≡ author_of op → rev ≡ length log + 1 →
-    is_checked op ≡ true → list_all is_edit op.parts ≡ true → is_valid op log ≡ true → length (characters_in log).inserted + length (inserted_by op) ≤ MAX_CHARACTERS →
+edit-made : (log : List Op) (op : Op) (cells : List Cell) (parts : List Part) (author : Author) (rev : ℕ) →
+    IsHistory log → cells ≡ cells_of log → parts ≡ op.parts → author ≡ author_of op → rev ≡ length log + 1 →
+    is_checked op ≡ true → list_all is_edit op.parts ≡ true → is_valid op log ≡ true →
+    length (characters_in log).inserted + length (inserted_by op) ≤ MAX_CHARACTERS →
     apply rev parts author cells ≡ (Ok (hidden_by (erased_by op) (characters_in log)), cells_of (log ++ op ∷ []))
 edit-made log op cells parts author rev h kept made who at checked edits valid room =
     ap (λ l. apply rev l author cells) made
@@ -89,10 +99,14 @@ edit-book : (log : List Op) (op : Op) → list_all is_edit op.parts ≡ true →
 edit-book log op edits = book_of-push log op ∙ edits_enter (length log + 1) op (book_of log) op.parts edits
 
 -- what a sequence answers to an edit
-pub edit_enters : (log : List Op) (op : Op) (cells new : List Cell) (comments : List kept.Comment) (parts : List Part) (author : Author) (rev : ℕ) (result : Result ℕ Refusal) →
-    IsDelivered log → cells ≡ cells_of log → comments ≡ book_of log → parts ≡ op.parts → author ≡ author_of op → rev ≡ length log + 1 →
-    is_checked op ≡ true → list_all is_edit op.parts ≡ true → delivery_refusal op log ≡ None → Answers cells (apply rev parts author cells) result new → Enters log op (cells, comments) result (new, comments)
-edit_enters log op cells new comments parts author rev result d held commented made who at checked edits none (inl h) = inl (h.0, ap (λ l. (l, comments)) h.1, refl)
+pub edit_enters : (log : List Op) (op : Op) (cells new : List Cell) (comments : List kept.Comment) (parts : List Part)
+    (author : Author) (rev : ℕ) (result : Result ℕ Refusal) →
+    IsDelivered log → cells ≡ cells_of log → comments ≡ book_of log → parts ≡ op.parts → author ≡ author_of op →
+    rev ≡ length log + 1 →
+    is_checked op ≡ true → list_all is_edit op.parts ≡ true → delivery_refusal op log ≡ None →
+    Answers cells (apply rev parts author cells) result new → Enters log op (cells, comments) result (new, comments)
+edit_enters log op cells new comments parts author rev result d held commented made who at checked edits none (inl h) =
+    inl (h.0, ap (λ l. (l, comments)) h.1, refl)
 edit_enters log op cells new comments parts author rev result d held commented made who at checked edits none (inr h) =
     let a : Allowed log op = allowed log op none in
     let both : (Ok (hidden_by (erased_by op) (characters_in log)), cells_of (log ++ op ∷ [])) ≡ (result, new) =
@@ -106,15 +120,20 @@ nothing_erased rev (c ∷ cells) = ap (λ l. c ∷ l) (nothing_erased rev cells)
 
 cells_of-order : (log : List Op) → IsHistory log → order character_of (cells_of log) ≡ cells_of log
 cells_of-order log h =
-    order-order character_of (map (dated log) (births 1 log)) (IsTree-of_map character_of itself (map (dated log) (births 1 log)) (subst (IsTree itself) (sym (dated-characters log)) (IsTree-history log h)))
+    order-order character_of (map (dated log) (births 1 log))
+    (IsTree-of_map character_of itself (map (dated log) (births 1 log))
+    (subst (IsTree itself) (sym (dated-characters log)) (IsTree-history log h)))
 
 -- a comment or a resolution changes no cell
-note-cells : (log : List Op) (op : Op) → IsHistory log → is_checked op ≡ true → is_valid op log ≡ true → list_all is_edit op.parts ≡ false → cells_of (log ++ op ∷ []) ≡ cells_of log
+note-cells : (log : List Op) (op : Op) → IsHistory log → is_checked op ≡ true → is_valid op log ≡ true →
+    list_all is_edit op.parts ≡ false → cells_of (log ++ op ∷ []) ≡ cells_of log
 note-cells log op h checked valid none =
     let same : order character_of (without_spans (length log + 1) [] (cells_of log) ++ []) ≡ cells_of log =
-    ap (order character_of) (append-nil (without_spans (length log + 1) [] (cells_of log)) ∙ nothing_erased (length log + 1) (cells_of log)) ∙ cells_of-order log h in
+    ap (order character_of) (append-nil (without_spans (length log + 1) [] (cells_of log))
+    ∙ nothing_erased (length log + 1) (cells_of log)) ∙ cells_of-order log h in
     cells_of-push log op h checked valid
-    ∙ by_parts (λ parts. list_all is_edit parts ≡ false → with_parts (length log + 1) parts (author_of op) (cells_of log) ≡ cells_of log)
+    ∙ by_parts (λ parts. list_all is_edit parts ≡ false → with_parts (length log + 1) parts (author_of op)
+    (cells_of log) ≡ cells_of log)
     (λ parts edits none. absurd (false≢true (sym none ∙ edits)))
     (λ first last text none. same)
     (λ comment none. same)
@@ -125,9 +144,11 @@ count_none [] = refl
 count_none (x ∷ xs) = count_none xs
 
 -- nor does it hide one
-note-hides : (log : List Op) (op : Op) → is_checked op ≡ true → list_all is_edit op.parts ≡ false → hidden_by (erased_by op) (characters_in log) ≡ 0
+note-hides : (log : List Op) (op : Op) → is_checked op ≡ true → list_all is_edit op.parts ≡ false →
+    hidden_by (erased_by op) (characters_in log) ≡ 0
 note-hides log op checked none =
-    by_parts (λ parts. list_all is_edit parts ≡ false → count_by (λ (c : Character). is_erased (flat_map part_erases parts) c.stamp) (visible (characters_in log)) ≡ 0)
+    by_parts (λ parts. list_all is_edit parts ≡ false →
+    count_by (λ (c : Character). is_erased (flat_map part_erases parts) c.stamp) (visible (characters_in log)) ≡ 0)
     (λ parts edits none. absurd (false≢true (sym none ∙ edits)))
     (λ first last text none. count_none (visible (characters_in log)))
     (λ comment none. count_none (visible (characters_in log)))
@@ -137,7 +158,8 @@ same_some : (a b : Part) → (let some : Option Part = Some a in some) ≡ Some 
 same_some a b q = cc
 
 -- what is no edit has one part
-pub one_part : (op : Op) (part : Part) → is_checked op ≡ true → list_all is_edit op.parts ≡ false → slice_get op.parts 0 ≡ Some part → op.parts ≡ part ∷ []
+pub one_part : (op : Op) (part : Part) → is_checked op ≡ true → list_all is_edit op.parts ≡ false → slice_get op.parts 0
+    ≡ Some part → op.parts ≡ part ∷ []
 one_part op part checked none first_is =
     by_parts (λ parts. list_all is_edit parts ≡ false → slice_get parts 0 ≡ Some part → parts ≡ part ∷ [])
     (λ parts edits none first_is. absurd (false≢true (sym none ∙ edits)))
@@ -158,11 +180,13 @@ some_part op checked none empty =
     some_none a q = cc
 
 -- the name of the next operation of an origin is no comment's
-new_name : (log : List Op) (op : Op) → IsDelivered log → op.name.number ≡ count_in (vector_of log) op.name.origin + 1 → book.is_comment op.name (book_of log) ≡ false
+new_name : (log : List Op) (op : Op) → IsDelivered log → op.name.number ≡ count_in (vector_of log) op.name.origin + 1 →
+    book.is_comment op.name (book_of log) ≡ false
 new_name log op d next =
     is_comment-book_of log d op.name ∙ no_comment log op.name (name_fresh log op.name d.numbered (omega arith))
   where
-    no_comment : (log : List Op) (name : OpName) → list_any (λ op. same_name op.name name) log ≡ false → list_any (λ op. is_comment op && same_name op.name name) log ≡ false
+    no_comment : (log : List Op) (name : OpName) → list_any (λ op. same_name op.name name) log ≡ false →
+        list_any (λ op. is_comment op && same_name op.name name) log ≡ false
     no_comment [] name e = refl
     no_comment (op ∷ log) name e =
         split (same_name op.name name)
@@ -172,15 +196,20 @@ new_name log op d next =
         split (is_comment op) (λ f. rw (f, other) rest) (λ f. rw f rest))
 
 -- the book takes a comment or a resolution that may be delivered
-pub takes : (log : List Op) (op : Op) (part : Part) → IsDelivered log → is_checked op ≡ true → op.name.number ≡ count_in (vector_of log) op.name.origin + 1 → delivery_refusal op log ≡ None →
+pub takes : (log : List Op) (op : Op) (part : Part) → IsDelivered log → is_checked op ≡ true → op.name.number
+    ≡ count_in (vector_of log) op.name.origin + 1 → delivery_refusal op log ≡ None →
     list_all is_edit op.parts ≡ false → slice_get op.parts 0 ≡ Some part → may_enter op.name (book_of log) part ≡ true
 takes log op part d checked next none notes first_is =
     let a : Allowed log op = allowed log op none in
     let one = one_part op part checked notes first_is in
-    let fits : part_is_valid part log ≡ true = (and_parts (part_is_valid part log) true (subst (λ parts. list_all (λ p. part_is_valid p log) parts ≡ true) one (and_parts _ _ a.valid).0)).0 in
+    let fits : part_is_valid part log ≡ true =
+    (and_parts (part_is_valid part log) true (subst (λ parts. list_all (λ p. part_is_valid p log) parts ≡ true) one
+    (and_parts _ _ a.valid).0)).0 in
     taken log op d next a part one fits
   where
-    taken : (log : List Op) (op : Op) → IsDelivered log → op.name.number ≡ count_in (vector_of log) op.name.origin + 1 → Allowed log op → (part : Part) → op.parts ≡ part ∷ [] → part_is_valid part log ≡ true → may_enter op.name (book_of log) part ≡ true
+    taken : (log : List Op) (op : Op) → IsDelivered log → op.name.number ≡ count_in (vector_of log) op.name.origin + 1 →
+        Allowed log op → (part : Part) → op.parts ≡ part ∷ [] → part_is_valid part log ≡ true →
+        may_enter op.name (book_of log) part ≡ true
     taken log op d next a (Insert run) one fits = refl
     taken log op d next a (Delete spans) one fits = refl
     taken log op d next a (Comment first last text) one fits =
@@ -190,31 +219,44 @@ takes log op part d checked next none notes first_is =
     taken log op d next a (Resolve comment) one fits = is_comment-book_of log d comment ∙ fits
 
 -- what a book with that comment or resolution is
-pub note_enters : (log : List Op) (op : Op) (part : Part) (cells : List Cell) (comments new : List kept.Comment) (rev : ℕ) →
-    IsDelivered log → cells ≡ cells_of log → comments ≡ book_of log → rev ≡ length log + 1 → is_checked op ≡ true → delivery_refusal op log ≡ None →
-    list_all is_edit op.parts ≡ false → slice_get op.parts 0 ≡ Some part → new ≡ entered rev op comments part → Enters log op (cells, comments) (Ok 0) (cells, new)
+pub note_enters : (log : List Op) (op : Op) (part : Part) (cells : List Cell) (comments new : List kept.Comment)
+    (rev : ℕ) →
+    IsDelivered log → cells ≡ cells_of log → comments ≡ book_of log → rev ≡ length log + 1 → is_checked op ≡ true →
+    delivery_refusal op log ≡ None →
+    list_all is_edit op.parts ≡ false → slice_get op.parts 0 ≡ Some part → new ≡ entered rev op comments part →
+    Enters log op (cells, comments) (Ok 0) (cells, new)
 note_enters log op part cells comments new rev d held commented at checked none notes first_is enters =
     let a : Allowed log op = allowed log op none in
     let book_is : book_of (log ++ op ∷ []) ≡ new =
-    book_of-push log op ∙ ap (fold (entered (length log + 1) op) (book_of log)) (one_part op part checked notes first_is)
+    book_of-push log op ∙ ap (fold (entered (length log + 1) op) (book_of log))
+    (one_part op part checked notes first_is)
     ∙ ap₂ (λ r b. entered r op b part) (sym at) (sym commented) ∙ sym enters in
-    inr (ap₂ (λ (n : ℕ) (after : List Cell × List kept.Comment). (let ok : Result ℕ Refusal = Ok n in (ok, after))) (note-hides log op checked notes)
-    (ap₂ (λ (l : List Cell) (b : List kept.Comment). (l, b)) (note-cells log op d.history checked a.valid notes ∙ sym held) book_is))
+    inr (ap₂ (λ (n : ℕ) (after : List Cell × List kept.Comment). (let ok : Result ℕ Refusal = Ok n in (ok, after)))
+    (note-hides log op checked notes)
+    (ap₂ (λ (l : List Cell) (b : List kept.Comment). (l, b)) (note-cells log op d.history checked a.valid notes
+    ∙ sym held) book_is))
 
 -- what was entered, and how many visible characters it hides
-pub entered_all : (log : List Op) (op : Op) (cells new_cells : List Cell) (comments new_comments : List kept.Comment) (hidden : ℕ) → Enters log op (cells, comments) (Ok hidden) (new_cells, new_comments) →
+pub entered_all : (log : List Op) (op : Op) (cells new_cells : List Cell) (comments new_comments : List kept.Comment)
+    (hidden : ℕ) → Enters log op (cells, comments) (Ok hidden) (new_cells, new_comments) →
     (new_cells ≡ cells_of (log ++ op ∷ [])) × (new_comments ≡ book_of (log ++ op ∷ []))
 entered_all log op cells new_cells comments new_comments hidden (inl h) = absurd (ok_err hidden h.0)
   where
     ok_err : (n : ℕ) → (let ok : Result ℕ Refusal = Ok n in ok) ≡ Err Memory → ⊥
     ok_err n q = cc
-entered_all log op cells new_cells comments new_comments hidden (inr h) = (sym (ap (λ p. p.1.0) h), sym (ap (λ p. p.1.1) h))
+entered_all log op cells new_cells comments new_comments hidden (inr h) =
+    (sym (ap (λ p. p.1.0) h), sym (ap (λ p. p.1.1) h))
 
 -- what is kept beside the longer log
-pub IsLedger-push : (log longer : List Op) (op : Op) (seen new_seen : List Counted) (cells new_cells : List Cell) (comments new_comments : List kept.Comment) (hidden : ℕ) →
-    IsLedger log seen comments cells → is_checked op ≡ true → op.name.number ≡ count_in (vector_of log) op.name.origin + 1 → delivery_refusal op log ≡ None →
-    Enters log op (cells, comments) (Ok hidden) (new_cells, new_comments) → longer ≡ log ++ op ∷ [] → new_seen ≡ with_count seen op.name.origin (count_in seen op.name.origin + 1) → IsLedger longer new_seen new_comments new_cells
-IsLedger-push log longer op seen new_seen cells new_cells comments new_comments hidden l checked next none enters longer_is seen_is =
+pub IsLedger-push : (log longer : List Op) (op : Op) (seen new_seen : List Counted) (cells new_cells : List Cell)
+    (comments new_comments : List kept.Comment) (hidden : ℕ) →
+    IsLedger log seen comments cells → is_checked op ≡ true → op.name.number ≡ count_in (vector_of log) op.name.origin
+    + 1 → delivery_refusal op log ≡ None →
+    Enters log op (cells, comments) (Ok hidden) (new_cells, new_comments) → longer ≡ log ++ op ∷ [] → new_seen
+    ≡ with_count seen op.name.origin (count_in seen op.name.origin + 1) →
+    IsLedger longer new_seen new_comments new_cells
+IsLedger-push log longer op seen new_seen cells new_cells comments new_comments hidden l checked next none enters
+    longer_is seen_is =
     let all = entered_all log op cells new_cells comments new_comments hidden enters in
     subst (λ ops. IsLedger ops new_seen new_comments new_cells) (sym longer_is)
     (record {
@@ -225,8 +267,10 @@ IsLedger-push log longer op seen new_seen cells new_cells comments new_comments 
     })
 
 -- what is kept beside a log behind which nothing was entered
-pub IsLedger-kept : (log same : List Op) (op : Op) (seen new_seen : List Counted) (cells new_cells : List Cell) (comments new_comments : List kept.Comment) (e : Refusal) →
-    IsLedger log seen comments cells → same ≡ log → new_seen ≡ seen → Enters log op (cells, comments) (Err e) (new_cells, new_comments) → IsLedger same new_seen new_comments new_cells
+pub IsLedger-kept : (log same : List Op) (op : Op) (seen new_seen : List Counted) (cells new_cells : List Cell)
+    (comments new_comments : List kept.Comment) (e : Refusal) →
+    IsLedger log seen comments cells → same ≡ log → new_seen ≡ seen → Enters log op (cells, comments) (Err e)
+    (new_cells, new_comments) → IsLedger same new_seen new_comments new_cells
 IsLedger-kept log same op seen new_seen cells new_cells comments new_comments e l log_is seen_is (inl h) =
     subst (λ ops. IsLedger ops new_seen new_comments new_cells) (sym log_is)
     (record {
@@ -235,24 +279,32 @@ IsLedger-kept log same op seen new_seen cells new_cells comments new_comments e 
       commented = ap (λ p. p.1) h.1 ∙ l.commented;
       kept = ap (λ p. p.0) h.1 ∙ l.kept;
     })
-IsLedger-kept log same op seen new_seen cells new_cells comments new_comments e l log_is seen_is (inr h) = absurd (ok_err (hidden_by (erased_by op) (characters_in log)) e (ap (λ p. p.0) h))
+IsLedger-kept log same op seen new_seen cells new_cells comments new_comments e l log_is seen_is (inr h) =
+    absurd (ok_err (hidden_by (erased_by op) (characters_in log)) e (ap (λ p. p.0) h))
   where
     ok_err : (n : ℕ) (e : Refusal) → (let ok : Result ℕ Refusal = Ok n in ok) ≡ Err e → ⊥
     ok_err n e q = cc
 
 -- the answer where it was entered
-pub append_answers : (log longer : List Op) (op : Op) (old new : List Cell × List kept.Comment) (hidden : ℕ) → Enters log op old (Ok hidden) new → longer ≡ log ++ op ∷ [] →
+pub append_answers : (log longer : List Op) (op : Op) (old new : List Cell × List kept.Comment) (hidden : ℕ) →
+    Enters log op old (Ok hidden) new → longer ≡ log ++ op ∷ [] →
     Answers log (Ok (hidden_by (erased_by op) (characters_in log)), log ++ op ∷ []) (Ok hidden) longer
 append_answers log longer op old new hidden (inl h) longer_is = absurd (ok_err hidden h.0)
   where
     ok_err : (n : ℕ) → (let ok : Result ℕ Refusal = Ok n in ok) ≡ Err Memory → ⊥
     ok_err n q = cc
-append_answers log longer op old new hidden (inr h) longer_is = inr (ap₂ (λ (r : Result ℕ Refusal) (l : List Op). (r, l)) (ap (λ p. p.0) h) (sym longer_is))
+append_answers log longer op old new hidden (inr h) longer_is =
+    inr (ap₂ (λ (r : Result ℕ Refusal) (l : List Op). (r, l)) (ap (λ p. p.0) h) (sym longer_is))
 
 -- and where it was not
-pub append_fails : (log same : List Op) (op : Op) (old new : List Cell × List kept.Comment) (e : Refusal) → Enters log op old (Err e) new → same ≡ log → Answers log (Ok (hidden_by (erased_by op) (characters_in log)), log ++ op ∷ []) (Err e) same
+pub append_fails : (log same : List Op) (op : Op) (old new : List Cell × List kept.Comment) (e : Refusal) →
+    Enters log op old (Err e) new → same ≡ log → Answers log (
+      Ok (hidden_by (erased_by op) (characters_in log)),
+      log ++ op ∷ [],
+    ) (Err e) same
 append_fails log same op old new e (inl h) same_is = inl (h.0, same_is, refl)
-append_fails log same op old new e (inr h) same_is = absurd (ok_err (hidden_by (erased_by op) (characters_in log)) e (ap (λ p. p.0) h))
+append_fails log same op old new e (inr h) same_is =
+    absurd (ok_err (hidden_by (erased_by op) (characters_in log)) e (ap (λ p. p.0) h))
   where
     ok_err : (n : ℕ) (e : Refusal) → (let ok : Result ℕ Refusal = Ok n in ok) ≡ Err e → ⊥
     ok_err n e q = cc

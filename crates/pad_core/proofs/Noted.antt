@@ -1,5 +1,7 @@
 -- The operation of a comment or a resolution that is not refused is in the limits, and fits its log.
-use Rattle.std.proofs.Common.{◌≡◌, ℕ, zero, suc, ◌+◌, ◌-◌, ◌<◌, ◌≤◌, Bool, true, false, ◌&&◌, ◌||◌, cond, eqb, List, [], ◌∷◌, length, filter, map, take, count_by, Option, Some, None, refl, sym, ap, ◌∙◌, subst, arith, slice_get, option_map, le-leb, eqb-true, ltb-false, leb-false}
+use Rattle.std.proofs.Common.{◌≡◌, ℕ, zero, suc, ◌+◌, ◌-◌, ◌<◌, ◌≤◌, Bool, true, false, ◌&&◌, ◌||◌, cond, eqb, List, []}
+use Rattle.std.proofs.Common.{◌∷◌, length, filter, map, take, count_by, Option, Some, None, refl, sym, ap, ◌∙◌, subst}
+use Rattle.std.proofs.Common.{arith, slice_get, option_map, le-leb, eqb-true, ltb-false, leb-false}
 use Rattle.std.proofs.lemmas.Bool.{and_from, and_parts, or_left, or_right, or_parts, lt-leb}
 use Rattle.std.specs.List.{IsDistinct}
 use Rattle.pad_model.specs.Stamp.{Stamp, same_stamp}
@@ -20,7 +22,8 @@ use Rattle.pad_model.specs.declared.op.Part.{Part}
 use Rattle.pad_model.specs.declared.op.Part.TheVariants.{Comment, Resolve}
 use Rattle.pad_model.proofs.Each.{found_has}
 use Rattle.pad_model.proofs.Growth.{IsTree-history, IsHistory-take}
-use Rattle.pad_model.proofs.History.{cells_of-characters, cells_of-permutation, cell_stamp_at-cells_of, length-cells_at, length-cells_of}
+use Rattle.pad_model.proofs.History.{cells_of-characters, cells_of-permutation, cell_stamp_at-cells_of, length-cells_at}
+use Rattle.pad_model.proofs.History.{length-cells_of}
 use Rattle.pad_model.proofs.Maps.{IsTree-of_map, stands_before-map}
 use Rattle.pad_model.proofs.Members.{IsTree-permutation}
 use Rattle.pad_model.proofs.Newer.{same_stamp-true, same_stamp-refl}
@@ -40,67 +43,93 @@ pub is_stamp : (s b : Stamp) → (let o : Option Stamp = Some s in o) ≡ Some b
 is_stamp s b e = cc
 
 -- a stamp of what a test keeps is one of all
-pub kept_has : {A : Type 0} (at : A → Character) (t : A → Bool) (xs : List A) (i : ℕ) (s : Stamp) → stamp_in at (filter t xs) i ≡ Some s → has_stamp at xs s ≡ true
+pub kept_has : {A : Type 0} (at : A → Character) (t : A → Bool) (xs : List A) (i : ℕ) (s : Stamp) →
+    stamp_in at (filter t xs) i ≡ Some s → has_stamp at xs s ≡ true
 kept_has at t [] i s e = absurd (cc)
 kept_has at t (x ∷ xs) i s e = kept (t x) i (λ k f. kept_has at t xs k s f) e
   where
-    kept : (b : Bool) (i : ℕ) → ((k : ℕ) → stamp_in at (filter t xs) k ≡ Some s → has_stamp at xs s ≡ true) → stamp_in at (cond b (x ∷ filter t xs) (filter t xs)) i ≡ Some s → has_stamp at (x ∷ xs) s ≡ true
-    kept true zero more e = or_left (same_stamp (at x).stamp s) (has_stamp at xs s) (subst (λ z. same_stamp (at x).stamp z ≡ true) (is_stamp (at x).stamp s e) (same_stamp-refl (at x).stamp))
+    kept : (b : Bool) (i : ℕ) → ((k : ℕ) → stamp_in at (filter t xs) k ≡ Some s → has_stamp at xs s ≡ true) →
+        stamp_in at (cond b (x ∷ filter t xs) (filter t xs)) i ≡ Some s → has_stamp at (x ∷ xs) s ≡ true
+    kept true zero more e = or_left (same_stamp (at x).stamp s) (has_stamp at xs s)
+        (subst (λ z. same_stamp (at x).stamp z ≡ true) (is_stamp (at x).stamp s e) (same_stamp-refl (at x).stamp))
     kept true (suc i) more e = or_right (same_stamp (at x).stamp s) (has_stamp at xs s) (more i e)
     kept false i more e = or_right (same_stamp (at x).stamp s) (has_stamp at xs s) (more i e)
 
 -- a stamp of the rest is not that of the first item
-pub other_stamp : {A : Type 0} (at : A → Character) (x : A) (xs : List A) (s : Stamp) → IsDistinct (same_item at) (x ∷ xs) → has_stamp at xs s ≡ true → same_stamp (at x).stamp s ≡ false
+pub other_stamp : {A : Type 0} (at : A → Character) (x : A) (xs : List A) (s : Stamp) →
+    IsDistinct (same_item at) (x ∷ xs) → has_stamp at xs s ≡ true → same_stamp (at x).stamp s ≡ false
 other_stamp at x xs s d h =
-    let found = found_has (λ y. same_stamp (at y).stamp s) (λ y. same_stamp (at x).stamp (at y).stamp ≡ false) xs h (IsDistinct-parts at x xs d).0 in
+    let found = found_has (λ y. same_stamp (at y).stamp s) (λ y. same_stamp (at x).stamp (at y).stamp ≡ false) xs h
+    (IsDistinct-parts at x xs d).0 in
     subst (λ z. same_stamp (at x).stamp z ≡ false) (same_stamp-true (at found.0).stamp s found.1.0) found.1.1
 
 -- what a test keeps stands in the order of all
-pub stands-filter : {A : Type 0} (at : A → Character) (t : A → Bool) (xs : List A) (i j : ℕ) (a b : Stamp) → IsDistinct (same_item at) xs → i ≤ j → stamp_in at (filter t xs) i ≡ Some a → stamp_in at (filter t xs) j ≡ Some b → stands_before at xs a b ≡ true
+pub stands-filter : {A : Type 0} (at : A → Character) (t : A → Bool) (xs : List A) (i j : ℕ) (a b : Stamp) →
+    IsDistinct (same_item at) xs → i ≤ j → stamp_in at (filter t xs) i ≡ Some a → stamp_in at (filter t xs) j ≡ Some b →
+    stands_before at xs a b ≡ true
 stands-filter at t [] i j a b d l ea eb = absurd (cc)
-stands-filter at t (x ∷ xs) i j a b d l ea eb = step (t x) i j l (λ k m n f h. stands-filter at t xs k m a b (IsDistinct-parts at x xs d).1 n f h) ea eb
+stands-filter at t (x ∷ xs) i j a b d l ea eb =
+    step (t x) i j l (λ k m n f h. stands-filter at t xs k m a b (IsDistinct-parts at x xs d).1 n f h) ea eb
   where
-    behind : (c : Bool) (i : ℕ) → stamp_in at (filter t xs) i ≡ Some a → c ≡ true → cond (same_stamp (at x).stamp a) (same_stamp a b || has_stamp at xs b) c ≡ true
+    behind : (c : Bool) (i : ℕ) → stamp_in at (filter t xs) i ≡ Some a → c ≡ true → cond (same_stamp (at x).stamp a)
+        (same_stamp a b || has_stamp at xs b) c ≡ true
     behind c i e h = rw (other_stamp at x xs a d (kept_has at t xs i a e)) h
 
-    step : (kept : Bool) (i j : ℕ) → i ≤ j → ((k m : ℕ) → k ≤ m → stamp_in at (filter t xs) k ≡ Some a → stamp_in at (filter t xs) m ≡ Some b → stands_before at xs a b ≡ true) →
-        stamp_in at (cond kept (x ∷ filter t xs) (filter t xs)) i ≡ Some a → stamp_in at (cond kept (x ∷ filter t xs) (filter t xs)) j ≡ Some b → stands_before at (x ∷ xs) a b ≡ true
+    step : (kept : Bool) (i j : ℕ) → i ≤ j → ((k m : ℕ) → k ≤ m → stamp_in at (filter t xs) k ≡ Some a →
+        stamp_in at (filter t xs) m ≡ Some b → stands_before at xs a b ≡ true) →
+        stamp_in at (cond kept (x ∷ filter t xs) (filter t xs)) i ≡ Some a →
+        stamp_in at (cond kept (x ∷ filter t xs) (filter t xs)) j ≡ Some b → stands_before at (x ∷ xs) a b ≡ true
     step true zero zero l more ea eb =
-        let first : same_stamp (at x).stamp a ≡ true = subst (λ z. same_stamp (at x).stamp z ≡ true) (is_stamp (at x).stamp a ea) (same_stamp-refl (at x).stamp) in
+        let first : same_stamp (at x).stamp a ≡ true = subst (λ z. same_stamp (at x).stamp z ≡ true)
+        (is_stamp (at x).stamp a ea) (same_stamp-refl (at x).stamp) in
         let same : a ≡ b = sym (is_stamp (at x).stamp a ea) ∙ is_stamp (at x).stamp b eb in
-        rw first (or_left (same_stamp a b) (has_stamp at xs b) (subst (λ z. same_stamp a z ≡ true) same (same_stamp-refl a)))
+        rw first (or_left (same_stamp a b) (has_stamp at xs b)
+        (subst (λ z. same_stamp a z ≡ true) same (same_stamp-refl a)))
     step true zero (suc j) l more ea eb =
-        let first : same_stamp (at x).stamp a ≡ true = subst (λ z. same_stamp (at x).stamp z ≡ true) (is_stamp (at x).stamp a ea) (same_stamp-refl (at x).stamp) in
+        let first : same_stamp (at x).stamp a ≡ true = subst (λ z. same_stamp (at x).stamp z ≡ true)
+        (is_stamp (at x).stamp a ea) (same_stamp-refl (at x).stamp) in
         rw first (or_right (same_stamp a b) (has_stamp at xs b) (kept_has at t xs j b eb))
     step true (suc i) zero l more ea eb = absurd (omega arith)
     step true (suc i) (suc j) l more ea eb = behind (stands_before at xs a b) i ea (more i j (omega arith) ea eb)
     step false i j l more ea eb = behind (stands_before at xs a b) i ea (more i j l ea eb)
 
 -- what a revision shows stands in the order of the whole log
-pub shown_stands : (log : List Op) (rev i j : ℕ) (a b : Stamp) → IsHistory log → i ≤ j → stamp_at (characters_at rev log) i ≡ Some a → stamp_at (characters_at rev log) j ≡ Some b → stands_before itself (order itself (characters_in log).inserted) a b ≡ true
+pub shown_stands : (log : List Op) (rev i j : ℕ) (a b : Stamp) → IsHistory log → i ≤ j →
+    stamp_at (characters_at rev log) i ≡ Some a → stamp_at (characters_at rev log) j ≡ Some b →
+    stands_before itself (order itself (characters_in log).inserted) a b ≡ true
 shown_stands log rev i j a b h l ea eb =
     let whole = IsTree-history log h in
     let part = IsTree-history (take rev log) (IsHistory-take log rev h) in
-    let tree : IsTree character_of (cells_of log) = IsTree-of_map character_of itself (cells_of log) (IsTree-permutation itself (characters_in log).inserted (map character_of (cells_of log)) (cells_of-permutation log whole) whole) in
+    let tree : IsTree character_of (cells_of log) = IsTree-of_map character_of itself (cells_of log)
+    (IsTree-permutation itself (characters_in log).inserted (map character_of (cells_of log))
+    (cells_of-permutation log whole) whole) in
     sym (ap (λ cs. stands_before itself cs a b) (cells_of-characters log))
     ∙ stands_before-map character_of itself (cells_of log) a b
-    ∙ stands-filter character_of (shown_at rev) (cells_of log) i j a b tree.distinct l (cell_stamp_at-cells_of log rev i whole part ∙ ea) (cell_stamp_at-cells_of log rev j whole part ∙ eb)
+    ∙ stands-filter character_of (shown_at rev) (cells_of log) i j a b tree.distinct l
+    (cell_stamp_at-cells_of log rev i whole part ∙ ea) (cell_stamp_at-cells_of log rev j whole part ∙ eb)
 
 -- a test keeps no more than all
 count_less : {A : Type 0} (t : A → Bool) (xs : List A) → length (filter t xs) ≤ length xs
 count_less t [] = omega arith
 count_less t (x ∷ xs) = fewer (t x) (count_less t xs)
   where
-    fewer : (b : Bool) → length (filter t xs) ≤ length xs → length (cond b (x ∷ filter t xs) (filter t xs)) ≤ length (x ∷ xs)
+    fewer : (b : Bool) → length (filter t xs) ≤ length xs → length (cond b (x ∷ filter t xs) (filter t xs))
+        ≤ length (x ∷ xs)
     fewer true l = omega arith
     fewer false l = omega arith
 
 -- a revision shows no more characters than the log has
-pub visible_low : (log : List Op) (rev : ℕ) → IsHistory log → length (visible (characters_at rev log)) ≤ length (characters_in log).inserted
+pub visible_low : (log : List Op) (rev : ℕ) → IsHistory log → length (visible (characters_at rev log))
+    ≤ length (characters_in log).inserted
 visible_low log rev h =
     let whole = IsTree-history log h in
     let part = IsTree-history (take rev log) (IsHistory-take log rev h) in
-    omega (arith, length-cells_at log rev whole part, length-cells_of log whole, count_less (shown_at rev) (cells_of log))
+    omega (
+      arith,
+      length-cells_at log rev whole part,
+      length-cells_of log whole,
+      count_less (shown_at rev) (cells_of log),
+    )
 
 -- what a comment that is not refused keeps to
 pub record IsCommentable (rev at len : ℕ) (text : List ℕ) (log : List Op) : Type 0 where
@@ -112,7 +141,8 @@ pub record IsCommentable (rev at len : ℕ) (text : List ℕ) (log : List Op) : 
   pub comments : count_by is_comment log < MAX_COMMENTS
 
 -- a comment that is not refused keeps to it
-pub commentable : (rev at len : ℕ) (text : List ℕ) (log : List Op) → comment_refusal rev at len text log ≡ None → IsCommentable rev at len text log
+pub commentable : (rev at len : ℕ) (text : List ℕ) (log : List Op) → comment_refusal rev at len text log ≡ None →
+    IsCommentable rev at len text log
 commentable rev at len text log e =
     let a = unless _ _ _ e in
     let b = unless _ _ _ a.1 in
@@ -134,41 +164,55 @@ same_part : (a b : Part) → a ∷ [] ≡ b ∷ [] → a ≡ b
 same_part a b e = cc
 
 -- the stamps of a comment's part
-shape_of : (o p : Option Stamp) (text : List ℕ) (part : Part) → comment_between o p text ≡ part ∷ [] → (first : Stamp) × (last : Stamp) × (o ≡ Some first) × (p ≡ Some last) × (Comment first last text ≡ part)
+shape_of : (o p : Option Stamp) (text : List ℕ) (part : Part) → comment_between o p text ≡ part ∷ [] → (first : Stamp)
+    × (last : Stamp) × (o ≡ Some first) × (p ≡ Some last) × (Comment first last text ≡ part)
 shape_of (Some first) (Some last) text part e = (first, last, refl, refl, same_part (Comment first last text) part e)
 shape_of (Some first) None text part e = absurd (cc)
 shape_of None (Some last) text part e = absurd (cc)
 shape_of None None text part e = absurd (cc)
 
 -- a comment that is not refused is in the limits
-pub comment_checked : (own : ℕ) (author : List ℕ) (rev at len : ℕ) (text : List ℕ) (part : Part) (log : List Op) → comment_refusal rev at len text log ≡ None → comment_parts (characters_at rev log) at len text ≡ part ∷ [] → IsHistory log → is_name author ≡ true → 1 ≤ own →
+pub comment_checked : (own : ℕ) (author : List ℕ) (rev at len : ℕ) (text : List ℕ) (part : Part) (log : List Op) →
+    comment_refusal rev at len text log ≡ None → comment_parts (characters_at rev log) at len text ≡ part ∷ [] →
+    IsHistory log → is_name author ≡ true → 1 ≤ own →
     is_checked (op_of own author (part ∷ []) log) ≡ true
 comment_checked own author rev at len text part log none made h named low =
     let c = commentable rev at len text log none in
-    let shape = shape_of (stamp_at (characters_at rev log) at) (stamp_at (characters_at rev log) (at + len - 1)) text part made in
+    let shape = shape_of (stamp_at (characters_at rev log) at) (stamp_at (characters_at rev log) (at + len - 1)) text
+    part made in
     subst (λ part. is_checked (op_of own author (part ∷ []) log) ≡ true) shape.4
-    (op_checked own author (Comment shape.0 shape.1 text ∷ []) log h c.short named low (rw (le-leb 1 (length text) c.filled, le-leb (length text) MAX_COMMENT c.few) refl))
+    (op_checked own author (Comment shape.0 shape.1 text ∷ []) log h c.short named low
+    (rw (le-leb 1 (length text) c.filled, le-leb (length text) MAX_COMMENT c.few) refl))
 
 -- it fits, and passes no limit
-pub comment_fits : (own : ℕ) (author : List ℕ) (rev at len : ℕ) (text : List ℕ) (part : Part) (log : List Op) → comment_refusal rev at len text log ≡ None → comment_parts (characters_at rev log) at len text ≡ part ∷ [] → IsDelivered log →
+pub comment_fits : (own : ℕ) (author : List ℕ) (rev at len : ℕ) (text : List ℕ) (part : Part) (log : List Op) →
+    comment_refusal rev at len text log ≡ None → comment_parts (characters_at rev log) at len text ≡ part ∷ [] →
+    IsDelivered log →
     delivery_refusal (op_of own author (part ∷ []) log) log ≡ None
 comment_fits own author rev at len text part log none made d =
     let c = commentable rev at len text log none in
     let some = c.some in
     let room = d.room in
-    let shape = shape_of (stamp_at (characters_at rev log) at) (stamp_at (characters_at rev log) (at + len - 1)) text part made in
+    let shape = shape_of (stamp_at (characters_at rev log) at) (stamp_at (characters_at rev log) (at + len - 1)) text
+    part made in
     let stands = shown_stands log rev at (at + len - 1) shape.0 shape.1 d.history (omega arith) shape.2 shape.3 in
     subst (λ part. delivery_refusal (op_of own author (part ∷ []) log) log ≡ None) shape.4
-    (delivered (op_of own author (Comment shape.0 shape.1 text ∷ []) log) log (and_from _ _ (and_from _ _ stands refl) refl) (omega arith) c.short (lt-leb MAX_COMMENTS (count_by is_comment log) c.comments))
+    (delivered (op_of own author (Comment shape.0 shape.1 text ∷ []) log) log
+    (and_from _ _ (and_from _ _ stands refl) refl) (omega arith) c.short
+    (lt-leb MAX_COMMENTS (count_by is_comment log) c.comments))
 
 -- a resolution of a comment that is there is in the limits
-pub resolve_checked : (own : ℕ) (author : List ℕ) (name : OpName) (log : List Op) → has_comment name log ≡ true → length log < MAX_OPERATIONS → IsHistory log → is_name author ≡ true → 1 ≤ own → is_checked (op_of own author (Resolve name ∷ []) log) ≡ true
+pub resolve_checked : (own : ℕ) (author : List ℕ) (name : OpName) (log : List Op) → has_comment name log ≡ true →
+    length log < MAX_OPERATIONS → IsHistory log → is_name author ≡ true → 1 ≤ own →
+    is_checked (op_of own author (Resolve name ∷ []) log) ≡ true
 resolve_checked own author name log there short h named low =
     let found = found_has (λ op. is_comment op && same_name op.name name) IsNamed log there (each_named log h) in
     let same : (eqb found.0.name.origin name.origin ≡ true) × (eqb found.0.name.number name.number ≡ true) =
-    and_parts (eqb found.0.name.origin name.origin) (eqb found.0.name.number name.number) (and_parts (is_comment found.0) (same_name found.0.name name) found.1.0).1
+    and_parts (eqb found.0.name.origin name.origin) (eqb found.0.name.number name.number)
+    (and_parts (is_comment found.0) (same_name found.0.name name) found.1.0).1
     in
     let origin : found.0.name.origin ≡ name.origin = eqb-true found.0.name.origin name.origin same.0 in
     let number : found.0.name.number ≡ name.number = eqb-true found.0.name.number name.number same.1 in
     let some = found.1.1 in
-    op_checked own author (Resolve name ∷ []) log h short named low (rw (le-leb 1 name.origin (omega arith), le-leb 1 name.number (omega arith)) refl)
+    op_checked own author (Resolve name ∷ []) log h short named low
+    (rw (le-leb 1 name.origin (omega arith), le-leb 1 name.number (omega arith)) refl)

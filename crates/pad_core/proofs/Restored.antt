@@ -14,11 +14,15 @@ use Rattle.pad_core.specs.Machine.{IsOwned, IsPad}
 use Rattle.pad_core.specs.Restart.{granted_again}
 use Rattle.pad_core.specs.declared.owned.Owned.{Owned}
 
-names_stay : (author : List ℕ) (right : Option Right) (o : Option Owned) (p : Presence) → IsTrue (is_name author) → IsOwned o p → IsOwned (granted_again author right o).1 p
+names_stay : (author : List ℕ) (right : Option Right) (o : Option Owned) (p : Presence) → IsTrue (is_name author) →
+    IsOwned o p → IsOwned (granted_again author right o).1 p
 names_stay author right None p one kept = kept
 names_stay author right (Some owned) p one kept = grant_has (λ n. IsTrue (is_name n)) owned.rights author right one kept
 
 -- whoever has a right has a name, also after a grant to a name
-pub owned_again : (author : List ℕ) (right : Option Right) (o new : Option Owned) (p : Presence) (result : Result (Unit {0}) Refusal) → IsTrue (is_name author) → IsOwned o p → Answers o (granted_again author right o) result new → IsOwned new p
+pub owned_again : (author : List ℕ) (right : Option Right) (o new : Option Owned) (p : Presence)
+    (result : Result (Unit {0}) Refusal) → IsTrue (is_name author) → IsOwned o p →
+    Answers o (granted_again author right o) result new → IsOwned new p
 owned_again author right o new p result one kept (inl (told, same, ok)) = subst (λ x. IsOwned x p) (sym same) kept
-owned_again author right o new p result one kept (inr is) = subst (λ x. IsOwned x p) (ap (λ d. d.1) is) (names_stay author right o p one kept)
+owned_again author right o new p result one kept (inr is) = subst (λ x. IsOwned x p) (ap (λ d. d.1) is)
+    (names_stay author right o p one kept)

@@ -1,5 +1,6 @@
 -- What was recorded of a pad, and whether it agrees with the log.
-use Rattle.std.specs.Prelude.{◌≡◌, ℕ, zero, suc, Bool, false, not, ◌&&◌, ◌≤◌, nat_le, bytes_eq, if◌then◌else◌, List, [], ◌∷◌, ◌++◌, length, take, slice_get, Option, Some, None}
+use Rattle.std.specs.Prelude.{◌≡◌, ℕ, zero, suc, Bool, false, not, ◌&&◌, ◌≤◌, nat_le, bytes_eq, if◌then◌else◌, List, []}
+use Rattle.std.specs.Prelude.{◌∷◌, ◌++◌, length, take, slice_get, Option, Some, None}
 use Rattle.std.specs.List.{list_any}
 use Rattle.std.specs.Option.{option_map_or}
 use Rattle.pad_model.specs.Log.{same_name}
@@ -22,7 +23,8 @@ abbrev pub is_edit_of : OpName → Recorded → Bool
 is_edit_of name (Read rev text) = false
 is_edit_of name (Edit other rev) = same_name other name
 
--- whether a record behind others agrees with a log: a text is that of its revision, an edit made its revision and was not recorded before
+-- whether a record behind others agrees with a log: a text is that of its revision, an edit made its revision and was
+-- not recorded before
 abbrev pub agrees : List Op → List Recorded → Recorded → Bool
 agrees log before (Read rev text) = nat_le rev (length log) && bytes_eq text (text_of (characters_at rev log))
 agrees log before (Edit name rev) = stands_at name rev log && not (list_any (is_edit_of name) before)
@@ -30,7 +32,8 @@ agrees log before (Edit name rev) = stands_at name rev log && not (list_any (is_
 -- the place of the first record that does not agree, behind those that were looked at before
 abbrev pub first_fault : List Op → List Recorded → List Recorded → Option ℕ
 first_fault log before [] = None
-first_fault log before (one ∷ more) = if agrees log before one then first_fault log (before ++ one ∷ []) more else Some (length before)
+first_fault log before (one ∷ more) = if agrees log before one then first_fault log (before ++ one ∷ []) more
+    else Some (length before)
 
 -- a text of a revision that the log has
 abbrev pub IsRead : List Op → Option Recorded → Type 0
@@ -38,7 +41,9 @@ IsRead log (Some (Read rev text)) = rev ≤ length log
 IsRead log (Some (Edit name rev)) = ⊥
 IsRead log None = ⊥
 
--- why records were not found to agree: the first that does not, or there was no memory for the text of one that all before it agree
+-- why records were not found to agree: the first that does not, or there was no memory for the text of one that all
+-- before it agree
 abbrev pub IsFault : List Op → List Recorded → AuditError → Type 0
 IsFault log records (Mismatch index) = first_fault log [] records ≡ Some index
-IsFault log records Memory = (index : ℕ) × IsRead log (slice_get records index) × (first_fault log [] (take index records) ≡ None)
+IsFault log records Memory = (index : ℕ) × IsRead log (slice_get records index)
+    × (first_fault log [] (take index records) ≡ None)

@@ -17,7 +17,8 @@ entered rev op book (Comment first last text) =
     with_comment (record { name = op.name; first = first; last = last; author = author_of op; text = text; born = rev; resolved = None }) book
 entered rev op book (Resolve comment) = with_resolution comment rev book
 
--- whether a book takes a part of the operation of a name: the name of a comment is new and there is room for it, and what is resolved is a comment
+-- whether a book takes a part of the operation of a name: the name of a comment is new and there is room for it, and
+-- what is resolved is a comment
 abbrev pub may_enter : OpName → List kept.Comment → Part → Bool
 may_enter name book (Insert run) = true
 may_enter name book (Delete spans) = true

@@ -1,5 +1,6 @@
 -- The logs that a pad can have, and what it keeps beside one.
-use Rattle.std.specs.Prelude.{◌≡◌, ℕ, ◌≤◌, not, if◌then◌else◌, List, [], ◌∷◌, ◌++◌, length, Option, Some, Result, Ok, count_by}
+use Rattle.std.specs.Prelude.{◌≡◌, ℕ, ◌≤◌, not, if◌then◌else◌, List, [], ◌∷◌, ◌++◌, length, Option, Some, Result, Ok}
+use Rattle.std.specs.Prelude.{count_by}
 use Rattle.pad_model.specs.Answers.{Answers}
 use Rattle.pad_model.specs.Cell.{Cell}
 use Rattle.pad_model.specs.History.{IsHistory, cells_of}
@@ -19,7 +20,8 @@ use Rattle.pad_core.specs.Counts.{AreNumbered, vector_of}
 abbrev pub delivery_refusal : Op → List Op → Option Refusal
 delivery_refusal op log = if not (is_valid op log) then Some PeerFault else limit_passed op log
 
--- a log that was made operation by operation, each in the limits, valid at its place and the next of its origin; and the limits of a pad
+-- a log that was made operation by operation, each in the limits, valid at its place and the next of its origin; and
+-- the limits of a pad
 pub record IsDelivered (log : List Op) : Type 0 where
   pub history : IsHistory log
   pub numbered : AreNumbered [] log
@@ -34,6 +36,10 @@ pub record IsLedger (log : List Op) (seen : List Counted) (comments : List Comme
   pub commented : comments ≡ book_of log
   pub kept : cells ≡ cells_of log
 
--- an operation was entered behind a log: the cells and the comments are those of the longer log, and the answer is how many visible characters it hides; or there was no memory, and they are as before
+-- an operation was entered behind a log: the cells and the comments are those of the longer log, and the answer is how
+-- many visible characters it hides; or there was no memory, and they are as before
 abbrev pub Enters : List Op → Op → List Cell × List Comment → Result ℕ Refusal → List Cell × List Comment → Type 0
-Enters log op old result new = Answers old (Ok (hidden_by (erased_by op) (characters_in log)), (cells_of (log ++ op ∷ []), book_of (log ++ op ∷ []))) result new
+Enters log op old result new = Answers old (
+  Ok (hidden_by (erased_by op) (characters_in log)),
+  (cells_of (log ++ op ∷ []), book_of (log ++ op ∷ [])),
+) result new

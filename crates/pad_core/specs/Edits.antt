@@ -9,8 +9,10 @@ use Rattle.pad_model.specs.declared.op.Op.{Op}
 use Rattle.pad_model.specs.declared.op.Part.{Part}
 use Rattle.pad_model.specs.declared.op.Part.TheVariants as part
 use Rattle.pad_model.specs.declared.refusal.Refusal.{Refusal}
-use Rattle.pad_model.specs.declared.refusal.Refusal.TheVariants.{NoRevision, OutOfRange, Empty, TooMuch, PadFull, ClockFull, LogFull}
-use Rattle.pad_model.specs.declared.limits.TheConstants.{MAX_TEXT, MAX_PARTS, MAX_CHARACTERS, MAX_COUNTER, MAX_OPERATIONS}
+use Rattle.pad_model.specs.declared.refusal.Refusal.TheVariants.{NoRevision, OutOfRange, Empty, TooMuch, PadFull}
+use Rattle.pad_model.specs.declared.refusal.Refusal.TheVariants.{ClockFull, LogFull}
+use Rattle.pad_model.specs.declared.limits.TheConstants.{MAX_TEXT, MAX_PARTS, MAX_CHARACTERS, MAX_COUNTER}
+use Rattle.pad_model.specs.declared.limits.TheConstants.{MAX_OPERATIONS}
 use Rattle.pad_core.specs.Counts.{characters_at, next_name, op_of}
 use Rattle.pad_core.specs.declared.act.Change.{Change}
 use Rattle.pad_core.specs.declared.act.Change.TheVariants.{Insert, Delete}
@@ -68,7 +70,8 @@ part_from counter own set (Delete at len) = part.Delete (spans_of set at len)
 -- the parts of several changes, each counted on from the one before it
 abbrev pub parts_from : ℕ → ℕ → Characters → List Change → List Part
 parts_from counter own set [] = []
-parts_from counter own set (change ∷ changes) = part_from counter own set change ∷ parts_from (counter + growth_of change) own set changes
+parts_from counter own set (change ∷ changes) = part_from counter own set change
+    ∷ parts_from (counter + growth_of change) own set changes
 
 -- the same on a log: newer than all its characters
 abbrev pub made_parts : ℕ → ℕ → List Change → List Op → List Part

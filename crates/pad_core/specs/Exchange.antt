@@ -1,5 +1,6 @@
 -- What servers tell each other of a pad: causal delivery.
-use Rattle.std.specs.Prelude.{◌≡◌, ℕ, zero, suc, ◌+◌, Bool, true, not, ◌||◌, ◌==◌, nat_lt, nat_le, if◌then◌else◌, List, [], ◌∷◌, ◌++◌, length, Option, Some, None, Result, Ok, Err, IsOk}
+use Rattle.std.specs.Prelude.{◌≡◌, ℕ, zero, suc, ◌+◌, Bool, true, not, ◌||◌, ◌==◌, nat_lt, nat_le, if◌then◌else◌, List}
+use Rattle.std.specs.Prelude.{[], ◌∷◌, ◌++◌, length, Option, Some, None, Result, Ok, Err, IsOk}
 use Rattle.std.specs.List.{find}
 use Rattle.pad_model.specs.Checked.{is_checked}
 use Rattle.pad_model.specs.OldWire.{op_in_v1, seen_in_v1}
@@ -27,7 +28,8 @@ can_tell Two seen = true
 
 -- the counts of the operations, which an old peer may not be able to read
 abbrev pub read_vector : Version → List Op → Result PadReply Refusal
-read_vector version log = if can_tell version (vector_of log) then Ok (reply.Vector (length log) (vector_of log)) else Err OldPeer
+read_vector version log = if can_tell version (vector_of log) then Ok (reply.Vector (length log) (vector_of log))
+    else Err OldPeer
 
 -- operations up to the first that an old peer cannot read
 abbrev pub sayable : List Op → List Op
@@ -116,7 +118,8 @@ received own op (log, held) =
 -- the release after a state, and the answer
 abbrev pub settled : Result Pushed Refusal × (List Op × List Op) → Result PadReply Refusal × (List Op × List Op)
 settled (Err refusal, now) = (Err refusal, now)
-settled (Ok state, now) = let d = settle (unsettled now) in (Ok (reply.Pushed (length d.log) state d.released d.dropped), both_of d)
+settled (Ok state, now) = let d = settle (unsettled now) in
+    (Ok (reply.Pushed (length d.log) state d.released d.dropped), both_of d)
 
 -- a pushed operation
 abbrev pub push : ℕ → Op → List Op × List Op → Result PadReply Refusal × (List Op × List Op)
@@ -126,7 +129,8 @@ push own op now = settled (received own op now)
 abbrev pub IsStuck : List Op × List Op → Type 0
 IsStuck now = (op : Op) × (find (is_ready (vector_of now.0)) now.1 ≡ Some op) × (delivery_refusal op now.0 ≡ None)
 
--- a push was received, and its release stopped after some steps, with an operation ready to be delivered that is still held
+-- a push was received, and its release stopped after some steps, with an operation ready to be delivered that is still
+-- held
 abbrev pub Stopped : ℕ → Op → List Op × List Op → List Op × List Op → Type 0
 Stopped own op old new =
     IsOk (received own op old).0 × (n : ℕ) × (new ≡ both_of (steps n (unsettled (received own op old).1))) × IsStuck new

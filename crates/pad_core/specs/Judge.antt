@@ -19,7 +19,8 @@ note_fits cells book (Resolve comment) = is_comment comment book
 
 -- whether each part of an operation fits
 abbrev pub fits : List Cell → List kept.Comment → List Part → Bool
-fits cells book parts = if list_all is_edit parts then list_all (part_fits character_of cells) parts else list_all (note_fits cells book) parts
+fits cells book parts = if list_all is_edit parts then list_all (part_fits character_of cells) parts
+    else list_all (note_fits cells book) parts
 
 -- how many characters a part inserts
 abbrev pub part_growth : Part → ℕ

@@ -20,7 +20,8 @@ HaveSame log other = (op : Op) → Contains log op ↔ Contains other op
 -- two logs show the same text, by the same authors, with the same comments on it
 abbrev pub ShowSame : List Op → List Op → Type 0
 ShowSame log other =
-    (text_of (characters_in log) ≡ text_of (characters_in other)) × (runs_of (characters_in log) ≡ runs_of (characters_in other))
+    (text_of (characters_in log) ≡ text_of (characters_in other))
+    × (runs_of (characters_in log) ≡ runs_of (characters_in other))
     × (comments_of log ≡ comments_of other)
 
 -- logs that pads can have show the same where they have the same operations
@@ -38,9 +39,11 @@ reading other log = None
 abbrev pub ReadAlike : List Op → List Op → Type 0
 ReadAlike log other = (asked : Act) → reading asked log ≡ reading asked other
 
--- where the last of some events was such a reading of a pad, its reply is the answer of any log with the operations that the pad has then
+-- where the last of some events was such a reading of a pad, its reply is the answer of any log with the operations
+-- that the pad has then
 abbrev pub LastReadsAlike : List PadEvent → List (Result PadReply Refusal) → List Op → Type 0
 LastReadsAlike events replies log =
     (before : List PadEvent) (event : PadEvent) (answered : List (Result PadReply Refusal)) (reply : PadReply) →
     events ≡ before ++ event ∷ [] → replies ≡ answered ++ Ok reply ∷ [] → reply ≢ Elsewhere →
-    (other : List Op) → IsDelivered other → HaveSame log other → (told : Result PadReply Refusal) → reading event.act.now other ≡ Some told → told ≡ Ok reply
+    (other : List Op) → IsDelivered other → HaveSame log other → (told : Result PadReply Refusal) →
+    reading event.act.now other ≡ Some told → told ≡ Ok reply

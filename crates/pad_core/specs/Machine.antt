@@ -1,5 +1,6 @@
 -- The pad machine: one pad. An event goes in, a reply and the next state come out.
-use Rattle.std.specs.Prelude.{◌≡◌, ℕ, ◌+◌, ◌≤◌, Bool, true, false, not, if◌then◌else◌, List, [], length, Option, Some, None, Result, Ok, Err, IsTrue, bytes_eq, unwrap_or}
+use Rattle.std.specs.Prelude.{◌≡◌, ℕ, ◌+◌, ◌≤◌, Bool, true, false, not, if◌then◌else◌, List, [], length, Option, Some}
+use Rattle.std.specs.Prelude.{None, Result, Ok, Err, IsTrue, bytes_eq, unwrap_or}
 use Rattle.std.specs.List.{AllByRecursion}
 use Rattle.pad_model.specs.Checked.{is_name, is_checked}
 use Rattle.pad_model.specs.declared.op.Op.{Op}
@@ -7,7 +8,8 @@ use Rattle.pad_model.specs.declared.who.Who.{Who}
 use Rattle.pad_model.specs.declared.who.Who.TheVariants.{Nobody, Author, Peer}
 use Rattle.pad_model.specs.declared.who.Version.{Version}
 use Rattle.pad_model.specs.declared.refusal.Refusal.{Refusal}
-use Rattle.pad_model.specs.declared.refusal.Refusal.TheVariants.{NoSession, NotPeer, NoPad, BadName, NotJoined, Joined, Denied}
+use Rattle.pad_model.specs.declared.refusal.Refusal.TheVariants.{NoSession, NotPeer, NoPad, BadName, NotJoined, Joined}
+use Rattle.pad_model.specs.declared.refusal.Refusal.TheVariants.{Denied}
 use Rattle.pad_model.specs.declared.limits.TheConstants.{MAX_REPLICA}
 use Rattle.rights.specs.Rights.{Rights, may}
 use Rattle.rights.specs.declared.right.Right.TheVariants as right
@@ -28,7 +30,8 @@ use Rattle.pad_core.specs.declared.reply.PadReply.TheVariants as reply
 use Rattle.pad_core.specs.declared.event.Claim.{Claim}
 use Rattle.pad_core.specs.declared.event.Claim.TheVariants.{Created, Exists, Other}
 
--- a pad: its name and rights, if it has them, its server's replica number, its operations in the order of delivery, those that wait for others, and who is present
+-- a pad: its name and rights, if it has them, its server's replica number, its operations in the order of delivery,
+-- those that wait for others, and who is present
 pub record Machine : Type 0 where
   pub owned : Option Owned
   pub replica : ℕ
@@ -89,7 +92,8 @@ need_refusal book p name visit PeerSession = Some NotPeer
 
 -- the same of an act, before the act itself is looked at
 abbrev pub author_refusal : Rights → Presence → List ℕ → Option ℕ → Act → Option Refusal
-author_refusal book p name visit act = if names_badly act then Some BadName else need_refusal book p name visit (need_of act)
+author_refusal book p name visit act = if names_badly act then Some BadName else need_refusal book p name visit
+    (need_of act)
 
 -- what an unauthenticated session is refused with
 abbrev pub nobody_refusal : Need → Refusal
@@ -109,7 +113,8 @@ suits (Peer number version) other = false
 -- why a session cannot do an act on any pad, if so
 abbrev pub session_refusal : Who → Act → Option Refusal
 session_refusal who act =
-    if not (suits who (need_of act)) then Some (nobody_refusal (need_of act)) else if names_badly act then Some BadName else None
+    if not (suits who (need_of act)) then Some (nobody_refusal (need_of act)) else if names_badly act then Some BadName
+    else None
 
 -- what an act comes to: its answer, and the part of the pad that it changes, as that is afterwards
 pub data Outcome : Type 0 where
@@ -202,13 +207,15 @@ session_step owned Nobody visit act m = (Err (nobody_refusal (need_of act)), m)
 session_step owned (Author name) visit act m = author_step owned name visit act m
 session_step owned (Peer number version) visit act m = peer_act version act m
 
--- one step of the pad machine: a reply and the next state. A pad without a name, or of another one, answers so whatever is asked
+-- one step of the pad machine: a reply and the next state. A pad without a name, or of another one, answers so whatever
+-- is asked
 abbrev pub step : List ℕ → Who → Option ℕ → Act → Machine → Result PadReply Refusal × Machine
 step pad who visit act m = at_pad m.owned
   where
     at_pad : Option Owned → Result PadReply Refusal × Machine
     at_pad None = (Err NoPad, m)
-    at_pad (Some owned) = if not (bytes_eq owned.name pad) then (Ok reply.Elsewhere, m) else session_step owned who visit act m
+    at_pad (Some owned) = if not (bytes_eq owned.name pad) then (Ok reply.Elsewhere, m)
+        else session_step owned who visit act m
 
 -- the name of a pad, if it has one
 abbrev pub name_of : Option Owned → Option (List ℕ)
@@ -224,8 +231,10 @@ abbrev pub claim : List ℕ → List ℕ → Machine → Result Claim Refusal ×
 claim name owner m = claim_of m.owned
   where
     claim_of : Option Owned → Result Claim Refusal × Machine
-    claim_of None =
-        (Ok (Created (m.presence.given + 1)), record m { owned = Some (record { name = name; rights = record { owner = owner; grants = [] } }); presence = joined owner m.presence })
+    claim_of None = (
+      Ok (Created (m.presence.given + 1)),
+      record m { owned = Some (record { name = name; rights = record { owner = owner; grants = [] } }); presence = joined owner m.presence },
+    )
     claim_of (Some owned) = if bytes_eq owned.name name then (Ok Exists, m) else (Ok Other, m)
 
 -- an author was admitted to an act
@@ -236,7 +245,8 @@ IsAdmitted (Some owned) p name visit act = author_refusal owned.rights p name vi
 -- a pad without a name was never joined; on one with a name, whoever has a right has a name that an author can have
 abbrev pub IsOwned : Option Owned → Presence → Type 0
 IsOwned None presence = presence ≡ nobody_present
-IsOwned (Some owned) presence = IsTrue (is_name owned.rights.owner) × AllByRecursion (λ e. IsTrue (is_name e.0)) owned.rights.grants
+IsOwned (Some owned) presence = IsTrue (is_name owned.rights.owner)
+    × AllByRecursion (λ e. IsTrue (is_name e.0)) owned.rights.grants
 
 -- what a pad keeps beside its log: a replica number in the limits, and held operations in theirs
 pub record IsPad (owned : Option Owned) (replica : ℕ) (held : List Op) (presence : Presence) : Type 0 where

@@ -1,5 +1,6 @@
 -- What an author's comments and resolutions make of a log.
-use Rattle.std.specs.Prelude.{ℕ, ◌+◌, ◌-◌, Bool, ◌==◌, ◌||◌, not, ◌&&◌, nat_lt, nat_le, if◌then◌else◌, List, [], ◌∷◌, ◌++◌, length, count_by, Option, Some, None, Result, Ok, Err}
+use Rattle.std.specs.Prelude.{ℕ, ◌+◌, ◌-◌, Bool, ◌==◌, ◌||◌, not, ◌&&◌, nat_lt, nat_le, if◌then◌else◌, List, [], ◌∷◌}
+use Rattle.std.specs.Prelude.{◌++◌, length, count_by, Option, Some, None, Result, Ok, Err}
 use Rattle.std.specs.List.{list_any}
 use Rattle.pad_model.specs.Stamp.{Stamp}
 use Rattle.pad_model.specs.Log.{is_comment, same_name}
@@ -10,7 +11,8 @@ use Rattle.pad_model.specs.declared.op.OpName.{OpName}
 use Rattle.pad_model.specs.declared.op.Part.{Part}
 use Rattle.pad_model.specs.declared.op.Part.TheVariants.{Comment, Resolve}
 use Rattle.pad_model.specs.declared.refusal.Refusal.{Refusal}
-use Rattle.pad_model.specs.declared.refusal.Refusal.TheVariants.{NoRevision, OutOfRange, Empty, TooMuch, NoComment, LogFull, CommentsFull}
+use Rattle.pad_model.specs.declared.refusal.Refusal.TheVariants.{NoRevision, OutOfRange, Empty, TooMuch, NoComment}
+use Rattle.pad_model.specs.declared.refusal.Refusal.TheVariants.{LogFull, CommentsFull}
 use Rattle.pad_model.specs.declared.limits.TheConstants.{MAX_COMMENT, MAX_COMMENTS, MAX_OPERATIONS}
 use Rattle.pad_core.specs.Counts.{characters_at, next_name, op_of}
 use Rattle.pad_core.specs.declared.reply.PadReply.{PadReply}
@@ -19,7 +21,11 @@ use Rattle.pad_core.specs.declared.reply.PadReply.TheVariants.{Made}
 -- one operation of one part, unless it is refused
 abbrev pub noted : Option Refusal → ℕ → List ℕ → List Part → List Op → Result PadReply Refusal × List Op
 noted (Some refusal) own author parts log = (Err refusal, log)
-noted None own author parts log = (Ok (Made (length log + 1) (next_name own log)), log ++ op_of own author parts log ∷ [])
+noted None own author parts log = (
+  Ok (Made (length log + 1) (next_name own log)),
+  log ++ op_of own author parts log
+      ∷ [],
+)
 
 -- why a comment is refused, if it is
 abbrev pub comment_refusal : ℕ → ℕ → ℕ → List ℕ → List Op → Option Refusal
@@ -44,7 +50,8 @@ comment_parts set at len text = comment_between (stamp_at set at) (stamp_at set 
 
 -- a comment on what a revision shows at a place
 abbrev pub comment : ℕ → List ℕ → ℕ → ℕ → ℕ → List ℕ → List Op → Result PadReply Refusal × List Op
-comment own author rev at len text log = noted (comment_refusal rev at len text log) own author (comment_parts (characters_at rev log) at len text) log
+comment own author rev at len text log = noted (comment_refusal rev at len text log) own author
+    (comment_parts (characters_at rev log) at len text) log
 
 -- whether a log has the comment of a name
 abbrev pub has_comment : OpName → List Op → Bool

@@ -34,7 +34,11 @@ abbrev pub put_caret : ℕ → ℕ → ℕ → List Op → Presence → Result P
 put_caret rev at visit log p =
     if nat_lt (length log) rev then (Err NoRevision, p)
     else if nat_lt (length (visible (characters_at rev log))) at then (Err OutOfRange, p)
-    else (Ok (Done (length log)), record p { present = with_caret (before_place (characters_at rev log) at) visit p.present })
+    else (
+      Ok (Done (length log)),
+      record p
+          { present = with_caret (before_place (characters_at rev log) at) visit p.present },
+    )
 
 -- a visit as it is shown: its caret is at a place of the present text
 abbrev pub shown_visit : ℕ → List Op → Visit → Present

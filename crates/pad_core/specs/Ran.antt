@@ -19,33 +19,41 @@ IsPeer Nobody = ⊥
 IsPeer (Author name) = ⊥
 IsPeer (Peer number version) = Unit {0}
 
--- a peer's push to this pad was received, and the release that it began was out of memory for an operation that is ready and still held: those before it were released
+-- a peer's push to this pad was received, and the release that it began was out of memory for an operation that is
+-- ready and still held: those before it were released
 abbrev pub IsCutShort : List ℕ → Who → Act → Machine → Machine → Type 0
 IsCutShort pad who this old new =
-    IsPeer who × (name_of old.owned ≡ Some pad) × (op : Op) × (this ≡ act.Push op) × Stopped old.replica op (old.log, old.held) (new.log, new.held)
+    IsPeer who × (name_of old.owned ≡ Some pad) × (op : Op) × (this ≡ act.Push op)
+    × Stopped old.replica op (old.log, old.held) (new.log, new.held)
     × (new ≡ record old { log = new.log; held = new.held })
 
 -- the machine's step at an event
 abbrev pub event_step : PadEvent → Machine → Result PadReply Refusal × Machine
 event_step event m = step event.pad.now event.who.now event.visit event.act.now m
 
--- the event was answered as the machine answers it; or it was out of memory, on a pad of its name where the answer is no refusal, and changed nothing; or it stopped in a release
+-- the event was answered as the machine answers it; or it was out of memory, on a pad of its name where the answer is
+-- no refusal, and changed nothing; or it stopped in a release
 abbrev pub Stepped : Machine → PadEvent → Result PadReply Refusal → Machine → Type 0
 Stepped old event reply new =
-    (((reply ≡ Err Memory) × (new ≡ old) × IsOk (event_step event old).0 × (name_of old.owned ≡ Some event.pad.now)) ⊎ (event_step event old ≡ (reply, new)))
+    (((reply ≡ Err Memory) × (new ≡ old) × IsOk (event_step event old).0 × (name_of old.owned ≡ Some event.pad.now))
+    ⊎ (event_step event old ≡ (reply, new)))
     ⊎ ((reply ≡ Err Memory) × IsCutShort event.pad.now event.who.now event.act.now old new)
 
 -- the machine's replies to a list of events, and its state after them
 abbrev pub run : List PadEvent → Machine → List (Result PadReply Refusal) × Machine
 run [] m = ([], m)
-run (event ∷ events) m = ((event_step event m).0 ∷ (run events (event_step event m).1).0, (run events (event_step event m).1).1)
+run (event ∷ events) m = (
+  (event_step event m).0 ∷ (run events (event_step event m).1).0,
+  (run events (event_step event m).1).1,
+)
 
 -- each event was answered so, one after the other
 abbrev pub Ran : Machine → List PadEvent → List (Result PadReply Refusal) → Machine → Type 0
 Ran m [] [] new = new ≡ m
 Ran m [] (reply ∷ replies) new = ⊥
 Ran m (event ∷ events) [] new = ⊥
-Ran m (event ∷ events) (reply ∷ replies) new = (next : Machine) × Stepped m event reply next × Ran next events replies new
+Ran m (event ∷ events) (reply ∷ replies) new = (next : Machine) × Stepped m event reply next
+    × Ran next events replies new
 
 -- no reply says that the pad was out of memory
 abbrev pub FoundMemory : List (Result PadReply Refusal) → Type 0

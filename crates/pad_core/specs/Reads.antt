@@ -1,5 +1,6 @@
 -- What a log answers to who reads it.
-use Rattle.std.specs.Prelude.{ℕ, suc, ◌+◌, ◌==◌, ◌||◌, nat_lt, if◌then◌else◌, List, [], ◌∷◌, length, take, Option, Some, None, Result, Ok, Err}
+use Rattle.std.specs.Prelude.{ℕ, suc, ◌+◌, ◌==◌, ◌||◌, nat_lt, if◌then◌else◌, List, [], ◌∷◌, length, take, Option, Some}
+use Rattle.std.specs.Prelude.{None, Result, Ok, Err}
 use Rattle.pad_model.specs.Operation.{author_of, characters_in}
 use Rattle.pad_model.specs.Visible.{visible, text_of, runs_of}
 use Rattle.pad_model.specs.declared.op.Op.{Op}
@@ -28,15 +29,18 @@ at_revision rev log reply = if nat_lt (length log) rev then Err NoRevision else 
 
 -- the text of a revision
 abbrev pub read_text : Option ℕ → List Op → Result PadReply Refusal
-read_text asked log = let rev = revision_of asked log in at_revision rev log (Text (length log) rev (text_of (characters_at rev log)))
+read_text asked log = let rev = revision_of asked log in
+    at_revision rev log (Text (length log) rev (text_of (characters_at rev log)))
 
 -- who wrote it
 abbrev pub read_runs : Option ℕ → List Op → Result PadReply Refusal
-read_runs asked log = let rev = revision_of asked log in at_revision rev log (Runs (length log) rev (runs_of (characters_at rev log)))
+read_runs asked log = let rev = revision_of asked log in
+    at_revision rev log (Runs (length log) rev (runs_of (characters_at rev log)))
 
 -- its comments
 abbrev pub read_comments : Option ℕ → List Op → Result PadReply Refusal
-read_comments asked log = let rev = revision_of asked log in at_revision rev log (Comments (length log) rev (comments_of (take rev log)))
+read_comments asked log = let rev = revision_of asked log in
+    at_revision rev log (Comments (length log) rev (comments_of (take rev log)))
 
 -- how long the pad is, with and without what was erased
 abbrev pub read_revs : List Op → Result PadReply Refusal

@@ -1,5 +1,6 @@
 -- How a pad is put together again after a restart, from what was done on it before.
-use Rattle.std.specs.Prelude.{ℕ, ◌+◌, ◌==◌, Bool, not, ◌&&◌, if◌then◌else◌, List, [], ◌∷◌, ◌++◌, Option, Some, None, Result, Ok, Err}
+use Rattle.std.specs.Prelude.{ℕ, ◌+◌, ◌==◌, Bool, not, ◌&&◌, if◌then◌else◌, List, [], ◌∷◌, ◌++◌, Option, Some, None}
+use Rattle.std.specs.Prelude.{Result, Ok, Err}
 use Rattle.pad_model.specs.Checked.{is_checked, is_name}
 use Rattle.pad_model.specs.Seen.{count_in}
 use Rattle.pad_model.specs.declared.op.Op.{Op}
@@ -41,7 +42,8 @@ restore_claim name owner m = at m.owned
 -- a right is given, or taken away, where a pad has a name
 abbrev pub granted_again : List ℕ → Option Right → Option Owned → Result (Unit {0}) Refusal × Option Owned
 granted_again author right None = (Err NoPad, None)
-granted_again author right (Some owned) = let done = grant owned.rights author right in (done.0, Some (record owned { rights = done.1 }))
+granted_again author right (Some owned) = let done = grant owned.rights author right in
+    (done.0, Some (record owned { rights = done.1 }))
 
 -- the same of a pad, to a name that an author can have
 abbrev pub restore_grant : List ℕ → Option Right → Machine → Result (Unit {0}) Refusal × Machine
@@ -50,7 +52,8 @@ restore_grant author right m = at m.owned
     at : Option Owned → Result (Unit {0}) Refusal × Machine
     at None = (Err NoPad, m)
     at (Some owned) =
-        if not (is_name author) then (Err BadName, m) else (let done = granted_again author right (Some owned) in (done.0, record m { owned = done.1 }))
+        if not (is_name author) then (Err BadName, m) else (let done = granted_again author right (Some owned) in
+        (done.0, record m { owned = done.1 }))
 
 -- a visit is counted, whose it was
 abbrev pub restore_visit : Machine → Result (Unit {0}) Refusal × Machine
@@ -64,7 +67,8 @@ restore_visit m = at m.owned
 abbrev pub is_next : List Counted → OpName → Bool
 is_next seen name = name.number == count_in seen name.origin + 1
 
--- why an operation is not delivered again, if so: it passes a limit, it is not the next of its origin, or it would not be delivered now
+-- why an operation is not delivered again, if so: it passes a limit, it is not the next of its origin, or it would not
+-- be delivered now
 abbrev pub restore_refusal : Op → List Op → Option Refusal
 restore_refusal op log =
     if not (is_checked op) then Some BadOp

@@ -1,5 +1,6 @@
 -- What the check of an operation computes, and what `==` says of operations.
-use Rattle.std.proofs.Common.{◌≡◌, ℕ, ◌+◌, ◌≤◌, false, List, [], ◌∷◌, min, fold, sum_by, refl, sym, ap, ◌∙◌, rules, arith}
+use Rattle.std.proofs.Common.{◌≡◌, ℕ, ◌+◌, ◌≤◌, false, List, [], ◌∷◌, min, fold, sum_by, refl, sym, ap, ◌∙◌, rules}
+use Rattle.std.proofs.Common.{arith}
 use Rattle.std.specs.Bool.{Decides}
 use Rattle.std.proofs.lemmas.Bool.{false≢true}
 use Rattle.std.proofs.lemmas.Bool.Decides.{Decides-like}
@@ -21,7 +22,8 @@ stopped : {A : Type 0} (f : A → ℕ) (most : ℕ) (xs : List A) (from : ℕ) �
     fold (λ total x. min (total + f x) most) from xs ≡ min (from + sum_by f xs) most
 stopped f most [] from le = omega arith
 stopped f most (x ∷ xs) from le =
-    stopped f most xs (min (from + f x) most) (omega arith) ∙ step (f x) (sum_by f xs) ∙ ap (λ n. min (from + n) most) (sym (sum_by-cons f x xs))
+    stopped f most xs (min (from + f x) most) (omega arith) ∙ step (f x) (sum_by f xs) ∙ ap (λ n. min (from + n) most)
+    (sym (sum_by-cons f x xs))
   where
     step : (n rest : ℕ) → min (min (from + n) most + rest) most ≡ min (from + (n + rest)) most
     step n rest = omega arith
@@ -31,16 +33,19 @@ stopped_terms : {A : Type 0} (f : A → ℕ) (most : ℕ) (xs : List A) (from : 
     fold (λ total x. min (total + min (f x) most) most) from xs ≡ fold (λ total x. min (total + f x) most) from xs
 stopped_terms {A} f most [] from = refl
 stopped_terms {A} f most (x ∷ xs) from =
-    stopped_terms f most xs (min (from + min (f x) most) most) ∙ ap (λ n. fold (λ total (y : A). min (total + f y) most) n xs) (step (f x))
+    stopped_terms f most xs (min (from + min (f x) most) most)
+    ∙ ap (λ n. fold (λ total (y : A). min (total + f y) most) n xs) (step (f x))
   where
     step : (n : ℕ) → min (from + min n most) most ≡ min (from + n) most
     step n = omega arith
 
 -- such a sum is the sum, up to the bound
-pub fold_total : {A : Type 0} (f : A → ℕ) (most : ℕ) (xs : List A) → fold (λ total x. min (total + f x) most) 0 xs ≡ min (sum_by f xs) most
+pub fold_total : {A : Type 0} (f : A → ℕ) (most : ℕ) (xs : List A) → fold (λ total x. min (total + f x) most) 0 xs
+    ≡ min (sum_by f xs) most
 fold_total f most xs = stopped f most xs 0 (omega arith) ∙ ap (λ n. min n most) (omega arith)
 
-pub fold_bounded : {A : Type 0} (f : A → ℕ) (most : ℕ) (xs : List A) → fold (λ total x. min (total + min (f x) most) most) 0 xs ≡ min (sum_by f xs) most
+pub fold_bounded : {A : Type 0} (f : A → ℕ) (most : ℕ) (xs : List A) →
+    fold (λ total x. min (total + min (f x) most) most) 0 xs ≡ min (sum_by f xs) most
 fold_bounded f most xs = stopped_terms f most xs 0 ∙ fold_total f most xs
 
 run_decides : (a b : Run) → Decides (runs.eq-value.it a b) (a ≡ b)
@@ -60,7 +65,8 @@ part_decides (Insert a) (Delete b) = unlike (λ e. cc)
 part_decides (Insert a) (Comment b1 b2 b3) = unlike (λ e. cc)
 part_decides (Insert a) (Resolve b) = unlike (λ e. cc)
 part_decides (Delete a) (Insert b) = unlike (λ e. cc)
-part_decides (Delete a) (Delete b) = Decides-like _ (λ e. ap Delete e) (λ e. cc) (slice_eq-Decides span_decides a b _ refl)
+part_decides (Delete a) (Delete b) = Decides-like _ (λ e. ap Delete e) (λ e. cc)
+    (slice_eq-Decides span_decides a b _ refl)
 part_decides (Delete a) (Comment b1 b2 b3) = unlike (λ e. cc)
 part_decides (Delete a) (Resolve b) = unlike (λ e. cc)
 part_decides (Comment a1 a2 a3) (Insert b) = unlike (λ e. cc)

@@ -29,7 +29,8 @@ pub precedes-other : (a b : OpName) → precedes a b ≡ false → same_name a b
 precedes-other a b p q = grind (arith, nat_tests)
 
 -- what follows a name that is no smaller than another is not that one
-pub follows : (first later name : OpName) → precedes first name ≡ false → precedes first later ≡ true → same_name later name ≡ false
+pub follows : (first later name : OpName) → precedes first name ≡ false → precedes first later ≡ true →
+    same_name later name ≡ false
 follows first later name stops h = grind (arith, nat_tests)
 
 -- a name that stands behind another stands behind each one that is the same
@@ -37,7 +38,8 @@ pub precedes-alike : (a b c : OpName) → same_name a b ≡ true → precedes a 
 precedes-alike a b c e p = grind (arith, nat_tests)
 
 -- what it means that a name stands before another
-pub precedes-cases : (a b : OpName) → precedes a b ≡ true → (a.origin < b.origin) ⊎ ((a.origin ≡ b.origin) × (a.number < b.number))
+pub precedes-cases : (a b : OpName) → precedes a b ≡ true → (a.origin < b.origin)
+    ⊎ ((a.origin ≡ b.origin) × (a.number < b.number))
 precedes-cases a b e =
     elim (or_cases _ _ e) [
       | inl p ↦ inl (ltb-true _ _ p)

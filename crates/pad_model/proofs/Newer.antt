@@ -1,6 +1,8 @@
 -- The order of stamps is a strict total order.
-use Rattle.std.proofs.Common.{◌≡◌, ◌<◌, ◌⊎◌, inl, inr, Bool, true, false, refl, ap₂, arith, ltb-true, lt-ltb, le-ltb, eq-eqb}
-use Rattle.std.proofs.lemmas.Bool.{or_cases, and_parts, eqb-true, or_left, or_right, and_from, or_from, and_right, cases_order, both_ways}
+use Rattle.std.proofs.Common.{◌≡◌, ◌<◌, ◌⊎◌, inl, inr, Bool, true, false, refl, ap₂, arith, ltb-true, lt-ltb, le-ltb}
+use Rattle.std.proofs.Common.{eq-eqb}
+use Rattle.std.proofs.lemmas.Bool.{or_cases, and_parts, eqb-true, or_left, or_right, and_from, or_from, and_right}
+use Rattle.std.proofs.lemmas.Bool.{cases_order, both_ways}
 use Rattle.pad_model.specs.Stamp.{Stamp, newer, same_stamp}
 
 -- cases on a test
@@ -26,14 +28,21 @@ newer_from a b h =
     ]
 
 pub newer-irrefl : (a : Stamp) → newer a a ≡ false
-newer-irrefl a = or_from _ _ (le-ltb a.counter a.counter (omega arith)) (and_right _ _ (le-ltb a.replica a.replica (omega arith)))
+newer-irrefl a = or_from _ _ (le-ltb a.counter a.counter (omega arith))
+    (and_right _ _ (le-ltb a.replica a.replica (omega arith)))
 
 pub newer-trans : (a b c : Stamp) → newer a b ≡ true → newer b c ≡ true → newer a c ≡ true
 newer-trans a b c p q =
     newer_from a c
     (elim (newer-true a b p) [
       | inl x ↦ elim (newer-true b c q) [ inl y ↦ inl (omega arith) | inr y ↦ inl (omega (arith, y.0)) ]
-      | inr x ↦ elim (newer-true b c q) [ inl y ↦ inl (omega (arith, x.0)) | inr y ↦ inr (omega (arith, x.0, y.0), omega (arith, x.1, y.1)) ]
+      | inr x ↦ elim (newer-true b c q) [
+        | inl y ↦ inl (omega (arith, x.0))
+        | inr y ↦ inr (
+          omega (arith, x.0, y.0),
+          omega (arith, x.1, y.1),
+        )
+      ]
     ])
 
 pub newer-asym : (a b : Stamp) → newer a b ≡ true → newer b a ≡ false
@@ -67,4 +76,5 @@ pub same_stamp-sym : (a b : Stamp) → same_stamp a b ≡ same_stamp b a
 same_stamp-sym a b =
     split (same_stamp a b)
     (λ e. rw (same_stamp-true a b e) refl)
-    (λ e. split (same_stamp b a) (λ f. absurd (both_ways _ e (rw (same_stamp-true b a f) (same_stamp-refl a)))) (λ f. rw (e, f) refl))
+    (λ e. split (same_stamp b a) (λ f. absurd (both_ways _ e (rw (same_stamp-true b a f) (same_stamp-refl a))))
+    (λ f. rw (e, f) refl))

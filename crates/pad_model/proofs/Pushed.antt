@@ -1,5 +1,7 @@
 -- The cells of a log that one more insertion ends.
-use Rattle.std.proofs.Common.{◌≡◌, ℕ, zero, suc, ◌+◌, ◌<◌, ◌≤◌, ◌⊎◌, inl, inr, Bool, true, false, not, ◌&&◌, ◌||◌, cond, List, [], ◌∷◌, ◌++◌, length, Option, Some, None, refl, sym, ap, ap₂, ◌∙◌, subst, map, flat_map, IsPermutation, arith, append-nil, append_assoc}
+use Rattle.std.proofs.Common.{◌≡◌, ℕ, zero, suc, ◌+◌, ◌<◌, ◌≤◌, ◌⊎◌, inl, inr, Bool, true, false, not, ◌&&◌, ◌||◌, cond}
+use Rattle.std.proofs.Common.{List, [], ◌∷◌, ◌++◌, length, Option, Some, None, refl, sym, ap, ap₂, ◌∙◌, subst, map}
+use Rattle.std.proofs.Common.{flat_map, IsPermutation, arith, append-nil, append_assoc}
 use Rattle.std.proofs.lemmas.Bool.{and_parts, both_ways, or_cases, false≢true}
 use Rattle.std.proofs.lemmas.List.{map-append}
 use Rattle.std.proofs.lemmas.List.Concat.{flat_map-append}
@@ -34,42 +36,54 @@ use Rattle.pad_model.proofs.Runs.{run_fresh}
 use Rattle.pad_model.proofs.Sets.{Has-permutation, set_law}
 
 -- the same items have one order, in whatever sequence they are listed
-pub order-permuted : {A : Type 0} (at : A → Character) (xs ys : List A) → IsPermutation xs ys → IsTree at xs → order at xs ≡ order at ys
+pub order-permuted : {A : Type 0} (at : A → Character) (xs ys : List A) → IsPermutation xs ys → IsTree at xs →
+    order at xs ≡ order at ys
 order-permuted at xs ys p t =
-    set_law at xs ys t.distinct (distinct-permutation at xs ys p t.distinct) (λ c h. Has-permutation xs ys c p h) (λ c h. Has-permutation ys xs c (IsPermutation-sym xs ys p) h)
+    set_law at xs ys t.distinct (distinct-permutation at xs ys p t.distinct) (λ c h. Has-permutation xs ys c p h)
+    (λ c h. Has-permutation ys xs c (IsPermutation-sym xs ys p) h)
 
 pub births-append : (rev : ℕ) (xs ys : List Op) → births rev (xs ++ ys) ≡ births rev xs ++ births (rev + length xs) ys
 births-append rev [] ys = rw Rattle.std.proofs.Common.add-zero refl
 births-append rev (op ∷ xs) ys =
-    ap (λ l. map (born_at rev) (inserted_by op) ++ l) (births-append (suc rev) xs ys ∙ ap (λ n. births (suc rev) xs ++ births n ys) (let e : suc rev + length xs ≡ rev + suc (length xs) = omega arith in e))
+    ap (λ l. map (born_at rev) (inserted_by op) ++ l)
+    (births-append (suc rev) xs ys ∙ ap (λ n. births (suc rev) xs ++ births n ys) (let e : suc rev + length xs ≡ rev
+    + suc (length xs) = omega arith in e))
     ∙ sym (append_assoc (map (born_at rev) (inserted_by op)) (births (suc rev) xs) (births (rev + suc (length xs)) ys))
 
 -- an operation that erases nothing gives no death
-death_in-push : (rev : ℕ) (log : List Op) (op : Op) (s : Stamp) → erased_by op ≡ [] → death_in rev (log ++ op ∷ []) s ≡ death_in rev log s
+death_in-push : (rev : ℕ) (log : List Op) (op : Op) (s : Stamp) → erased_by op ≡ [] → death_in rev (log ++ op ∷ []) s
+    ≡ death_in rev log s
 death_in-push rev [] op s e = rw e refl
-death_in-push rev (one ∷ log) op s e = split (is_erased (erased_by one) s) (λ h. rw h refl) (λ h. rw h (death_in-push (suc rev) log op s e))
+death_in-push rev (one ∷ log) op s e = split (is_erased (erased_by one) s) (λ h. rw h refl)
+    (λ h. rw h (death_in-push (suc rev) log op s e))
 
 -- what is not erased has no death
-pub death_none : (rev : ℕ) (log : List Op) (s : Stamp) → is_erased (flat_map erased_by log) s ≡ false → death_in rev log s ≡ None
+pub death_none : (rev : ℕ) (log : List Op) (s : Stamp) → is_erased (flat_map erased_by log) s ≡ false →
+    death_in rev log s ≡ None
 death_none rev [] s h = refl
 death_none rev (op ∷ log) s h =
-    let parts = Rattle.std.proofs.lemmas.Bool.or_parts (is_erased (erased_by op) s) (is_erased (flat_map erased_by log) s) (sym (list_any-append (λ x. same_stamp x s) (erased_by op) (flat_map erased_by log)) ∙ h) in
+    let parts = Rattle.std.proofs.lemmas.Bool.or_parts (is_erased (erased_by op) s)
+    (is_erased (flat_map erased_by log) s)
+    (sym (list_any-append (λ x. same_stamp x s) (erased_by op) (flat_map erased_by log)) ∙ h) in
     rw parts.0 (death_none (suc rev) log s parts.1)
 
 -- a stamp that is among some that are there
-pub stamps_there : {A : Type 0} (at : A → Character) (stamps : List Stamp) (items : List A) (s : Stamp) → list_all (λ z. has_stamp at items z) stamps ≡ true → is_erased stamps s ≡ true → has_stamp at items s ≡ true
+pub stamps_there : {A : Type 0} (at : A → Character) (stamps : List Stamp) (items : List A) (s : Stamp) →
+    list_all (λ z. has_stamp at items z) stamps ≡ true → is_erased stamps s ≡ true → has_stamp at items s ≡ true
 stamps_there at [] items s h e = absurd (false≢true e)
 stamps_there at (z ∷ stamps) items s h e =
     let all = and_parts _ _ h in
     split (same_stamp z s) (λ same. subst (λ w. has_stamp at items w ≡ true) (same_stamp-true z s same) all.0)
     (λ other. stamps_there at stamps items s all.1 (rw other at e))
 
-pub parts_erase : (parts : List Part) (log : List Op) (s : Stamp) → list_all (λ part. part_is_valid part log) parts ≡ true → is_erased (flat_map part_erases parts) s ≡ true → has_stamp itself (characters_in log).inserted s ≡ true
+pub parts_erase : (parts : List Part) (log : List Op) (s : Stamp) → list_all (λ part. part_is_valid part log) parts
+    ≡ true → is_erased (flat_map part_erases parts) s ≡ true → has_stamp itself (characters_in log).inserted s ≡ true
 parts_erase [] log s h e = absurd (false≢true e)
 parts_erase (Insert run ∷ parts) log s h e = parts_erase parts log s (and_parts _ _ h).1 e
 parts_erase (Delete spans ∷ parts) log s h e =
     let all = and_parts _ _ h in
-    elim (or_cases _ _ (sym (list_any-append (λ x. same_stamp x s) (flat_map span_stamps spans) (flat_map part_erases parts)) ∙ e)) [
+    elim (or_cases _ _ (sym (list_any-append (λ x. same_stamp x s) (flat_map span_stamps spans)
+    (flat_map part_erases parts)) ∙ e)) [
       | inl here ↦ stamps_there itself (flat_map span_stamps spans) (characters_in log).inserted s all.0 here
       | inr later ↦ parts_erase parts log s all.1 later
     ]
@@ -77,8 +91,10 @@ parts_erase (Comment first last text ∷ parts) log s h e = parts_erase parts lo
 parts_erase (Resolve comment ∷ parts) log s h e = parts_erase parts log s (and_parts _ _ h).1 e
 
 -- only what is inserted is erased
-erased_there : (before more : List Op) (s : Stamp) → (is_erased (characters_in before).erased s ≡ true → has_stamp itself (characters_in before).inserted s ≡ true) → Continues before more →
-    is_erased (characters_in (before ++ more)).erased s ≡ true → has_stamp itself (characters_in (before ++ more)).inserted s ≡ true
+erased_there : (before more : List Op) (s : Stamp) → (is_erased (characters_in before).erased s ≡ true →
+    has_stamp itself (characters_in before).inserted s ≡ true) → Continues before more →
+    is_erased (characters_in (before ++ more)).erased s ≡ true →
+    has_stamp itself (characters_in (before ++ more)).inserted s ≡ true
 erased_there before [] s k c e = rw append-nil (k (rw append-nil at e))
 erased_there before (op ∷ more) s k c e =
     subst (λ l. has_stamp itself (characters_in l).inserted s ≡ true) (append_assoc before (op ∷ []) more)
@@ -86,72 +102,102 @@ erased_there before (op ∷ more) s k c e =
     (λ f.
     let wide = flat_map-append inserted_by before (op ∷ []) in
     let there : has_stamp itself (characters_in before).inserted s ≡ true =
-    elim (or_cases _ _ (sym (list_any-append (λ x. same_stamp x s) (flat_map erased_by before) (flat_map erased_by (op ∷ []))) ∙ subst (λ l. is_erased l s ≡ true) (flat_map-append erased_by before (op ∷ [])) f)) [
+    elim (or_cases _ _ (sym (list_any-append (λ x. same_stamp x s) (flat_map erased_by before)
+    (flat_map erased_by (op ∷ []))) ∙ subst (λ l. is_erased l s ≡ true) (flat_map-append erased_by before (op ∷ [])) f)) [
       | inl old ↦ k old
-      | inr new ↦ parts_erase op.parts before s (and_parts _ _ c.1).0 (subst (λ l. is_erased l s ≡ true) (append-nil (erased_by op)) new)
+      | inr new ↦ parts_erase op.parts before s (and_parts _ _ c.1).0 (subst (λ l. is_erased l s ≡ true)
+          (append-nil (erased_by op)) new)
     ]
     in
-    subst (λ l. has_stamp itself l s ≡ true) (sym wide) (list_any-append (λ x. same_stamp x.stamp s) (characters_in before).inserted (flat_map inserted_by (op ∷ [])) ∙ Rattle.std.proofs.lemmas.Bool.or_left _ _ there))
+    subst (λ l. has_stamp itself l s ≡ true) (sym wide)
+    (list_any-append (λ x. same_stamp x.stamp s) (characters_in before).inserted (flat_map inserted_by (op ∷ []))
+    ∙ Rattle.std.proofs.lemmas.Bool.or_left _ _ there))
     c.2 (subst (λ l. is_erased (characters_in l).erased s ≡ true) (sym (append_assoc before (op ∷ []) more)) e))
 
-pub erased-inserted : (log : List Op) (s : Stamp) → IsHistory log → is_erased (characters_in log).erased s ≡ true → has_stamp itself (characters_in log).inserted s ≡ true
+pub erased-inserted : (log : List Op) (s : Stamp) → IsHistory log → is_erased (characters_in log).erased s ≡ true →
+    has_stamp itself (characters_in log).inserted s ≡ true
 erased-inserted log s h e = erased_there [] log s (λ f. absurd (false≢true f)) h e
 
 -- the cells of a run that may join a history are as they were born
-run_undated : (log : List Op) (rev : ℕ) (first : Stamp) (p : Option Stamp) (text : List ℕ) (author : Author) → IsHistory log →
-    AllByRecursion (λ x. x.stamp.replica ≡ first.replica → x.stamp.counter < first.counter) (characters_in log).inserted →
-    map (dated log) (map (born_at rev) (run_characters first p text author)) ≡ map (born_at rev) (run_characters first p text author)
+run_undated : (log : List Op) (rev : ℕ) (first : Stamp) (p : Option Stamp) (text : List ℕ) (author : Author) →
+    IsHistory log →
+    AllByRecursion (λ x. x.stamp.replica ≡ first.replica → x.stamp.counter < first.counter)
+    (characters_in log).inserted →
+    map (dated log) (map (born_at rev) (run_characters first p text author)) ≡ map (born_at rev)
+    (run_characters first p text author)
 run_undated log rev first p [] author h a = refl
 run_undated log rev first p (c ∷ text) author h a =
     let fresh = run_fresh itself (characters_in log).inserted first a in
     let kept : is_erased (characters_in log).erased first ≡ false =
-    split (is_erased (characters_in log).erased first) (λ e. absurd (both_ways _ fresh (erased-inserted log first h e))) (λ e. e)
+    split (is_erased (characters_in log).erased first) (λ e. absurd (both_ways _ fresh (erased-inserted log first h e)))
+    (λ e. e)
     in
     ap₂ (λ (x : Cell) l. x ∷ l)
-    (ap (λ d. let it : Cell = record { stamp = first; parent = p; character = c; author = author; born = rev; died = d } in it) (death_none 1 log first kept))
+    (ap (λ d. let it : Cell = record { stamp = first; parent = p; character = c; author = author; born = rev; died = d }
+    in it) (death_none 1 log first kept))
     (run_undated log rev (next first) (Some first) text author h
-    (each-imply (λ x. x.stamp.replica ≡ first.replica → x.stamp.counter < first.counter) (λ x. x.stamp.replica ≡ first.replica → x.stamp.counter < first.counter + 1) (λ x k e. let l : x.stamp.counter < first.counter = k e in omega arith) (characters_in log).inserted a))
+    (each-imply (λ x. x.stamp.replica ≡ first.replica → x.stamp.counter < first.counter)
+    (λ x. x.stamp.replica ≡ first.replica → x.stamp.counter < first.counter + 1) (λ x k e. let l : x.stamp.counter
+    < first.counter = k e in omega arith) (characters_in log).inserted a))
 
 -- one more insertion puts its run among the cells
-pub cells_of-push_run : (log : List Op) (op : Op) (run : Run) → IsHistory log → op.parts ≡ Insert run ∷ [] → is_checked op ≡ true → is_valid op log ≡ true →
+pub cells_of-push_run : (log : List Op) (op : Op) (run : Run) → IsHistory log → op.parts ≡ Insert run ∷ [] →
+    is_checked op ≡ true → is_valid op log ≡ true →
     cells_of (log ++ op ∷ []) ≡ with_run (length log + 1) run (author_of op) (cells_of log)
 cells_of-push_run log op run h one checked valid =
     let cs = run_characters run.first run.after run.text (author_of op) in
-    let mine : inserted_by op ≡ cs = ap (flat_map (Rattle.pad_model.specs.Operation.part_inserts (author_of op))) one ∙ append-nil cs in
+    let mine : inserted_by op ≡ cs = ap (flat_map (Rattle.pad_model.specs.Operation.part_inserts (author_of op))) one
+    ∙ append-nil cs in
     let none : erased_by op ≡ [] = ap (flat_map part_erases) one in
     let old = map (dated log) (births 1 log) in
     let new = new_cells (length log + 1) run (author_of op) in
     let tree = IsTree-history log h in
-    let part_valid : run_may_join itself (characters_in log).inserted run.first run.after ≡ true = (and_parts _ _ (subst (λ ps. list_all (λ part. part_is_valid part log) ps ≡ true) one (and_parts _ _ valid).0)).0 in
+    let part_valid : run_may_join itself (characters_in log).inserted run.first run.after ≡ true =
+    (and_parts _ _ (subst (λ ps. list_all (λ part. part_is_valid part log) ps ≡ true) one (and_parts _ _ valid).0)).0 in
     let joins = RunMayJoin-from_test itself (characters_in log).inserted run.first run.after part_valid in
-    let same_dates : (xs : List Cell) → map (dated (log ++ op ∷ [])) xs ≡ map (dated log) xs = λ xs. dates xs log op none in
+    let same_dates : (xs : List Cell) → map (dated (log ++ op ∷ [])) xs ≡ map (dated log) xs =
+    λ xs. dates xs log op none in
     let made : map (dated (log ++ op ∷ [])) (births 1 (log ++ op ∷ [])) ≡ old ++ new =
     same_dates (births 1 (log ++ op ∷ []))
-    ∙ ap (map (dated log)) (births-append 1 log (op ∷ []) ∙ ap (λ l. births 1 log ++ l) (append-nil (map (born_at (1 + length log)) (inserted_by op)) ∙ ap₂ (λ n l. map (born_at n) l) (let e : 1 + length log ≡ length log + 1 = omega arith in e) mine))
+    ∙ ap (map (dated log)) (births-append 1 log (op ∷ []) ∙ ap (λ l. births 1 log ++ l)
+    (append-nil (map (born_at (1 + length log)) (inserted_by op)) ∙ ap₂ (λ n l. map (born_at n) l)
+    (let e : 1 + length log ≡ length log + 1 = omega arith in e) mine))
     ∙ map-append (dated log) (births 1 log) new
     ∙ ap (λ l. old ++ l) (run_undated log (length log + 1) run.first run.after run.text (author_of op) h joins.above)
     in
-    let grown : IsTree character_of (old ++ new) = subst (IsTree character_of) made (IsTree-of_map character_of itself (map (dated (log ++ op ∷ [])) (births 1 (log ++ op ∷ []))) (subst (IsTree itself) (sym (dated-characters (log ++ op ∷ []))) (tree_grows log op checked valid tree))) in
+    let grown : IsTree character_of (old ++ new) =
+    subst (IsTree character_of) made (IsTree-of_map character_of itself
+    (map (dated (log ++ op ∷ [])) (births 1 (log ++ op ∷ [])))
+    (subst (IsTree itself) (sym (dated-characters (log ++ op ∷ []))) (tree_grows log op checked valid tree))) in
     let old_tree = IsTree-of_map character_of itself old (subst (IsTree itself) (sym (dated-characters log)) tree) in
     ap (order character_of) made
-    ∙ order-permuted character_of (old ++ new) (cells_of log ++ new) (IsPermutation-append_left new old (cells_of log) (order-permutation character_of old old_tree)) grown
+    ∙ order-permuted character_of (old ++ new) (cells_of log ++ new) (IsPermutation-append_left new old (cells_of log)
+    (order-permutation character_of old old_tree)) grown
   where
-    dates : (xs : List Cell) (log : List Op) (op : Op) → erased_by op ≡ [] → map (dated (log ++ op ∷ [])) xs ≡ map (dated log) xs
+    dates : (xs : List Cell) (log : List Op) (op : Op) → erased_by op ≡ [] → map (dated (log ++ op ∷ [])) xs
+        ≡ map (dated log) xs
     dates [] log op none = refl
     dates (x ∷ xs) log op none =
         ap₂ (λ (y : Cell) l. y ∷ l)
-        (ap (λ d. let it : Cell = record { stamp = x.stamp; parent = x.parent; character = x.character; author = x.author; born = x.born; died = d } in it) (death_in-push 1 log op x.stamp none))
+        (ap (λ d. let it : Cell = record
+        { stamp = x.stamp; parent = x.parent; character = x.character; author = x.author; born = x.born; died = d } in
+        it) (death_in-push 1 log op x.stamp none))
         (dates xs log op none)
 
-born_before : (rev : ℕ) (cs : List Character) (most : ℕ) → rev < most → AllByRecursion (λ (c : Cell). c.born < most) (map (born_at rev) cs)
+born_before : (rev : ℕ) (cs : List Character) (most : ℕ) → rev < most → AllByRecursion (λ (c : Cell). c.born < most)
+    (map (born_at rev) cs)
 born_before rev [] most h = tt
 born_before rev (c ∷ cs) most h = (h, born_before rev cs most h)
 
-births_before : (rev : ℕ) (log : List Op) (most : ℕ) → rev + length log ≤ most → AllByRecursion (λ (c : Cell). c.born < most) (births rev log)
+births_before : (rev : ℕ) (log : List Op) (most : ℕ) → rev + length log ≤ most →
+    AllByRecursion (λ (c : Cell). c.born < most) (births rev log)
 births_before rev [] most h = tt
-births_before rev (op ∷ log) most h = each-append (λ (c : Cell). c.born < most) (map (born_at rev) (inserted_by op)) (births (suc rev) log) (born_before rev (inserted_by op) most (omega arith)) (births_before (suc rev) log most (omega arith))
+births_before rev (op ∷ log) most h = each-append (λ (c : Cell). c.born < most) (map (born_at rev) (inserted_by op))
+    (births (suc rev) log) (born_before rev (inserted_by op) most (omega arith))
+    (births_before (suc rev) log most (omega arith))
 
-death_before : (rev : ℕ) (log : List Op) (s : Stamp) (died most : ℕ) → rev + length log ≤ most → death_in rev log s ≡ Some died → died < most
+death_before : (rev : ℕ) (log : List Op) (s : Stamp) (died most : ℕ) → rev + length log ≤ most → death_in rev log s
+    ≡ Some died → died < most
 death_before rev [] s died most h e = absurd (cc)
 death_before rev (op ∷ log) s died most h e =
     split (is_erased (erased_by op) s)
@@ -159,9 +205,14 @@ death_before rev (op ∷ log) s died most h e =
     (λ f. death_before (suc rev) log s died most (omega arith) (rw f at e))
 
 -- no birth and no death of a log is later than its last operation
-pub IsBy-cells_of : (log : List Op) (rev : ℕ) → IsHistory log → length log ≤ rev → AllByRecursion (IsBy rev) (cells_of log)
+pub IsBy-cells_of : (log : List Op) (rev : ℕ) → IsHistory log → length log ≤ rev →
+    AllByRecursion (IsBy rev) (cells_of log)
 IsBy-cells_of log rev h l =
     let old = map (dated log) (births 1 log) in
-    each-permutation (IsBy rev) old (cells_of log) (order-permutation character_of old (IsTree-of_map character_of itself old (subst (IsTree itself) (sym (dated-characters log)) (IsTree-history log h))))
+    each-permutation (IsBy rev) old (cells_of log)
+    (order-permutation character_of old (IsTree-of_map character_of itself old
+    (subst (IsTree itself) (sym (dated-characters log)) (IsTree-history log h))))
     (each-map (dated log) (IsBy rev) (births 1 log)
-    (each-imply (λ (c : Cell). c.born < suc rev) (λ c. IsBy rev (dated log c)) (λ c b. (omega arith, λ died e. let d = death_before 1 log c.stamp died (suc rev) (omega arith) e in omega arith)) (births 1 log) (births_before 1 log (suc rev) (omega arith))))
+    (each-imply (λ (c : Cell). c.born < suc rev) (λ c. IsBy rev (dated log c))
+    (λ c b. (omega arith, λ died e. let d = death_before 1 log c.stamp died (suc rev) (omega arith) e in omega arith))
+    (births 1 log) (births_before 1 log (suc rev) (omega arith))))

@@ -1,5 +1,8 @@
--- The cells of a sequence: its characters in preorder, those that are erased included, each with its birth and its death.
-use Rattle.std.specs.Prelude.{◌≡◌, ℕ, ◌+◌, ◌≤◌, Bool, true, not, ◌&&◌, ◌==◌, nat_lt, nat_le, if◌then◌else◌, List, ◌++◌, length, Option, Some, None, Result, Ok, Err, map, filter, fold, max, slice_get, option_map, flat_map, is_none, count_by, take, drop}
+-- The cells of a sequence: its characters in preorder, those that are erased included, each with its birth and its
+-- death.
+use Rattle.std.specs.Prelude.{◌≡◌, ℕ, ◌+◌, ◌≤◌, Bool, true, not, ◌&&◌, ◌==◌, nat_lt, nat_le, if◌then◌else◌, List, ◌++◌}
+use Rattle.std.specs.Prelude.{length, Option, Some, None, Result, Ok, Err, map, filter, fold, max, slice_get}
+use Rattle.std.specs.Prelude.{option_map, flat_map, is_none, count_by, take, drop}
 use Rattle.pad_model.specs.Stamp.{Stamp}
 use Rattle.pad_model.specs.Character.{Character, run_characters}
 use Rattle.pad_model.specs.Legal.{IsTree}
@@ -93,7 +96,8 @@ without_spans rev spans cells = map (erased_at rev spans) cells
 -- what a deletion answers, and the cells after it
 abbrev pub delete_spans : ℕ → List Span → List Cell → Result ℕ Refusal × List Cell
 delete_spans rev spans cells =
-    if has_spans character_of cells spans then (Ok (count_by (is_hidden_by spans) cells), without_spans rev spans cells) else (Err PeerFault, cells)
+    if has_spans character_of cells spans then (Ok (count_by (is_hidden_by spans) cells), without_spans rev spans cells)
+    else (Err PeerFault, cells)
 
 -- the author runs at a revision
 abbrev pub runs_at : ℕ → List Cell → List AuthorRun
@@ -105,16 +109,19 @@ spans_at rev cells at n = spans (map (λ c. c.stamp) (take n (drop at (cells_at 
 
 -- how many cells visible at a revision stand before a stamp, if it is there
 abbrev pub before_at : ℕ → List Cell → Stamp → Option ℕ
-before_at rev cells a = if has_stamp character_of cells a then Some (shown_before character_of (shown_at rev) cells a) else None
+before_at rev cells a = if has_stamp character_of cells a then Some (shown_before character_of (shown_at rev) cells a)
+    else None
 
 -- how many cells visible at a revision stand up to and including a stamp, if it is there
 abbrev pub through_at : ℕ → List Cell → Stamp → Option ℕ
-through_at rev cells a = if has_stamp character_of cells a then Some (shown_through character_of (shown_at rev) cells a) else None
+through_at rev cells a = if has_stamp character_of cells a then Some (shown_through character_of (shown_at rev) cells a)
+    else None
 
 -- whether a is b or stands before it, if both are there
 abbrev pub is_before : List Cell → Stamp → Stamp → Option Bool
 is_before cells a b =
-    if has_stamp character_of cells a && has_stamp character_of cells b then Some (stands_before character_of cells a b) else None
+    if has_stamp character_of cells a && has_stamp character_of cells b then Some (stands_before character_of cells a b)
+    else None
 
 -- the cells form a tree of insertions and stand in its preorder
 pub record IsInOrder (cells : List Cell) : Type 0 where

@@ -1,5 +1,6 @@
 -- What the laws of cells say.
-use Rattle.std.specs.Prelude.{◌≡◌, ℕ, ◌+◌, List, [], ◌∷◌, ◌++◌, length, IsTrue, Some, Contains, filter, map, nat_le, take}
+use Rattle.std.specs.Prelude.{◌≡◌, ℕ, ◌+◌, List, [], ◌∷◌, ◌++◌, length, IsTrue, Some, Contains, filter, map, nat_le}
+use Rattle.std.specs.Prelude.{take}
 use Rattle.pad_model.specs.Cell.{Cell, IsInOrder, before_at, character_of, cells_at, through_at}
 use Rattle.pad_model.specs.Checked.{are_parts, is_checked}
 use Rattle.pad_model.specs.History.{IsHistory, cells_of}
@@ -28,7 +29,8 @@ LegalLaw = (log : List Op) → IsHistory log → IsLegal (characters_in log)
 abbrev pub CellOrderLaw : Type 0
 CellOrderLaw = (cells : List Cell) → map character_of (order character_of cells) ≡ order itself (map character_of cells)
 
--- the cells of a log that are born by a revision, dead or not, are, in place, the preorder of what its first operations insert
+-- the cells of a log that are born by a revision, dead or not, are, in place, the preorder of what its first operations
+-- insert
 abbrev pub BirthLaw : Type 0
 BirthLaw =
     (log : List Op) → IsHistory log → (k : ℕ) →
@@ -36,12 +38,14 @@ BirthLaw =
 
 -- the cells of a log that are born by a revision and not dead at it are, in place, what its first operations show
 abbrev pub SliderLaw : Type 0
-SliderLaw = (log : List Op) → IsHistory log → (k : ℕ) → map character_of (cells_at k (cells_of log)) ≡ visible (characters_in (take k log))
+SliderLaw = (log : List Op) → IsHistory log → (k : ℕ) → map character_of (cells_at k (cells_of log))
+    ≡ visible (characters_in (take k log))
 
 -- parts that fit leave the same cells at once and one after the other
 abbrev pub PartsLaw : Type 0
 PartsLaw =
-    (rev : ℕ) (author : Author) (parts : List Part) (cells : List Cell) → IsInOrder cells → IsTrue (are_parts author.origin parts) → IsTrue (parts_fit author parts cells) →
+    (rev : ℕ) (author : Author) (parts : List Part) (cells : List Cell) → IsInOrder cells →
+    IsTrue (are_parts author.origin parts) → IsTrue (parts_fit author parts cells) →
     with_parts rev parts author cells ≡ with_each_part rev author cells parts
 
 -- one more operation of a history makes its parts among the cells of those before it
@@ -50,8 +54,11 @@ GrowthLaw =
     (log : List Op) (op : Op) → IsHistory log → IsTrue (is_checked op) → IsTrue (is_valid op log) →
     cells_of (log ++ op ∷ []) ≡ with_parts (length log + 1) op.parts (author_of op) (cells_of log)
 
--- where a stamp of a revision stands among what the revision shows can be read from the cells: so comment ranges and carets can
+-- where a stamp of a revision stands among what the revision shows can be read from the cells: so comment ranges and
+-- carets can
 abbrev pub PlaceLaw : Type 0
 PlaceLaw =
-    (log : List Op) → IsHistory log → (k : ℕ) (a : Stamp) → IsTrue (has_stamp itself (characters_in (take k log)).inserted a) →
-    (before_at k (cells_of log) a ≡ Some (visible_before (characters_in (take k log)) a)) × (through_at k (cells_of log) a ≡ Some (visible_through (characters_in (take k log)) a))
+    (log : List Op) → IsHistory log → (k : ℕ) (a : Stamp) →
+    IsTrue (has_stamp itself (characters_in (take k log)).inserted a) →
+    (before_at k (cells_of log) a ≡ Some (visible_before (characters_in (take k log)) a))
+    × (through_at k (cells_of log) a ≡ Some (visible_through (characters_in (take k log)) a))

@@ -18,4 +18,5 @@ next s = record s { counter = s.counter + 1 }
 abbrev pub run_characters : Stamp → Option Stamp → List ℕ → Author → List Character
 run_characters first parent [] author = []
 run_characters first parent (c ∷ text) author =
-    record { stamp = first; parent = parent; character = c; author = author } ∷ run_characters (next first) (Some first) text author
+    record { stamp = first; parent = parent; character = c; author = author } ∷ run_characters (next first)
+    (Some first) text author

@@ -7,7 +7,8 @@ use Rattle.pad_model.specs.declared.op.Run.{Run}
 use Rattle.pad_model.specs.declared.op.Part.{Part}
 use Rattle.pad_model.specs.declared.op.Part.TheVariants.{Insert, Delete, Comment, Resolve}
 use Rattle.pad_model.specs.declared.op.Op.{Op}
-use Rattle.pad_model.specs.declared.limits.TheConstants.{MAX_COUNTER, MAX_NAME, MAX_TEXT, MAX_COMMENT, MAX_PARTS, MAX_NUMBER}
+use Rattle.pad_model.specs.declared.limits.TheConstants.{MAX_COUNTER, MAX_NAME, MAX_TEXT, MAX_COMMENT, MAX_PARTS}
+use Rattle.pad_model.specs.declared.limits.TheConstants.{MAX_NUMBER}
 
 -- whether a number is from 1 to most
 abbrev pub is_within : ℕ → ℕ → Bool
@@ -23,7 +24,8 @@ is_name name = is_within (length name) MAX_NAME && list_all is_name_byte name
 
 -- whether a vector names neither its own origin nor a count that is too large
 abbrev pub is_seen : ℕ → List Counted → Bool
-is_seen own pairs = list_all (λ pair. is_within pair.count MAX_NUMBER && nat_le 1 pair.origin && not (pair.origin == own)) pairs
+is_seen own pairs = list_all (λ pair. is_within pair.count MAX_NUMBER && nat_le 1 pair.origin
+    && not (pair.origin == own)) pairs
 
 -- whether n stamps from a counter on are within the limit
 abbrev pub fits_clock : ℕ → ℕ → Bool
@@ -31,7 +33,8 @@ fits_clock counter n = nat_le (counter + n) (MAX_COUNTER + 1)
 
 -- whether a run of this origin is in the limits
 abbrev pub is_run : ℕ → Run → Bool
-is_run origin run = is_within (length run.text) MAX_TEXT && run.first.replica == origin && fits_clock run.first.counter (length run.text)
+is_run origin run = is_within (length run.text) MAX_TEXT && run.first.replica == origin
+    && fits_clock run.first.counter (length run.text)
 
 -- whether a span is not empty and within the limit of a counter
 abbrev pub is_span : Span → Bool
@@ -61,7 +64,8 @@ is_edit (Resolve comment) = false
 -- whether each insertion's counters are above those of the insertion before it; counters below floor are taken
 abbrev pub counters_rise : ℕ → List Part → Bool
 counters_rise floor [] = true
-counters_rise floor (Insert run ∷ parts) = nat_le floor run.first.counter && counters_rise (run.first.counter + length run.text) parts
+counters_rise floor (Insert run ∷ parts) = nat_le floor run.first.counter
+    && counters_rise (run.first.counter + length run.text) parts
 counters_rise floor (Delete spans ∷ parts) = counters_rise floor parts
 counters_rise floor (Comment first last text ∷ parts) = counters_rise floor parts
 counters_rise floor (Resolve comment ∷ parts) = counters_rise floor parts

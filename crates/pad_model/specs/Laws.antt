@@ -1,5 +1,6 @@
 -- What the laws of this crate say.
-use Rattle.std.specs.Prelude.{◌≡◌, ℕ, IsTrue, ◌↔◌, Bool, List, [], ◌∷◌, ◌++◌, Option, Some, Contains, filter, flat_map, IsPermutation}
+use Rattle.std.specs.Prelude.{◌≡◌, ℕ, IsTrue, ◌↔◌, Bool, List, [], ◌∷◌, ◌++◌, Option, Some, Contains, filter, flat_map}
+use Rattle.std.specs.Prelude.{IsPermutation}
 use Rattle.std.specs.List.{AllByRecursion}
 use Rattle.pad_model.specs.Stamp.{Stamp, newer}
 use Rattle.pad_model.specs.declared.who.Author.{Author}
@@ -36,7 +37,8 @@ SetLaw =
     (s t : List Character) → IsTree itself s → IsTree itself t → ((c : Character) → Contains s c ↔ Contains t c) →
     order itself s ≡ order itself t
 
--- where one tree has all characters of another, the other's order is a subsequence of its own (the strong list specification)
+-- where one tree has all characters of another, the other's order is a subsequence of its own (the strong list
+-- specification)
 abbrev pub SubsetLaw : Type 0
 SubsetLaw =
     (s u : List Character) → IsTree itself s → IsTree itself u → ((c : Character) → Contains s c → Contains u c) →
@@ -57,12 +59,16 @@ ScanLaw =
 -- a text that is inserted at once joins the preorder as one block, where the scan puts its first character
 abbrev pub RunLaw : Type 0
 RunLaw =
-    (s : List Character) (first : Stamp) (parent : Option Stamp) (text : List ℕ) (author : Author) → IsTree itself s → RunMayJoin itself s first parent →
-    order itself (s ++ run_characters first parent text author) ≡ put itself parent first (run_characters first parent text author) (order itself s)
+    (s : List Character) (first : Stamp) (parent : Option Stamp) (text : List ℕ) (author : Author) → IsTree itself s →
+    RunMayJoin itself s first parent →
+    order itself (s ++ run_characters first parent text author)
+    ≡ put itself parent first (run_characters first parent text author) (order itself s)
 
 -- a text newer than all characters goes right behind its parent
 abbrev pub NewestLaw : Type 0
 NewestLaw =
-    (s : List Character) (first : Stamp) (parent : Option Stamp) (text : List ℕ) (author : Author) → IsTree itself s → RunMayJoin itself s first parent →
+    (s : List Character) (first : Stamp) (parent : Option Stamp) (text : List ℕ) (author : Author) → IsTree itself s →
+    RunMayJoin itself s first parent →
     AllByRecursion (λ c. IsTrue (newer first c.stamp)) s →
-    order itself (s ++ run_characters first parent text author) ≡ put_right_behind itself parent (run_characters first parent text author) (order itself s)
+    order itself (s ++ run_characters first parent text author)
+    ≡ put_right_behind itself parent (run_characters first parent text author) (order itself s)

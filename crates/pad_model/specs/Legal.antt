@@ -34,8 +34,10 @@ pub record MayJoin {A : Type 0} (at : A → Character) (items : List A) (c : A) 
   pub rooted : has_parent at items (at c).parent ≡ true
   pub later : counter_of (at c).parent < (at c).stamp.counter
 
--- a run may join the items: its counters are above all of its replica, and its parent is there and has a smaller counter
-pub record RunMayJoin {A : Type 0} (at : A → Character) (items : List A) (first : Stamp) (parent : Option Stamp) : Type 0 where
+-- a run may join the items: its counters are above all of its replica, and its parent is there and has a smaller
+-- counter
+pub record RunMayJoin {A : Type 0} (at : A → Character) (items : List A) (first : Stamp)
+    (parent : Option Stamp) : Type 0 where
   pub above : AllByRecursion (λ x. (at x).stamp.replica ≡ first.replica → (at x).stamp.counter < first.counter) items
   pub rooted : has_parent at items parent ≡ true
   pub later : counter_of parent < first.counter
@@ -43,4 +45,5 @@ pub record RunMayJoin {A : Type 0} (at : A → Character) (items : List A) (firs
 -- the items are a run: their stamps follow on each other, and each hangs below the one before it
 abbrev pub IsRun : {A : Type 0} → (A → Character) → Stamp → Option Stamp → List A → Type 0
 IsRun at first parent [] = Unit {0}
-IsRun at first parent (x ∷ xs) = ((at x).stamp ≡ first) × ((at x).parent ≡ parent) × IsRun at (next first) (Some first) xs
+IsRun at first parent (x ∷ xs) = ((at x).stamp ≡ first) × ((at x).parent ≡ parent) × IsRun at (next first)
+    (Some first) xs

@@ -1,5 +1,6 @@
 -- When a log may take one more operation.
-use Rattle.std.specs.Prelude.{◌+◌, Bool, true, false, not, ◌&&◌, ◌||◌, ◌==◌, nat_lt, nat_le, if◌then◌else◌, List, [], ◌∷◌, length, Option, Some, None, flat_map, count_by}
+use Rattle.std.specs.Prelude.{◌+◌, Bool, true, false, not, ◌&&◌, ◌||◌, ◌==◌, nat_lt, nat_le, if◌then◌else◌, List, []}
+use Rattle.std.specs.Prelude.{◌∷◌, length, Option, Some, None, flat_map, count_by}
 use Rattle.std.specs.List.{list_any, list_all}
 use Rattle.pad_model.specs.Stamp.{Stamp, same_stamp}
 use Rattle.pad_model.specs.Character.{Character}
@@ -29,7 +30,8 @@ has_spans at items spans = list_all (λ s. has_stamp at items s) (flat_map span_
 -- whether a and b are there, and a is b or stands before it
 abbrev pub stands_before : {A : Type 0} → (A → Character) → List A → Stamp → Stamp → Bool
 stands_before at [] a b = false
-stands_before at (x ∷ xs) a b = if same_stamp (at x).stamp a then same_stamp a b || has_stamp at xs b else stands_before at xs a b
+stands_before at (x ∷ xs) a b = if same_stamp (at x).stamp a then same_stamp a b || has_stamp at xs b
+    else stands_before at xs a b
 
 -- whether two operations have one name
 abbrev pub same_name : OpName → OpName → Bool
@@ -54,7 +56,8 @@ is_comment op = list_any is_comment_part op.parts
 abbrev pub part_is_valid : Part → List Op → Bool
 part_is_valid (Insert run) log = run_may_join itself (characters_in log).inserted run.first run.after
 part_is_valid (Delete spans) log = has_spans itself (characters_in log).inserted spans
-part_is_valid (Comment first last text) log = stands_before itself (order itself (characters_in log).inserted) first last
+part_is_valid (Comment first last text) log = stands_before itself (order itself (characters_in log).inserted) first
+    last
 part_is_valid (Resolve comment) log = list_any (λ op. is_comment op && same_name op.name comment) log
 
 -- whether no two characters have one stamp

@@ -10,7 +10,8 @@ use Rattle.pad_model.specs.declared.limits.TheConstants.{OLD_COUNTER, OLD_REPLIC
 
 -- whether n stamps from this one on can be said; it is named also where n is 0
 abbrev pub old_stamps : Stamp → ℕ → Bool
-old_stamps first n = nat_le first.counter OLD_COUNTER && nat_le (first.counter + n) (OLD_COUNTER + 1) && nat_le first.replica OLD_REPLICA
+old_stamps first n = nat_le first.counter OLD_COUNTER && nat_le (first.counter + n) (OLD_COUNTER + 1)
+    && nat_le first.replica OLD_REPLICA
 
 -- whether a parent can be said: the root always can
 abbrev pub old_parent : Option Stamp → Bool
@@ -30,4 +31,5 @@ seen_in_v1 pairs = list_all (λ pair. nat_le pair.origin OLD_REPLICA) pairs
 
 -- whether an operation can be said
 abbrev pub op_in_v1 : Op → Bool
-op_in_v1 op = length op.parts == 1 && list_all old_part op.parts && nat_le op.name.origin OLD_REPLICA && seen_in_v1 op.seen
+op_in_v1 op = length op.parts == 1 && list_all old_part op.parts && nat_le op.name.origin OLD_REPLICA
+    && seen_in_v1 op.seen

@@ -1,6 +1,7 @@
 -- The order of a text: the walk of its tree of insertions in preorder, newest sibling first (Attiya and others 2016).
 -- The items are whatever carries an inserted character; `at` says which one.
-use Rattle.std.specs.Prelude.{Bool, true, false, if◌then◌else◌, List, [], ◌∷◌, ◌++◌, Option, Some, None, filter, fold, reverse}
+use Rattle.std.specs.Prelude.{Bool, true, false, if◌then◌else◌, List, [], ◌∷◌, ◌++◌, Option, Some, None, filter, fold}
+use Rattle.std.specs.Prelude.{reverse}
 use Rattle.pad_model.specs.Stamp.{Stamp, newer, same_stamp}
 use Rattle.pad_model.specs.Character.{Character}
 
@@ -28,7 +29,8 @@ children at items p = reverse (filter (λ c. same_parent (at c).parent p) (risin
 abbrev pub walk_rising : {A : Type 0} → (A → Character) → List A → Option Stamp → List A
 walk_rising at [] p = []
 walk_rising at (c ∷ later) p =
-    if same_parent (at c).parent p then walk_rising at later p ++ c ∷ walk_rising at later (Some (at c).stamp) else walk_rising at later p
+    if same_parent (at c).parent p then walk_rising at later p ++ c ∷ walk_rising at later (Some (at c).stamp)
+    else walk_rising at later p
 
 -- what hangs below p, walked in preorder with the newest child first
 abbrev pub walk : {A : Type 0} → (A → Character) → List A → Option Stamp → List A

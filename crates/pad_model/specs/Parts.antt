@@ -1,5 +1,6 @@
 -- The insertions and deletions of one operation, made at once.
-use Rattle.std.specs.Prelude.{ℕ, ◌+◌, Bool, false, not, ◌&&◌, nat_lt, if◌then◌else◌, List, [], ◌++◌, length, Result, Ok, Err, map, flat_map, count_by, fold}
+use Rattle.std.specs.Prelude.{ℕ, ◌+◌, Bool, false, not, ◌&&◌, nat_lt, if◌then◌else◌, List, [], ◌++◌, length, Result, Ok}
+use Rattle.std.specs.Prelude.{Err, map, flat_map, count_by, fold}
 use Rattle.std.specs.List.{list_all}
 use Rattle.pad_model.specs.Cell.{Cell, character_of, born_at, is_hidden_by, without_spans, with_run}
 use Rattle.pad_model.specs.Character.{Character}
@@ -42,7 +43,8 @@ parts_fit author parts cells = list_all (part_fits character_of cells) parts && 
 
 -- the cells with what the parts insert, in preorder, and with the deaths of what they erase
 abbrev pub with_parts : ℕ → List Part → Author → List Cell → List Cell
-with_parts rev parts author cells = order character_of (without_spans rev (spans_in parts) cells ++ map (born_at rev) (inserts_in author parts))
+with_parts rev parts author cells = order character_of (without_spans rev (spans_in parts) cells ++ map (born_at rev)
+    (inserts_in author parts))
 
 -- what the parts of one operation answer, and the cells after them: all of them, or none
 abbrev pub apply : ℕ → List Part → Author → List Cell → Result ℕ Refusal × List Cell

@@ -1,7 +1,14 @@
 -- The numbers and names of refusals.
 use Rattle.std.specs.Prelude.{ℕ, List, codes}
 use Rattle.pad_model.specs.declared.refusal.Refusal.{Refusal}
-use Rattle.pad_model.specs.declared.refusal.Refusal.TheVariants.{TooLong, NotJson, NotRequest, NoSession, BadToken, HaveSession, Busy, NoPad, PadExists, NoSlot, BadName, NotJoined, Joined, Denied, Crowded, VisitsSpent, OwnerKept, GrantsFull, SeatsGone, SeatsOut, ActorsFull, NoRevision, OutOfRange, Empty, TooMuch, PadFull, ClockFull, NoComment, LogFull, CommentsFull, BadOp, HoldFull, PeerFault, NotPeer, OldPeer, BadStamp, Memory, StoreFull}
+use Rattle.pad_model.specs.declared.refusal.Refusal.TheVariants.{TooLong, NotJson, NotRequest, NoSession, BadToken}
+use Rattle.pad_model.specs.declared.refusal.Refusal.TheVariants.{HaveSession, Busy, NoPad, PadExists, NoSlot, BadName}
+use Rattle.pad_model.specs.declared.refusal.Refusal.TheVariants.{NotJoined, Joined, Denied, Crowded, VisitsSpent}
+use Rattle.pad_model.specs.declared.refusal.Refusal.TheVariants.{OwnerKept, GrantsFull, SeatsGone, SeatsOut, ActorsFull}
+use Rattle.pad_model.specs.declared.refusal.Refusal.TheVariants.{NoRevision, OutOfRange, Empty, TooMuch, PadFull}
+use Rattle.pad_model.specs.declared.refusal.Refusal.TheVariants.{ClockFull, NoComment, LogFull, CommentsFull, BadOp}
+use Rattle.pad_model.specs.declared.refusal.Refusal.TheVariants.{HoldFull, PeerFault, NotPeer, OldPeer, BadStamp}
+use Rattle.pad_model.specs.declared.refusal.Refusal.TheVariants.{Memory, StoreFull}
 
 -- the number of a refusal
 abbrev pub code_of : Refusal → ℕ

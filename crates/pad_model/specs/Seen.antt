@@ -1,5 +1,6 @@
 -- Version vectors: how many operations of each origin are known.
-use Rattle.std.specs.Prelude.{ℕ, ◌≤◌, ◌<◌, Bool, ◌&&◌, List, [], ◌∷◌, ◌==◌, nat_lt, length, slice_index_or, ◌≡◌, if◌then◌else◌}
+use Rattle.std.specs.Prelude.{ℕ, ◌≤◌, ◌<◌, Bool, ◌&&◌, List, [], ◌∷◌, ◌==◌, nat_lt, length, slice_index_or, ◌≡◌}
+use Rattle.std.specs.Prelude.{if◌then◌else◌}
 use Rattle.std.specs.Cmp.{IsPartialEquivalence, and_per, on_per, partial_equiv_from_equiv}
 use Rattle.std.proofs.lemmas.Cmp.{nat_eq_equiv}
 use Rattle.std.specs.List.{AllByRecursion}
@@ -33,7 +34,8 @@ same_counted a b = a.origin == b.origin && a.count == b.count
 -- the test holds both ways round, and along a chain
 pub same_counted_laws : IsPartialEquivalence same_counted
 same_counted_laws =
-    and_per (on_per (λ pair. pair.origin) (partial_equiv_from_equiv nat_eq_equiv)) (on_per (λ pair. pair.count) (partial_equiv_from_equiv nat_eq_equiv))
+    and_per (on_per (λ pair. pair.origin) (partial_equiv_from_equiv nat_eq_equiv))
+    (on_per (λ pair. pair.count) (partial_equiv_from_equiv nat_eq_equiv))
 
 -- the origin of the pair at a place
 abbrev pub origin_at : List Counted → ℕ → ℕ

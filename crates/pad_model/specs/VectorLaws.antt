@@ -9,7 +9,8 @@ CountLaw = (v : List Counted) → IsVector v → (origin count : ℕ) → count_
 
 -- setting a count leaves each other one
 abbrev pub OthersLaw : Type 0
-OthersLaw = (v : List Counted) (origin count other : ℕ) → other ≢ origin → count_in (with_count v origin count) other ≡ count_in v other
+OthersLaw = (v : List Counted) (origin count other : ℕ) → other ≢ origin → count_in (with_count v origin count) other
+    ≡ count_in v other
 
 -- a vector in which a count is set is a vector
 abbrev pub ShapeLaw : Type 0
@@ -17,4 +18,5 @@ ShapeLaw = (v : List Counted) → IsVector v → (origin count : ℕ) → IsVect
 
 -- vectors with the same counts are one
 abbrev pub CountsLaw : Type 0
-CountsLaw = (v w : List Counted) → IsVector v → IsVector w → ((origin : ℕ) → count_in v origin ≡ count_in w origin) → v ≡ w
+CountsLaw = (v w : List Counted) → IsVector v → IsVector w → ((origin : ℕ) → count_in v origin ≡ count_in w origin) →
+    v ≡ w

@@ -1,5 +1,6 @@
 -- What a set of character operations shows: the preorder without what was erased, and places in it.
-use Rattle.std.specs.Prelude.{ℕ, ◌+◌, ◌-◌, Bool, not, ◌&&◌, ◌==◌, if◌then◌else◌, List, [], ◌∷◌, Option, Some, None, map, filter, take, drop, slice_get, option_map, bytes_eq, count_by}
+use Rattle.std.specs.Prelude.{ℕ, ◌+◌, ◌-◌, Bool, not, ◌&&◌, ◌==◌, if◌then◌else◌, List, [], ◌∷◌, Option, Some, None, map}
+use Rattle.std.specs.Prelude.{filter, take, drop, slice_get, option_map, bytes_eq, count_by}
 use Rattle.std.specs.List.{list_any}
 use Rattle.pad_model.specs.Stamp.{Stamp, same_stamp}
 use Rattle.pad_model.specs.Character.{Character, next}
@@ -34,7 +35,8 @@ same_author a b = bytes_eq a.name b.name && a.origin == b.origin
 abbrev pub join_run : Author → List AuthorRun → List AuthorRun
 join_run author [] = record { author = author; len = 1 } ∷ []
 join_run author (run ∷ runs) =
-    if same_author author run.author then record run { len = run.len + 1 } ∷ runs else record { author = author; len = 1 } ∷ run ∷ runs
+    if same_author author run.author then record run { len = run.len + 1 } ∷ runs
+    else record { author = author; len = 1 } ∷ run ∷ runs
 
 -- a list of authors as the fewest runs
 abbrev pub runs : List Author → List AuthorRun
@@ -48,12 +50,14 @@ runs_of set = runs (authors_of set)
 -- how many of the items in front of the stamp a are shown
 abbrev pub shown_before : {A : Type 0} → (A → Character) → (A → Bool) → List A → Stamp → ℕ
 shown_before at shown [] a = 0
-shown_before at shown (x ∷ xs) a = if same_stamp (at x).stamp a then 0 else (if shown x then 1 else 0) + shown_before at shown xs a
+shown_before at shown (x ∷ xs) a = if same_stamp (at x).stamp a then 0 else (if shown x then 1 else 0)
+    + shown_before at shown xs a
 
 -- how many of the items up to the stamp a are shown
 abbrev pub shown_through : {A : Type 0} → (A → Character) → (A → Bool) → List A → Stamp → ℕ
 shown_through at shown [] a = 0
-shown_through at shown (x ∷ xs) a = (if shown x then 1 else 0) + (if same_stamp (at x).stamp a then 0 else shown_through at shown xs a)
+shown_through at shown (x ∷ xs) a = (if shown x then 1 else 0)
+    + (if same_stamp (at x).stamp a then 0 else shown_through at shown xs a)
 
 -- how many visible characters stand before the stamp a in the order with what was erased
 abbrev pub visible_before : Characters → Stamp → ℕ
@@ -85,7 +89,8 @@ stamp_at set i = option_map (λ c. c.stamp) (slice_get (visible set) i)
 abbrev pub join_span : Stamp → List Span → List Span
 join_span s [] = record { first = s; len = 1 } ∷ []
 join_span s (span ∷ spans) =
-    if same_stamp (next s) span.first then record { first = s; len = span.len + 1 } ∷ spans else record { first = s; len = 1 } ∷ span ∷ spans
+    if same_stamp (next s) span.first then record { first = s; len = span.len + 1 } ∷ spans
+    else record { first = s; len = 1 } ∷ span ∷ spans
 
 -- a list of stamps as the fewest spans of stamps that follow on each other
 abbrev pub spans : List Stamp → List Span

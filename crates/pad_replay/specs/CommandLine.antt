@@ -1,7 +1,8 @@
 -- The command line of the program, and what it asks for.
 use Rattle.std.specs.Prelude.{◌≡◌, List, ℕ, codes, true, unwrap_or, []}
 use Rattle.clap.specs.Words.{App, Rule, matches_of, new_app, one_of, with_rule}
-use Rattle.command_line.specs.Options.{Gives, IsFlag, accounts_rule, cells_rule, flag_rule, replica_rule, text_given, versioned}
+use Rattle.command_line.specs.Options.{Gives, IsFlag, accounts_rule, cells_rule, flag_rule, replica_rule, text_given}
+use Rattle.command_line.specs.Options.{versioned}
 use Rattle.server_core.specs.declared.limits.TheConstants.{MAX_CELLS}
 use Rattle.pad_replay.specs.declared.args.Asked.{Asked}
 
@@ -11,9 +12,11 @@ mandatory rule = record rule { required = true }
 
 -- the command line: clap's words say which words it takes, and what they give under a name
 abbrev pub line : App
-line = with_rule (with_rule (with_rule (with_rule (versioned (new_app (codes "pad_replay"))) replica_rule) (mandatory cells_rule)) (mandatory accounts_rule)) (flag_rule (codes "plain"))
+line = with_rule (with_rule (with_rule (with_rule (versioned (new_app (codes "pad_replay"))) replica_rule)
+    (mandatory cells_rule)) (mandatory accounts_rule)) (flag_rule (codes "plain"))
 
--- the words ask for this: the numbers that they give under `--replica` and `--cells`, the path under `--accounts`, and `--plain`
+-- the words ask for this: the numbers that they give under `--replica` and `--cells`, the path under `--accounts`, and
+-- `--plain`
 pub record AsksFor (words : List (List ℕ)) (asked : Asked) : Type 0 where
   pub replica : Gives line words (codes "replica") 1 65535 1 asked.replica
   pub cells : Gives line words (codes "cells") 0 MAX_CELLS MAX_CELLS asked.cells

@@ -1,7 +1,8 @@
 -- The command line of the program, and what it gives.
 use Rattle.std.specs.Prelude.{◌≡◌, List, ℕ, codes, option_map, unwrap_or}
 use Rattle.clap.specs.Words.{App, Rule, matches_of, new_app, one_of, with_rule}
-use Rattle.command_line.specs.Options.{Gives, IsFlag, accounts_rule, cells_rule, flag_rule, number_rule, option_rule, replica_rule, text_given, versioned}
+use Rattle.command_line.specs.Options.{Gives, IsFlag, accounts_rule, cells_rule, flag_rule, number_rule, option_rule}
+use Rattle.command_line.specs.Options.{replica_rule, text_given, versioned}
 use Rattle.server_core.specs.declared.limits.TheConstants.{MAX_CELLS}
 use Rattle.pad_server.specs.declared.args.Asked.{Asked}
 use Rattle.pad_server.specs.declared.options.TheConstants.{MAX_WORKERS, DEFAULT_WORKERS}
@@ -36,7 +37,8 @@ new_replica_rule = flag_rule (codes "new-replica")
 
 -- the options that say what is served, by which server, and for whom
 abbrev pub first_line : App
-first_line = with_rule (with_rule (with_rule (with_rule (versioned (new_app (codes "pad_server"))) stdin_rule) listen_rule) replica_rule) accounts_rule
+first_line = with_rule (with_rule (with_rule (with_rule (versioned (new_app (codes "pad_server"))) stdin_rule)
+    listen_rule) replica_rule) accounts_rule
 
 -- with those that say how many pads and connections there are
 abbrev pub second_line : App
@@ -54,7 +56,8 @@ pub record AsksFor (words : List (List ℕ)) (asked : Asked) : Type 0 where
   pub stdin : IsFlag (one_of (codes "stdin") (matches_of line words)) asked.stdin
   pub listen : option_map (λ address. address.now) asked.listen ≡ text_given line words (codes "listen")
   pub workers : Gives line words (codes "workers") 0 MAX_WORKERS DEFAULT_WORKERS asked.workers
-  pub connections : (other : ℕ) → Gives line words (codes "connections") 0 4294967295 other (unwrap_or asked.connections other)
+  pub connections : (other : ℕ) → Gives line words (codes "connections") 0 4294967295 other
+      (unwrap_or asked.connections other)
   pub idle : (other : ℕ) → Gives line words (codes "idle") 0 4294967295 other (unwrap_or asked.idle other)
   pub store : option_map (λ folder. folder.now) asked.store ≡ text_given line words (codes "store")
   pub new_replica : IsFlag (one_of (codes "new-replica") (matches_of line words)) asked.new_replica

@@ -1,5 +1,7 @@
 -- The operations of a log that a pad can have are delivered again, one behind the other.
-use Rattle.std.proofs.Common.{◌≡◌, ℕ, ◌+◌, ◌≤◌, ◌<◌, Bool, true, false, not, cond, eqb, eq-eqb, List, [], ◌∷◌, ◌++◌, length, map, fold, flat_map, count_by, Option, Some, None, Result, Ok, Err, refl, sym, ap, ap₂, ◌∙◌, subst, arith, append-nil, append_assoc}
+use Rattle.std.proofs.Common.{◌≡◌, ℕ, ◌+◌, ◌≤◌, ◌<◌, Bool, true, false, not, cond, eqb, eq-eqb, List, [], ◌∷◌, ◌++◌}
+use Rattle.std.proofs.Common.{length, map, fold, flat_map, count_by, Option, Some, None, Result, Ok, Err, refl, sym, ap}
+use Rattle.std.proofs.Common.{ap₂, ◌∙◌, subst, arith, append-nil, append_assoc}
 use Rattle.std.specs.Prelude.{IsTrue, sum_by}
 use Rattle.std.proofs.lemmas.List.{length-append}
 use Rattle.std.proofs.lemmas.List.Concat.{flat_map-append}
@@ -27,21 +29,27 @@ use Rattle.records.specs.declared.kept_record.Record.TheVariants.{Delivered}
 abbrev pub bare : Option Owned → ℕ → List Op → ℕ → Machine
 bare o replica log given = record { owned = o; replica = replica; log = log; held = []; presence = record { given = given; present = [] } }
 
-checked_at : (before log : List Op) (op : Op) (more : List Op) → Continues before (log ++ op ∷ more) → IsTrue (is_checked op) × IsTrue (is_valid op (before ++ log))
+checked_at : (before log : List Op) (op : Op) (more : List Op) → Continues before (log ++ op ∷ more) →
+    IsTrue (is_checked op) × IsTrue (is_valid op (before ++ log))
 checked_at before [] op more c = (c.0, subst (λ l. IsTrue (is_valid op l)) (sym (append-nil before)) c.1)
 checked_at before (x ∷ log) op more c =
-    let h = checked_at (before ++ x ∷ []) log op more c.2 in (h.0, subst (λ l. IsTrue (is_valid op l)) (append_assoc before (x ∷ []) log) h.1)
+    let h = checked_at (before ++ x ∷ []) log op more c.2 in
+    (h.0, subst (λ l. IsTrue (is_valid op l)) (append_assoc before (x ∷ []) log) h.1)
 
-next_at : (seen : List Counted) (log : List Op) (op : Op) (more : List Op) → AreNumbered seen (log ++ op ∷ more) → op.name.number ≡ count_in (fold counted seen log) op.name.origin + 1
+next_at : (seen : List Counted) (log : List Op) (op : Op) (more : List Op) → AreNumbered seen (log ++ op ∷ more) →
+    op.name.number ≡ count_in (fold counted seen log) op.name.origin + 1
 next_at seen [] op more n = n.0
 next_at seen (x ∷ log) op more n = next_at (counted seen x) log op more n.1
 
 -- how many of a log's operations are comments, with one of them in its midst
-comments_at : (log : List Op) (op : Op) (more : List Op) → is_comment op ≡ true → count_by is_comment log + 1 ≤ count_by is_comment (log ++ op ∷ more)
+comments_at : (log : List Op) (op : Op) (more : List Op) → is_comment op ≡ true → count_by is_comment log + 1
+    ≤ count_by is_comment (log ++ op ∷ more)
 comments_at log op more e =
     let one : Op → ℕ = λ o. cond (is_comment o) 1 0 in
-    let whole : count_by is_comment (log ++ op ∷ more) ≡ count_by is_comment log + sum_by one (op ∷ more) = sum_by-append one log (op ∷ more) in
-    let first : sum_by one (op ∷ more) ≡ 1 + sum_by one more = sum_by-cons one op more ∙ ap (λ b. cond b 1 0 + sum_by one more) e in
+    let whole : count_by is_comment (log ++ op ∷ more) ≡ count_by is_comment log + sum_by one (op ∷ more) =
+    sum_by-append one log (op ∷ more) in
+    let first : sum_by one (op ∷ more) ≡ 1 + sum_by one more = sum_by-cons one op more
+    ∙ ap (λ b. cond b 1 0 + sum_by one more) e in
     omega arith
 
 allowed_at : (log : List Op) (op : Op) (more : List Op) → IsDelivered (log ++ op ∷ more) → Allowed log op
@@ -49,10 +57,13 @@ allowed_at log op more d =
     let room : length (characters_in (log ++ op ∷ more)).inserted ≤ MAX_CHARACTERS = d.room in
     let short : length (log ++ op ∷ more) ≤ MAX_OPERATIONS = d.short in
     let few : count_by is_comment (log ++ op ∷ more) ≤ MAX_COMMENTS = d.few in
-    let all : length (characters_in (log ++ op ∷ more)).inserted ≡ length (characters_in log).inserted + length (flat_map inserted_by (op ∷ more)) =
-    ap length (flat_map-append inserted_by log (op ∷ more)) ∙ length-append (flat_map inserted_by log) (flat_map inserted_by (op ∷ more))
+    let all : length (characters_in (log ++ op ∷ more)).inserted ≡ length (characters_in log).inserted
+    + length (flat_map inserted_by (op ∷ more)) =
+    ap length (flat_map-append inserted_by log (op ∷ more)) ∙ length-append (flat_map inserted_by log)
+    (flat_map inserted_by (op ∷ more))
     in
-    let rest : length (flat_map inserted_by (op ∷ more)) ≡ length (inserted_by op) + length (flat_map inserted_by more) = length-append (inserted_by op) (flat_map inserted_by more) in
+    let rest : length (flat_map inserted_by (op ∷ more)) ≡ length (inserted_by op)
+    + length (flat_map inserted_by more) = length-append (inserted_by op) (flat_map inserted_by more) in
     let operations : length (log ++ op ∷ more) ≡ length log + length (op ∷ more) = length-append log (op ∷ more) in
     record {
       valid = (checked_at [] log op more d.history).1;
@@ -65,37 +76,50 @@ allowed_at log op more d =
 again_at : (log : List Op) (op : Op) (more : List Op) → IsDelivered (log ++ op ∷ more) → restore_refusal op log ≡ None
 again_at log op more d =
     let checked : is_checked op ≡ true = (checked_at [] log op more d.history).0 in
-    let next : is_next (vector_of log) op.name ≡ true = eq-eqb op.name.number (count_in (vector_of log) op.name.origin + 1) (next_at [] log op more d.numbered) in
+    let next : is_next (vector_of log) op.name ≡ true = eq-eqb op.name.number (count_in (vector_of log) op.name.origin
+    + 1) (next_at [] log op more d.numbered) in
     rw (checked, next) (not_refused log op (allowed_at log op more d))
 
 -- and so a restarted pad has it
-one_again : (o : Option Owned) (replica : ℕ) (log : List Op) (given : ℕ) (op : Op) → restore_refusal op log ≡ None → replayed (Ok (bare o replica log given)) (Delivered op) ≡ Ok (bare o replica (log ++ op ∷ []) given)
-one_again o replica log given op e = ap (λ (d : Result (Unit {0}) Refusal × List Op). unless_refused (d.0, bare o replica d.1 given)) again
+one_again : (o : Option Owned) (replica : ℕ) (log : List Op) (given : ℕ) (op : Op) → restore_refusal op log ≡ None →
+    replayed (Ok (bare o replica log given)) (Delivered op) ≡ Ok (bare o replica (log ++ op ∷ []) given)
+one_again o replica log given op e = ap (λ (d : Result (Unit {0}) Refusal × List Op). unless_refused (
+  d.0,
+  bare o replica d.1 given,
+)) again
   where
     again : delivered_again op log ≡ (Ok tt, log ++ op ∷ [])
     again = rw e refl
 
 -- and all of them
-pub all_again : (o : Option Owned) (replica : ℕ) (log more : List Op) (given : ℕ) → IsDelivered (log ++ more) → replay_all (map Delivered more) (bare o replica log given) ≡ Ok (bare o replica (log ++ more) given)
+pub all_again : (o : Option Owned) (replica : ℕ) (log more : List Op) (given : ℕ) → IsDelivered (log ++ more) →
+    replay_all (map Delivered more) (bare o replica log given) ≡ Ok (bare o replica (log ++ more) given)
 all_again o replica log [] given d = ap (λ (l : List Op). Ok (bare o replica l given)) (sym (append-nil log))
 all_again o replica log (op ∷ more) given d =
-    ap (λ (m : Result Machine Refusal). fold replayed m (map Delivered more)) (one_again o replica log given op (again_at log op more d))
+    ap (λ (m : Result Machine Refusal). fold replayed m (map Delivered more))
+    (one_again o replica log given op (again_at log op more d))
     ∙ (all_again o replica (log ++ op ∷ []) more given (subst IsDelivered (sym (append_assoc log (op ∷ []) more)) d)
     ∙ ap (λ (l : List Op). Ok (bare o replica l given)) (append_assoc log (op ∷ []) more))
 
 -- and the first of them alone
-pub front_again : (o : Option Owned) (replica : ℕ) (log first rest : List Op) (given : ℕ) → IsDelivered (log ++ (first ++ rest)) → replay_all (map Delivered first) (bare o replica log given) ≡ Ok (bare o replica (log ++ first) given)
+pub front_again : (o : Option Owned) (replica : ℕ) (log first rest : List Op) (given : ℕ) →
+    IsDelivered (log ++ (first ++ rest)) → replay_all (map Delivered first) (bare o replica log given)
+    ≡ Ok (bare o replica (log ++ first) given)
 front_again o replica log [] rest given d = ap (λ (l : List Op). Ok (bare o replica l given)) (sym (append-nil log))
 front_again o replica log (op ∷ first) rest given d =
-    ap (λ (m : Result Machine Refusal). fold replayed m (map Delivered first)) (one_again o replica log given op (again_at log op (first ++ rest) d))
-    ∙ (front_again o replica (log ++ op ∷ []) first rest given (subst IsDelivered (sym (append_assoc log (op ∷ []) (first ++ rest))) d)
+    ap (λ (m : Result Machine Refusal). fold replayed m (map Delivered first))
+    (one_again o replica log given op (again_at log op (first ++ rest) d))
+    ∙ (front_again o replica (log ++ op ∷ []) first rest given
+    (subst IsDelivered (sym (append_assoc log (op ∷ []) (first ++ rest))) d)
     ∙ ap (λ (l : List Op). Ok (bare o replica l given)) (append_assoc log (op ∷ []) first))
 
 -- where nothing but the log and those present has changed
-pub quiet : (old after : Machine) (more : List Op) → after.owned ≡ old.owned → after.replica ≡ old.replica → after.presence.given ≡ old.presence.given → after.log ≡ old.log ++ more → IsDelivered after.log →
+pub quiet : (old after : Machine) (more : List Op) → after.owned ≡ old.owned → after.replica ≡ old.replica →
+    after.presence.given ≡ old.presence.given → after.log ≡ old.log ++ more → IsDelivered after.log →
     replay_all (map Delivered more) (restarted old) ≡ Ok (restarted after)
 quiet old after more owned replica given grown d =
     all_again old.owned old.replica old.log more old.presence.given (subst IsDelivered grown d)
     ∙ (ap (λ (l : List Op). Ok (bare old.owned old.replica l old.presence.given)) (sym grown)
     ∙ (ap (λ (o : Option Owned). Ok (bare o old.replica after.log old.presence.given)) (sym owned)
-    ∙ (ap (λ (r : ℕ). Ok (bare after.owned r after.log old.presence.given)) (sym replica) ∙ ap (λ (g : ℕ). Ok (bare after.owned after.replica after.log g)) (sym given))))
+    ∙ (ap (λ (r : ℕ). Ok (bare after.owned r after.log old.presence.given)) (sym replica)
+    ∙ ap (λ (g : ℕ). Ok (bare after.owned after.replica after.log g)) (sym given))))

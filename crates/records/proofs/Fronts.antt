@@ -1,5 +1,7 @@
 -- The first records of a pad's life lead to the restarted pad that it was by then.
-use Rattle.std.proofs.Common.{◌≡◌, ◌⊎◌, inl, inr, ℕ, ◌+◌, ◌-◌, ◌≤◌, ◌<◌, nat_le, true, false, List, [], ◌∷◌, ◌++◌, length, map, take, drop, fold, Option, Some, None, Result, Ok, Err, refl, sym, ap, ◌∙◌, subst, arith}
+use Rattle.std.proofs.Common.{◌≡◌, ◌⊎◌, inl, inr, ℕ, ◌+◌, ◌-◌, ◌≤◌, ◌<◌, nat_le, true, false, List, [], ◌∷◌, ◌++◌}
+use Rattle.std.proofs.Common.{length, map, take, drop, fold, Option, Some, None, Result, Ok, Err, refl, sym, ap, ◌∙◌}
+use Rattle.std.proofs.Common.{subst, arith}
 use Rattle.std.proofs.lemmas.Bool.Decides.{leb_tells}
 use Rattle.std.proofs.lemmas.List.{length-append, take-append-drop, take-append-le, take-map, take_all}
 use Rattle.std.proofs.lemmas.List.Sums.{fold-append}
@@ -27,7 +29,8 @@ use Rattle.records.proofs.Steps.{life_again}
 
 -- some records lead to a pad that was there on the way
 abbrev Found : ℕ → List Record → Machine → List Record → Type 0
-Found replica records m front = (had : Machine) × Had replica records m front had × (rebuilt replica front ≡ Ok (restarted had))
+Found replica records m front = (had : Machine) × Had replica records m front had
+    × (rebuilt replica front ≡ Ok (restarted had))
 
 -- one record at most, or one for each operation
 abbrev IsFew : List Record → List Op → Type 0
@@ -55,7 +58,8 @@ whole : (replica : ℕ) (records : List Record) (m : Machine) → Life replica r
 whole replica records m life = (m, last records m life, life_again replica records m life)
 
 -- the operations that a request delivered first are delivered again
-part_again : (replica : ℕ) (records : List Record) (old : Machine) (first rest : List Op) → Life replica records old → IsDelivered (old.log ++ (first ++ rest)) →
+part_again : (replica : ℕ) (records : List Record) (old : Machine) (first rest : List Op) → Life replica records old →
+    IsDelivered (old.log ++ (first ++ rest)) →
     rebuilt replica (records ++ map Delivered first) ≡ Ok (restarted (record old { log = old.log ++ first }))
 part_again replica records old first rest life d =
     fold-append replayed (Ok (unnamed replica)) records (map Delivered first)
@@ -63,11 +67,18 @@ part_again replica records old first rest life d =
     ∙ front_again old.owned old.replica old.log first rest old.presence.given d)
 
 -- within a request
-part : (replica : ℕ) (records : List Record) (w : Who) (this : Request) (cell : ℕ) (rooms : List Room) (old : Machine) (answer : Answer) (new : List Room) (after : Machine) (more first rest : List Op) →
-    first ++ rest ≡ more → Life replica records old → Left w this cell rooms old answer new after more → Found replica (records ++ records_of w this answer more) after (records ++ map Delivered first)
+part : (replica : ℕ) (records : List Record) (w : Who) (this : Request) (cell : ℕ) (rooms : List Room) (old : Machine)
+    (answer : Answer) (new : List Room) (after : Machine) (more first rest : List Op) →
+    first ++ rest ≡ more → Life replica records old → Left w this cell rooms old answer new after more →
+    Found replica (records ++ records_of w this answer more) after (records ++ map Delivered first)
 part replica records w this cell rooms old answer new after more first rest is life l =
-    subst (λ (all : List Op). Found replica (records ++ records_of w this answer all) after (records ++ map Delivered first)) is
-    (record old { log = old.log ++ first }, within records w this cell rooms old answer new after first rest life parted, part_again replica records old first rest life delivered)
+    subst (λ (all : List Op). Found replica (records ++ records_of w this answer all) after
+    (records ++ map Delivered first)) is (
+      record old { log = old.log ++ first },
+      within records w this cell rooms old answer new after first rest life
+          parted,
+      part_again replica records old first rest life delivered,
+    )
   where
     parted : Left w this cell rooms old answer new after (first ++ rest)
     parted = subst (Left w this cell rooms old answer new after) (sym is) l
@@ -76,32 +87,50 @@ part replica records w this cell rooms old answer new after more first rest is l
     delivered = subst IsDelivered parted.grown parted.delivered
 
 -- a front of what a request leaves
-asked_front : (replica : ℕ) (records : List Record) (w : Who) (this : Request) (cell : ℕ) (rooms : List Room) (old : Machine) (answer : Answer) (new : List Room) (after : Machine) (more : List Op) (n : ℕ) →
-    Life replica records old → Left w this cell rooms old answer new after more → 1 ≤ n → Found replica (records ++ records_of w this answer more) after (records ++ take n (records_of w this answer more))
+asked_front : (replica : ℕ) (records : List Record) (w : Who) (this : Request) (cell : ℕ) (rooms : List Room)
+    (old : Machine) (answer : Answer) (new : List Room) (after : Machine) (more : List Op) (n : ℕ) →
+    Life replica records old → Left w this cell rooms old answer new after more → 1 ≤ n →
+    Found replica (records ++ records_of w this answer more) after (records ++ take n (records_of w this answer more))
 asked_front replica records w this cell rooms old answer new after more n life l some = at (few w this answer more)
   where
-    at : IsFew (records_of w this answer more) more → Found replica (records ++ records_of w this answer more) after (records ++ take n (records_of w this answer more))
+    at : IsFew (records_of w this answer more) more → Found replica (records ++ records_of w this answer more) after
+        (records ++ take n (records_of w this answer more))
     at (inl one) =
-        subst (λ (rs : List Record). Found replica (records ++ records_of w this answer more) after (records ++ rs)) (sym (take_all n (records_of w this answer more) (omega arith)))
-        (whole replica (records ++ records_of w this answer more) after (asked records w this cell rooms old answer new after more life l))
+        subst (λ (rs : List Record). Found replica (records ++ records_of w this answer more) after (records ++ rs))
+        (sym (take_all n (records_of w this answer more) (omega arith)))
+        (whole replica (records ++ records_of w this answer more) after
+        (asked records w this cell rooms old answer new after more life l))
     at (inr is) =
-        subst (λ (rs : List Record). Found replica (records ++ records_of w this answer more) after (records ++ rs)) (sym (ap (take n) is ∙ take-map Delivered n more))
-        (part replica records w this cell rooms old answer new after more (take n more) (drop n more) (take-append-drop n more) life l)
+        subst (λ (rs : List Record). Found replica (records ++ records_of w this answer more) after (records ++ rs))
+        (sym (ap (take n) is ∙ take-map Delivered n more))
+        (part replica records w this cell rooms old answer new after more (take n more) (drop n more)
+        (take-append-drop n more) life l)
 
-pub front : (replica : ℕ) (records : List Record) (m : Machine) (count : ℕ) → Life replica records m → Found replica records m (take count records)
-front replica records m count begins = subst (Found replica [] (unnamed replica)) (sym (take-nil count)) (whole replica [] (unnamed replica) begins)
-front replica records m count (asked before w this cell rooms old answer new after more life l) = at (leb_tells count (length before)) (front replica before old count life)
+pub front : (replica : ℕ) (records : List Record) (m : Machine) (count : ℕ) → Life replica records m →
+    Found replica records m (take count records)
+front replica records m count begins = subst (Found replica [] (unnamed replica)) (sym (take-nil count))
+    (whole replica [] (unnamed replica) begins)
+front replica records m count (asked before w this cell rooms old answer new after more life l) =
+    at (leb_tells count (length before)) (front replica before old count life)
   where
-    at : ((nat_le count (length before) ≡ true) × (count ≤ length before)) ⊎ ((nat_le count (length before) ≡ false) × (length before < count)) → Found replica before old (take count before) →
-        Found replica (before ++ records_of w this answer more) after (take count (before ++ records_of w this answer more))
+    at : ((nat_le count (length before) ≡ true) × (count ≤ length before))
+        ⊎ ((nat_le count (length before) ≡ false) × (length before < count)) →
+        Found replica before old (take count before) →
+        Found replica (before ++ records_of w this answer more) after
+        (take count (before ++ records_of w this answer more))
     at (inl (_, low)) (had, there, is) =
-        subst (Found replica (before ++ records_of w this answer more) after) (sym (take-append-le count before (records_of w this answer more) low))
+        subst (Found replica (before ++ records_of w this answer more) after)
+        (sym (take-append-le count before (records_of w this answer more) low))
         (had, earlier before w this cell rooms old answer new after more (take count before) had there l, is)
     at (inr (_, high)) found = past (count - length before) (omega arith) (omega arith)
       where
-        past : (n : ℕ) → count ≡ length before + n → 1 ≤ n → Found replica (before ++ records_of w this answer more) after (take count (before ++ records_of w this answer more))
+        past : (n : ℕ) → count ≡ length before + n → 1 ≤ n →
+            Found replica (before ++ records_of w this answer more) after
+            (take count (before ++ records_of w this answer more))
         past n is some =
-            subst (Found replica (before ++ records_of w this answer more) after) (sym (ap (λ k. take k (before ++ records_of w this answer more)) is ∙ take-append-add before (records_of w this answer more) n))
+            subst (Found replica (before ++ records_of w this answer more) after)
+            (sym (ap (λ k. take k (before ++ records_of w this answer more)) is
+            ∙ take-append-add before (records_of w this answer more) n))
             (asked_front replica before w this cell rooms old answer new after more n life l some)
 front replica records m count (left before name w visit old life) = at (front replica before old count life)
   where

@@ -15,16 +15,25 @@ not_err : (e : Refusal) → (let r : Result (Unit {0}) Refusal = Ok tt in r) ≡
 not_err e h = cc
 
 -- what is left, once one more record was replayed
-pub goes_on : (m new : Machine) (x : Record) (rest after : List Record) (result : Result (Unit {0}) Refusal) (whole : Result Machine Refusal) → rest ≡ x ∷ after → Answers m (replay x m) result new → result ≡ Ok tt → replay_all rest m ≡ whole → replay_all after new ≡ whole
+pub goes_on : (m new : Machine) (x : Record) (rest after : List Record) (result : Result (Unit {0}) Refusal)
+    (whole : Result Machine Refusal) → rest ≡ x ∷ after → Answers m (replay x m) result new → result ≡ Ok tt →
+    replay_all rest m ≡ whole → replay_all after new ≡ whole
 goes_on m new x rest after result whole is (inl (told, same, ok)) done h = absurd (not_err Memory (sym done ∙ told))
 goes_on m new x rest after result whole is (inr did) done h =
-    sym (ap (λ (d : Result (Unit {0}) Refusal × Machine). fold replayed (unless_refused d) after) did ∙ ap (λ (r : Result (Unit {0}) Refusal). fold replayed (unless_refused (r, new)) after) done) ∙ (sym (ap (λ rs. replay_all rs m) is) ∙ h)
+    sym (ap (λ (d : Result (Unit {0}) Refusal × Machine). fold replayed (unless_refused d) after) did
+    ∙ ap (λ (r : Result (Unit {0}) Refusal). fold replayed (unless_refused (r, new)) after) done)
+    ∙ (sym (ap (λ rs. replay_all rs m) is) ∙ h)
 
 -- the first refusal is that of all
-pub ends : (m new : Machine) (x : Record) (rest after : List Record) (result : Result (Unit {0}) Refusal) (whole : Result Machine Refusal) (e : Refusal) → rest ≡ x ∷ after → Answers m (replay x m) result new → result ≡ Err e → replay_all rest m ≡ whole → (e ≡ Memory) ⊎ (whole ≡ Err e)
+pub ends : (m new : Machine) (x : Record) (rest after : List Record) (result : Result (Unit {0}) Refusal)
+    (whole : Result Machine Refusal) (e : Refusal) → rest ≡ x ∷ after → Answers m (replay x m) result new →
+    result ≡ Err e → replay_all rest m ≡ whole → (e ≡ Memory) ⊎ (whole ≡ Err e)
 ends m new x rest after result whole e is (inl (told, same, ok)) done h = inl (same_refusal (sym done ∙ told))
   where
     same_refusal : (let r : Result (Unit {0}) Refusal = Err e in r) ≡ Err Memory → e ≡ Memory
     same_refusal q = cc
 ends m new x rest after result whole e is (inr did) done h =
-    inr (sym h ∙ (ap (λ rs. replay_all rs m) is ∙ (ap (λ (d : Result (Unit {0}) Refusal × Machine). fold replayed (unless_refused d) after) did ∙ (ap (λ (r : Result (Unit {0}) Refusal). fold replayed (unless_refused (r, new)) after) done ∙ refused_stays after e))))
+    inr (sym h ∙ (ap (λ rs. replay_all rs m) is
+    ∙ (ap (λ (d : Result (Unit {0}) Refusal × Machine). fold replayed (unless_refused d) after) did
+    ∙ (ap (λ (r : Result (Unit {0}) Refusal). fold replayed (unless_refused (r, new)) after) done
+    ∙ refused_stays after e))))

@@ -18,53 +18,73 @@ use Rattle.records.specs.declared.kept_record.Record.{Record}
 use Rattle.records.specs.declared.kept_record.Record.TheVariants.{Delivered}
 
 -- a request at a cell was answered so, and its pad delivered these operations
-pub record Left (who : Who) (request : Request) (cell : ℕ) (rooms : List Room) (old : Machine) (answer : Answer) (new : List Room) (after : Machine) (more : List Op) : Type 0 where
+pub record Left (who : Who) (request : Request) (cell : ℕ) (rooms : List Room) (old : Machine) (answer : Answer)
+    (new : List Room) (after : Machine) (more : List Op) : Type 0 where
   pub asked : IsAsked request
   pub named : IsNamed who
   pub visited : Visited who request rooms old (request_at who request cell rooms old) answer new after
   pub delivered : IsDelivered after.log
   pub grown : after.log ≡ old.log ++ more
 
--- the records of a request are never refused, and lead from the restarted pad before it to the restarted pad after it: also where it was refused or out of memory, and where a release was cut short
+-- the records of a request are never refused, and lead from the restarted pad before it to the restarted pad after it:
+-- also where it was refused or out of memory, and where a release was cut short
 abbrev pub StepsLaw : Type 0
 StepsLaw =
-    (who : Who) (request : Request) (cell : ℕ) (rooms : List Room) (old : Machine) (answer : Answer) (new : List Room) (after : Machine) (more : List Op) →
-    Left who request cell rooms old answer new after more → replay_all (records_of who request answer more) (restarted old) ≡ Ok (restarted after)
+    (who : Who) (request : Request) (cell : ℕ) (rooms : List Room) (old : Machine) (answer : Answer) (new : List Room)
+    (after : Machine) (more : List Op) →
+    Left who request cell rooms old answer new after more → replay_all (records_of who request answer more)
+    (restarted old) ≡ Ok (restarted after)
 
 -- a request that may leave no records leaves none
 abbrev pub IdleLaw : Type 0
 IdleLaw =
-    (who : Who) (request : Request) (cell : ℕ) (rooms : List Room) (old : Machine) (answer : Answer) (new : List Room) (after : Machine) (more : List Op) →
-    Left who request cell rooms old answer new after more → may_leave request ≡ false → records_of who request answer more ≡ []
+    (who : Who) (request : Request) (cell : ℕ) (rooms : List Room) (old : Machine) (answer : Answer) (new : List Room)
+    (after : Machine) (more : List Op) →
+    Left who request cell rooms old answer new after more → may_leave request ≡ false →
+    records_of who request answer more ≡ []
 
 -- the end of a visit leaves a restarted pad as it was
 abbrev pub DeparturesLaw : Type 0
-DeparturesLaw = (name : List ℕ) (who : Who) (visit : ℕ) (m : Machine) → restarted (step name who (Some visit) Leave m).1 ≡ restarted m
+DeparturesLaw = (name : List ℕ) (who : Who) (visit : ℕ) (m : Machine) → restarted (step name who (Some visit) Leave m).1
+    ≡ restarted m
 
--- the life of a pad on the server with a number, with what it left to be kept: requests and the ends of visits, one after the other
+-- the life of a pad on the server with a number, with what it left to be kept: requests and the ends of visits, one
+-- after the other
 pub data Life (replica : ℕ) : List Record → Machine → Type 0 where
   begins : Life replica [] (unnamed replica)
-  asked : (records : List Record) (who : Who) (request : Request) (cell : ℕ) (rooms : List Room) (old : Machine) (answer : Answer) (new : List Room) (after : Machine) (more : List Op) →
-      Life replica records old → Left who request cell rooms old answer new after more → Life replica (records ++ records_of who request answer more) after
-  left : (records : List Record) (name : List ℕ) (who : Who) (visit : ℕ) (m : Machine) → Life replica records m → Life replica records (step name who (Some visit) Leave m).1
+  asked : (records : List Record) (who : Who) (request : Request) (cell : ℕ) (rooms : List Room) (old : Machine)
+      (answer : Answer) (new : List Room) (after : Machine) (more : List Op) →
+      Life replica records old → Left who request cell rooms old answer new after more →
+      Life replica (records ++ records_of who request answer more) after
+  left : (records : List Record) (name : List ℕ) (who : Who) (visit : ℕ) (m : Machine) → Life replica records m →
+      Life replica records (step name who (Some visit) Leave m).1
 
 -- what a pad left is never refused, and leads to the restarted pad
 abbrev pub LivesLaw : Type 0
-LivesLaw = (replica : ℕ) (records : List Record) (m : Machine) → Life replica records m → rebuilt replica records ≡ Ok (restarted m)
+LivesLaw = (replica : ℕ) (records : List Record) (m : Machine) → Life replica records m → rebuilt replica records
+    ≡ Ok (restarted m)
 
--- a state that a pad had in a life that left some records and led to a pad, with the records that it had left by then: before and after each request, and within a request between the operations that it delivered
+-- a state that a pad had in a life that left some records and led to a pad, with the records that it had left by then:
+-- before and after each request, and within a request between the operations that it delivered
 pub data Had (replica : ℕ) : List Record → Machine → List Record → Machine → Type 0 where
   last : (records : List Record) (m : Machine) → Life replica records m → Had replica records m records m
-  within : (records : List Record) (who : Who) (request : Request) (cell : ℕ) (rooms : List Room) (old : Machine) (answer : Answer) (new : List Room) (after : Machine) (first rest : List Op) →
+  within : (records : List Record) (who : Who) (request : Request) (cell : ℕ) (rooms : List Room) (old : Machine)
+      (answer : Answer) (new : List Room) (after : Machine) (first rest : List Op) →
       Life replica records old → Left who request cell rooms old answer new after (first ++ rest) →
-      Had replica (records ++ records_of who request answer (first ++ rest)) after (records ++ map Delivered first) (record old { log = old.log ++ first })
-  earlier : (records : List Record) (who : Who) (request : Request) (cell : ℕ) (rooms : List Room) (old : Machine) (answer : Answer) (new : List Room) (after : Machine) (more : List Op) (before : List Record) (m : Machine) →
-      Had replica records old before m → Left who request cell rooms old answer new after more → Had replica (records ++ records_of who request answer more) after before m
-  unended : (records : List Record) (name : List ℕ) (who : Who) (visit : ℕ) (old : Machine) (before : List Record) (m : Machine) →
+      Had replica (records ++ records_of who request answer (first ++ rest)) after (records ++ map Delivered first)
+      (record old { log = old.log ++ first })
+  earlier : (records : List Record) (who : Who) (request : Request) (cell : ℕ) (rooms : List Room) (old : Machine)
+      (answer : Answer) (new : List Room) (after : Machine) (more : List Op) (before : List Record) (m : Machine) →
+      Had replica records old before m → Left who request cell rooms old answer new after more →
+      Had replica (records ++ records_of who request answer more) after before m
+  unended : (records : List Record) (name : List ℕ) (who : Who) (visit : ℕ) (old : Machine) (before : List Record)
+      (m : Machine) →
       Had replica records old before m → Had replica records (step name who (Some visit) Leave old).1 before m
 
--- the first records of a pad's life, however many, are never refused, and lead to the restarted pad that it was when it had left just these
+-- the first records of a pad's life, however many, are never refused, and lead to the restarted pad that it was when it
+-- had left just these
 abbrev pub FrontsLaw : Type 0
 FrontsLaw =
     (replica : ℕ) (records : List Record) (m : Machine) (count : ℕ) → Life replica records m →
-    (had : Machine) × Had replica records m (take count records) had × (rebuilt replica (take count records) ≡ Ok (restarted had))
+    (had : Machine) × Had replica records m (take count records) had
+    × (rebuilt replica (take count records) ≡ Ok (restarted had))

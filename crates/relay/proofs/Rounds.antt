@@ -1,5 +1,6 @@
 -- The steps from pad to pad.
-use Rattle.std.proofs.Common.{◌≡◌, ◌⊎◌, inl, inr, ℕ, ◌+◌, ◌<◌, ◌≤◌, List, Option, None, Some, Result, Ok, Err, refl, sym, ap, ◌∙◌, subst}
+use Rattle.std.proofs.Common.{◌≡◌, ◌⊎◌, inl, inr, ℕ, ◌+◌, ◌<◌, ◌≤◌, List, Option, None, Some, Result, Ok, Err, refl}
+use Rattle.std.proofs.Common.{sym, ap, ◌∙◌, subst}
 use Rattle.std.proofs.lemmas.Bool.{le-leb, lt-leb}
 use Rattle.pad_model.specs.declared.refusal.Refusal.{Refusal}
 use Rattle.pad_model.specs.declared.who.Version.{Version}
@@ -19,66 +20,110 @@ use Rattle.relay.specs.declared.talk.Talk.{Talk}
 use Rattle.relay.proofs.Pulls.{chosen_false, chosen_true}
 use Rattle.relay.proofs.Steps.{join, lacks, one, unsent, wrong}
 
-module _ {P : Type 0} (calls : P → Request → Answer → P → Type 0) (names : P → ℕ → Result (Option (List ℕ)) Refusal → P → Type 0) where
+module _ {P : Type 0} (calls : P → Request → Answer → P → Type 0) (names : P → ℕ → Result (Option (List ℕ)) Refusal →
+    P → Type 0) where
   -- the peer is greeted
-  pub greeting_sent : (own : ℕ) (token : List ℕ) (cells : ℕ) (pads : P) (wire new : Wire) → Writes (line_of (peer_request own token)) wire new
+  pub greeting_sent : (own : ℕ) (token : List ℕ) (cells : ℕ) (pads : P) (wire new : Wire) →
+      Writes (line_of (peer_request own token)) wire new
       → Reaches calls names (Greeting own token) (begun cells pads wire) Greeted (begun cells pads new)
   greeting_sent own token cells pads wire new wrote = one calls names _ _ _ _ ((wrote, refl), refl)
 
   -- or not
-  pub greeting_unsent : (own : ℕ) (token : List ℕ) (fault : Fault) (cells : ℕ) (pads : P) (wire new : Wire) → IsUnsent fault (line_of (peer_request own token)) wire new
+  pub greeting_unsent : (own : ℕ) (token : List ℕ) (fault : Fault) (cells : ℕ) (pads : P) (wire new : Wire) →
+      IsUnsent fault (line_of (peer_request own token)) wire new
       → Breaks calls names fault (Greeting own token) (begun cells pads wire) pads new
   greeting_unsent own token fault cells pads wire new un =
-      unsent calls names fault (peer_request own token) (Greeting own token) Greeted (begun cells pads wire) (begun cells pads wire) new refl (λ v sends. (sends, refl)) un
+      unsent calls names fault (peer_request own token) (Greeting own token) Greeted (begun cells pads wire)
+      (begun cells pads wire) new refl (λ v sends. (sends, refl)) un
 
   -- it answers, with its version
-  pub greeted_then : (cells : ℕ) (r : Option (Told Version)) (its : Version) (pads : P) (wire new : Wire) → r ≡ Some (Said its) → HearsAs peer_answer r wire new
+  pub greeted_then : (cells : ℕ) (r : Option (Told Version)) (its : Version) (pads : P) (wire new : Wire) →
+      r ≡ Some (Said its) → HearsAs peer_answer r wire new
       → Reaches calls names Greeted (begun cells pads wire) Next (with_version its (begun cells pads new))
   greeted_then cells r its pads wire new is heard =
-      one calls names Greeted _ _ _ (r, begun cells pads new, (heard, refl), sym (ap (λ x. greeted x (begun cells pads new)) is))
+      one calls names Greeted _ _ _ (
+        r,
+        begun cells pads new,
+        (heard, refl),
+        sym (ap (λ x. greeted x (begun cells pads new)) is),
+      )
 
   -- it refuses, or says neither
-  pub greeted_wrong : (cells : ℕ) (r : Option (Told Version)) (pads : P) (wire new : Wire) → (r ≡ Some Refused) ⊎ (r ≡ None) → HearsAs peer_answer r wire new
+  pub greeted_wrong : (cells : ℕ) (r : Option (Told Version)) (pads : P) (wire new : Wire) → (r ≡ Some Refused)
+      ⊎ (r ≡ None) → HearsAs peer_answer r wire new
       → Breaks calls names PeerReply Greeted (begun cells pads wire) pads new
   greeted_wrong cells r pads wire new (inl is) heard =
-      wrong calls names peer_answer r Greeted (begun cells pads wire) new heard (r, begun cells pads new, (heard, refl), sym (ap (λ x. greeted x (begun cells pads new)) is))
+      wrong calls names peer_answer r Greeted (begun cells pads wire) new heard (
+        r,
+        begun cells pads new,
+        (heard, refl),
+        sym (ap (λ x. greeted x (begun cells pads new)) is),
+      )
   greeted_wrong cells r pads wire new (inr is) heard =
-      wrong calls names peer_answer r Greeted (begun cells pads wire) new heard (r, begun cells pads new, (heard, refl), sym (ap (λ x. greeted x (begun cells pads new)) is))
+      wrong calls names peer_answer r Greeted (begun cells pads wire) new heard (
+        r,
+        begun cells pads new,
+        (heard, refl),
+        sym (ap (λ x. greeted x (begun cells pads new)) is),
+      )
 
   -- a cell is looked at
-  looked : (talk : Talk) (old new : P) (wire : Wire) (said : Result (Option (List ℕ)) Refusal) (r : Result (Option (List ℕ)) Fault) (stage : Stage) (w : World P)
-      → talk.cell < talk.cells → names old talk.cell said new → own_name said ≡ r → named r (world talk new wire) ≡ (stage, w) → Goes calls names Next (world talk old wire) stage w
+  looked : (talk : Talk) (old new : P) (wire : Wire) (said : Result (Option (List ℕ)) Refusal)
+      (r : Result (Option (List ℕ)) Fault) (stage : Stage) (w : World P)
+      → talk.cell < talk.cells → names old talk.cell said new → own_name said ≡ r → named r (world talk new wire)
+      ≡ (stage, w) → Goes calls names Next (world talk old wire) stage w
   looked talk old new wire said r stage w low told is ends =
-      chosen_false _ _ _ (lt-leb talk.cells talk.cell low) (said, world talk new wire, told, refl, sym (ap (λ x. named x (world talk new wire)) is ∙ ends))
+      chosen_false _ _ _ (lt-leb talk.cells talk.cell low) (
+        said,
+        world talk new wire,
+        told,
+        refl,
+        sym (ap (λ x. named x (world talk new wire)) is ∙ ends),
+      )
 
-  pub looked_pad : (talk : Talk) (old new : P) (wire : Wire) (said : Result (Option (List ℕ)) Refusal) (r : Result (Option (List ℕ)) Fault) (name : List ℕ)
+  pub looked_pad : (talk : Talk) (old new : P) (wire : Wire) (said : Result (Option (List ℕ)) Refusal)
+      (r : Result (Option (List ℕ)) Fault) (name : List ℕ)
       → talk.cell < talk.cells → names old talk.cell said new → r ≡ own_name said → r ≡ Ok (Some name)
       → Reaches calls names Next (world talk old wire) (Pulling name 0) (world talk new wire)
-  looked_pad talk old new wire said r name low told own is = one calls names Next _ _ _ (looked talk old new wire said (Ok (Some name)) _ _ low told (sym own ∙ is) refl)
+  looked_pad talk old new wire said r name low told own is =
+      one calls names Next _ _ _ (looked talk old new wire said (Ok (Some name)) _ _ low told (sym own ∙ is) refl)
 
-  pub looked_past : (talk : Talk) (old new : P) (wire : Wire) (said : Result (Option (List ℕ)) Refusal) (r : Result (Option (List ℕ)) Fault)
+  pub looked_past : (talk : Talk) (old new : P) (wire : Wire) (said : Result (Option (List ℕ)) Refusal)
+      (r : Result (Option (List ℕ)) Fault)
       → talk.cell < talk.cells → names old talk.cell said new → r ≡ own_name said → r ≡ Ok None
       → Reaches calls names Next (world talk old wire) Over (world talk new wire)
-  looked_past talk old new wire said r low told own is = one calls names Next _ _ _ (looked talk old new wire said (Ok None) _ _ low told (sym own ∙ is) refl)
+  looked_past talk old new wire said r low told own is =
+      one calls names Next _ _ _ (looked talk old new wire said (Ok None) _ _ low told (sym own ∙ is) refl)
 
-  pub looked_none : (talk : Talk) (old new : P) (wire : Wire) (said : Result (Option (List ℕ)) Refusal) (r : Result (Option (List ℕ)) Fault) (fault : Fault)
+  pub looked_none : (talk : Talk) (old new : P) (wire : Wire) (said : Result (Option (List ℕ)) Refusal)
+      (r : Result (Option (List ℕ)) Fault) (fault : Fault)
       → talk.cell < talk.cells → names old talk.cell said new → r ≡ own_name said → r ≡ Err fault → fault ≡ Memory
       → Breaks calls names fault Next (world talk old wire) new wire
   looked_none talk old new wire said r fault low told own is memory =
-      lacks calls names fault Next (world talk old wire) new
-      (memory, Failed fault, world talk new wire, one calls names Next _ _ _ (looked talk old new wire said (Err fault) _ _ low told (sym own ∙ is) refl), refl, refl)
+      lacks calls names fault Next (world talk old wire) new (
+        memory,
+        Failed fault,
+        world talk new wire,
+        one calls names Next _ _ _ (looked talk old new wire said (Err fault) _ _ low told (sym own ∙ is) refl),
+        refl,
+        refl,
+      )
 
   -- the next cell
-  pub past_one : (first : Stage) (u : World P) (talk mid next : Talk) (pads new : P) (wire last : Wire) → Reaches calls names first u Next (world talk pads wire)
+  pub past_one : (first : Stage) (u : World P) (talk mid next : Talk) (pads new : P) (wire last : Wire) →
+      Reaches calls names first u Next (world talk pads wire)
       → Reaches calls names Next (world talk pads wire) Over (world mid new last)
       → next ≡ record { cells = mid.cells; cell = mid.cell + 1; version = mid.version; relayed = mid.relayed }
       → Reaches calls names first u Next (world next new last)
   past_one first u talk mid next pads new wire last before more is =
       subst (λ t. Reaches calls names first u Next (world t new last)) (sym is)
-      (join calls names _ _ _ _ _ _ before (join calls names _ _ _ _ _ _ more (one calls names Over (world mid new last) _ _ (refl, refl))))
+      (join calls names _ _ _ _ _ _ before
+      (join calls names _ _ _ _ _ _ more (one calls names Over (world mid new last) _ _ (refl, refl))))
 
   -- no more cells
-  pub ends : (first : Stage) (u : World P) (talk : Talk) (pads : P) (wire : Wire) → Reaches calls names first u Next (world talk pads wire) → talk.cells ≤ talk.cell
+  pub ends : (first : Stage) (u : World P) (talk : Talk) (pads : P) (wire : Wire) →
+      Reaches calls names first u Next (world talk pads wire) → talk.cells ≤ talk.cell
       → Reaches calls names first u Ended (world talk pads wire)
   ends first u talk pads wire before over =
-      join calls names _ _ _ _ _ _ before (one calls names Next (world talk pads wire) _ _ (chosen_true _ _ _ (le-leb talk.cells talk.cell over) (refl, refl)))
+      join calls names _ _ _ _ _ _ before (one calls names Next (world talk pads wire) _ _
+      (chosen_true _ _ _ (le-leb talk.cells talk.cell over) (refl, refl)))

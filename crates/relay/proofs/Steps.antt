@@ -1,5 +1,6 @@
 -- Steps of a round, one after the other, and how they break off.
-use Rattle.std.proofs.Common.{◌≡◌, ◌⊎◌, inl, inr, ℕ, List, [], ◌++◌, take, drop, Option, None, Some, Result, Ok, Err, IfOk, IfErr, refl, sym, ap, ◌∙◌, subst, append_assoc, take-append-drop}
+use Rattle.std.proofs.Common.{◌≡◌, ◌⊎◌, inl, inr, ℕ, List, [], ◌++◌, take, drop, Option, None, Some, Result, Ok, Err}
+use Rattle.std.proofs.Common.{IfOk, IfErr, refl, sym, ap, ◌∙◌, subst, append_assoc, take-append-drop}
 use Rattle.std.specs.Io.KnownBytes.{Appends}
 use Rattle.std.proofs.KnownBytes.{Appends-nil, Appends-trans}
 use Rattle.serde_json.specs.Data.{Data}
@@ -20,21 +21,31 @@ use Rattle.relay.specs.Wire.{Wire, Writes, HearsAs, IsUnheard, Misses, MissesAns
 use Rattle.relay.proofs.Grown.{Grows, made_then, reaches_grows, heard_grows}
 
 -- what is left of a text when a front of it was written
-whole_after : (a b : Option (List ℕ)) (text : List ℕ) (count : ℕ) → Appends a b (take count text) → (full : Option (List ℕ)) × Appends a full text × Appends b full (drop count text)
+whole_after : (a b : Option (List ℕ)) (text : List ℕ) (count : ℕ) → Appends a b (take count text) →
+    (full : Option (List ℕ)) × Appends a full text × Appends b full (drop count text)
 whole_after None None text count app = (None, tt, tt)
 whole_after None (Some b) text count app = (Some (b ++ drop count text), tt, refl)
 whole_after (Some a) None text count app = absurd app
-whole_after (Some a) (Some b) text count app =
-    (Some (a ++ text), refl, ap (λ l. a ++ l) (sym (take-append-drop count text)) ∙ sym (append_assoc a (take count text) (drop count text)) ∙ ap (λ l. l ++ drop count text) (sym app))
+whole_after (Some a) (Some b) text count app = (
+  Some (a ++ text),
+  refl,
+  ap (λ l. a ++ l) (sym (take-append-drop count text))
+      ∙ sym (append_assoc a (take count text) (drop count text)) ∙ ap (λ l. l ++ drop count text) (sym app),
+)
 
 -- a cause at a wire is one at a wire before
-cause_before : (fault : Fault) (stage : Stage) (rest : List ℕ) (a b c : Wire) → Grows a b → (b.stopped ≡ None → IsCause fault stage rest b c) → a.stopped ≡ None → IsCause fault stage rest a c
+cause_before : (fault : Fault) (stage : Stage) (rest : List ℕ) (a b c : Wire) → Grows a b →
+    (b.stopped ≡ None → IsCause fault stage rest b c) → a.stopped ≡ None → IsCause fault stage rest a c
 cause_before ReadFault stage rest a b c grows cause none =
     let kept = grows.reads none in
-    let so = cause kept.0 in
-    (so.0, (failed_before a.read_failures b.read_failures kept.1 so.1.0, made_then a b c kept.2 so.1.1), so.2 ∙ grows.writes)
+    let so = cause kept.0 in (
+      so.0,
+      (failed_before a.read_failures b.read_failures kept.1 so.1.0, made_then a b c kept.2 so.1.1),
+      so.2 ∙ grows.writes,
+    )
   where
-    failed_before : (old mid : ℕ) → mid ≡ old → ((c.read_failures ≡ one_more mid) ⊎ ((c.read_failures ≡ mid) × (c.spent ≡ most_reads)))
+    failed_before : (old mid : ℕ) → mid ≡ old →
+        ((c.read_failures ≡ one_more mid) ⊎ ((c.read_failures ≡ mid) × (c.spent ≡ most_reads)))
         → ((c.read_failures ≡ one_more old) ⊎ ((c.read_failures ≡ old) × (c.spent ≡ most_reads)))
     failed_before old mid is (inl failed) = inl (failed ∙ ap one_more is)
     failed_before old mid is (inr (same, spent)) = inr (same ∙ is, spent)
@@ -45,20 +56,24 @@ cause_before PeerReply stage rest a b c grows cause none =
 cause_before Memory stage rest a b c grows cause none =
     let kept = grows.reads none in let so = cause kept.0 in (so.0 ∙ kept.1, so.1 ∙ grows.writes)
 
-module _ {P : Type 0} (calls : P → Request → Answer → P → Type 0) (names : P → ℕ → Result (Option (List ℕ)) Refusal → P → Type 0) where
+module _ {P : Type 0} (calls : P → Request → Answer → P → Type 0) (names : P → ℕ → Result (Option (List ℕ)) Refusal →
+    P → Type 0) where
   -- steps after steps
   pub join : (first : Stage) (u : World P) (mid : Stage) (v : World P) (last : Stage) (w : World P)
       → Reaches calls names first u mid v → Reaches calls names mid v last w → Reaches calls names first u last w
   join first u mid v last w here more = more
-  join first u mid v last w (on {mid = next} {v = x} goes then_on) more = on goes (join next x mid v last w then_on more)
+  join first u mid v last w (on {mid = next} {v = x} goes then_on) more =
+      on goes (join next x mid v last w then_on more)
 
   -- one step
-  pub one : (first : Stage) (u : World P) (last : Stage) (v : World P) → Goes calls names first u last v → Reaches calls names first u last v
+  pub one : (first : Stage) (u : World P) (last : Stage) (v : World P) → Goes calls names first u last v →
+      Reaches calls names first u last v
   one first u last v goes = on goes here
 
   -- what breaks off later breaks off
   pub later : (fault : Fault) (first : Stage) (u : World P) (mid : Stage) (v : World P) (pads : P) (wire : Wire)
-      → Reaches calls names first u mid v → Breaks calls names fault mid v pads wire → Breaks calls names fault first u pads wire
+      → Reaches calls names first u mid v → Breaks calls names fault mid v pads wire →
+      Breaks calls names fault first u pads wire
   later fault first u mid v pads wire reaches (stage, w, text, rest, more, same, app, left, cause) =
       let grows = reaches_grows calls names first u mid v reaches in (
         stage,
@@ -73,7 +88,8 @@ module _ {P : Type 0} (calls : P → Request → Answer → P → Type 0) (names
       )
 
   -- after a call here, a line was not written, or in part
-  pub unsent : (fault : Fault) (d : Data) (first last : Stage) (u mid : World P) (wire : Wire) → mid.wire ≡ u.wire → ((v : World P) → Sends d mid v → Goes calls names first u last v)
+  pub unsent : (fault : Fault) (d : Data) (first last : Stage) (u mid : World P) (wire : Wire) → mid.wire ≡ u.wire →
+      ((v : World P) → Sends d mid v → Goes calls names first u last v)
       → IsUnsent fault (line_of d) u.wire wire → Breaks calls names fault first u mid.pads wire
   unsent fault d first last u mid wire same_wire goes (inl (is, (count, part, same))) =
       let full = whole_after u.wire.written wire.written (line_of d) count part in
@@ -86,7 +102,8 @@ module _ {P : Type 0} (calls : P → Request → Answer → P → Type 0) (names
         refl,
         part,
         full.2,
-        λ none. subst (λ f. IsCause f last (drop count (line_of d)) u.wire wire) (sym is) (ap (λ w. w.write_failures) same, ap (λ w. w.read_failures) same),
+        λ none. subst (λ f. IsCause f last (drop count (line_of d)) u.wire wire) (sym is)
+            (ap (λ w. w.write_failures) same, ap (λ w. w.read_failures) same),
       )
   unsent fault d first last u mid wire same_wire goes (inr (is, same)) =
       let full = whole_after u.wire.written u.wire.written (line_of d) 0 (Appends-nil u.wire.written) in
@@ -99,11 +116,15 @@ module _ {P : Type 0} (calls : P → Request → Answer → P → Type 0) (names
         refl,
         subst (λ w. Appends u.wire.written w.written []) (sym same) (Appends-nil u.wire.written),
         subst (λ w. Appends w.written full.0 (line_of d)) (sym same) full.2,
-        λ none. subst (λ f. IsCause f last (line_of d) u.wire wire) (sym is) (ap (λ w. w.read_failures) same, ap (λ w. w.write_failures) same),
+        λ none. subst (λ f. IsCause f last (line_of d) u.wire wire) (sym is) (
+          ap (λ w. w.read_failures) same,
+          ap (λ w. w.write_failures) same,
+        ),
       )
 
   -- no line was heard
-  missed : (fault : Fault) (first : Stage) (u : World P) (wire : Wire) → Misses fault u.wire wire → Breaks calls names fault first u u.pads wire
+  missed : (fault : Fault) (first : Stage) (u : World P) (wire : Wire) → Misses fault u.wire wire →
+      Breaks calls names fault first u u.pads wire
   missed fault first u wire (cause, same, kept) = (
     first,
     u,
@@ -123,7 +144,8 @@ module _ {P : Type 0} (calls : P → Request → Answer → P → Type 0) (names
       caused Memory un = (un, kept)
 
   -- no answer was heard
-  pub unheard : (fault : Fault) (first : Stage) (u : World P) (wire : Wire) → MissesAnswer fault u.wire wire → Breaks calls names fault first u u.pads wire
+  pub unheard : (fault : Fault) (first : Stage) (u : World P) (wire : Wire) → MissesAnswer fault u.wire wire →
+      Breaks calls names fault first u u.pads wire
   unheard fault first u wire (inl misses) = missed fault first u wire misses
   unheard fault first u wire (inr (is, heard, (next, kept, same))) =
       let written = ap (λ w. w.written) same in (
@@ -140,7 +162,8 @@ module _ {P : Type 0} (calls : P → Request → Answer → P → Type 0) (names
 
   -- an answer was heard that ends the round
   pub wrong : {A : Type 0} (form : Data → Option A) (said : Option (Told A)) (first : Stage) (u : World P) (wire : Wire)
-      → HearsAs form said u.wire wire → Goes calls names first u (Failed PeerReply) (with_wire wire u) → Breaks calls names PeerReply first u u.pads wire
+      → HearsAs form said u.wire wire → Goes calls names first u (Failed PeerReply) (with_wire wire u) →
+      Breaks calls names PeerReply first u u.pads wire
   wrong form said first u wire heard goes =
       let grows = heard_grows form said u.wire wire heard in
       let same = ap (λ w. w.written) heard.1.2 in (
@@ -156,7 +179,8 @@ module _ {P : Type 0} (calls : P → Request → Answer → P → Type 0) (names
       )
 
   -- it was out of memory, the peer aside
-  pub lacks : (fault : Fault) (first : Stage) (u : World P) (pads : P) → Lacks calls names fault first u pads → Breaks calls names fault first u pads u.wire
+  pub lacks : (fault : Fault) (first : Stage) (u : World P) (pads : P) → Lacks calls names fault first u pads →
+      Breaks calls names fault first u pads u.wire
   lacks fault first u pads (is, stage, w, reaches, same, wire) = (
     stage,
     w,
@@ -170,21 +194,28 @@ module _ {P : Type 0} (calls : P → Request → Answer → P → Type 0) (names
   )
 
   -- what follows some steps and answers where it leads
-  pub join_ok : {A : Type 0} (r : Result A Fault) (end : A → Stage) (first : Stage) (u : World P) (mid : Stage) (v w : World P)
-      → Reaches calls names first u mid v → IfOk r (λ x. Reaches calls names mid v (end x) w) → IfOk r (λ x. Reaches calls names first u (end x) w)
+  pub join_ok : {A : Type 0} (r : Result A Fault) (end : A → Stage) (first : Stage) (u : World P) (mid : Stage)
+      (v w : World P)
+      → Reaches calls names first u mid v → IfOk r (λ x. Reaches calls names mid v (end x) w) →
+      IfOk r (λ x. Reaches calls names first u (end x) w)
   join_ok (Ok x) end first u mid v w before goes = join first u mid v (end x) w before goes
   join_ok (Err fault) end first u mid v w before goes = tt
 
   -- or breaks off
-  pub join_err : {A : Type 0} (r : Result A Fault) (first : Stage) (u : World P) (mid : Stage) (v : World P) (pads : P) (wire : Wire)
-      → Reaches calls names first u mid v → IfErr r (λ fault. Breaks calls names fault mid v pads wire) → IfErr r (λ fault. Breaks calls names fault first u pads wire)
+  pub join_err : {A : Type 0} (r : Result A Fault) (first : Stage) (u : World P) (mid : Stage) (v : World P) (pads : P)
+      (wire : Wire)
+      → Reaches calls names first u mid v → IfErr r (λ fault. Breaks calls names fault mid v pads wire) →
+      IfErr r (λ fault. Breaks calls names fault first u pads wire)
   join_err (Ok x) first u mid v pads wire before breaks = tt
   join_err (Err fault) first u mid v pads wire before breaks = later fault first u mid v pads wire before breaks
 
   -- the same of the value that came
-  pub join_at : {A : Type 0} (r : Result A Fault) (x : A) (end : A → Stage) (first : Stage) (u : World P) (mid : Stage) (v w : World P)
-      → Reaches calls names first u mid v → r ≡ Ok x → IfOk r (λ x. Reaches calls names mid v (end x) w) → Reaches calls names first u (end x) w
-  join_at (Ok y) x end first u mid v w before is goes = subst (λ z. Reaches calls names first u (end z) w) (cc) (join first u mid v (end y) w before goes)
+  pub join_at : {A : Type 0} (r : Result A Fault) (x : A) (end : A → Stage) (first : Stage) (u : World P) (mid : Stage)
+      (v w : World P)
+      → Reaches calls names first u mid v → r ≡ Ok x → IfOk r (λ x. Reaches calls names mid v (end x) w) →
+      Reaches calls names first u (end x) w
+  join_at (Ok y) x end first u mid v w before is goes = subst (λ z. Reaches calls names first u (end z) w) (cc)
+      (join first u mid v (end y) w before goes)
   join_at (Err fault) x end first u mid v w before is goes = absurd (cc)
 
 -- what holds of a value holds of the one that came

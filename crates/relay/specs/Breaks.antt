@@ -11,16 +11,21 @@ use Rattle.relay.specs.Wire.{Wire, IsUnheard}
 use Rattle.relay.specs.Round.{Stage, World, Reaches}
 use Rattle.relay.specs.Round.Stage.{Failed}
 
--- why a round broke off at a stage, where these bytes of it were not written: the reader failed; the writer failed; the peer's
+-- why a round broke off at a stage, where these bytes of it were not written: the reader failed; the writer failed; the
+-- peer's
 -- line was no answer to what was asked; or it was out of memory
 abbrev pub IsCause : Fault → Stage → List ℕ → Wire → Wire → Type 0
-IsCause ReadFault stage rest old new = (rest ≡ []) × IsUnheard ReadFault old new × (new.write_failures ≡ old.write_failures)
-IsCause WriteFault stage rest old new = (new.write_failures ≡ one_more old.write_failures) × (new.read_failures ≡ old.read_failures)
+IsCause ReadFault stage rest old new = (rest ≡ []) × IsUnheard ReadFault old new
+    × (new.write_failures ≡ old.write_failures)
+IsCause WriteFault stage rest old new = (new.write_failures ≡ one_more old.write_failures)
+    × (new.read_failures ≡ old.read_failures)
 IsCause PeerReply stage rest old new =
-    (rest ≡ []) × (stage ≡ Failed PeerReply) × (new.read_failures ≡ old.read_failures) × (new.write_failures ≡ old.write_failures)
+    (rest ≡ []) × (stage ≡ Failed PeerReply) × (new.read_failures ≡ old.read_failures)
+    × (new.write_failures ≡ old.write_failures)
 IsCause Memory stage rest old new = (new.read_failures ≡ old.read_failures) × (new.write_failures ≡ old.write_failures)
 
-module _ {P : Type 0} (calls : P → Request → Answer → P → Type 0) (names : P → ℕ → Result (Option (List ℕ)) Refusal → P → Type 0) where
+module _ {P : Type 0} (calls : P → Request → Answer → P → Type 0) (names : P → ℕ → Result (Option (List ℕ)) Refusal →
+    P → Type 0) where
   -- a round broke off: some steps lead to these pads, and what was written is a front of what they write
   abbrev pub Breaks : Fault → Stage → World P → P → Wire → Type 0
   Breaks fault first old pads wire =

@@ -46,22 +46,28 @@ counts more talk = record { cells = talk.cells; cell = talk.cell; version = talk
 -- this server's vector was sent to the peer, or the peer can't read it
 abbrev pub SendsPull : List ℕ → List Counted → Bool → Talk → Wire → Talk → Wire → Type 0
 SendsPull name seen true talk old then new =
-    (is_readable talk.version (seen_in_v1 seen) ≡ true) × Writes (line_of (pull_request name seen MAX_OPS)) old new × (then ≡ talk)
+    (is_readable talk.version (seen_in_v1 seen) ≡ true) × Writes (line_of (pull_request name seen MAX_OPS)) old new
+    × (then ≡ talk)
 SendsPull name seen false talk old then new =
     (is_readable talk.version (seen_in_v1 seen) ≡ false) × (new ≡ old) × (then ≡ counts with_unsaid talk)
 
 -- a pad of this server was asked, and this is what a round makes of its answer; or there was no memory to ask
-abbrev pub AsksFor : {P A : Type 0} → (P → Request → Answer → P → Type 0) → List ℕ → Act → (Answer → Result A Fault) → Result A Fault → P → P → Type 0
+abbrev pub AsksFor : {P A : Type 0} → (P → Request → Answer → P → Type 0) → List ℕ → Act → (Answer → Result A Fault) →
+    Result A Fault → P → P → Type 0
 AsksFor calls name act own result old new =
     ((said : Answer) × calls old (On name act) said new × (result ≡ own said)) ⊎ ((result ≡ Err Memory) × (new ≡ old))
 
 -- some steps without the peer lead to these pads, and then it was out of memory
-abbrev pub Lacks : {P : Type 0} → (P → Request → Answer → P → Type 0) → (P → ℕ → Result (Option (List ℕ)) Refusal → P → Type 0) → Fault → Stage → World P → P → Type 0
+abbrev pub Lacks : {P : Type 0} → (P → Request → Answer → P → Type 0) →
+    (P → ℕ → Result (Option (List ℕ)) Refusal → P → Type 0) → Fault → Stage → World P → P → Type 0
 Lacks {P} calls names fault first old pads =
-    (fault ≡ Memory) × (stage : Stage) × (w : World P) × Reaches calls names first old stage w × (pads ≡ w.pads) × (w.wire ≡ old.wire)
+    (fault ≡ Memory) × (stage : Stage) × (w : World P) × Reaches calls names first old stage w × (pads ≡ w.pads)
+    × (w.wire ≡ old.wire)
 
 -- a round was made, and counted this
-abbrev pub Made : {P : Type 0} → (P → Request → Answer → P → Type 0) → (P → ℕ → Result (Option (List ℕ)) Refusal → P → Type 0) → ℕ → List ℕ
+abbrev pub Made : {P : Type 0} → (P → Request → Answer → P → Type 0) →
+    (P → ℕ → Result (Option (List ℕ)) Refusal → P → Type 0) → ℕ → List ℕ
     → World P → Relayed → Wire → P → Type 0
 Made {P} calls names own token old relayed wire pads =
-    (w : World P) × Reaches calls names (Greeting own token) old Ended w × (w.relayed ≡ relayed) × (w.wire ≡ wire) × (w.pads ≡ pads)
+    (w : World P) × Reaches calls names (Greeting own token) old Ended w × (w.relayed ≡ relayed) × (w.wire ≡ wire)
+    × (w.pads ≡ pads)

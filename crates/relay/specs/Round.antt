@@ -1,5 +1,7 @@
--- A relay round, stage by stage: what a server writes to a peer and does with its own pads, when the peer's lines are these.
-use Rattle.std.specs.Prelude.{◌≡◌, ℕ, zero, suc, ◌+◌, nat_le, nat_lt, ◌||◌, ◌&&◌, Bool, true, false, if◌then◌else◌, List, [], ◌∷◌, ◌++◌, Option, None, Some, Result, Ok, Err}
+-- A relay round, stage by stage: what a server writes to a peer and does with its own pads, when the peer's lines are
+-- these.
+use Rattle.std.specs.Prelude.{◌≡◌, ℕ, zero, suc, ◌+◌, nat_le, nat_lt, ◌||◌, ◌&&◌, Bool, true, false, if◌then◌else◌}
+use Rattle.std.specs.Prelude.{List, [], ◌∷◌, ◌++◌, Option, None, Some, Result, Ok, Err}
 use Rattle.serde_json.specs.Data.{Data}
 use Rattle.serde_json.specs.Written.{compact_text}
 use Rattle.pad_model.specs.OldWire.{op_in_v1, seen_in_v1}
@@ -17,7 +19,8 @@ use Rattle.pad_core.specs.declared.reply.Pushed.TheVariants as pushed
 use Rattle.pad_core.specs.declared.reply.Reply.TheVariants as reply
 use Rattle.pad_core.specs.declared.request.Request.{Request}
 use Rattle.pad_core.specs.declared.request.Request.TheVariants as request
-use Rattle.wire_json.specs.Peers.{peer_request, pull_request, vector_request, push_request, peer_answer, vector_answer, pull_answer, push_answer}
+use Rattle.wire_json.specs.Peers.{peer_request, pull_request, vector_request, push_request, peer_answer, vector_answer}
+use Rattle.wire_json.specs.Peers.{pull_answer, push_answer}
 use Rattle.wire_json.specs.declared.peer_answer.Told.{Told}
 use Rattle.wire_json.specs.declared.peer_answer.Told.TheVariants.{Said, Refused}
 use Rattle.wire_lines.specs.declared.fault.Fault.{Fault}
@@ -60,7 +63,8 @@ pub data Stage : Type 0 where
   -- the round ends in a fault
   Failed : Fault → Stage
 
--- a round under way: how many cells there are, and which is next; the peer's version; what was counted; the pads; and the wire
+-- a round under way: how many cells there are, and which is next; the peer's version; what was counted; the pads; and
+-- the wire
 pub record World (P : Type 0) : Type 0 where
   pub cells : ℕ
   pub cell : ℕ
@@ -166,7 +170,8 @@ module _ {P : Type 0} where
   abbrev pub asked : List ℕ → ℕ → Result (Option (List Counted)) Fault → World P → Stage × World P × Option Data
   asked name turn (Ok None) w = (Over, w, None)
   asked name turn (Ok (Some seen)) w =
-      if is_readable w.version (seen_in_v1 seen) then (Pulled name turn, w, Some (pull_request name seen MAX_OPS)) else (Over, counted with_unsaid w, None)
+      if is_readable w.version (seen_in_v1 seen) then (Pulled name turn, w, Some (pull_request name seen MAX_OPS))
+      else (Over, counted with_unsaid w, None)
   asked name turn (Err fault) w = (Failed fault, w, None)
 
   -- after the answer to a pull
@@ -178,7 +183,10 @@ module _ {P : Type 0} where
   -- after the delivery of an operation here
   abbrev pub taken : List ℕ → ℕ → Bool → List Op → Result (Option ℕ) Fault → World P → Stage × World P
   taken name turn gained ops (Ok None) w = (Taking name turn gained ops, counted with_refused w)
-  taken name turn gained ops (Ok (Some count)) w = (Taking name turn (gained || nat_lt 0 count) ops, counted (with_pulled count) w)
+  taken name turn gained ops (Ok (Some count)) w = (
+    Taking name turn (gained || nat_lt 0 count) ops,
+    counted (with_pulled count) w,
+  )
   taken name turn gained ops (Err fault) w = (Failed fault, w)
 
   -- after the answer to a vector
@@ -196,10 +204,14 @@ module _ {P : Type 0} where
   -- after the answer to a push
   abbrev pub told_push : List ℕ → ℕ → ℕ → Bool → Bool → Option (Told Pushed) → World P → Stage × World P
   told_push name turn due gained whole None w = (Failed PeerReply, w)
-  told_push name turn due gained whole (Some told) w = (Hearing name turn due (gained || is_delivered told) whole, counted (after_push told) w)
+  told_push name turn due gained whole (Some told) w = (
+    Hearing name turn due (gained || is_delivered told) whole,
+    counted (after_push told) w,
+  )
 
 -- how a round goes on
-module _ {P : Type 0} (calls : P → Request → Answer → P → Type 0) (names : P → ℕ → Result (Option (List ℕ)) Refusal → P → Type 0) where
+module _ {P : Type 0} (calls : P → Request → Answer → P → Type 0) (names : P → ℕ → Result (Option (List ℕ)) Refusal →
+    P → Type 0) where
   -- a pad is asked here
   abbrev pub Asks : List ℕ → Act → Answer → World P → World P → Type 0
   Asks name act answer old new = calls old.pads (request.On name act) answer new.pads × (new ≡ with_pads new.pads old)
@@ -207,33 +219,45 @@ module _ {P : Type 0} (calls : P → Request → Answer → P → Type 0) (names
   -- one step of a round, by its stage
   abbrev pub Goes : Stage → World P → Stage → World P → Type 0
   Goes (Greeting own token) old stage new = Sends (peer_request own token) old new × (stage ≡ Greeted)
-  Goes Greeted old stage new = (said : Option (Told Version)) × (mid : World P) × Heard peer_answer said old mid × ((stage, new) ≡ greeted said mid)
+  Goes Greeted old stage new = (said : Option (Told Version)) × (mid : World P) × Heard peer_answer said old mid
+      × ((stage, new) ≡ greeted said mid)
   Goes Next old stage new =
       Choice (nat_le old.cells old.cell) ((stage ≡ Ended) × (new ≡ old))
-      ((name : Result (Option (List ℕ)) Refusal) × (mid : World P) × names old.pads old.cell name mid.pads × (mid ≡ with_pads mid.pads old)
+      ((name : Result (Option (List ℕ)) Refusal) × (mid : World P) × names old.pads old.cell name mid.pads
+      × (mid ≡ with_pads mid.pads old)
       × ((stage, new) ≡ named (own_name name) mid))
   Goes (Pulling name turn) old stage new =
       Choice (nat_le MAX_TURNS turn) ((stage ≡ Pushing name 0) × (new ≡ old))
-      ((said : Answer) × (mid : World P) × Asks name act.Vector said old mid × (stage ≡ (asked name turn (own_vector said) mid).0)
+      ((said : Answer) × (mid : World P) × Asks name act.Vector said old mid
+      × (stage ≡ (asked name turn (own_vector said) mid).0)
       × SendsIf (asked name turn (own_vector said) mid).2 (asked name turn (own_vector said) mid).1 new)
   Goes (Pulled name turn) old stage new =
-      (said : Option (Told (List Op))) × (mid : World P) × Heard pull_answer said old mid × ((stage, new) ≡ pulled name turn said mid)
-  Goes (Taking name turn gained []) old stage new = (stage ≡ (if gained then Pulling name (turn + 1) else Pushing name 0)) × (new ≡ old)
+      (said : Option (Told (List Op))) × (mid : World P) × Heard pull_answer said old mid
+      × ((stage, new) ≡ pulled name turn said mid)
+  Goes (Taking name turn gained []) old stage new =
+      (stage ≡ (if gained then Pulling name (turn + 1) else Pushing name 0)) × (new ≡ old)
   Goes (Taking name turn gained (op ∷ ops)) old stage new =
-      (said : Answer) × (mid : World P) × Asks name (act.Push op) said old mid × ((stage, new) ≡ taken name turn gained ops (own_count said) mid)
+      (said : Answer) × (mid : World P) × Asks name (act.Push op) said old mid
+      × ((stage, new) ≡ taken name turn gained ops (own_count said) mid)
   Goes (Pushing name turn) old stage new =
-      Choice (nat_le MAX_TURNS turn) ((stage ≡ Over) × (new ≡ old)) (Sends (vector_request name) old new × (stage ≡ Counting name turn))
+      Choice (nat_le MAX_TURNS turn) ((stage ≡ Over) × (new ≡ old)) (Sends (vector_request name) old new
+      × (stage ≡ Counting name turn))
   Goes (Counting name turn) old stage new =
-      (said : Option (Told (List Counted))) × (mid : World P) × Heard vector_answer said old mid × ((stage, new) ≡ told_vector name turn said mid)
+      (said : Option (Told (List Counted))) × (mid : World P) × Heard vector_answer said old mid
+      × ((stage, new) ≡ told_vector name turn said mid)
   Goes (Lacking name turn seen) old stage new =
-      (said : Answer) × (mid : World P) × Asks name (act.Pull seen MAX_OPS) said old mid × ((stage, new) ≡ lacked name turn (own_ops said) mid)
+      (said : Answer) × (mid : World P) × Asks name (act.Pull seen MAX_OPS) said old mid
+      × ((stage, new) ≡ lacked name turn (own_ops said) mid)
   Goes (Giving name turn due []) old stage new = (stage ≡ Hearing name turn due false true) × (new ≡ old)
   Goes (Giving name turn due (op ∷ ops)) old stage new =
-      Choice (is_readable old.version (op_in_v1 op)) (Sends (push_request name op) old new × (stage ≡ Giving name turn (due + 1) ops))
+      Choice (is_readable old.version (op_in_v1 op)) (Sends (push_request name op) old new
+      × (stage ≡ Giving name turn (due + 1) ops))
       ((stage ≡ Hearing name turn due false false) × (new ≡ counted with_unsaid old))
-  Goes (Hearing name turn zero gained whole) old stage new = (stage ≡ (if gained && whole then Pushing name (turn + 1) else Over)) × (new ≡ old)
+  Goes (Hearing name turn zero gained whole) old stage new =
+      (stage ≡ (if gained && whole then Pushing name (turn + 1) else Over)) × (new ≡ old)
   Goes (Hearing name turn (suc due) gained whole) old stage new =
-      (said : Option (Told Pushed)) × (mid : World P) × Heard push_answer said old mid × ((stage, new) ≡ told_push name turn due gained whole said mid)
+      (said : Option (Told Pushed)) × (mid : World P) × Heard push_answer said old mid
+      × ((stage, new) ≡ told_push name turn due gained whole said mid)
   Goes Over old stage new = (stage ≡ Next) × (new ≡ past old)
   Goes Ended old stage new = ⊥
   Goes (Failed fault) old stage new = ⊥

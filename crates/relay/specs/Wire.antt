@@ -11,8 +11,10 @@ use Rattle.wire_lines.specs.declared.buffer.Found.TheVariants.{Text, TooLong, En
 use Rattle.wire_lines.specs.declared.fault.Fault.{Fault}
 use Rattle.wire_lines.specs.declared.fault.Fault.TheVariants.{ReadFault, WriteFault, PeerReply, Memory}
 
--- the bytes that the peer still sends and those that were written to it, where they are known; the fault that is answered
--- from now on; how many reads and writes have failed; how many reads the reader counts, and how many were made for lines
+-- the bytes that the peer still sends and those that were written to it, where they are known; the fault that is
+-- answered
+-- from now on; how many reads and writes have failed; how many reads the reader counts, and how many were made for
+-- lines
 pub record Wire : Type 0 where
   pub unread : Option (List ℕ)
   pub written : Option (List ℕ)
@@ -53,7 +55,8 @@ Writes text old new = Appends old.written new.written text × (new ≡ wrote new
 -- a front of a text was written, and then the writer failed
 abbrev pub WritesPart : List ℕ → Wire → Wire → Type 0
 WritesPart text old new =
-    (count : ℕ) × Appends old.written new.written (take count text) × (new ≡ wrote new.written (one_more old.write_failures) old)
+    (count : ℕ) × Appends old.written new.written (take count text)
+    × (new ≡ wrote new.written (one_more old.write_failures) old)
 
 -- the next line of the bytes, or that there is none: they end, or it is too long
 abbrev pub IsNext : Option (List ℕ) → Option (List ℕ) → Option (List ℕ) → Type 0
@@ -67,13 +70,15 @@ AreMade old new = (count : ℕ) × (new.spent ≡ old.spent + count) × (new.rea
 -- a line was heard, or that there is none
 abbrev pub Hears : Option (List ℕ) → Wire → Wire → Type 0
 Hears heard old new =
-    IsNext heard old.unread new.unread × (old.stopped ≡ None → (new.stopped ≡ None) × (new.read_failures ≡ old.read_failures) × AreMade old new)
+    IsNext heard old.unread new.unread × (old.stopped ≡ None → (new.stopped ≡ None)
+    × (new.read_failures ≡ old.read_failures) × AreMade old new)
     × (new ≡ read new.unread new.stopped new.read_failures new.reads new.spent old)
 
 -- no line was heard: the reader failed or all reads that may be made were made, or it was out of memory
 abbrev pub IsUnheard : Fault → Wire → Wire → Type 0
 IsUnheard ReadFault old new =
-    ((new.read_failures ≡ one_more old.read_failures) ⊎ ((new.read_failures ≡ old.read_failures) × (new.spent ≡ most_reads))) × AreMade old new
+    ((new.read_failures ≡ one_more old.read_failures)
+    ⊎ ((new.read_failures ≡ old.read_failures) × (new.spent ≡ most_reads))) × AreMade old new
 IsUnheard WriteFault old new = ⊥
 IsUnheard PeerReply old new = ⊥
 IsUnheard Memory old new = new.read_failures ≡ old.read_failures
@@ -81,7 +86,8 @@ IsUnheard Memory old new = new.read_failures ≡ old.read_failures
 -- no line was heard, and nothing was written
 abbrev pub Misses : Fault → Wire → Wire → Type 0
 Misses fault old new =
-    (old.stopped ≡ None → IsUnheard fault old new) × (new.written ≡ old.written) × (new.write_failures ≡ old.write_failures)
+    (old.stopped ≡ None → IsUnheard fault old new) × (new.written ≡ old.written)
+    × (new.write_failures ≡ old.write_failures)
 
 -- what a line tells, if there is one
 abbrev pub answer : {A : Type 0} → (Data → Option A) → Option (List ℕ) → Option (Told A)

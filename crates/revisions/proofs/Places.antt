@@ -1,5 +1,6 @@
 -- The first place that passes a test: among an origin's marks, of two tests, and what a filter has from there on.
-use Rattle.std.proofs.Common.{◌≡◌, ℕ, suc, ◌+◌, ◌≤◌, ◌<◌, max, Bool, ◌&&◌, ◌||◌, cond, List, [], ◌∷◌, length, get_or, Some, None, option_map, filter, count_by, refl, ap, ◌∙◌, arith, zero-add, eqb, ltb, leb}
+use Rattle.std.proofs.Common.{◌≡◌, ℕ, suc, ◌+◌, ◌≤◌, ◌<◌, max, Bool, ◌&&◌, ◌||◌, cond, List, [], ◌∷◌, length, get_or}
+use Rattle.std.proofs.Common.{Some, None, option_map, filter, count_by, refl, ap, ◌∙◌, arith, zero-add, eqb, ltb, leb}
 use Rattle.std.specs.List.{AllByRecursion, find, position, position_or_len}
 use Rattle.std.proofs.lemmas.Bool.{ltb-true, ltb-false, leb-true, lt-ltb, le-ltb, le-leb, lt-leb, and_parts}
 use Rattle.std.proofs.lemmas.List.Sums.{length-filter}
@@ -13,7 +14,8 @@ use Rattle.revisions.specs.Index.{first_place, earlier}
 
 -- a search among an origin's marks is one among its operations
 pub first_marked : (test : ℕ → ℕ → Bool) (o p h : ℕ) (ops : List Op)
-    → option_map (λ (m : Mark). m.place) (find (λ m. test m.place m.number) (marks_from o p h ops)) ≡ first_place (λ place op. is_of o op && test place op.name.number) p ops
+    → option_map (λ (m : Mark). m.place) (find (λ m. test m.place m.number) (marks_from o p h ops))
+    ≡ first_place (λ place op. is_of o op && test place op.name.number) p ops
 first_marked test o p h [] = refl
 first_marked test o p h (op ∷ ops) =
     split (is_of o op)
@@ -35,16 +37,19 @@ pub marks_count : (o p h : ℕ) (ops : List Op) → length (marks_from o p h ops
 marks_count o p h ops = own_count o p h ops ∙ length-filter (is_of o) ops
 
 -- tests that agree find the same place
-pub first_place_agree : (f g : ℕ → Op → Bool) (p : ℕ) (ops : List Op) → AllByRecursion (λ op. (k : ℕ) → f k op ≡ g k op) ops → first_place f p ops ≡ first_place g p ops
+pub first_place_agree : (f g : ℕ → Op → Bool) (p : ℕ) (ops : List Op) →
+    AllByRecursion (λ op. (k : ℕ) → f k op ≡ g k op) ops → first_place f p ops ≡ first_place g p ops
 first_place_agree f g p [] h = refl
 first_place_agree f g p (op ∷ ops) h = rw (h.0 p) (ap (cond (g p op) (Some p)) (first_place_agree f g (p + 1) ops h.1))
 
-pub first_place_same : (f g : ℕ → Op → Bool) (p : ℕ) (ops : List Op) → ((k : ℕ) (op : Op) → f k op ≡ g k op) → first_place f p ops ≡ first_place g p ops
+pub first_place_same : (f g : ℕ → Op → Bool) (p : ℕ) (ops : List Op) → ((k : ℕ) (op : Op) → f k op ≡ g k op) →
+    first_place f p ops ≡ first_place g p ops
 first_place_same f g p [] h = refl
 first_place_same f g p (op ∷ ops) h = rw (h p op) (ap (cond (g p op) (Some p)) (first_place_same f g (p + 1) ops h))
 
 -- no place is found before the first
-earlier_than_rest : (f : ℕ → Op → Bool) (k p : ℕ) (ops : List Op) → k < p → earlier (Some k) (first_place f p ops) ≡ Some k
+earlier_than_rest : (f : ℕ → Op → Bool) (k p : ℕ) (ops : List Op) → k < p → earlier (Some k) (first_place f p ops)
+    ≡ Some k
 earlier_than_rest f k p [] lt = refl
 earlier_than_rest f k p (op ∷ ops) lt =
     split (f p op)
@@ -59,7 +64,8 @@ rest_is_later f k p (op ∷ ops) lt =
     (λ e. rw e (rest_is_later f k (p + 1) ops (omega arith)))
 
 -- the earlier of the places of two tests is the first that passes one of them
-pub earlier_of_both : (f g : ℕ → Op → Bool) (p : ℕ) (ops : List Op) → earlier (first_place f p ops) (first_place g p ops) ≡ first_place (λ k op. f k op || g k op) p ops
+pub earlier_of_both : (f g : ℕ → Op → Bool) (p : ℕ) (ops : List Op) → earlier (first_place f p ops)
+    (first_place g p ops) ≡ first_place (λ k op. f k op || g k op) p ops
 earlier_of_both f g p [] = refl
 earlier_of_both f g p (op ∷ ops) =
     split (f p op)
@@ -83,7 +89,8 @@ picked_all f from p (op ∷ ops) le =
     rw (le-leb from p le, picked_all f from (p + 1) ops (omega arith)) refl
 
 -- where no place is found, none is picked
-pub picked_none : (f : Op → Bool) (from p : ℕ) (ops : List Op) → first_place (λ k op. leb from k && f op) p ops ≡ None → picked f from p ops ≡ []
+pub picked_none : (f : Op → Bool) (from p : ℕ) (ops : List Op) → first_place (λ k op. leb from k && f op) p ops ≡ None →
+    picked f from p ops ≡ []
 picked_none f from p [] e = refl
 picked_none f from p (op ∷ ops) e =
     split (leb from p && f op)
@@ -97,7 +104,8 @@ pub record IsPick (f : Op → Bool) (from p k : ℕ) (ops : List Op) : Type 0 wh
   pub within : at < length ops
   pub first : (d : Op) → picked f from p ops ≡ get_or ops at d ∷ picked f (k + 1) p ops
 
-pub picked_some : (f : Op → Bool) (from p k : ℕ) (ops : List Op) → first_place (λ k op. leb from k && f op) p ops ≡ Some k → IsPick f from p k ops
+pub picked_some : (f : Op → Bool) (from p k : ℕ) (ops : List Op) → first_place (λ k op. leb from k && f op) p ops
+    ≡ Some k → IsPick f from p k ops
 picked_some f from p k [] e = cc
 picked_some f from p k (op ∷ ops) e =
     split (leb from p && f op)
@@ -108,7 +116,12 @@ picked_some f from p k (op ∷ ops) e =
       at = 0;
       place = omega arith;
       within = omega arith;
-      first = λ d. rw (t, lt-leb (k + 1) p (omega arith), picked_all f from (p + 1) ops (omega arith), picked_all f (k + 1) (p + 1) ops (omega arith)) refl;
+      first = λ d. rw (
+        t,
+        lt-leb (k + 1) p (omega arith),
+        picked_all f from (p + 1) ops (omega arith),
+        picked_all f (k + 1) (p + 1) ops (omega arith),
+      ) refl;
     })
     (λ t. let rest = picked_some f from (p + 1) k ops (rw t at e) in
     let place = rest.place in
@@ -121,21 +134,25 @@ picked_some f from p k (op ∷ ops) e =
     })
 
 -- the same in std's word
-pub first_position : (f : Op → Bool) (p : ℕ) (ops : List Op) → first_place (λ k op. f op) p ops ≡ cond (ltb (position_or_len f ops) (length ops)) (Some (p + position_or_len f ops)) None
+pub first_position : (f : Op → Bool) (p : ℕ) (ops : List Op) → first_place (λ k op. f op) p ops
+    ≡ cond (ltb (position_or_len f ops) (length ops)) (Some (p + position_or_len f ops)) None
 first_position f p [] = refl
 first_position f p (op ∷ ops) =
     split (f op)
     (λ e. rw (e, lt-ltb 0 (suc (length ops)) (omega arith)) (ap Some (omega arith)))
     (λ e. rw e (first_position f (p + 1) ops ∙ one_on p (position_or_len f ops) (length ops)))
   where
-    one_on : (p at n : ℕ) → cond (ltb at n) (Some (p + 1 + at)) None ≡ cond (ltb (1 + at) (suc n)) (Some (p + (1 + at))) None
+    one_on : (p at n : ℕ) → cond (ltb at n) (Some (p + 1 + at)) None ≡ cond (ltb (1 + at) (suc n))
+        (Some (p + (1 + at))) None
     one_on p at n =
         split (ltb at n)
         (λ t. let lt = ltb-true at n t in rw (t, lt-ltb (1 + at) (suc n) (omega arith)) (ap Some (omega arith)))
         (λ t. let le = ltb-false at n t in rw (t, le-ltb (1 + at) (suc n) (omega arith)) refl)
 
 -- the first of an origin's marks with a number has the place of the first operation with that name
-pub named_position : (name : OpName) (ops : List Op) → option_map (λ (m : Mark). m.place) (find (λ m. eqb m.number name.number) (marks_of name.origin ops)) ≡ position (has_name name) ops
+pub named_position : (name : OpName) (ops : List Op) → option_map (λ (m : Mark). m.place)
+    (find (λ m. eqb m.number name.number) (marks_of name.origin ops)) ≡ position (has_name name) ops
 named_position name ops =
     first_marked (λ place number. eqb number name.number) name.origin 0 0 ops ∙ first_position (has_name name) 0 ops
-    ∙ ap (λ (k : ℕ). cond (ltb (position_or_len (has_name name) ops) (length ops)) (Some k) None) (zero-add (position_or_len (has_name name) ops))
+    ∙ ap (λ (k : ℕ). cond (ltb (position_or_len (has_name name) ops) (length ops)) (Some k) None)
+    (zero-add (position_or_len (has_name name) ops))

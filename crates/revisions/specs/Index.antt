@@ -1,5 +1,6 @@
 -- How a log keeps its operations by their origins, so that an origin's next one is found without a walk.
-use Rattle.std.specs.Prelude.{◌≡◌, ℕ, ◌+◌, ◌<◌, Bool, true, false, ◌==◌, min, if◌then◌else◌, Option, Some, None, List, [], ◌∷◌, vec_len}
+use Rattle.std.specs.Prelude.{◌≡◌, ℕ, ◌+◌, ◌<◌, Bool, true, false, ◌==◌, min, if◌then◌else◌, Option, Some, None, List}
+use Rattle.std.specs.Prelude.{[], ◌∷◌, vec_len}
 use Rattle.std.specs.List.{AllByRecursion, list_any}
 use Rattle.std.specs.Vec.{vec_capacity}
 use Rattle.pad_model.specs.declared.op.Op.{Op}

@@ -1,5 +1,6 @@
 -- Who may do what with a pad.
-use Rattle.std.specs.Prelude.{ℕ, ◌+◌, ◌<◌, Bool, false, not, ◌&&◌, nat_le, if◌then◌else◌, List, ◌∷◌, length, map, is_some, Option, Some, None, Result, Ok, Err, bytes_eq}
+use Rattle.std.specs.Prelude.{ℕ, ◌+◌, ◌<◌, Bool, false, not, ◌&&◌, nat_le, if◌then◌else◌, List, ◌∷◌, length, map}
+use Rattle.std.specs.Prelude.{is_some, Option, Some, None, Result, Ok, Err, bytes_eq}
 use Rattle.std.specs.Map.{lookup, remove_entry}
 use Rattle.indexmap.specs.IndexMap.{insert_entry}
 use Rattle.pad_model.specs.declared.refusal.Refusal.{Refusal}
@@ -49,7 +50,8 @@ changed grants name (Some right) = insert_entry bytes_eq grants name right
 
 -- whether a grant would be one too many, the creator counted
 abbrev pub is_full : List (List ℕ × Right) → List ℕ → Option Right → Bool
-is_full grants name right = is_some right && not (is_some (granted grants name)) && nat_le MAX_GRANTS (length grants + 1)
+is_full grants name right = is_some right && not (is_some (granted grants name))
+    && nat_le MAX_GRANTS (length grants + 1)
 
 -- what a grant answers, and the book after it: the creator's right stays, and there are 256 names at most
 abbrev pub grant : Rights → List ℕ → Option Right → Result (Unit {0}) Refusal × Rights

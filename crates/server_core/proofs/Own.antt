@@ -1,5 +1,6 @@
 -- A pad keeps its name, and answers a visit only where the name is its own.
-use Rattle.std.proofs.Common.{◌≡◌, ◌⊎◌, inl, inr, ℕ, Bool, true, false, not, cond, List, [], ◌∷◌, ◌++◌, Option, Some, None, Result, Ok, Err, refl, sym, ap, ◌∙◌, subst}
+use Rattle.std.proofs.Common.{◌≡◌, ◌⊎◌, inl, inr, ℕ, Bool, true, false, not, cond, List, [], ◌∷◌, ◌++◌, Option, Some}
+use Rattle.std.proofs.Common.{None, Result, Ok, Err, refl, sym, ap, ◌∙◌, subst}
 use Rattle.std.specs.Prelude.{bytes_eq, filter, unwrap_or}
 use Rattle.std.proofs.lemmas.Slice.Eq.{bytes_eq-Decides}
 use Rattle.pad_model.proofs.Newer.{split}
@@ -10,7 +11,8 @@ use Rattle.pad_model.specs.declared.who.Who.TheVariants.{Nobody, Author, Peer}
 use Rattle.pad_model.specs.declared.who.Version.{Version}
 use Rattle.sessions.specs.Session.{is_of}
 use Rattle.sessions.specs.declared.session.Room.{Room}
-use Rattle.pad_core.specs.Machine.{Machine, Outcome, applied, author_act, author_outcome, author_refusal, author_step, name_of, peer_act, peer_outcome, session_step, step}
+use Rattle.pad_core.specs.Machine.{Machine, Outcome, applied, author_act, author_outcome, author_refusal, author_step}
+use Rattle.pad_core.specs.Machine.{name_of, peer_act, peer_outcome, session_step, step}
 use Rattle.pad_core.specs.Machine.Outcome.{reads, writes, visits, grants, delivers}
 use Rattle.pad_core.specs.declared.act.Act.{Act}
 use Rattle.pad_core.specs.declared.act.Act.TheVariants as act
@@ -36,45 +38,56 @@ author-name : (owned : Owned) (name : List ℕ) (visit : ℕ) (m : Machine) (a :
     name_of (author_act owned name visit a m).1.owned ≡ Some owned.name
 author-name owned name visit m a h = outcome-name (Some owned) (author_outcome owned name visit a m) m h
 
-by_refusal : (owned : Owned) (name : List ℕ) (visit : Option ℕ) (a : Act) (m : Machine) (r : Option Refusal) → author_refusal owned.rights m.presence name visit a ≡ r → name_of m.owned ≡ Some owned.name →
+by_refusal : (owned : Owned) (name : List ℕ) (visit : Option ℕ) (a : Act) (m : Machine) (r : Option Refusal) →
+    author_refusal owned.rights m.presence name visit a ≡ r → name_of m.owned ≡ Some owned.name →
     name_of (author_step owned name visit a m).1.owned ≡ Some owned.name
 by_refusal owned name visit a m (Some refusal) e h = rw e h
 by_refusal owned name visit a m None e h = rw e (author-name owned name (unwrap_or visit 0) m a h)
 
-session-name : (owned : Owned) (who : Who) (visit : Option ℕ) (a : Act) (m : Machine) → name_of m.owned ≡ Some owned.name → name_of (session_step owned who visit a m).1.owned ≡ Some owned.name
+session-name : (owned : Owned) (who : Who) (visit : Option ℕ) (a : Act) (m : Machine) → name_of m.owned
+    ≡ Some owned.name → name_of (session_step owned who visit a m).1.owned ≡ Some owned.name
 session-name owned Nobody visit a m h = h
-session-name owned (Author name) visit a m h = by_refusal owned name visit a m (author_refusal owned.rights m.presence name visit a) refl h
+session-name owned (Author name) visit a m h =
+    by_refusal owned name visit a m (author_refusal owned.rights m.presence name visit a) refl h
 session-name owned (Peer number version) visit a m h = peer-name version m a ∙ h
 
-by_owned : (name : List ℕ) (who : Who) (visit : Option ℕ) (a : Act) (m : Machine) (o : Option Owned) → m.owned ≡ o → name_of (step name who visit a m).1.owned ≡ name_of o
+by_owned : (name : List ℕ) (who : Who) (visit : Option ℕ) (a : Act) (m : Machine) (o : Option Owned) → m.owned ≡ o →
+    name_of (step name who visit a m).1.owned ≡ name_of o
 by_owned name who visit a m None e = rw e refl
 by_owned name who visit a m (Some owned) e =
-    rw e (split (bytes_eq owned.name name) (λ own. rw own (session-name owned who visit a (record m { owned = Some owned }) refl)) (λ other. rw other refl))
+    rw e (split (bytes_eq owned.name name)
+    (λ own. rw own (session-name owned who visit a (record m { owned = Some owned }) refl)) (λ other. rw other refl))
 
 -- a step keeps the name
-pub step-name : (name : List ℕ) (who : Who) (visit : Option ℕ) (a : Act) (m : Machine) → name_of (step name who visit a m).1.owned ≡ name_of m.owned
+pub step-name : (name : List ℕ) (who : Who) (visit : Option ℕ) (a : Act) (m : Machine) →
+    name_of (step name who visit a m).1.owned ≡ name_of m.owned
 step-name name who visit a m = by_owned name who visit a m m.owned refl
 
 -- a pad has the name, or it says that it has none or another
 abbrev pub IsOwn : List ℕ → Machine → Result PadReply Refusal → Type 0
 IsOwn name m answer = (name_of m.owned ≡ Some name) ⊎ ((answer ≡ Err NoPad) ⊎ (answer ≡ Ok pad.Elsewhere))
 
-own_by : (name : List ℕ) (who : Who) (visit : Option ℕ) (a : Act) (m : Machine) (o : Option Owned) → m.owned ≡ o → IsOwn name m (step name who visit a m).0
+own_by : (name : List ℕ) (who : Who) (visit : Option ℕ) (a : Act) (m : Machine) (o : Option Owned) → m.owned ≡ o →
+    IsOwn name m (step name who visit a m).0
 own_by name who visit a m None e = inr (inl (rw e refl))
 own_by name who visit a m (Some owned) e =
-    split (bytes_eq owned.name name) (λ own. inl (ap name_of e ∙ ap Some ((bytes_eq-Decides owned.name name).0 own))) (λ other. inr (inr (rw e (rw other refl))))
+    split (bytes_eq owned.name name) (λ own. inl (ap name_of e ∙ ap Some ((bytes_eq-Decides owned.name name).0 own)))
+    (λ other. inr (inr (rw e (rw other refl))))
 
-pub step-own : (name : List ℕ) (who : Who) (visit : Option ℕ) (a : Act) (m : Machine) → IsOwn name m (step name who visit a m).0
+pub step-own : (name : List ℕ) (who : Who) (visit : Option ℕ) (a : Act) (m : Machine) →
+    IsOwn name m (step name who visit a m).0
 step-own name who visit a m = own_by name who visit a m m.owned refl
 
 -- the rooms after an act are as before, or one more where the session has joined, or without some
 abbrev pub Kept : List ℕ → ℕ → Result PadReply Refusal → List Room → List Room → Type 0
 Kept name cell answer rooms new =
     (new ≡ rooms)
-    ⊎ (((now visit : ℕ) × (answer ≡ Ok (pad.Joined now visit)) × (new ≡ rooms ++ record { pad = name; cell = cell; visit = visit } ∷ []))
+    ⊎ (((now visit : ℕ) × (answer ≡ Ok (pad.Joined now visit))
+    × (new ≡ rooms ++ record { pad = name; cell = cell; visit = visit } ∷ []))
     ⊎ (new ≡ filter (λ room. not (is_of name room)) rooms))
 
-pub rooms-kept : (name : List ℕ) (cell : ℕ) (a : Act) (answer : Result PadReply Refusal) (rooms : List Room) → Kept name cell answer rooms (rooms_after name cell a answer rooms)
+pub rooms-kept : (name : List ℕ) (cell : ℕ) (a : Act) (answer : Result PadReply Refusal) (rooms : List Room) →
+    Kept name cell answer rooms (rooms_after name cell a answer rooms)
 rooms-kept name cell act.Join (Ok (pad.Joined now visit)) rooms = inr (inl (now, visit, refl, refl))
 rooms-kept name cell act.Leave (Ok (pad.Done now)) rooms = inr (inr refl)
 rooms-kept name cell other answer rooms = inl refl

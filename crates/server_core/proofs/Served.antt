@@ -1,5 +1,6 @@
 -- Steps of a server.
-use Rattle.std.proofs.Common.{◌≡◌, inl, inr, ℕ, ◌<◌, ◌≤◌, List, [], ◌∷◌, ◌++◌, length, Option, Some, None, refl, sym, ap, ◌∙◌, subst}
+use Rattle.std.proofs.Common.{◌≡◌, inl, inr, ℕ, ◌<◌, ◌≤◌, List, [], ◌∷◌, ◌++◌, length, Option, Some, None, refl, sym}
+use Rattle.std.proofs.Common.{ap, ◌∙◌, subst}
 use Rattle.std.specs.List.{AllByRecursion, Contains, slice_get, slice_set, slice_index_or}
 use Rattle.std.proofs.lemmas.List.Elements.{All-contains, All-from_recursion}
 use Rattle.std.proofs.lemmas.Option.{slice_get-get_or, slice_get_past}
@@ -17,14 +18,19 @@ use Rattle.server_core.specs.declared.task.Task.{Task}
 use Rattle.server_core.specs.declared.task.Task.TheVariants.{Resting, Scanning, Leaving}
 
 -- what an actor does is what the server does
-pub served : (old s : Server) (at : ℕ) (step : Step) (a d : Actor) (row : List Machine) (answer : Moved) (actor : Actor) (cells : List Machine) → s ≡ old → at < length s.actors →
-    a ≡ slice_index_or s.actors at d → row ≡ s.cells → Acted step row a (actor_step s.replica s.accounts step a row) answer actor cells →
+pub served : (old s : Server) (at : ℕ) (step : Step) (a d : Actor) (row : List Machine) (answer : Moved) (actor : Actor)
+    (cells : List Machine) → s ≡ old → at < length s.actors →
+    a ≡ slice_index_or s.actors at d → row ≡ s.cells →
+    Acted step row a (actor_step s.replica s.accounts step a row) answer actor cells →
     Served old at step answer (record s { actors = slice_set s.actors at actor; cells = cells })
 served old s at step a d row answer actor cells view low is_a is_row v =
-    subst (λ k. Served k at step answer (record s { actors = slice_set s.actors at actor; cells = cells })) view (by_case (subst (λ k. Acted step k (slice_index_or s.actors at d) (actor_step s.replica s.accounts step (slice_index_or s.actors at d) k) answer actor cells) is_row
+    subst (λ k. Served k at step answer (record s { actors = slice_set s.actors at actor; cells = cells })) view
+    (by_case (subst (λ k. Acted step k (slice_index_or s.actors at d)
+    (actor_step s.replica s.accounts step (slice_index_or s.actors at d) k) answer actor cells) is_row
     (subst (λ k. Acted step row k (actor_step s.replica s.accounts step k row) answer actor cells) is_a v)))
   where
-    by_case : Acted step s.cells (slice_index_or s.actors at d) (actor_step s.replica s.accounts step (slice_index_or s.actors at d) s.cells) answer actor cells →
+    by_case : Acted step s.cells (slice_index_or s.actors at d)
+        (actor_step s.replica s.accounts step (slice_index_or s.actors at d) s.cells) answer actor cells →
         Served s at step answer (record s { actors = slice_set s.actors at actor; cells = cells })
     by_case (inl v) = inl (rw (slice_get-get_or s.actors at d low) (ap (λ done. with_actor at s done) v))
     by_case (inr n) = inr (rw (slice_get-get_or s.actors at d low) (actor, cells, n, refl))
@@ -34,14 +40,18 @@ pub not_opened : (s : Server) (at : ℕ) (step : Step) → length s.actors ≤ a
 not_opened s at step past = inl (rw (slice_get_past s.actors at past) refl)
 
 -- a run goes on by one step
-pub Ran-push : (s now next : Server) (events : List (ℕ × Step)) (answers : List Moved) (event : ℕ × Step) (answer : Moved) →
-    Ran s events answers now → Served now event.0 event.1 answer next → Ran s (events ++ event ∷ []) (answers ++ answer ∷ []) next
+pub Ran-push : (s now next : Server) (events : List (ℕ × Step)) (answers : List Moved) (event : ℕ × Step)
+    (answer : Moved) →
+    Ran s events answers now → Served now event.0 event.1 answer next → Ran s (events ++ event ∷ [])
+    (answers ++ answer ∷ []) next
 Ran-push s now next [] [] event answer r a = (next, subst (λ k. Served k event.0 event.1 answer next) r a, refl)
 Ran-push s now next [] (x ∷ answers) event answer r a = absurd r
 Ran-push s now next (e ∷ events) [] event answer r a = absurd r
-Ran-push s now next (e ∷ events) (x ∷ answers) event answer r a = (r.0, r.1, Ran-push r.0 now next events answers event answer r.2 a)
+Ran-push s now next (e ∷ events) (x ∷ answers) event answer r a =
+    (r.0, r.1, Ran-push r.0 now next events answers event answer r.2 a)
 
-none_told : (step : Step) (task : Task) (a : Actor) (cells : List Machine) (expected answer : Moved) (new : Actor) (after : List Machine) → FoundNone step task a cells expected answer new after → answer ≡ Refused Memory
+none_told : (step : Step) (task : Task) (a : Actor) (cells : List Machine) (expected answer : Moved) (new : Actor)
+    (after : List Machine) → FoundNone step task a cells expected answer new after → answer ≡ Refused Memory
 none_told (Ask request) Resting a cells expected answer new after h = h.0
 none_told (Ask request) (Scanning asked cell) a cells expected answer new after h = absurd h
 none_told (Ask request) Leaving a cells expected answer new after h = absurd h
@@ -55,16 +65,21 @@ none_told (Relay number) task a cells expected answer new after h = absurd h
 none_told End task a cells expected answer new after h = absurd h
 
 -- a step that was out of memory says so
-pub told_memory : (s next : Server) (at : ℕ) (step : Step) (o : Option Actor) (answer : Moved) → StepFoundNone s at step o answer next → answer ≡ Refused Memory
+pub told_memory : (s next : Server) (at : ℕ) (step : Step) (o : Option Actor) (answer : Moved) →
+    StepFoundNone s at step o answer next → answer ≡ Refused Memory
 told_memory s next at step None answer n = absurd n
-told_memory s next at step (Some a) answer n = none_told step a.task a s.cells (actor_step s.replica s.accounts step a s.cells).0 answer n.0 n.1 n.2
+told_memory s next at step (Some a) answer n =
+    none_told step a.task a s.cells (actor_step s.replica s.accounts step a s.cells).0 answer n.0 n.1 n.2
 
-found : (s next : Server) (at : ℕ) (step : Step) (answer : Moved) → Served s at step answer next → (answer ≡ Refused Memory → ⊥) → server_step at step s ≡ (answer, next)
+found : (s next : Server) (at : ℕ) (step : Step) (answer : Moved) → Served s at step answer next →
+    (answer ≡ Refused Memory → ⊥) → server_step at step s ≡ (answer, next)
 found s next at step answer (inl h) no_memory = h
-found s next at step answer (inr h) no_memory = absurd (no_memory (told_memory s next at step (slice_get s.actors at) answer h))
+found s next at step answer (inr h) no_memory =
+    absurd (no_memory (told_memory s next at step (slice_get s.actors at) answer h))
 
 -- a run that was never out of memory is the machine's
-pub Ran-machine : (s new : Server) (events : List (ℕ × Step)) (answers : List Moved) → Ran s events answers new → FoundMemory answers → run events s ≡ (answers, new)
+pub Ran-machine : (s new : Server) (events : List (ℕ × Step)) (answers : List Moved) → Ran s events answers new →
+    FoundMemory answers → run events s ≡ (answers, new)
 Ran-machine s new [] [] r f = ap (λ k. ([], k)) (sym r)
 Ran-machine s new [] (x ∷ answers) r f = absurd r
 Ran-machine s new (e ∷ events) [] r f = absurd r

@@ -1,5 +1,6 @@
 -- What a request does at one cell.
-use Rattle.std.specs.Prelude.{ℕ, Bool, not, List, [], ◌∷◌, ◌++◌, filter, slice_get, slice_set, Option, Some, None, Result, Ok, Err}
+use Rattle.std.specs.Prelude.{ℕ, Bool, not, List, [], ◌∷◌, ◌++◌, filter, slice_get, slice_set, Option, Some, None}
+use Rattle.std.specs.Prelude.{Result, Ok, Err}
 use Rattle.pad_model.specs.declared.refusal.Refusal.{Refusal}
 use Rattle.pad_model.specs.declared.refusal.Refusal.TheVariants.{NoSession, NoPad, PadExists, NoSlot}
 use Rattle.pad_model.specs.declared.who.Who.{Who}
@@ -19,7 +20,8 @@ use Rattle.pad_core.specs.declared.request.Request.{Request}
 use Rattle.pad_core.specs.declared.request.Request.TheVariants.{Hello, Peer as PeerRequest, Create, On}
 use Rattle.server_core.specs.Actor.{visit_on}
 
--- what a cell answers, or nothing where the request goes on to the next one; and the session's rooms and the cell after it
+-- what a cell answers, or nothing where the request goes on to the next one; and the session's rooms and the cell after
+-- it
 abbrev pub CellAnswer : Type 0
 CellAnswer = Result (Option Reply) Refusal × List Room × Machine
 
@@ -31,7 +33,8 @@ passed_on (Err refusal) = Err refusal
 
 -- the rooms after an act on a pad in a cell: one more where the session has joined, one less where it has left
 abbrev pub rooms_after : List ℕ → ℕ → Act → Result PadReply Refusal → List Room → List Room
-rooms_after name cell act.Join (Ok (pad.Joined now visit)) rooms = rooms ++ record { pad = name; cell = cell; visit = visit } ∷ []
+rooms_after name cell act.Join (Ok (pad.Joined now visit)) rooms =
+    rooms ++ record { pad = name; cell = cell; visit = visit } ∷ []
 rooms_after name cell act.Leave (Ok (pad.Done now)) rooms = filter (λ room. not (is_of name room)) rooms
 rooms_after name cell other answer rooms = rooms
 
@@ -43,7 +46,11 @@ act_at who name act cell rooms m =
 
 -- what became of a claim, as the server's answer
 abbrev pub created : List ℕ → ℕ → List Room → Result Claim Refusal × Machine → CellAnswer
-created name cell rooms (Ok (Created visit), m) = (Ok (Some (reply.Pad (pad.Joined (now_of m) visit))), rooms ++ record { pad = name; cell = cell; visit = visit } ∷ [], m)
+created name cell rooms (Ok (Created visit), m) = (
+  Ok (Some (reply.Pad (pad.Joined (now_of m) visit))),
+  rooms ++ record { pad = name; cell = cell; visit = visit } ∷ [],
+  m,
+)
 created name cell rooms (Ok Exists, m) = (Err PadExists, rooms, m)
 created name cell rooms (Ok Other, m) = (Ok None, rooms, m)
 created name cell rooms (Err refusal, m) = (Err refusal, rooms, m)

@@ -1,5 +1,6 @@
 -- The server machine: any list of steps of any actors.
-use Rattle.std.specs.Prelude.{ℕ, ◌≤◌, nat_le, if◌then◌else◌, List, [], ◌∷◌, ◌++◌, length, slice_get, slice_set, Option, Some, None, Result, Ok, Err}
+use Rattle.std.specs.Prelude.{ℕ, ◌≤◌, nat_le, if◌then◌else◌, List, [], ◌∷◌, ◌++◌, length, slice_get, slice_set, Option}
+use Rattle.std.specs.Prelude.{Some, None, Result, Ok, Err}
 use Rattle.std.specs.List.{repeat}
 use Rattle.pad_model.specs.declared.refusal.Refusal.{Refusal}
 use Rattle.pad_model.specs.declared.refusal.Refusal.TheVariants.{ActorsFull}
@@ -25,7 +26,8 @@ unnamed replica = record { owned = None; replica = replica; log = []; held = [];
 
 -- a row of cells without names, and nobody who asks
 abbrev pub new_server : ℕ → ℕ → Accounts → Server
-new_server replica cells accounts = record { replica = replica; accounts = accounts; cells = repeat cells (unnamed replica ∷ []); actors = [] }
+new_server replica cells accounts = record
+    { replica = replica; accounts = accounts; cells = repeat cells (unnamed replica ∷ []); actors = [] }
 
 -- a row is no longer than it may be
 abbrev pub IsRow : List Machine → Type 0

@@ -19,11 +19,13 @@ AreNamedInTurn (Some name ∷ names) = AllByRecursion (λ other. other ≢ Some 
 
 -- a cell that has a name keeps it
 abbrev pub NamesStay : List (Option (List ℕ)) → List (Option (List ℕ)) → Type 0
-NamesStay old new = (cell : ℕ) → (name : List ℕ) → slice_get old cell ≡ Some (Some name) → slice_get new cell ≡ Some (Some name)
+NamesStay old new = (cell : ℕ) → (name : List ℕ) → slice_get old cell ≡ Some (Some name) → slice_get new cell
+    ≡ Some (Some name)
 
 -- a new server whose actors are opened
 abbrev pub opened_server : ℕ → ℕ → Accounts → ℕ → Server
-opened_server replica cells accounts actors = record (new_server replica cells accounts) { actors = repeat actors (nobody ∷ []) }
+opened_server replica cells accounts actors = record (new_server replica cells accounts)
+    { actors = repeat actors (nobody ∷ []) }
 
 -- after any steps of any actors the names are in turn, and stay whatever steps follow
 abbrev pub NamesLaw : Type 0

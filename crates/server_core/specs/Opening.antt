@@ -1,5 +1,6 @@
 -- How a session becomes an author's or a peer's, and what a request takes of its session.
-use Rattle.std.specs.Prelude.{ℕ, Bool, true, false, not, ◌&&◌, nat_lt, if◌then◌else◌, List, Option, Some, None, Result, Ok, Err}
+use Rattle.std.specs.Prelude.{ℕ, Bool, true, false, not, ◌&&◌, nat_lt, if◌then◌else◌, List, Option, Some, None, Result}
+use Rattle.std.specs.Prelude.{Ok, Err}
 use Rattle.pad_model.specs.Checked.{is_name, is_within}
 use Rattle.pad_model.specs.declared.limits.TheConstants.{MAX_REPLICA, OLD_REPLICA}
 use Rattle.pad_model.specs.declared.refusal.Refusal.{Refusal}
@@ -46,11 +47,13 @@ peer replica accounts number token version old =
 
 -- a session becomes a peer's by itself, without a token, as for exchange with that peer
 abbrev pub relay : ℕ → ℕ → Who → Result Reply Refusal × Who
-relay replica number old = if not (is_nobody old) then (Err HaveSession, old) else (Ok (reply.Peer replica Two), who.Peer number Two)
+relay replica number old = if not (is_nobody old) then (Err HaveSession, old)
+    else (Ok (reply.Peer replica Two), who.Peer number Two)
 
 -- why a creation is refused before it comes to a cell, if so
 abbrev pub create_refusal : Who → List ℕ → Option Refusal
-create_refusal who pad = if not (is_of_author who) then Some NoSession else if not (is_name pad) then Some BadName else None
+create_refusal who pad = if not (is_of_author who) then Some NoSession else if not (is_name pad) then Some BadName
+    else None
 
 -- why an act is refused before it comes to a cell, if so: by its session, or by the name of the pad
 abbrev pub act_refusal : Who → List ℕ → Act → Option Refusal

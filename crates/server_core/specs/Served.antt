@@ -1,5 +1,6 @@
 -- What a step leaves that may be out of memory.
-use Rattle.std.specs.Prelude.{◌≡◌, ◌⊎◌, ◌≢◌, ℕ, List, [], ◌∷◌, slice_get, slice_set, Option, Some, None, Result, Err, IsOk}
+use Rattle.std.specs.Prelude.{◌≡◌, ◌⊎◌, ◌≢◌, ℕ, List, [], ◌∷◌, slice_get, slice_set, Option, Some, None, Result, Err}
+use Rattle.std.specs.Prelude.{IsOk}
 use Rattle.std.specs.List.{AllByRecursion}
 use Rattle.pad_model.specs.declared.refusal.Refusal.{Refusal}
 use Rattle.pad_model.specs.declared.refusal.Refusal.TheVariants.{Memory}
@@ -35,19 +36,24 @@ IsGranted (On name act) m expected = (name_of m.owned ≡ Some name) × IsOk exp
 IsGranted other m expected = ⊥
 
 -- a request at a cell was out of memory: all is as before, but for a push that stopped in its release
-abbrev pub FoundNoneAt : Who → Request → List Room → Machine → Result (Option Reply) Refusal → Result (Option Reply) Refusal → List Room → Machine → Type 0
+abbrev pub FoundNoneAt : Who → Request → List Room → Machine → Result (Option Reply) Refusal →
+    Result (Option Reply) Refusal → List Room → Machine → Type 0
 FoundNoneAt who request rooms m expected answer new after =
     (answer ≡ Err Memory) × (new ≡ rooms)
-    × (((after ≡ m) × (TakesRoom request ⊎ IsGranted request m expected)) ⊎ ((name : List ℕ) × (act : Act) × (request ≡ On name act) × IsCutShort name who act m after))
+    × (((after ≡ m) × (TakesRoom request ⊎ IsGranted request m expected))
+    ⊎ ((name : List ℕ) × (act : Act) × (request ≡ On name act) × IsCutShort name who act m after))
 
 -- a request at a cell is answered as the machine answers it, or was out of memory
-abbrev pub Visited : Who → Request → List Room → Machine → CellAnswer → Result (Option Reply) Refusal → List Room → Machine → Type 0
-Visited who request rooms m expected answer new after = (expected ≡ (answer, new, after)) ⊎ FoundNoneAt who request rooms m expected.0 answer new after
+abbrev pub Visited : Who → Request → List Room → Machine → CellAnswer → Result (Option Reply) Refusal → List Room →
+    Machine → Type 0
+Visited who request rooms m expected answer new after = (expected ≡ (answer, new, after))
+    ⊎ FoundNoneAt who request rooms m expected.0 answer new after
 
 -- the cells after a push at one of them stopped in its release
 abbrev pub IsCutAt : Who → Request → ℕ → List Machine → List Machine → Type 0
 IsCutAt who request cell cells after =
-    (name : List ℕ) × (act : Act) × (old : Machine) × (new : Machine) × (request ≡ On name act) × (slice_get cells cell ≡ Some old)
+    (name : List ℕ) × (act : Act) × (old : Machine) × (new : Machine) × (request ≡ On name act)
+    × (slice_get cells cell ≡ Some old)
     × IsCutShort name who act old new × (after ≡ slice_set cells cell new)
 
 -- the same of the pad at a place of the row
@@ -55,10 +61,13 @@ abbrev pub IsGrantedAt : Request → ℕ → List Machine → Result (Option Rep
 IsGrantedAt request cell cells expected = (m : Machine) × (slice_get cells cell ≡ Some m) × IsGranted request m expected
 
 -- a request at a place of the row is answered as the machine answers it, or was out of memory
-abbrev pub RowVisited : Who → Request → ℕ → List Room → List Machine → RowAnswer → Result (Option Reply) Refusal → List Room → List Machine → Type 0
+abbrev pub RowVisited : Who → Request → ℕ → List Room → List Machine → RowAnswer → Result (Option Reply) Refusal →
+    List Room → List Machine → Type 0
 RowVisited who request cell rooms cells expected answer new after =
     (expected ≡ (answer, new, after))
-    ⊎ ((answer ≡ Err Memory) × (new ≡ rooms) × (((after ≡ cells) × (TakesRoom request ⊎ IsGrantedAt request cell cells expected.0)) ⊎ IsCutAt who request cell cells after))
+    ⊎ ((answer ≡ Err Memory) × (new ≡ rooms)
+    × (((after ≡ cells) × (TakesRoom request ⊎ IsGrantedAt request cell cells expected.0))
+    ⊎ IsCutAt who request cell cells after))
 
 -- what is told is no refusal
 abbrev pub IsNoRefusal : Moved → Type 0
@@ -67,46 +76,56 @@ IsNoRefusal other = Unit {0}
 
 -- a question or a look was out of memory, and changed nothing
 abbrev pub AskFoundNone : Actor → List Machine → Moved → Moved → Actor → List Machine → Type 0
-AskFoundNone a cells expected answer new after = (answer ≡ Refused Memory) × (new ≡ a) × (after ≡ cells) × IsNoRefusal expected
+AskFoundNone a cells expected answer new after = (answer ≡ Refused Memory) × (new ≡ a) × (after ≡ cells)
+    × IsNoRefusal expected
 
 -- a scan was out of memory at a cell: it has ended, and the cells are as before, but for a release that stopped
 abbrev pub ScanFoundNone : Request → ℕ → Actor → List Machine → Moved → Actor → List Machine → Type 0
 ScanFoundNone request cell a cells answer new after =
     (answer ≡ Refused Memory) × (new ≡ rested a)
-    × (((after ≡ cells) × (TakesRoom request ⊎ IsGrantedAt request cell cells (row_answer a.who request cell a.rooms cells).0)) ⊎ IsCutAt a.who request cell cells after)
+    × (((after ≡ cells) × (TakesRoom request
+    ⊎ IsGrantedAt request cell cells (row_answer a.who request cell a.rooms cells).0))
+    ⊎ IsCutAt a.who request cell cells after)
 
--- an actor's step was out of memory: a question or a look while nothing is under way, or a move of a scan. No other step takes memory
+-- an actor's step was out of memory: a question or a look while nothing is under way, or a move of a scan. No other
+-- step takes memory
 abbrev pub FoundNone : Step → Task → Actor → List Machine → Moved → Moved → Actor → List Machine → Type 0
 FoundNone (step.Ask request) Resting a cells expected answer new after = AskFoundNone a cells expected answer new after
 FoundNone (step.Look cell) Resting a cells expected answer new after = AskFoundNone a cells expected answer new after
-FoundNone step.Move (Scanning request cell) a cells expected answer new after = ScanFoundNone request cell a cells answer new after
+FoundNone step.Move (Scanning request cell) a cells expected answer new after =
+    ScanFoundNone request cell a cells answer new after
 FoundNone other task a cells expected answer new after = ⊥
 
 -- an actor's step is the machine's, or was out of memory
 abbrev pub Acted : Step → List Machine → Actor → Moved × Actor × List Machine → Moved → Actor → List Machine → Type 0
-Acted step cells a expected answer new after = (expected ≡ (answer, new, after)) ⊎ FoundNone step a.task a cells expected.0 answer new after
+Acted step cells a expected answer new after = (expected ≡ (answer, new, after))
+    ⊎ FoundNone step a.task a cells expected.0 answer new after
 
 -- what was asked is answered as the machine answers it, or was out of memory and changed nothing
 abbrev pub Tried : Actor → Moved × Actor → Moved → Actor → Type 0
-Tried a expected answer new = (expected ≡ (answer, new)) ⊎ ((answer ≡ Refused Memory) × (new ≡ a) × IsNoRefusal expected.0)
+Tried a expected answer new = (expected ≡ (answer, new))
+    ⊎ ((answer ≡ Refused Memory) × (new ≡ a) × IsNoRefusal expected.0)
 
 -- the step of an actor that was opened was out of memory
 abbrev pub StepFoundNone : Server → ℕ → Step → Option Actor → Moved → Server → Type 0
 StepFoundNone old at step None answer new = ⊥
 StepFoundNone old at step (Some a) answer new =
-    (actor : Actor) × (cells : List Machine) × FoundNone step a.task a old.cells (actor_step old.replica old.accounts step a old.cells).0 answer actor cells
+    (actor : Actor) × (cells : List Machine) × FoundNone step a.task a old.cells
+    (actor_step old.replica old.accounts step a old.cells).0 answer actor cells
     × (with_actor at old (answer, actor, cells) ≡ (answer, new))
 
 -- a server's step is the machine's, or was out of memory
 abbrev pub Served : Server → ℕ → Step → Moved → Server → Type 0
-Served old at step answer new = (server_step at step old ≡ (answer, new)) ⊎ StepFoundNone old at step (slice_get old.actors at) answer new
+Served old at step answer new = (server_step at step old ≡ (answer, new))
+    ⊎ StepFoundNone old at step (slice_get old.actors at) answer new
 
 -- each step was served so, one after the other
 abbrev pub Ran : Server → List (ℕ × Step) → List Moved → Server → Type 0
 Ran s [] [] new = new ≡ s
 Ran s [] (answer ∷ answers) new = ⊥
 Ran s (event ∷ events) [] new = ⊥
-Ran s (event ∷ events) (answer ∷ answers) new = (next : Server) × Served s event.0 event.1 answer next × Ran next events answers new
+Ran s (event ∷ events) (answer ∷ answers) new = (next : Server) × Served s event.0 event.1 answer next
+    × Ran next events answers new
 
 -- no actor is told that there was no memory
 abbrev pub FoundMemory : List Moved → Type 0

@@ -1,5 +1,6 @@
 -- The server machine: one actor's step goes in, what it is told and the next state come out.
-use Rattle.std.specs.Prelude.{ℕ, ◌+◌, Bool, false, nat_lt, if◌then◌else◌, List, [], ◌∷◌, length, slice_get, slice_set, Option, Some, None, Result, Ok, Err}
+use Rattle.std.specs.Prelude.{ℕ, ◌+◌, Bool, false, nat_lt, if◌then◌else◌, List, [], ◌∷◌, length, slice_get, slice_set}
+use Rattle.std.specs.Prelude.{Option, Some, None, Result, Ok, Err}
 use Rattle.pad_model.specs.declared.refusal.Refusal.{Refusal}
 use Rattle.pad_model.specs.declared.refusal.Refusal.TheVariants.{Busy}
 use Rattle.pad_model.specs.declared.who.Who.{Who}
@@ -40,8 +41,10 @@ begun request cell a None = (moved.Scanning, record a { task = Scanning request 
 abbrev pub ask : ℕ → Accounts → Request → Actor → Moved × Actor
 ask replica accounts (request.Hello name token) a = opened a (hello replica accounts name token a.who)
 ask replica accounts (request.Peer number token version) a = opened a (peer replica accounts number token version a.who)
-ask replica accounts (request.Create name) a = begun (request.Create name) (first_cell name a.rooms) a (create_refusal a.who name)
-ask replica accounts (request.On name act) a = begun (request.On name act) (first_cell name a.rooms) a (act_refusal a.who name act)
+ask replica accounts (request.Create name) a = begun (request.Create name) (first_cell name a.rooms) a
+    (create_refusal a.who name)
+ask replica accounts (request.On name act) a = begun (request.On name act) (first_cell name a.rooms) a
+    (act_refusal a.who name act)
 
 -- whether a scan goes on: the cell had another name, and there is one behind it
 abbrev pub goes_on : Result (Option Reply) Refusal → ℕ → ℕ → Bool
@@ -116,5 +119,6 @@ abbrev pub actor_step : ℕ → Accounts → Step → Actor → List Machine →
 actor_step replica accounts (step.Ask request) a cells = alone cells (unless_busy a (ask replica accounts request a))
 actor_step replica accounts step.Move a cells = move a.task a cells
 actor_step replica accounts (step.Look cell) a cells = alone cells (unless_busy a (moved.Named (name_at cell cells), a))
-actor_step replica accounts (step.Relay number) a cells = alone cells (unless_busy a (opened a (relay replica number a.who)))
+actor_step replica accounts (step.Relay number) a cells =
+    alone cells (unless_busy a (opened a (relay replica number a.who)))
 actor_step replica accounts step.End a cells = alone cells (end a.task a)

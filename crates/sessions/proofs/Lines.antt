@@ -1,9 +1,12 @@
 -- The lines and the words of an accounts file.
-use Rattle.std.proofs.Common.{◌≡◌, ℕ, zero, suc, ◌+◌, ◌<◌, Bool, true, false, ◌&&◌, ◌||◌, not, List, [], ◌∷◌, length, take, drop, get_or, None, Some, true≢false, ◌≢◌, refl, sym, ap, ◌∙◌, arith, eqb, ltb, leb, bytes_eq}
+use Rattle.std.proofs.Common.{◌≡◌, ℕ, zero, suc, ◌+◌, ◌<◌, Bool, true, false, ◌&&◌, ◌||◌, not, List, [], ◌∷◌, length}
+use Rattle.std.proofs.Common.{take, drop, get_or, None, Some, true≢false, ◌≢◌, refl, sym, ap, ◌∙◌, arith, eqb, ltb, leb}
+use Rattle.std.proofs.Common.{bytes_eq}
 use Rattle.std.specs.List.{list_all, position, position_or_len, slice_split, onto_first}
 use Rattle.std.specs.Str.{IsAscii, IsUtf8}
 use Rattle.std.specs.Str.Lines.{lines_of_parts, strip_carriage_return}
-use Rattle.std.proofs.lemmas.Bool.{ltb-true, ltb-false, leb-true, ne_eqb, and_parts, and_from, and_left, and_right, cond-true, cond-false}
+use Rattle.std.proofs.lemmas.Bool.{ltb-true, ltb-false, leb-true, ne_eqb, and_parts, and_from, and_left, and_right}
+use Rattle.std.proofs.lemmas.Bool.{cond-true, cond-false}
 use Rattle.std.proofs.lemmas.Option.{same_Some}
 use Rattle.std.proofs.lemmas.List.Splits.{slice_split_first, slice_split_none}
 use Rattle.std.proofs.lemmas.List.Sums.{fails_before_first}
@@ -13,7 +16,8 @@ use Rattle.pad_model.proofs.Newer.{split}
 use Rattle.sessions.specs.AccountsFile.{is_shown, is_word, no_form, said_by, words}
 
 -- the first part of a list that is cut ends where the test first holds
-pub split_found : (p : ℕ → Bool) (xs : List ℕ) (i : ℕ) → position p xs ≡ Some i → slice_split p xs ≡ take i xs ∷ slice_split p (drop (i + 1) xs)
+pub split_found : (p : ℕ → Bool) (xs : List ℕ) (i : ℕ) → position p xs ≡ Some i → slice_split p xs ≡ take i xs
+    ∷ slice_split p (drop (i + 1) xs)
 split_found p xs i found =
     split (ltb (position_or_len p xs) (length xs))
     (λ t.
@@ -28,11 +32,13 @@ split_absent p xs absent =
     (λ f. slice_split_none p xs (λ k d lt. fails_before_first p xs k d (omega (arith, ltb-false _ _ f))))
 
 -- a part that is not the last is a line
-pub line_before : (p : ℕ → Bool) (x ys : List ℕ) → lines_of_parts (x ∷ slice_split p ys) ≡ strip_carriage_return x ∷ lines_of_parts (slice_split p ys)
+pub line_before : (p : ℕ → Bool) (x ys : List ℕ) → lines_of_parts (x ∷ slice_split p ys) ≡ strip_carriage_return x
+    ∷ lines_of_parts (slice_split p ys)
 line_before p x [] = refl
 line_before p x (y ∷ ys) = split (p y) (λ t. rw t refl) (λ f. rw f (first (slice_split p ys)))
   where
-    first : (parts : List (List ℕ)) → lines_of_parts (x ∷ onto_first y parts) ≡ strip_carriage_return x ∷ lines_of_parts (onto_first y parts)
+    first : (parts : List (List ℕ)) → lines_of_parts (x ∷ onto_first y parts) ≡ strip_carriage_return x
+        ∷ lines_of_parts (onto_first y parts)
     first [] = refl
     first (part ∷ parts) = refl
 
@@ -43,11 +49,13 @@ last_line x lt = cond-false _ _ _ (ne_eqb (length x) 0 (λ e. omega (arith, e)))
 -- shown bytes are text
 shown_is_ascii : (w : List ℕ) → list_all is_shown w ≡ true → IsAscii w
 shown_is_ascii [] h i = omega arith
-shown_is_ascii (b ∷ bs) h zero = let parts = and_parts (leb 33 b) (leb b 126) (and_parts (is_shown b) (list_all is_shown bs) h).0 in omega (arith, leb-true b 126 parts.1)
+shown_is_ascii (b ∷ bs) h zero = let parts = and_parts (leb 33 b) (leb b 126)
+    (and_parts (is_shown b) (list_all is_shown bs) h).0 in omega (arith, leb-true b 126 parts.1)
 shown_is_ascii (b ∷ bs) h (suc i) = shown_is_ascii bs (and_parts (is_shown b) (list_all is_shown bs) h).1 i
 
 pub word_is_text : (most : ℕ) (w : List ℕ) → is_word most w ≡ true → IsUtf8 w
-word_is_text most w h = IsUtf8-from_ascii w (shown_is_ascii w (and_parts (is_within (length w) most) (list_all is_shown w) h).1)
+word_is_text most w h = IsUtf8-from_ascii w
+    (shown_is_ascii w (and_parts (is_within (length w) most) (list_all is_shown w) h).1)
 
 -- a name is a word
 byte_is_shown : (b : ℕ) → is_name_byte b ≡ true → is_shown b ≡ true
@@ -71,7 +79,8 @@ name_is_word w h =
     by_other true b h t = absurd (true≢false (sym t ∙ h))
 
 -- equal so far, and at one more place
-pub same_more : (a b : List ℕ) (i : ℕ) → i < length a → i < length b → bytes_eq (take (i + 1) a) (take (i + 1) b) ≡ (bytes_eq (take i a) (take i b) && eqb (get_or a i 0) (get_or b i 0))
+pub same_more : (a b : List ℕ) (i : ℕ) → i < length a → i < length b → bytes_eq (take (i + 1) a) (take (i + 1) b)
+    ≡ (bytes_eq (take i a) (take i b) && eqb (get_or a i 0) (get_or b i 0))
 same_more [] b i la lb = absurd (omega arith)
 same_more (x ∷ a) [] i la lb = absurd (omega arith)
 same_more (x ∷ a) (y ∷ b) zero la lb = and_true (eqb x y)
@@ -81,7 +90,8 @@ same_more (x ∷ a) (y ∷ b) zero la lb = and_true (eqb x y)
     and_true false = refl
 same_more (x ∷ a) (y ∷ b) (suc i) la lb =
     let e : suc i + 1 ≡ suc (i + 1) = omega arith in
-    rw e (ap (λ r. eqb x y && r) (same_more a b i (omega arith) (omega arith)) ∙ and_assoc (eqb x y) (bytes_eq (take i a) (take i b)) (eqb (get_or a i 0) (get_or b i 0)))
+    rw e (ap (λ r. eqb x y && r) (same_more a b i (omega arith) (omega arith)) ∙ and_assoc (eqb x y)
+    (bytes_eq (take i a) (take i b)) (eqb (get_or a i 0) (get_or b i 0)))
   where
     and_assoc : (p q r : Bool) → (p && (q && r)) ≡ ((p && q) && r)
     and_assoc true q r = refl

@@ -1,5 +1,6 @@
 -- Who may log in.
-use Rattle.std.specs.Prelude.{◌≡◌, ℕ, ◌+◌, Bool, ◌&&◌, ◌||◌, ◌==◌, nat_le, if◌then◌else◌, Option, Some, None, Result, Ok, Err, List, [], ◌∷◌, ◌++◌, length, bytes_eq}
+use Rattle.std.specs.Prelude.{◌≡◌, ℕ, ◌+◌, Bool, ◌&&◌, ◌||◌, ◌==◌, nat_le, if◌then◌else◌, Option, Some, None, Result}
+use Rattle.std.specs.Prelude.{Ok, Err, List, [], ◌∷◌, ◌++◌, length, bytes_eq}
 use Rattle.std.specs.List.{list_any}
 use Rattle.std.specs.Option.{option_map_or}
 use Rattle.std.specs.Str.Lines.{lines}
@@ -47,7 +48,8 @@ with_line a no_form = None
 -- the accounts with the lines from one on, or the number of the first line that is at fault
 abbrev pub with_lines : Accounts → ℕ → List (List ℕ) → Result Accounts ℕ
 with_lines a number [] = Ok a
-with_lines a number (line ∷ rest) = option_map_or (λ more. with_lines more (number + 1) rest) (with_line a (meaning line)) (Err number)
+with_lines a number (line ∷ rest) = option_map_or (λ more. with_lines more (number + 1) rest)
+    (with_line a (meaning line)) (Err number)
 
 -- the accounts of a file, or the number of the first line that is at fault, from 1
 abbrev pub accounts_of : List ℕ → Result Accounts ℕ

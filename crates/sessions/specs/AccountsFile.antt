@@ -1,5 +1,6 @@
 -- What the lines of an accounts file say.
-use Rattle.std.specs.Prelude.{ℕ, ◌+◌, ◌-◌, ◌*◌, Bool, not, ◌&&◌, ◌==◌, nat_le, if◌then◌else◌, List, [], ◌∷◌, length, fold, slice_index, bytes_eq, codes}
+use Rattle.std.specs.Prelude.{ℕ, ◌+◌, ◌-◌, ◌*◌, Bool, not, ◌&&◌, ◌==◌, nat_le, if◌then◌else◌, List, [], ◌∷◌, length}
+use Rattle.std.specs.Prelude.{fold, slice_index, bytes_eq, codes}
 use Rattle.std.specs.List.{list_all, list_any, slice_split}
 use Rattle.pad_model.specs.Checked.{is_within, is_name}
 use Rattle.pad_model.specs.declared.limits.TheConstants.{MAX_REPLICA}
@@ -34,7 +35,8 @@ decimal digits = fold (λ n digit. n * 10 + (digit - 48)) 0 digits
 
 -- whether a word is a replica's number in digits, without a zero in front
 abbrev pub is_number : List ℕ → Bool
-is_number word = list_all (λ b. nat_le 48 b && nat_le b 57) word && not (slice_index word 0 == 48) && is_within (decimal word) MAX_REPLICA
+is_number word = list_all (λ b. nat_le 48 b && nat_le b 57) word && not (slice_index word 0 == 48)
+    && is_within (decimal word) MAX_REPLICA
 
 -- what the words of a line say
 abbrev pub said_by : List (List ℕ) → Said

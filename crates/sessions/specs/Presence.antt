@@ -1,5 +1,6 @@
 -- Who is present on a pad.
-use Rattle.std.specs.Prelude.{◌≡◌, ℕ, ◌+◌, ◌≤◌, ◌<◌, Bool, true, false, not, ◌&&◌, ◌==◌, nat_le, if◌then◌else◌, Option, Some, None, List, [], ◌∷◌, ◌++◌, length, map, bytes_eq, MatchResult, Result}
+use Rattle.std.specs.Prelude.{◌≡◌, ℕ, ◌+◌, ◌≤◌, ◌<◌, Bool, true, false, not, ◌&&◌, ◌==◌, nat_le, if◌then◌else◌, Option}
+use Rattle.std.specs.Prelude.{Some, None, List, [], ◌∷◌, ◌++◌, length, map, bytes_eq, MatchResult, Result}
 use Rattle.std.specs.List.{AllByRecursion, filter, list_any}
 use Rattle.pad_model.specs.Stamp.{Stamp}
 use Rattle.pad_model.specs.declared.refusal.Refusal.{Refusal}
@@ -16,7 +17,8 @@ pub record Presence : Type 0 where
 abbrev pub AreNumbered : ℕ → List Visit → Type 0
 AreNumbered last [] = Unit {0}
 AreNumbered last (visit ∷ visits) =
-    (1 ≤ visit.number) × (visit.number ≤ last) × AllByRecursion (λ later. visit.number < later.number) visits × AreNumbered last visits
+    (1 ≤ visit.number) × (visit.number ≤ last) × AllByRecursion (λ later. visit.number < later.number) visits
+    × AreNumbered last visits
 
 -- why nobody can join, memory aside
 abbrev pub join_refusal : Presence → Option Refusal
@@ -41,7 +43,8 @@ left number present = filter (λ visit. not (has_number number visit)) present
 
 -- the visits with another caret of this one
 abbrev pub with_caret : Option Stamp → ℕ → List Visit → List Visit
-with_caret caret number present = map (λ visit. if has_number number visit then record visit { caret = caret } else visit) present
+with_caret caret number present = map (λ visit. if has_number number visit then record visit { caret = caret }
+    else visit) present
 
 -- whether a visit is present, and the author's
 abbrev pub is_joined_by : ℕ → List ℕ → List Visit → Bool
@@ -51,5 +54,6 @@ is_joined_by number author present = list_any (λ visit. has_number number visit
 abbrev pub OnVisit : ℕ → Presence → Presence → Result Unit Refusal → (ℕ → List Visit → List Visit) → Type 0
 OnVisit number old new result change =
     MatchResult result
-    (λ _. (list_any (has_number number) old.present ≡ true) × (new ≡ record old { present = change number old.present }))
+    (λ _. (list_any (has_number number) old.present ≡ true)
+    × (new ≡ record old { present = change number old.present }))
     (λ e. (list_any (has_number number) old.present ≡ false) × (e ≡ NotJoined) × (new ≡ old))

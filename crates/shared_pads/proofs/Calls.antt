@@ -1,5 +1,6 @@
 -- A call of a seat that the lock knows.
-use Rattle.std.proofs.Common.{◌≡◌, None, inr, ℕ, ◌+◌, ◌-◌, ◌^◌, ◌<◌, ◌≤◌, List, length, slice_set, Option, Some, refl, sym, ap, ap₂, ◌∙◌, subst, arith}
+use Rattle.std.proofs.Common.{◌≡◌, None, inr, ℕ, ◌+◌, ◌-◌, ◌^◌, ◌<◌, ◌≤◌, List, length, slice_set, Option, Some, refl}
+use Rattle.std.proofs.Common.{sym, ap, ap₂, ◌∙◌, subst, arith}
 use Rattle.std.proofs.lemmas.List.{length-append}
 use Rattle.std.proofs.lemmas.Option.{slice_get_within}
 use Rattle.pad_model.specs.declared.who.Who.{Who}
@@ -22,27 +23,34 @@ abbrev pub kept_of : Machine → ℕ → List Tally → ℕ → Kept
 kept_of pad base ts calls = record { pad = pad; base = base; tallies = ts; calls = calls }
 
 -- one more call of a seat that is known can be counted
-module _ (pad : Machine) (base : ℕ) (ts : List Tally) (calls : ℕ) (k : Kept) (seat : Seat) (view : kept_of pad base ts calls ≡ k) (known : IsKnown k seat) (kept : IsKept pad.log base ts calls) where
+module _ (pad : Machine) (base : ℕ) (ts : List Tally) (calls : ℕ) (k : Kept) (seat : Seat)
+    (view : kept_of pad base ts calls ≡ k) (known : IsKnown k seat) (kept : IsKept pad.log base ts calls) where
   there : IsKnown (kept_of pad base ts calls) seat
   there = subst (λ k. IsKnown k seat) (sym view) known
 
   pub calls_low : seat.tally.calls < 2 ^ 64 - 1
-  calls_low = let few = one_within (λ t. t.calls) ts seat.number seat.tally refl there.1 in let all = kept.called in let low = there.2 in omega arith
+  calls_low = let few = one_within (λ t. t.calls) ts seat.number seat.tally refl there.1 in let all = kept.called in
+      let low = there.2 in omega arith
 
   pub number_low : seat.number < length ts
   number_low = slice_get_within ts seat.number seat.tally there.1
 
   -- who leaves changes no operation
-  pub departs : (name : List ℕ) (w : Who) (visit : ℕ) (after : Machine) (t : Tally) → after ≡ (step name w (Some visit) act.Leave pad).1 → t ≡ counted 0 None seat.tally →
+  pub departs : (name : List ℕ) (w : Who) (visit : ℕ) (after : Machine) (t : Tally) →
+      after ≡ (step name w (Some visit) act.Leave pad).1 → t ≡ counted 0 None seat.tally →
       IsKept after.log base (slice_set ts seat.number t) (calls + 1)
   departs name w visit after t is told =
       let grown = step_grows name w (Some visit) act.Leave pad.owned pad.replica pad.log pad.held pad.presence in
       subst (λ (m : Machine). IsKept m.log base (slice_set ts seat.number t) (calls + 1)) (sym is)
-      (subst (λ (t : Tally). IsKept (step name w (Some visit) act.Leave pad).1.log base (slice_set ts seat.number t) (calls + 1)) (ap (λ n. counted n None seat.tally) grown.2 ∙ sym told)
-      (kept_on pad.log (step name w (Some visit) act.Leave pad).1.log grown.0 base calls seat.number ts seat.tally None kept there.1 grown.1 tt))
+      (subst (λ (t : Tally). IsKept (step name w (Some visit) act.Leave pad).1.log base (slice_set ts seat.number t)
+      (calls + 1)) (ap (λ n. counted n None seat.tally) grown.2 ∙ sym told)
+      (kept_on pad.log (step name w (Some visit) act.Leave pad).1.log grown.0 base calls seat.number ts seat.tally None
+      kept there.1 grown.1 tt))
 
 -- what a call was, before it is counted
-pub record Visit (pad : Machine) (base : ℕ) (ts : List Tally) (calls : ℕ) (k : Kept) (seat : Seat) (who : Who) (asked : Request) (rooms : List Room) (answer : Answer) (new : List Room) (after : Machine) (before now : ℕ) : Type 0 where
+pub record Visit (pad : Machine) (base : ℕ) (ts : List Tally) (calls : ℕ) (k : Kept) (seat : Seat) (who : Who)
+    (asked : Request) (rooms : List Room) (answer : Answer) (new : List Room) (after : Machine)
+    (before now : ℕ) : Type 0 where
   pub view : kept_of pad base ts calls ≡ k
   pub known : IsKnown k seat
   pub kept : IsKept pad.log base ts calls
@@ -50,7 +58,8 @@ pub record Visit (pad : Machine) (base : ℕ) (ts : List Tally) (calls : ℕ) (k
   pub was : before ≡ length pad.log
   pub is : now ≡ length after.log
 
-module _ (pad : Machine) (base : ℕ) (ts : List Tally) (calls : ℕ) (k : Kept) (seat : Seat) (who : Who) (asked : Request) (rooms : List Room) (answer : Answer) (new : List Room) (after : Machine) (before now : ℕ)
+module _ (pad : Machine) (base : ℕ) (ts : List Tally) (calls : ℕ) (k : Kept) (seat : Seat) (who : Who) (asked : Request)
+    (rooms : List Room) (answer : Answer) (new : List Room) (after : Machine) (before now : ℕ)
     (v : Visit pad base ts calls k seat who asked rooms answer new after before now) where
   grown : Grown asked answer pad.log after.log
   grown = visited_grows who asked seat.cell rooms pad answer new after v.visited
@@ -67,52 +76,84 @@ module _ (pad : Machine) (base : ℕ) (ts : List Tally) (calls : ℕ) (k : Kept)
 
   -- one more call can be counted
   pub room_for_call : seat.tally.calls < 2 ^ 64 - 1
-  room_for_call = let few = one_within (λ t. t.calls) ts seat.number seat.tally refl known_here.1 in let all = v.kept.called in let low = known_here.2 in omega arith
+  room_for_call = let few = one_within (λ t. t.calls) ts seat.number seat.tally refl known_here.1 in let all =
+      v.kept.called in let low = known_here.2 in omega arith
 
   -- and its operations
   pub room_for_operations : seat.tally.operations + (now - before) ≤ now
   room_for_operations =
-      let few = one_within (λ t. t.operations) ts seat.number seat.tally refl known_here.1 in let all = v.kept.revision in let l = longer in let a = v.was in let b = v.is in omega arith
+      let few = one_within (λ t. t.operations) ts seat.number seat.tally refl known_here.1 in let all =
+      v.kept.revision in let l = longer in let a = v.was in let b = v.is in omega arith
 
   pub here : seat.number < length ts
   here = slice_get_within ts seat.number seat.tally known_here.1
 
-  told : (edit : Option LastEdit) (t : Tally) → edit ≡ edit_of asked answer → t ≡ counted (now - before) edit seat.tally → t ≡ counted (length grown.0) (edit_of asked answer) seat.tally
+  told : (edit : Option LastEdit) (t : Tally) → edit ≡ edit_of asked answer →
+      t ≡ counted (now - before) edit seat.tally → t ≡ counted (length grown.0) (edit_of asked answer) seat.tally
   told edit t edit_is t_is =
       let count : now - before ≡ length grown.0 = let l = longer in let a = v.was in let b = v.is in omega arith in
       t_is ∙ ap₂ (λ n e. counted n e seat.tally) count edit_is
 
   -- the seat and the lock count it
-  pub counts : (edit : Option LastEdit) (t : Tally) → edit ≡ edit_of asked answer → t ≡ counted (now - before) edit seat.tally →
-      Counts k seat who asked rooms answer (record seat { tally = t }) new (kept_of after base (slice_set ts seat.number t) (calls + 1))
+  pub counts : (edit : Option LastEdit) (t : Tally) → edit ≡ edit_of asked answer →
+      t ≡ counted (now - before) edit seat.tally →
+      Counts k seat who asked rooms answer (record seat { tally = t }) new
+      (kept_of after base (slice_set ts seat.number t) (calls + 1))
   counts edit t edit_is t_is =
-      subst (λ k. Counts k seat who asked rooms answer (record seat { tally = t }) new (kept_of after base (slice_set ts seat.number t) (calls + 1))) v.view
-      (length grown.0, longer, grown.2, v.visited, ap (λ (t : Tally). (let s : Seat = record seat { tally = t } in s)) (told edit t edit_is t_is), ap (λ t. kept_of after base (slice_set ts seat.number t) (calls + 1)) (told edit t edit_is t_is))
+      subst (λ k. Counts k seat who asked rooms answer (record seat { tally = t }) new
+      (kept_of after base (slice_set ts seat.number t) (calls + 1))) v.view (
+        length grown.0,
+        longer,
+        grown.2,
+        v.visited,
+        ap (λ (t : Tally). (let s : Seat = record seat { tally = t } in s))
+            (told edit t edit_is t_is),
+        ap (λ t. kept_of after base (slice_set ts seat.number t) (calls + 1))
+            (told edit t edit_is t_is),
+      )
 
   -- and what lies under the lock is sound
-  pub stays_kept : (edit : Option LastEdit) (t : Tally) → edit ≡ edit_of asked answer → t ≡ counted (now - before) edit seat.tally → IsKept after.log base (slice_set ts seat.number t) (calls + 1)
+  pub stays_kept : (edit : Option LastEdit) (t : Tally) → edit ≡ edit_of asked answer →
+      t ≡ counted (now - before) edit seat.tally → IsKept after.log base (slice_set ts seat.number t) (calls + 1)
   stays_kept edit t edit_is t_is =
       subst (λ t. IsKept after.log base (slice_set ts seat.number t) (calls + 1)) (sym (told edit t edit_is t_is))
-      (kept_on pad.log after.log grown.0 base calls seat.number ts seat.tally (edit_of asked answer) v.kept known_here.1 grown.1 grown.3)
+      (kept_on pad.log after.log grown.0 base calls seat.number ts seat.tally (edit_of asked answer) v.kept known_here.1
+      grown.1 grown.3)
 
   fits_before : IsDelivered pad.log → Fits seat pad
   fits_before delivered = (
     delivered,
     one_of (λ t. Stands pad.log t.last) ts seat.number seat.tally v.kept.standing known_here.1,
-    (let few = one_within (λ t. t.operations) ts seat.number seat.tally refl known_here.1 in let all = v.kept.revision in let base_is = known_here.0 in omega arith),
+    (let few = one_within (λ t. t.operations) ts seat.number seat.tally refl known_here.1 in
+        let all = v.kept.revision in let base_is = known_here.0 in omega arith),
   )
 
-  fits_after : IsDelivered pad.log → IsDelivered after.log → Fits (seat_after (length grown.0) (edit_of asked answer) seat) after
+  fits_after : IsDelivered pad.log → IsDelivered after.log →
+      Fits (seat_after (length grown.0) (edit_of asked answer) seat) after
   fits_after delivered now_delivered =
       let fits = fits_before delivered in (
         now_delivered,
-        stands_after after.log (edit_of asked answer) seat.tally.last grown.3 (subst (λ log. Stands log seat.tally.last) (sym grown.1) (stands_on pad.log grown.0 seat.tally.last fits.1)),
+        stands_after after.log (edit_of asked answer) seat.tally.last grown.3 (subst (λ log. Stands log seat.tally.last)
+            (sym grown.1) (stands_on pad.log grown.0 seat.tally.last fits.1)),
         (let least = fits.2 in let l = longer in omega arith),
       )
 
   -- it is a step of the machine from a state that fits the seat
-  pub called : (edit : Option LastEdit) (t : Tally) → edit ≡ edit_of asked answer → t ≡ counted (now - before) edit seat.tally → IsDelivered pad.log → IsDelivered after.log →
+  pub called : (edit : Option LastEdit) (t : Tally) → edit ≡ edit_of asked answer →
+      t ≡ counted (now - before) edit seat.tally → IsDelivered pad.log → IsDelivered after.log →
       Called seat who asked rooms answer (record seat { tally = t }) new
   called edit t edit_is t_is delivered now_delivered =
-      let is : (let s : Seat = record seat { tally = t } in s) ≡ seat_after (length grown.0) (edit_of asked answer) seat = ap (λ (t : Tally). (let s : Seat = record seat { tally = t } in s)) (told edit t edit_is t_is) in
-      inr (pad, after, length grown.0, fits_before delivered, longer, grown.2, v.visited, is, subst (λ s. Fits s after) (sym is) (fits_after delivered now_delivered))
+      let is : (let s : Seat = record seat { tally = t } in s) ≡ seat_after (length grown.0)
+      (edit_of asked answer) seat = ap (λ (t : Tally). (let s : Seat = record seat { tally = t } in s))
+      (told edit t edit_is t_is) in
+      inr (
+        pad,
+        after,
+        length grown.0,
+        fits_before delivered,
+        longer,
+        grown.2,
+        v.visited,
+        is,
+        subst (λ s. Fits s after) (sym is) (fits_after delivered now_delivered),
+      )

@@ -1,5 +1,7 @@
 -- All the seats that a lock made have done together what it counted.
-use Rattle.std.proofs.Common.{◌≡◌, ◌↔◌, ℕ, ◌+◌, ◌-◌, ◌≤◌, ◌==◌, ◌||◌, Bool, true, false, not, List, [], ◌∷◌, map, length, sum_by, slice_get, slice_set, get_or, Option, Some, None, IsSome, refl, sym, ap, ◌∙◌, subst, arith, eq-eqb}
+use Rattle.std.proofs.Common.{◌≡◌, ◌↔◌, ℕ, ◌+◌, ◌-◌, ◌≤◌, ◌==◌, ◌||◌, Bool, true, false, not, List, [], ◌∷◌, map}
+use Rattle.std.proofs.Common.{length, sum_by, slice_get, slice_set, get_or, Option, Some, None, IsSome, refl, sym, ap}
+use Rattle.std.proofs.Common.{◌∙◌, subst, arith, eq-eqb}
 use Rattle.std.proofs.lemmas.Bool.{and_parts, not-true}
 use Rattle.std.proofs.lemmas.List.Sums.{sum-map, sum_by-cons, sum_by-set}
 use Rattle.std.proofs.lemmas.Option.{get_or_from_slice_get, slice_get_within, slice_get-map}
@@ -26,29 +28,38 @@ true_false : true ≡ false → ⊥
 true_false e = cc
 
 -- a place that is none of theirs may be set
-other_place : (f : Tally → ℕ) (counts : List ℕ) (n : ℕ) (seats : List Seat) → list_any (λ seat. seat.number == n) seats ≡ false → Places f counts seats → Places f (slice_set counts n 0) seats
+other_place : (f : Tally → ℕ) (counts : List ℕ) (n : ℕ) (seats : List Seat) → list_any (λ seat. seat.number == n) seats
+    ≡ false → Places f counts seats → Places f (slice_set counts n 0) seats
 other_place f counts n [] apart h = tt
 other_place f counts n (seat ∷ seats) apart h =
-    let none = neither (seat.number == n) (list_any (λ seat. seat.number == n) seats) apart in
-    (get-set_other counts n seat.number 0 (λ e. true_false (sym (eq-eqb seat.number n e) ∙ none.0)) ∙ h.0, other_place f counts n seats none.1 h.1)
+    let none = neither (seat.number == n) (list_any (λ seat. seat.number == n) seats) apart in (
+      get-set_other counts n seat.number 0 (λ e. true_false (sym (eq-eqb seat.number n e) ∙ none.0)) ∙ h.0,
+      other_place f counts n seats none.1 h.1,
+    )
 
 -- seats with places of their own add no more than all places
-within : (f : Tally → ℕ) (seats : List Seat) (counts : List ℕ) → are_apart seats ≡ true → Places f counts seats → sum_by (λ seat. f seat.tally) seats ≤ sum_by (λ n. n) counts
+within : (f : Tally → ℕ) (seats : List Seat) (counts : List ℕ) → are_apart seats ≡ true → Places f counts seats →
+    sum_by (λ seat. f seat.tally) seats ≤ sum_by (λ n. n) counts
 within f [] counts apart h = omega arith
 within f (seat ∷ seats) counts apart h =
     let both = and_parts (not (list_any (λ other. other.number == seat.number) seats)) (are_apart seats) apart in
-    let rest = within f seats (slice_set counts seat.number 0) both.1 (other_place f counts seat.number seats (not-true _ both.0) h.1) in
+    let rest = within f seats (slice_set counts seat.number 0) both.1
+    (other_place f counts seat.number seats (not-true _ both.0) h.1) in
     let all = sum_by-cons (λ (seat : Seat). f seat.tally) seat seats in
     let set = sum_by-set (λ n. n) counts seat.number 0 0 (slice_get_within counts seat.number (f seat.tally) h.0) in
-    let is : get_or counts seat.number 0 ≡ f seat.tally = get_or_from_slice_get counts seat.number (f seat.tally) 0 h.0 in
+    let is : get_or counts seat.number 0 ≡ f seat.tally =
+    get_or_from_slice_get counts seat.number (f seat.tally) 0 h.0 in
     omega arith
 
-placed : (f : Tally → ℕ) (k : Kept) (seats : List Seat) → AllByRecursion (IsOf k) seats → Places f (map f k.tallies) seats
+placed : (f : Tally → ℕ) (k : Kept) (seats : List Seat) → AllByRecursion (IsOf k) seats →
+    Places f (map f k.tallies) seats
 placed f k [] h = tt
 placed f k (seat ∷ seats) h = (slice_get-map f k.tallies seat.number ∙ ap (option_map f) h.0.1, placed f k seats h.1)
 
-no_more : (f : Tally → ℕ) (k : Kept) (seats : List Seat) → AreAll k seats → sum_by (λ seat. f seat.tally) seats ≤ sum_by f k.tallies
-no_more f k seats all = let least = within f seats (map f k.tallies) all.1 (placed f k seats all.2) in let is = sum-map f k.tallies in omega arith
+no_more : (f : Tally → ℕ) (k : Kept) (seats : List Seat) → AreAll k seats → sum_by (λ seat. f seat.tally) seats
+    ≤ sum_by f k.tallies
+no_more f k seats all = let least = within f seats (map f k.tallies) all.1 (placed f k seats all.2) in let is =
+    sum-map f k.tallies in omega arith
 
 -- none is more than the sum
 each_low : {X : Type 0} (f : X → ℕ) (m : ℕ) (xs : List X) → sum_by f xs ≤ m → AllByRecursion (λ x. f x ≤ m) xs
@@ -56,7 +67,8 @@ each_low f m [] low = tt
 each_low f m (x ∷ xs) low = let all = sum_by-cons f x xs in (omega arith, each_low f m xs (omega arith))
 
 -- what each has and what it lacks of m
-lacking : {X : Type 0} (f : X → ℕ) (m : ℕ) (xs : List X) → AllByRecursion (λ x. f x ≤ m) xs → sum_by (λ x. m - f x) xs + sum_by f xs ≡ sum_by (λ x. m) xs
+lacking : {X : Type 0} (f : X → ℕ) (m : ℕ) (xs : List X) → AllByRecursion (λ x. f x ≤ m) xs → sum_by (λ x. m - f x) xs
+    + sum_by f xs ≡ sum_by (λ x. m) xs
 lacking f m [] low = omega arith
 lacking f m (x ∷ xs) low =
     let lacks = sum_by-cons (λ x. m - f x) x xs in
@@ -66,26 +78,33 @@ lacking f m (x ∷ xs) low =
     let least = low.0 in
     omega arith
 
-as_many : {X Y : Type 0} (m : ℕ) (xs : List X) (ys : List Y) → length xs ≡ length ys → sum_by (λ x. m) xs ≡ sum_by (λ y. m) ys
+as_many : {X Y : Type 0} (m : ℕ) (xs : List X) (ys : List Y) → length xs ≡ length ys → sum_by (λ x. m) xs
+    ≡ sum_by (λ y. m) ys
 as_many m [] [] e = refl
 as_many m [] (y ∷ ys) e = absurd (omega arith)
 as_many m (x ∷ xs) [] e = absurd (omega arith)
 as_many m (x ∷ xs) (y ∷ ys) e =
-    let left = sum_by-cons (λ x. m) x xs in let right = sum_by-cons (λ y. m) y ys in let rest = as_many m xs ys (omega arith) in omega arith
+    let left = sum_by-cons (λ x. m) x xs in let right = sum_by-cons (λ y. m) y ys in let rest =
+    as_many m xs ys (omega arith) in omega arith
 
--- as many seats as there are places, each with its own, add just what the places do: they add no more of what each has, and no more of what each lacks
-same_sum : (f : Tally → ℕ) (k : Kept) (seats : List Seat) → AreAll k seats → sum_by (λ seat. f seat.tally) seats ≡ sum_by f k.tallies
+-- as many seats as there are places, each with its own, add just what the places do: they add no more of what each has,
+-- and no more of what each lacks
+same_sum : (f : Tally → ℕ) (k : Kept) (seats : List Seat) → AreAll k seats → sum_by (λ seat. f seat.tally) seats
+    ≡ sum_by f k.tallies
 same_sum f k seats all =
     let has = no_more f k seats all in
     let lacks = no_more (λ t. sum_by f k.tallies - f t) k seats all in
-    let seated = lacking (λ (seat : Seat). f seat.tally) (sum_by f k.tallies) seats (each_low (λ (seat : Seat). f seat.tally) (sum_by f k.tallies) seats has) in
+    let seated = lacking (λ (seat : Seat). f seat.tally) (sum_by f k.tallies) seats
+    (each_low (λ (seat : Seat). f seat.tally) (sum_by f k.tallies) seats has) in
     let known = lacking f (sum_by f k.tallies) k.tallies (each_low f (sum_by f k.tallies) k.tallies (omega arith)) in
     let many = as_many (sum_by f k.tallies) seats k.tallies all.0 in
     omega arith
 
 -- so they have made the revision of the pad, and all calls
-pub all_made : (pad : Machine) (base : ℕ) (ts : List Tally) (calls : ℕ) (k : Kept) (seats : List Seat) → kept_of pad base ts calls ≡ k → IsKept pad.log base ts calls → AreAll k seats →
-    (length pad.log ≡ base + sum_by (λ seat. seat.tally.operations) seats) × (calls ≡ sum_by (λ seat. seat.tally.calls) seats)
+pub all_made : (pad : Machine) (base : ℕ) (ts : List Tally) (calls : ℕ) (k : Kept) (seats : List Seat) →
+    kept_of pad base ts calls ≡ k → IsKept pad.log base ts calls → AreAll k seats →
+    (length pad.log ≡ base + sum_by (λ seat. seat.tally.operations) seats)
+    × (calls ≡ sum_by (λ seat. seat.tally.calls) seats)
 all_made pad base ts calls k seats view kept all =
     let here = subst (λ k. AreAll k seats) (sym view) all in
     let operations = same_sum (λ t. t.operations) (kept_of pad base ts calls) seats here in
@@ -95,8 +114,12 @@ all_made pad base ts calls k seats view kept all =
     (omega arith, omega arith)
 
 -- what is refused was not all seats
-pub not_all : (result : Option Sums) (k : Kept) (seats : List Seat) → result ≡ None → (AreAll k seats → ⊥) → IsSome result ↔ AreAll k seats
-not_all result k seats none refuted = ((λ some. absurd (none_some (sym (ap is_some none) ∙ some))), (λ all. absurd (refuted all)))
+pub not_all : (result : Option Sums) (k : Kept) (seats : List Seat) → result ≡ None → (AreAll k seats → ⊥) →
+    IsSome result ↔ AreAll k seats
+not_all result k seats none refuted = (
+  (λ some. absurd (none_some (sym (ap is_some none) ∙ some))),
+  (λ all. absurd (refuted all)),
+)
   where
     none_some : false ≡ true → ⊥
     none_some e = cc

@@ -1,5 +1,6 @@
 -- One more call is counted under a lock.
-use Rattle.std.proofs.Common.{◌≡◌, ℕ, zero, suc, ◌+◌, ◌≤◌, true, false, List, [], ◌∷◌, ◌++◌, length, sum_by, slice_get, slice_set, get_or, Option, Some, None, refl, sym, ap, ◌∙◌, subst, arith}
+use Rattle.std.proofs.Common.{◌≡◌, ℕ, zero, suc, ◌+◌, ◌≤◌, true, false, List, [], ◌∷◌, ◌++◌, length, sum_by, slice_get}
+use Rattle.std.proofs.Common.{slice_set, get_or, Option, Some, None, refl, sym, ap, ◌∙◌, subst, arith}
 use Rattle.std.proofs.lemmas.List.{length-append}
 use Rattle.std.proofs.lemmas.List.Sums.{sum_by-append, sum_by-set}
 use Rattle.std.proofs.lemmas.Option.{get_or_from_slice_get, slice_get_within}
@@ -29,30 +30,36 @@ there (x ∷ log) more (suc i) op e = there log more i op e
 false_true : false ≡ true → ⊥
 false_true q = cc
 
-standing_at : (name : OpName) (rev : ℕ) (log more : List Op) → stands_at name rev log ≡ true → stands_at name rev (log ++ more) ≡ true
+standing_at : (name : OpName) (rev : ℕ) (log more : List Op) → stands_at name rev log ≡ true →
+    stands_at name rev (log ++ more) ≡ true
 standing_at name zero log more e = e
 standing_at name (suc i) log more e = at (slice_get log i) refl
   where
     at : (o : Option Op) → slice_get log i ≡ o → stands_at name (suc i) (log ++ more) ≡ true
-    at None is = absurd (false_true (sym (ap (λ o. option_map_or (λ (op : Op). same_name op.name name) o false) is) ∙ e))
-    at (Some op) is = ap (λ o. option_map_or (λ (op : Op). same_name op.name name) o false) (there log more i op is) ∙ sym (ap (λ o. option_map_or (λ (op : Op). same_name op.name name) o false) is) ∙ e
+    at None is = absurd (false_true (sym (ap (λ o. option_map_or (λ (op : Op). same_name op.name name) o false) is)
+        ∙ e))
+    at (Some op) is = ap (λ o. option_map_or (λ (op : Op). same_name op.name name) o false) (there log more i op is)
+        ∙ sym (ap (λ o. option_map_or (λ (op : Op). same_name op.name name) o false) is) ∙ e
 
 -- a last edit stands in a longer log
 pub stands_on : (log more : List Op) (edit : Option LastEdit) → Stands log edit → Stands (log ++ more) edit
 stands_on log more None h = tt
 stands_on log more (Some edit) h = standing_at edit.name edit.rev log more h
 
-all_stand : (log more : List Op) (ts : List Tally) → AllByRecursion (λ t. Stands log t.last) ts → AllByRecursion (λ t. Stands (log ++ more) t.last) ts
+all_stand : (log more : List Op) (ts : List Tally) → AllByRecursion (λ t. Stands log t.last) ts →
+    AllByRecursion (λ t. Stands (log ++ more) t.last) ts
 all_stand log more [] h = tt
 all_stand log more (t ∷ ts) h = (stands_on log more t.last h.0, all_stand log more ts h.1)
 
-all_set : (P : Tally → Type 0) (ts : List Tally) (i : ℕ) (t : Tally) → AllByRecursion P ts → P t → AllByRecursion P (slice_set ts i t)
+all_set : (P : Tally → Type 0) (ts : List Tally) (i : ℕ) (t : Tally) → AllByRecursion P ts → P t →
+    AllByRecursion P (slice_set ts i t)
 all_set P [] i t h p = tt
 all_set P (x ∷ ts) zero t h p = (p, h.1)
 all_set P (x ∷ ts) (suc i) t h p = (h.0, all_set P ts i t h.1 p)
 
 -- what holds of each holds of one
-pub one_of : (P : Tally → Type 0) (ts : List Tally) (i : ℕ) (t : Tally) → AllByRecursion P ts → slice_get ts i ≡ Some t → P t
+pub one_of : (P : Tally → Type 0) (ts : List Tally) (i : ℕ) (t : Tally) → AllByRecursion P ts → slice_get ts i
+    ≡ Some t → P t
 one_of P [] i t h e = absurd (none_some t e)
   where
     none_some : (t : Tally) → (let o : Option Tally = None in o) ≡ Some t → ⊥
@@ -64,54 +71,67 @@ one_of P (x ∷ ts) zero t h e = subst P (same x t e) h.0
 one_of P (x ∷ ts) (suc i) t h e = one_of P ts i t h.1 e
 
 -- one of a list adds no more than all
-pub one_within : (f : Tally → ℕ) (ts : List Tally) (i : ℕ) (t : Tally) → f uncounted ≡ 0 → slice_get ts i ≡ Some t → f t ≤ sum_by f ts
+pub one_within : (f : Tally → ℕ) (ts : List Tally) (i : ℕ) (t : Tally) → f uncounted ≡ 0 → slice_get ts i ≡ Some t →
+    f t ≤ sum_by f ts
 one_within f ts i t none e =
     let sum = sum_by-set f ts i uncounted t (slice_get_within ts i t e) in
     let is : f (get_or ts i t) ≡ f t = ap f (get_or_from_slice_get ts i t t e) in
     omega arith
 
 -- the sum after one was set
-sum_after : (f : Tally → ℕ) (ts : List Tally) (i : ℕ) (t new : Tally) (n : ℕ) → slice_get ts i ≡ Some t → f new ≡ f t + n → sum_by f (slice_set ts i new) ≡ sum_by f ts + n
+sum_after : (f : Tally → ℕ) (ts : List Tally) (i : ℕ) (t new : Tally) (n : ℕ) → slice_get ts i ≡ Some t → f new ≡ f t
+    + n → sum_by f (slice_set ts i new) ≡ sum_by f ts + n
 sum_after f ts i t new n e grown =
     let sum = sum_by-set f ts i new t (slice_get_within ts i t e) in
     let is : f (get_or ts i t) ≡ f t = ap f (get_or_from_slice_get ts i t t e) in
     omega arith
 
-pub stands_after : (log : List Op) (edit before : Option LastEdit) → Stands log edit → Stands log before → Stands log (last_after edit before)
+pub stands_after : (log : List Op) (edit before : Option LastEdit) → Stands log edit → Stands log before →
+    Stands log (last_after edit before)
 stands_after log None before h b = b
 stands_after log (Some edit) before h b = h
 
 -- what is kept under the lock after a call
-pub kept_on : (old new more : List Op) (base calls i : ℕ) (ts : List Tally) (t : Tally) (edit : Option LastEdit) → IsKept old base ts calls → slice_get ts i ≡ Some t → new ≡ old ++ more → Stands new edit →
+pub kept_on : (old new more : List Op) (base calls i : ℕ) (ts : List Tally) (t : Tally) (edit : Option LastEdit) →
+    IsKept old base ts calls → slice_get ts i ≡ Some t → new ≡ old ++ more → Stands new edit →
     IsKept new base (slice_set ts i (counted (length more) edit t)) (calls + 1)
 kept_on old new more base calls i ts t edit kept e grown stands = record {
-  revision = (let both = ap length grown ∙ length-append old more in let sum = sum_after (λ t. t.operations) ts i t (counted (length more) edit t) (length more) e refl in let was = kept.revision in omega arith);
+  revision = (let both = ap length grown ∙ length-append old more in let sum = sum_after (λ t. t.operations) ts i t
+      (counted (length more) edit t) (length more) e refl in let was = kept.revision in omega arith);
   standing =
       subst (λ log. AllByRecursion (λ t. Stands log t.last) (slice_set ts i (counted (length more) edit t))) (sym grown)
-      (all_set (λ t. Stands (old ++ more) t.last) ts i (counted (length more) edit t) (all_stand old more ts kept.standing)
-      (stands_after (old ++ more) edit t.last (subst (λ log. Stands log edit) grown stands) (stands_on old more t.last (one_of (λ t. Stands old t.last) ts i t kept.standing e))));
-  called = (let sum = sum_after (λ t. t.calls) ts i t (counted (length more) edit t) 1 e refl in let was = kept.called in omega arith);
+      (all_set (λ t. Stands (old ++ more) t.last) ts i (counted (length more) edit t)
+      (all_stand old more ts kept.standing)
+      (stands_after (old ++ more) edit t.last (subst (λ log. Stands log edit) grown stands)
+      (stands_on old more t.last (one_of (λ t. Stands old t.last) ts i t kept.standing e))));
+  called = (let sum = sum_after (λ t. t.calls) ts i t (counted (length more) edit t) 1 e refl in
+      let was = kept.called in omega arith);
 }
 
 -- one more seat, which has made no call
-pub one_more : (log : List Op) (base calls : ℕ) (ts : List Tally) → IsKept log base ts calls → IsKept log base (ts ++ uncounted ∷ []) calls
+pub one_more : (log : List Op) (base calls : ℕ) (ts : List Tally) → IsKept log base ts calls →
+    IsKept log base (ts ++ uncounted ∷ []) calls
 one_more log base calls ts kept = record {
-  revision = (let sum = sum_by-append (λ t. t.operations) ts (uncounted ∷ []) in let was = kept.revision in omega arith);
+  revision = (let sum = sum_by-append (λ t. t.operations) ts (uncounted ∷ []) in let was = kept.revision in
+      omega arith);
   standing = all_more ts kept.standing;
   called = (let sum = sum_by-append (λ t. t.calls) ts (uncounted ∷ []) in let was = kept.called in omega arith);
 }
   where
-    all_more : (ts : List Tally) → AllByRecursion (λ t. Stands log t.last) ts → AllByRecursion (λ t. Stands log t.last) (ts ++ uncounted ∷ [])
+    all_more : (ts : List Tally) → AllByRecursion (λ t. Stands log t.last) ts → AllByRecursion (λ t. Stands log t.last)
+        (ts ++ uncounted ∷ [])
     all_more [] h = (tt, tt)
     all_more (t ∷ ts) h = (h.0, all_more ts h.1)
 
 -- the seats that a lock knows have its base
-one_base : (k : Kept) (seats : List Seat) → AllByRecursion (IsOf k) seats → AllByRecursion (λ seat. seat.base ≡ k.base) seats
+one_base : (k : Kept) (seats : List Seat) → AllByRecursion (IsOf k) seats →
+    AllByRecursion (λ seat. seat.base ≡ k.base) seats
 one_base k [] h = tt
 one_base k (seat ∷ seats) h = (h.0.0, one_base k seats h.1)
 
 -- what the lock was asked, of the pad that it gives up
-pub closed : (k : Kept) (pad : Machine) (seats asked : List Seat) (sums : Sums) → IsClosed k asked sums → asked ≡ seats → pad ≡ k.pad → HasClosed pad seats sums.operations sums.calls
+pub closed : (k : Kept) (pad : Machine) (seats asked : List Seat) (sums : Sums) → IsClosed k asked sums →
+    asked ≡ seats → pad ≡ k.pad → HasClosed pad seats sums.operations sums.calls
 closed k pad seats asked sums all same is =
     subst (λ s. HasClosed pad s sums.operations sums.calls) same
     (k.base, all.0, one_base k asked all.1, ap (λ (m : Machine). length m.log) is ∙ all.4, all.2, all.3)

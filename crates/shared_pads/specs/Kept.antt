@@ -1,5 +1,6 @@
 -- What lies under the lock of a shared pad, and what a call of a seat is.
-use Rattle.std.specs.Prelude.{◌≡◌, ◌⊎◌, ℕ, ◌+◌, ◌≤◌, ◌<◌, ◌^◌, ◌-◌, List, [], ◌∷◌, ◌++◌, length, sum_by, slice_get, slice_set, true, Option, Some, Err}
+use Rattle.std.specs.Prelude.{◌≡◌, ◌⊎◌, ℕ, ◌+◌, ◌≤◌, ◌<◌, ◌^◌, ◌-◌, List, [], ◌∷◌, ◌++◌, length, sum_by, slice_get}
+use Rattle.std.specs.Prelude.{slice_set, true, Option, Some, Err}
 use Rattle.std.specs.List.{AllByRecursion}
 use Rattle.pad_model.specs.declared.op.Op.{Op}
 use Rattle.pad_model.specs.declared.refusal.Refusal.TheVariants.{SeatsOut}
@@ -17,14 +18,16 @@ use Rattle.shared_pads.specs.declared.seat.Seat.{Seat}
 use Rattle.shared_pads.specs.declared.seat.Tally.{Tally}
 use Rattle.shared_pads.specs.declared.sums.Sums.{Sums}
 
--- a pad, the revision that it had when it came under its lock, the tally of each seat by its number, and how many calls all have made
+-- a pad, the revision that it had when it came under its lock, the tally of each seat by its number, and how many calls
+-- all have made
 pub record Kept : Type 0 where
   pub pad : Machine
   pub base : ℕ
   pub tallies : List Tally
   pub calls : ℕ
 
--- whenever the lock is free: the revision is the base and the operations of all seats, each last edit stands in the log, and the calls are those of all seats
+-- whenever the lock is free: the revision is the base and the operations of all seats, each last edit stands in the
+-- log, and the calls are those of all seats
 pub record IsKept (log : List Op) (base : ℕ) (tallies : List Tally) (calls : ℕ) : Type 0 where
   pub revision : length log ≡ base + sum_by (λ t. t.operations) tallies
   pub standing : AllByRecursion (λ t. Stands log t.last) tallies
@@ -59,21 +62,25 @@ abbrev pub Counts : Kept → Seat → Who → Request → List Room → Answer �
 Counts old seat who request rooms answer after new next =
     (more : ℕ) × (length next.pad.log ≡ length old.pad.log + more) × Tells request answer more
     × Visited who request rooms old.pad (request_at who request seat.cell rooms old.pad) answer new next.pad
-    × (after ≡ seat_after more (edit_of request answer) seat) × (next ≡ kept_after next.pad more (edit_of request answer) seat old)
+    × (after ≡ seat_after more (edit_of request answer) seat)
+    × (next ≡ kept_after next.pad more (edit_of request answer) seat old)
 
 -- a pad after the session of a visit has left it
 abbrev pub left : Who → Room → Machine → Machine
 left who room m = (step room.pad who (Some room.visit) Leave m).1
 
--- a pad is one that the machine can have, it has the seat's last edit at its revision, and at least the operations of the seat behind its base
+-- a pad is one that the machine can have, it has the seat's last edit at its revision, and at least the operations of
+-- the seat behind its base
 abbrev pub Fits : Seat → Machine → Type 0
 Fits seat m = IsDelivered m.log × Stands m.log seat.tally.last × (seat.base + seat.tally.operations ≤ length m.log)
 
--- a call of a seat: the lock does not know it, and nothing changes; or what the machine's step does at the cell from some state that fits the seat, which is counted and fits what it leads to
+-- a call of a seat: the lock does not know it, and nothing changes; or what the machine's step does at the cell from
+-- some state that fits the seat, which is counted and fits what it leads to
 abbrev pub Called : Seat → Who → Request → List Room → Answer → Seat → List Room → Type 0
 Called seat who request rooms answer after new =
     ((answer ≡ Err SeatsOut) × (after ≡ seat) × (new ≡ rooms))
-    ⊎ ((old : Machine) × (next : Machine) × (more : ℕ) × Fits seat old × (length next.log ≡ length old.log + more) × Tells request answer more
+    ⊎ ((old : Machine) × (next : Machine) × (more : ℕ) × Fits seat old × (length next.log ≡ length old.log + more)
+    × Tells request answer more
     × Visited who request rooms old (request_at who request seat.cell rooms old) answer new next
     × (after ≡ seat_after more (edit_of request answer) seat) × Fits after next)
 
@@ -85,15 +92,19 @@ IsOf k seat = (seat.base ≡ k.base) × (slice_get k.tallies seat.number ≡ Som
 abbrev pub AreAll : Kept → List Seat → Type 0
 AreAll k seats = (length seats ≡ length k.tallies) × (are_apart seats ≡ true) × AllByRecursion (IsOf k) seats
 
--- what all seats together have done: they have numbers of their own, each is as the lock knows it, and the revision of the pad is the base and their operations
+-- what all seats together have done: they have numbers of their own, each is as the lock knows it, and the revision of
+-- the pad is the base and their operations
 abbrev pub IsClosed : Kept → List Seat → Sums → Type 0
 IsClosed k seats sums =
     (are_apart seats ≡ true) × AllByRecursion (IsOf k) seats
-    × (sums.operations ≡ sum_by (λ seat. seat.tally.operations) seats) × (sums.calls ≡ sum_by (λ seat. seat.tally.calls) seats)
+    × (sums.operations ≡ sum_by (λ seat. seat.tally.operations) seats)
+    × (sums.calls ≡ sum_by (λ seat. seat.tally.calls) seats)
     × (length k.pad.log ≡ k.base + sums.operations) × (k.calls ≡ sums.calls)
 
--- a pad is not shared any more: its seats have numbers of their own and one base, and its revision is that base and their operations
+-- a pad is not shared any more: its seats have numbers of their own and one base, and its revision is that base and
+-- their operations
 abbrev pub HasClosed : Machine → List Seat → ℕ → ℕ → Type 0
 HasClosed m seats operations calls =
-    (base : ℕ) × (are_apart seats ≡ true) × AllByRecursion (λ seat. seat.base ≡ base) seats × (length m.log ≡ base + operations)
+    (base : ℕ) × (are_apart seats ≡ true) × AllByRecursion (λ seat. seat.base ≡ base) seats
+    × (length m.log ≡ base + operations)
     × (operations ≡ sum_by (λ seat. seat.tally.operations) seats) × (calls ≡ sum_by (λ seat. seat.tally.calls) seats)

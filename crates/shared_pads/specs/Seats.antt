@@ -1,5 +1,6 @@
 -- What is counted of the calls of a seat, and what their answers tell of the log.
-use Rattle.std.specs.Prelude.{◌≡◌, ℕ, ◌+◌, ◌==◌, ◌&&◌, not, Bool, true, List, [], ◌∷◌, Option, None, Some, Result, Ok, Err}
+use Rattle.std.specs.Prelude.{◌≡◌, ℕ, ◌+◌, ◌==◌, ◌&&◌, not, Bool, true, List, [], ◌∷◌, Option, None, Some, Result, Ok}
+use Rattle.std.specs.Prelude.{Err}
 use Rattle.std.specs.List.{list_any}
 use Rattle.pad_model.specs.declared.op.Op.{Op}
 use Rattle.pad_model.specs.declared.refusal.Refusal.{Refusal}
@@ -80,7 +81,8 @@ taken_as pushed.Delivered = 1
 taken_as pushed.Held = 0
 taken_as pushed.Repeat = 0
 
--- an answer tells that a pad has so many more operations: an edit's own, and a push's and those that it released. A push that was out of memory does not tell
+-- an answer tells that a pad has so many more operations: an edit's own, and a push's and those that it released. A
+-- push that was out of memory does not tell
 abbrev pub TellsOf : Effect → Answer → ℕ → Type 0
 TellsOf Makes answer more = more ≡ made_in answer
 TellsOf Takes (Ok (Some (reply.Pad (pad.Pushed now state released dropped)))) more = more ≡ released + taken_as state

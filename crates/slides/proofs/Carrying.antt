@@ -1,5 +1,6 @@
 -- What a slide does to the character at a place, and to how many there are.
-use Rattle.std.proofs.Common.{◌≡◌, ℕ, zero, suc, ◌+◌, ◌-◌, ◌≤◌, ◌<◌, true, false, cond, List, [], ◌∷◌, ◌++◌, length, Some, slice_get, refl, sym, ap, ◌∙◌, arith, length-append}
+use Rattle.std.proofs.Common.{◌≡◌, ℕ, zero, suc, ◌+◌, ◌-◌, ◌≤◌, ◌<◌, true, false, cond, List, [], ◌∷◌, ◌++◌, length}
+use Rattle.std.proofs.Common.{Some, slice_get, refl, sym, ap, ◌∙◌, arith, length-append}
 use Rattle.pad_model.specs.Character.{next}
 use Rattle.pad_model.specs.Operation.{stamps_from}
 use Rattle.pad_model.specs.Stamp.{Stamp}
@@ -27,10 +28,12 @@ length-stamps first (suc n) = ap suc (length-stamps (next first) n)
 
 pub get_stamp : (first : Stamp) (n i : ℕ) → i < n → slice_get (stamps_from first n) i ≡ Some (so_far_behind first i)
 get_stamp first zero i h = absurd (omega arith)
-get_stamp first (suc n) zero h = ap (λ c. Some (let it : Stamp = record first { counter = c } in it)) (let same : first.counter ≡ first.counter + 0 = omega arith in same)
+get_stamp first (suc n) zero h = ap (λ c. Some (let it : Stamp = record first { counter = c } in it))
+    (let same : first.counter ≡ first.counter + 0 = omega arith in same)
 get_stamp first (suc n) (suc i) h =
     get_stamp (next first) n i (omega arith)
-    ∙ ap (λ c. Some (let it : Stamp = record first { counter = c } in it)) (let same : first.counter + 1 + i ≡ first.counter + suc i = omega arith in same)
+    ∙ ap (λ c. Some (let it : Stamp = record first { counter = c } in it)) (let same : first.counter + 1 + i
+    ≡ first.counter + suc i = omega arith in same)
 
 module _ (s : Slide) (old new : List Stamp) (moves : Moves s old new) where
   shown_before : s.shows ≡ true → old ≡ moves.front ++ moves.back
@@ -40,7 +43,8 @@ module _ (s : Slide) (old new : List Stamp) (moves : Moves s old new) where
   shown_after e = moves.after ∙ ap (λ b. moves.front ++ cond b (stamps_from s.first s.len ++ moves.back) moves.back) e
 
   hidden_before : s.shows ≡ false → old ≡ moves.front ++ (stamps_from s.first s.len ++ moves.back)
-  hidden_before e = moves.before ∙ ap (λ b. moves.front ++ cond b moves.back (stamps_from s.first s.len ++ moves.back)) e
+  hidden_before e = moves.before ∙ ap (λ b. moves.front ++ cond b moves.back (stamps_from s.first s.len ++ moves.back))
+      e
 
   hidden_after : s.shows ≡ false → new ≡ moves.front ++ moves.back
   hidden_after e = moves.after ∙ ap (λ b. moves.front ++ cond b (stamps_from s.first s.len ++ moves.back) moves.back) e
@@ -51,7 +55,8 @@ module _ (s : Slide) (old new : List Stamp) (moves : Moves s old new) where
       let place = moves.place in
       ap length e ∙ length-append moves.front moves.back ∙ ap (λ n. n + length moves.back) place
 
-  with : (xs : List Stamp) → xs ≡ moves.front ++ (stamps_from s.first s.len ++ moves.back) → length xs ≡ s.at + (s.len + length moves.back)
+  with : (xs : List Stamp) → xs ≡ moves.front ++ (stamps_from s.first s.len ++ moves.back) → length xs ≡ s.at
+      + (s.len + length moves.back)
   with xs e =
       let place = moves.place in
       let size = length-stamps s.first s.len in
@@ -59,14 +64,16 @@ module _ (s : Slide) (old new : List Stamp) (moves : Moves s old new) where
       let tail = length-append (stamps_from s.first s.len) moves.back in
       omega arith
 
-  pub shown_len : s.shows ≡ true → (length new ≡ length old + s.len) × (s.at ≤ length old) × (length new ≤ MAX_CHARACTERS)
+  pub shown_len : s.shows ≡ true → (length new ≡ length old + s.len) × (s.at ≤ length old)
+      × (length new ≤ MAX_CHARACTERS)
   shown_len e =
       let before = without old (shown_before e) in
       let after = with new (shown_after e) in
       let small = moves.small in
       (omega arith, omega arith, omega arith)
 
-  pub hidden_len : s.shows ≡ false → (length old ≡ length new + s.len) × (s.at + s.len ≤ length old) × (length old ≤ MAX_CHARACTERS)
+  pub hidden_len : s.shows ≡ false → (length old ≡ length new + s.len) × (s.at + s.len ≤ length old)
+      × (length old ≤ MAX_CHARACTERS)
   hidden_len e =
       let before = with old (hidden_before e) in
       let after = without new (hidden_after e) in
@@ -83,7 +90,8 @@ module _ (s : Slide) (old new : List Stamp) (moves : Moves s old new) where
       ∙ sym (ap (λ l. slice_get l i) moves.before)
 
   -- a character behind the stretch, without the stretch and with it
-  behind : (i : ℕ) → s.at ≤ i → slice_get (moves.front ++ (stamps_from s.first s.len ++ moves.back)) (i + s.len) ≡ slice_get (moves.front ++ moves.back) i
+  behind : (i : ℕ) → s.at ≤ i → slice_get (moves.front ++ (stamps_from s.first s.len ++ moves.back)) (i + s.len)
+      ≡ slice_get (moves.front ++ moves.back) i
   behind i h =
       let place = moves.place in
       let size = length-stamps s.first s.len in
@@ -93,17 +101,20 @@ module _ (s : Slide) (old new : List Stamp) (moves : Moves s old new) where
 
   -- a shown stretch moves what stands behind it
   pub moved_on : s.shows ≡ true → (i : ℕ) → s.at ≤ i → slice_get new (i + s.len) ≡ slice_get old i
-  moved_on e i h = ap (λ l. slice_get l (i + s.len)) (shown_after e) ∙ behind i h ∙ sym (ap (λ l. slice_get l i) (shown_before e))
+  moved_on e i h = ap (λ l. slice_get l (i + s.len)) (shown_after e) ∙ behind i h
+      ∙ sym (ap (λ l. slice_get l i) (shown_before e))
 
   -- a hidden one too
   pub moved_back : s.shows ≡ false → (i : ℕ) → s.at + s.len ≤ i → slice_get new (i - s.len) ≡ slice_get old i
   moved_back e i h =
       ap (λ l. slice_get l (i - s.len)) (hidden_after e) ∙ sym (behind (i - s.len) (omega arith))
-      ∙ ap (slice_get (moves.front ++ (stamps_from s.first s.len ++ moves.back))) (let same : i - s.len + s.len ≡ i = omega arith in same)
+      ∙ ap (slice_get (moves.front ++ (stamps_from s.first s.len ++ moves.back)))
+      (let same : i - s.len + s.len ≡ i = omega arith in same)
       ∙ sym (ap (λ l. slice_get l i) (hidden_before e))
 
   -- a character of a hidden stretch
-  pub gone : s.shows ≡ false → (i : ℕ) → s.at ≤ i → i < s.at + s.len → slice_get old i ≡ Some (so_far_behind s.first (i - s.at))
+  pub gone : s.shows ≡ false → (i : ℕ) → s.at ≤ i → i < s.at + s.len → slice_get old i
+      ≡ Some (so_far_behind s.first (i - s.at))
   gone e i h l =
       let place = moves.place in
       let size = length-stamps s.first s.len in

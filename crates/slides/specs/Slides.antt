@@ -1,5 +1,6 @@
 -- What came and went between two revisions, and how it moves the characters that stay.
-use Rattle.std.specs.Prelude.{◌≡◌, ℕ, ◌+◌, ◌≤◌, List, [], ◌∷◌, ◌++◌, length, drop, slice_get, nat_le, if◌then◌else◌, Some}
+use Rattle.std.specs.Prelude.{◌≡◌, ℕ, ◌+◌, ◌≤◌, List, [], ◌∷◌, ◌++◌, length, drop, slice_get, nat_le, if◌then◌else◌}
+use Rattle.std.specs.Prelude.{Some}
 use Rattle.std.specs.List.{prefix_len}
 use Rattle.pad_model.specs.Operation.{stamps_from}
 use Rattle.pad_model.specs.Stamp.{Stamp}

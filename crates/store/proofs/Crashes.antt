@@ -1,5 +1,6 @@
 -- What a crash leaves of a pad's file leads to a restarted state that the pad had.
-use Rattle.std.proofs.Common.{◌≡◌, ℕ, zero, suc, ◌≤◌, List, [], ◌∷◌, length, map, take, fold, bytes_eq, Some, Result, Ok, Err, refl, sym, ap, ◌∙◌, subst, arith}
+use Rattle.std.proofs.Common.{◌≡◌, ℕ, zero, suc, ◌≤◌, List, [], ◌∷◌, length, map, take, fold, bytes_eq, Some, Result}
+use Rattle.std.proofs.Common.{Ok, Err, refl, sym, ap, ◌∙◌, subst, arith}
 use Rattle.std.specs.List.{AllByRecursion}
 use Rattle.std.proofs.lemmas.Bool.{cond-true}
 use Rattle.std.proofs.lemmas.List.{take-map}
@@ -12,7 +13,8 @@ use Rattle.records.specs.Records.{rebuilt, replay, replay_all, replayed, unnamed
 use Rattle.records.specs.declared.kept_record.Record.{Record}
 use Rattle.records.proofs.Fronts.{front as records_front}
 use Rattle.store.specs.Entries.{entry_said}
-use Rattle.store.specs.Files.{Read, begun, entered, entry_behind, file_read, if_named, lines_read, pad_read, read_lines, read_on, said_at, text_at, unless_refused}
+use Rattle.store.specs.Files.{Read, begun, entered, entry_behind, file_read, if_named, lines_read, pad_read, read_lines}
+use Rattle.store.specs.Files.{read_on, said_at, text_at, unless_refused}
 use Rattle.store.specs.Laws.{Disk, IsLine, MayLeave, Say, entries_of, file_of}
 use Rattle.store.specs.Lines.{line_text, lines_behind, sum_after, whole_lines}
 use Rattle.store.specs.declared.entry.Entry.{Entry}
@@ -27,8 +29,10 @@ front_length (suc n) [] = omega arith
 front_length (suc n) (b ∷ bytes) = let h = front_length n bytes in omega (arith, h)
 
 -- what the line of a text says
-said_behind : (number : ℕ) (before text : List ℕ) (said : Entry) → entry_said text ≡ Some said → entry_behind number before (line_text before text) ≡ Ok (said, sum_after before text)
-said_behind number before text said is = ap (text_at number before) (text_found before text) ∙ ap (said_at number (sum_after before text)) is
+said_behind : (number : ℕ) (before text : List ℕ) (said : Entry) → entry_said text ≡ Some said →
+    entry_behind number before (line_text before text) ≡ Ok (said, sum_after before text)
+said_behind number before text said is = ap (text_at number before) (text_found before text)
+    ∙ ap (said_at number (sum_after before text)) is
 
 -- the first texts say the first of it
 say_front : (n : ℕ) (says : List Entry) (texts : List (List ℕ)) → Say says texts → Say (take n says) (take n texts)
@@ -62,7 +66,8 @@ abbrev Leads : Result Read Damage → Machine → Type 0
 Leads result m = (read : Read) × (read.pad ≡ m) × (result ≡ Ok read)
 
 -- lines that say records lead where the records lead
-pub records_read : (number : ℕ) (name : List ℕ) (records : List Record) (texts : List (List ℕ)) (before : Read) (m : Machine) → Say (map entry.Record records) texts → replay_all records before.pad ≡ Ok m →
+pub records_read : (number : ℕ) (name : List ℕ) (records : List Record) (texts : List (List ℕ)) (before : Read)
+    (m : Machine) → Say (map entry.Record records) texts → replay_all records before.pad ≡ Ok m →
     Leads (read_lines number name before (lines_behind before.sum texts)) m
 records_read number name [] [] before m says leads = (before, same leads, refl)
   where
@@ -71,14 +76,20 @@ records_read number name [] [] before m says leads = (before, same leads, refl)
 records_read number name [] (text ∷ texts) before m says leads = absurd says
 records_read number name (kept ∷ records) [] before m says leads = absurd says
 records_read number name (kept ∷ records) (text ∷ texts) before m (plain, is, says) leads =
-    subst (λ (r : Result Read Damage). Leads r m) (sym (ap (λ (r : Result (Entry × List ℕ) Damage). on (read_on (entered number name before) r)) (said_behind number before.sum text (entry.Record kept) is)))
-    (at (replay kept before.pad) leads (λ next. records_read (suc number) name records texts (record before { pad = next; sum = sum_after before.sum text }) m says))
+    subst (λ (r : Result Read Damage). Leads r m)
+    (sym (ap (λ (r : Result (Entry × List ℕ) Damage). on (read_on (entered number name before) r))
+    (said_behind number before.sum text (entry.Record kept) is)))
+    (at (replay kept before.pad) leads (λ next. records_read (suc number) name records texts
+    (record before { pad = next; sum = sum_after before.sum text }) m says))
   where
     on : Result Read Damage → Result Read Damage
     on r = read_on (λ next. read_lines (suc number) name next (lines_behind (sum_after before.sum text) texts)) r
 
-    at : (done : Result (Unit {0}) Refusal × Machine) → fold replayed (Rattle.records.specs.Records.unless_refused done) records ≡ Ok m →
-        ((next : Machine) → replay_all records next ≡ Ok m → Leads (read_lines (suc number) name (record before { pad = next; sum = sum_after before.sum text }) (lines_behind (sum_after before.sum text) texts)) m) →
+    at : (done : Result (Unit {0}) Refusal × Machine) →
+        fold replayed (Rattle.records.specs.Records.unless_refused done) records ≡ Ok m →
+        ((next : Machine) → replay_all records next ≡ Ok m →
+        Leads (read_lines (suc number) name (record before { pad = next; sum = sum_after before.sum text })
+        (lines_behind (sum_after before.sum text) texts)) m) →
         Leads (on (unless_refused number (sum_after before.sum text) before done)) m
     at (Ok done, next) leads more = more next leads
     at (Err e, next) leads more = absurd (err_is_no_ok e m (sym (refused_stays records e) ∙ leads))
@@ -95,21 +106,27 @@ Again replica name records m texts synced lines =
     × ((whole : ℕ) → whole ≤ length records → length (file_of (take (suc whole) texts)) ≤ synced → whole ≤ count)
 
 -- the first line is a header, and those behind it records
-file_again : (replica : ℕ) (name : List ℕ) (records : List Record) (text : List ℕ) (texts : List (List ℕ)) (had : Machine) →
-    entry_said text ≡ Some (entry.Header (record { pad = name; replica = replica })) → Say (map entry.Record records) texts → rebuilt replica records ≡ Ok (restarted had) →
+file_again : (replica : ℕ) (name : List ℕ) (records : List Record) (text : List ℕ) (texts : List (List ℕ))
+    (had : Machine) →
+    entry_said text ≡ Some (entry.Header (record { pad = name; replica = replica })) →
+    Say (map entry.Record records) texts → rebuilt replica records ≡ Ok (restarted had) →
     Leads (file_read replica name (lines_behind [] (text ∷ texts))) (restarted had)
 file_again replica name records text texts had is says leads =
-    subst (λ (r : Result Read Damage). Leads (read_on (λ before. read_lines 2 name before (lines_behind (sum_after [] text) texts)) r) (restarted had))
+    subst (λ (r : Result Read Damage). Leads
+    (read_on (λ before. read_lines 2 name before (lines_behind (sum_after [] text) texts)) r) (restarted had))
     (sym
-    (ap (read_on (begun replica name)) (said_behind 1 [] text (entry.Header (record { pad = name; replica = replica })) is)
+    (ap (read_on (begun replica name)) (said_behind 1 [] text (entry.Header (record { pad = name; replica = replica }))
+    is)
     ∙ cond-true (bytes_eq name name) (Ok first) (Err OtherPad) ((bytes_eq-Decides name name).1 refl)))
     (records_read 2 name records texts first (restarted had) says leads)
   where
     first : Read
     first = record { pad = unnamed replica; header = record { pad = name; replica = replica }; sum = sum_after [] text }
 
-pub left_again : (replica : ℕ) (name : List ℕ) (records : List Record) (m : Machine) (texts : List (List ℕ)) (disk : Disk) (bytes : List ℕ) →
-    Life replica records m → Say (entries_of replica name records) texts → disk.written ≡ file_of texts → MayLeave disk bytes → length (file_of (take 1 texts)) ≤ length bytes →
+pub left_again : (replica : ℕ) (name : List ℕ) (records : List Record) (m : Machine) (texts : List (List ℕ))
+    (disk : Disk) (bytes : List ℕ) →
+    Life replica records m → Say (entries_of replica name records) texts → disk.written ≡ file_of texts →
+    MayLeave disk bytes → length (file_of (take 1 texts)) ≤ length bytes →
     Again replica name records m texts disk.synced (whole_lines bytes)
 left_again replica name records m [] disk bytes life says written left first = absurd says
 left_again replica name records m (text ∷ texts) disk bytes life (plain, is, says) written (n, synced, cut) first =
@@ -119,10 +136,12 @@ left_again replica name records m (text ∷ texts) disk bytes life (plain, is, s
     lines_left = ap whole_lines (cut ∙ ap (take n) written)
 
     far : length (file_of (take 1 (text ∷ texts))) ≤ n
-    far = let cut_length : length bytes ≤ n = subst (λ (bs : List ℕ). length bs ≤ n) (sym cut) (front_length n disk.written) in omega (arith, first, cut_length)
+    far = let cut_length : length bytes ≤ n = subst (λ (bs : List ℕ). length bs ≤ n) (sym cut)
+        (front_length n disk.written) in omega (arith, first, cut_length)
 
     at : ((count : ℕ) × (whole_lines (take n (file_of (text ∷ texts))) ≡ lines_behind [] (take count (text ∷ texts)))
-        × ((whole : ℕ) → whole ≤ length (text ∷ texts) → length (file_of (take whole (text ∷ texts))) ≤ n → whole ≤ count)) →
+        × ((whole : ℕ) → whole ≤ length (text ∷ texts) → length (file_of (take whole (text ∷ texts))) ≤ n →
+        whole ≤ count)) →
         Again replica name records m (text ∷ texts) disk.synced (whole_lines bytes)
     at (zero, lines, least) = absurd (none (least 1 (omega arith) far))
       where
@@ -130,32 +149,45 @@ left_again replica name records m (text ∷ texts) disk bytes life (plain, is, s
         none h = omega arith
     at (suc k, lines, least) = found (records_front replica records m k life)
       where
-        found : ((had : Machine) × Had replica records m (take k records) had × (rebuilt replica (take k records) ≡ Ok (restarted had))) → Again replica name records m (text ∷ texts) disk.synced (whole_lines bytes)
+        found : ((had : Machine) × Had replica records m (take k records) had
+            × (rebuilt replica (take k records) ≡ Ok (restarted had))) →
+            Again replica name records m (text ∷ texts) disk.synced (whole_lines bytes)
         found (had, there, leads) = (
           k,
           had,
           there,
           subst (λ ls. Leads (file_read replica name ls) (restarted had)) (sym (lines_left ∙ lines))
-              (file_again replica name (take k records) text (take k texts) had is (subst (λ (es : List Entry). Say es (take k texts)) (take-map entry.Record k records) (say_front k (map entry.Record records) texts says)) leads),
+              (file_again replica name (take k records) text (take k texts) had is
+              (subst (λ (es : List Entry). Say es (take k texts)) (take-map entry.Record k records)
+              (say_front k (map entry.Record records) texts says)) leads),
           most,
         )
           where
-            most : (whole : ℕ) → whole ≤ length records → length (file_of (take (suc whole) (text ∷ texts))) ≤ disk.synced → whole ≤ k
-            most whole few short = omega (arith, least (suc whole) (counted few (say_length (map entry.Record records) texts says) (map_length records)) (reach short synced))
+            most : (whole : ℕ) → whole ≤ length records → length (file_of (take (suc whole) (text ∷ texts)))
+                ≤ disk.synced → whole ≤ k
+            most whole few short = omega (
+              arith,
+              least (suc whole) (counted few (say_length (map entry.Record records) texts says) (map_length records))
+                  (reach short synced),
+            )
               where
-                counted : whole ≤ length records → length texts ≡ length (map entry.Record records) → length (map entry.Record records) ≡ length records → suc whole ≤ length (text ∷ texts)
+                counted : whole ≤ length records → length texts ≡ length (map entry.Record records) →
+                    length (map entry.Record records) ≡ length records → suc whole ≤ length (text ∷ texts)
                 counted a b c = omega arith
 
-                reach : length (file_of (take (suc whole) (text ∷ texts))) ≤ disk.synced → disk.synced ≤ n → length (file_of (take (suc whole) (text ∷ texts))) ≤ n
+                reach : length (file_of (take (suc whole) (text ∷ texts))) ≤ disk.synced → disk.synced ≤ n →
+                    length (file_of (take (suc whole) (text ∷ texts))) ≤ n
                 reach a b = omega arith
 
 -- what was read of lines is what the file's bytes lead to, if the pad has the name
-pub named_read : (replica : ℕ) (name bytes : List ℕ) (read : Read) → file_read replica name (whole_lines bytes) ≡ Ok read → pad_read replica name bytes ≡ if_named name read
+pub named_read : (replica : ℕ) (name bytes : List ℕ) (read : Read) → file_read replica name (whole_lines bytes)
+    ≡ Ok read → pad_read replica name bytes ≡ if_named name read
 named_read replica name bytes read is = at (whole_lines bytes) is
   where
     no_line : (let r : Result Read Damage = Err Empty in r) ≡ Ok read → ⊥
     no_line e = cc
 
-    at : (lines : List (List ℕ)) → file_read replica name lines ≡ Ok read → lines_read replica name bytes lines ≡ if_named name read
+    at : (lines : List (List ℕ)) → file_read replica name lines ≡ Ok read → lines_read replica name bytes lines
+        ≡ if_named name read
     at [] e = absurd (no_line e)
     at (first ∷ lines) e = ap (read_on (if_named name)) e

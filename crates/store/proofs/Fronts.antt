@@ -1,5 +1,7 @@
 -- The whole lines of a front of a file are those of its first texts.
-use Rattle.std.proofs.Common.{◌≡◌, ◌⊎◌, inl, inr, ℕ, zero, suc, ◌+◌, ◌-◌, ◌*◌, ◌/◌, ◌%◌, ◌≤◌, ◌<◌, ◌≢◌, nat_le, eqb, eq-eqb, not, ◌&&◌, Bool, true, false, true≢false, List, [], ◌∷◌, ◌++◌, length, take, drop, codes, slice_index, bytes_eq, Some, refl, sym, ap, ◌∙◌, arith, append_assoc}
+use Rattle.std.proofs.Common.{◌≡◌, ◌⊎◌, inl, inr, ℕ, zero, suc, ◌+◌, ◌-◌, ◌*◌, ◌/◌, ◌%◌, ◌≤◌, ◌<◌, ◌≢◌, nat_le, eqb}
+use Rattle.std.proofs.Common.{eq-eqb, not, ◌&&◌, Bool, true, false, true≢false, List, [], ◌∷◌, ◌++◌, length, take, drop}
+use Rattle.std.proofs.Common.{codes, slice_index, bytes_eq, Some, refl, sym, ap, ◌∙◌, arith, append_assoc}
 use Rattle.std.specs.List.{AllByRecursion}
 use Rattle.std.proofs.lemmas.Bool.{cond-true, cond-false, le-ltb, ne_eqb}
 use Rattle.std.proofs.lemmas.Bool.Decides.{leb_tells}
@@ -31,8 +33,10 @@ none_whole (b ∷ line) (suc n) (ne, h) = rw (ne_eqb b 10 ne) (ap (with_byte b) 
 -- lines that some counts of texts stand for
 abbrev Fronted : List ℕ → List (List ℕ) → ℕ → Type 0
 Fronted before texts left =
-    (count : ℕ) × (whole_lines (take left (bytes_of (lines_behind before texts))) ≡ lines_behind before (take count texts))
-    × ((whole : ℕ) → whole ≤ length texts → length (bytes_of (lines_behind before (take whole texts))) ≤ left → whole ≤ count)
+    (count : ℕ) × (whole_lines (take left (bytes_of (lines_behind before texts)))
+    ≡ lines_behind before (take count texts))
+    × ((whole : ℕ) → whole ≤ length texts → length (bytes_of (lines_behind before (take whole texts))) ≤ left →
+    whole ≤ count)
 
 -- whether a text has no line feed
 abbrev is_plain : List ℕ → Bool
@@ -65,11 +69,16 @@ sum_line before text = encoded_line lower_digits (sha256 (before ++ text)) (plai
 
 text_line : (before text : List ℕ) → IsLine text → IsLine (line_text before text)
 text_line before text h =
-    line_append (((codes "[" ++ text) ++ codes ",\"") ++ sum_after before text) (codes "\"]") (line_append ((codes "[" ++ text) ++ codes ",\"") (sum_after before text) (line_append (codes "[" ++ text) (codes ",\"") (line_append (codes "[") text (plain_line (codes "[") refl) h) (plain_line (codes ",\"") refl)) (sum_line before text)) (plain_line (codes "\"]") refl)
+    line_append (((codes "[" ++ text) ++ codes ",\"") ++ sum_after before text) (codes "\"]")
+    (line_append ((codes "[" ++ text) ++ codes ",\"") (sum_after before text)
+    (line_append (codes "[" ++ text) (codes ",\"") (line_append (codes "[") text (plain_line (codes "[") refl) h)
+    (plain_line (codes ",\"") refl)) (sum_line before text)) (plain_line (codes "\"]") refl)
 
-pub front : (before : List ℕ) (texts : List (List ℕ)) (left : ℕ) → AllByRecursion IsLine texts → Fronted before texts left
+pub front : (before : List ℕ) (texts : List (List ℕ)) (left : ℕ) → AllByRecursion IsLine texts →
+    Fronted before texts left
 front before [] left h = (0, ap whole_lines (take-nil left), λ whole few short. few)
-front before (text ∷ texts) left (first, rest) = at (leb_tells left (length line)) (λ n. front (sum_after before text) texts n rest)
+front before (text ∷ texts) left (first, rest) = at (leb_tells left (length line))
+    (λ n. front (sum_after before text) texts n rest)
   where
     line : List ℕ
     line = line_text before text
@@ -77,15 +86,25 @@ front before (text ∷ texts) left (first, rest) = at (leb_tells left (length li
     more : List ℕ
     more = bytes_of (lines_behind (sum_after before text) texts)
 
-    at : ((nat_le left (length line) ≡ true) × (left ≤ length line)) ⊎ ((nat_le left (length line) ≡ false) × (length line < left)) → ((n : ℕ) → Fronted (sum_after before text) texts n) → Fronted before (text ∷ texts) left
-    at (inl (_, low)) next =
-        (0, ap whole_lines (take-append-le left line (10 ∷ more) low) ∙ none_whole line left (text_line before text first), least)
+    at : ((nat_le left (length line) ≡ true) × (left ≤ length line))
+        ⊎ ((nat_le left (length line) ≡ false) × (length line < left)) →
+        ((n : ℕ) → Fronted (sum_after before text) texts n) → Fronted before (text ∷ texts) left
+    at (inl (_, low)) next = (
+      0,
+      ap whole_lines (take-append-le left line (10 ∷ more) low)
+          ∙ none_whole line left (text_line before text first),
+      least,
+    )
       where
-        least : (whole : ℕ) → whole ≤ length (text ∷ texts) → length (bytes_of (lines_behind before (take whole (text ∷ texts)))) ≤ left → whole ≤ 0
+        least : (whole : ℕ) → whole ≤ length (text ∷ texts) →
+            length (bytes_of (lines_behind before (take whole (text ∷ texts)))) ≤ left → whole ≤ 0
         least zero few short = omega arith
-        least (suc whole) few short = absurd (too_long (length-append line (10 ∷ bytes_of (lines_behind (sum_after before text) (take whole texts)))) short)
+        least (suc whole) few short = absurd
+            (too_long (length-append line (10 ∷ bytes_of (lines_behind (sum_after before text) (take whole texts))))
+            short)
           where
-            too_long : length (line ++ 10 ∷ bytes_of (lines_behind (sum_after before text) (take whole texts))) ≡ length line + suc (length (bytes_of (lines_behind (sum_after before text) (take whole texts)))) →
+            too_long : length (line ++ 10 ∷ bytes_of (lines_behind (sum_after before text) (take whole texts)))
+                ≡ length line + suc (length (bytes_of (lines_behind (sum_after before text) (take whole texts)))) →
                 length (line ++ 10 ∷ bytes_of (lines_behind (sum_after before text) (take whole texts))) ≤ left → ⊥
             too_long all short = omega arith
     at (inr (_, high)) next = past (left - length line - 1) (omega arith)
@@ -94,23 +113,39 @@ front before (text ∷ texts) left (first, rest) = at (leb_tells left (length li
         past n is = behind (next n)
           where
             behind : Fronted (sum_after before text) texts n → Fronted before (text ∷ texts) left
-            behind (count, lines, least) =
-                (suc count, ap (λ k. whole_lines (take k (line ++ 10 ∷ more))) is ∙ (ap whole_lines (take-append-add line (10 ∷ more) (suc n)) ∙ (whole_first line (take n more) (text_line before text first) ∙ ap (λ ls. line ∷ ls) lines)), most)
+            behind (count, lines, least) = (
+              suc count,
+              ap (λ k. whole_lines (take k (line ++ 10 ∷ more))) is
+                  ∙ (ap whole_lines (take-append-add line (10 ∷ more) (suc n))
+                  ∙ (whole_first line (take n more) (text_line before text first) ∙ ap (λ ls. line ∷ ls) lines)),
+              most,
+            )
               where
-                most : (whole : ℕ) → whole ≤ length (text ∷ texts) → length (bytes_of (lines_behind before (take whole (text ∷ texts)))) ≤ left → whole ≤ suc count
+                most : (whole : ℕ) → whole ≤ length (text ∷ texts) →
+                    length (bytes_of (lines_behind before (take whole (text ∷ texts)))) ≤ left → whole ≤ suc count
                 most zero few short = omega arith
-                most (suc whole) few short = omega (arith, least whole (omega arith) (shorter (length-append line (10 ∷ bytes_of (lines_behind (sum_after before text) (take whole texts)))) short))
+                most (suc whole) few short = omega (
+                  arith,
+                  least whole (omega arith) (shorter
+                      (length-append line (10 ∷ bytes_of (lines_behind (sum_after before text) (take whole texts))))
+                      short),
+                )
                   where
-                    shorter : length (line ++ 10 ∷ bytes_of (lines_behind (sum_after before text) (take whole texts))) ≡ length line + suc (length (bytes_of (lines_behind (sum_after before text) (take whole texts)))) →
-                        length (line ++ 10 ∷ bytes_of (lines_behind (sum_after before text) (take whole texts))) ≤ left → length (bytes_of (lines_behind (sum_after before text) (take whole texts))) ≤ n
+                    shorter : length (line ++ 10 ∷ bytes_of (lines_behind (sum_after before text) (take whole texts)))
+                        ≡ length line + suc (length (bytes_of (lines_behind (sum_after before text)
+                        (take whole texts)))) →
+                        length (line ++ 10 ∷ bytes_of (lines_behind (sum_after before text) (take whole texts)))
+                        ≤ left → length (bytes_of (lines_behind (sum_after before text) (take whole texts))) ≤ n
                     shorter all short = omega arith
 
 digest_length : (h : List ℕ) (n : ℕ) → length (digest_bytes h n) ≡ 4 * n
 unfolding digest_bytes
 digest_length h zero = refl
-digest_length h (suc n) = length-append (digest_bytes h n) (to_be_bytes w32 (slice_index h n)) ∙ step (digest_length h n) refl
+digest_length h (suc n) = length-append (digest_bytes h n) (to_be_bytes w32 (slice_index h n))
+    ∙ step (digest_length h n) refl
   where
-    step : length (digest_bytes h n) ≡ 4 * n → length (to_be_bytes w32 (slice_index h n)) ≡ 4 → length (digest_bytes h n) + length (to_be_bytes w32 (slice_index h n)) ≡ 4 * suc n
+    step : length (digest_bytes h n) ≡ 4 * n → length (to_be_bytes w32 (slice_index h n)) ≡ 4 →
+        length (digest_bytes h n) + length (to_be_bytes w32 (slice_index h n)) ≡ 4 * suc n
     step a b = omega arith
 
 pub sum_length : (before text : List ℕ) → length (sum_after before text) ≡ 64
@@ -118,29 +153,37 @@ unfolding sha256
 sum_length before text = length-encode_with lower_digits (sha256 (before ++ text)) ∙ ap (λ n. 2 * n) (digest_length _ 8)
 
 -- a line with its text in one piece
-line_parts : (before text : List ℕ) → line_text before text ≡ 91 ∷ (text ++ (codes ",\"" ++ (sum_after before text ++ codes "\"]")))
+line_parts : (before text : List ℕ) → line_text before text ≡ 91
+    ∷ (text ++ (codes ",\"" ++ (sum_after before text ++ codes "\"]")))
 line_parts before text =
     append_assoc ((codes "[" ++ text) ++ codes ",\"") (sum_after before text) (codes "\"]")
     ∙ (append_assoc (codes "[" ++ text) (codes ",\"") (sum_after before text ++ codes "\"]"))
 
 line_length : (before text : List ℕ) → length (line_text before text) ≡ length text + 69
-line_length before text = ap length (line_parts before text) ∙ at (length-append text (codes ",\"" ++ (sum_after before text ++ codes "\"]"))) (length-append (sum_after before text) (codes "\"]")) (sum_length before text)
+line_length before text = ap length (line_parts before text)
+    ∙ at (length-append text (codes ",\"" ++ (sum_after before text ++ codes "\"]")))
+    (length-append (sum_after before text) (codes "\"]")) (sum_length before text)
   where
-    at : length (text ++ (codes ",\"" ++ (sum_after before text ++ codes "\"]"))) ≡ length text + suc (suc (length (sum_after before text ++ codes "\"]"))) →
-        length (sum_after before text ++ codes "\"]") ≡ length (sum_after before text) + 2 → length (sum_after before text) ≡ 64 →
+    at : length (text ++ (codes ",\"" ++ (sum_after before text ++ codes "\"]"))) ≡ length text
+        + suc (suc (length (sum_after before text ++ codes "\"]"))) →
+        length (sum_after before text ++ codes "\"]") ≡ length (sum_after before text) + 2 →
+        length (sum_after before text) ≡ 64 →
         suc (length (text ++ (codes ",\"" ++ (sum_after before text ++ codes "\"]")))) ≡ length text + 69
     at a b c = omega arith
 
 text_there : (before text : List ℕ) → take (length (line_text before text) - 69) (drop 1 (line_text before text)) ≡ text
 text_there before text =
     ap (λ line. take (length line - 69) (drop 1 line)) (line_parts before text)
-    ∙ (ap (λ n. take n (text ++ (codes ",\"" ++ (sum_after before text ++ codes "\"]")))) (counted (ap length (sym (line_parts before text)) ∙ line_length before text))
+    ∙ (ap (λ n. take n (text ++ (codes ",\"" ++ (sum_after before text ++ codes "\"]"))))
+    (counted (ap length (sym (line_parts before text)) ∙ line_length before text))
     ∙ take-append_seam text (codes ",\"" ++ (sum_after before text ++ codes "\"]")))
   where
-    counted : suc (length (text ++ (codes ",\"" ++ (sum_after before text ++ codes "\"]")))) ≡ length text + 69 → suc (length (text ++ (codes ",\"" ++ (sum_after before text ++ codes "\"]")))) - 69 ≡ length text
+    counted : suc (length (text ++ (codes ",\"" ++ (sum_after before text ++ codes "\"]")))) ≡ length text + 69 →
+        suc (length (text ++ (codes ",\"" ++ (sum_after before text ++ codes "\"]")))) - 69 ≡ length text
     counted e = omega arith
 
 pub text_found : (before text : List ℕ) → text_behind before (line_text before text) ≡ Some text
 text_found before text =
     cond-false _ _ _ (le-ltb (length (line_text before text)) 69 (omega (arith, line_length before text)))
-    ∙ (cond-true _ _ _ (ap (λ t. bytes_eq (line_text before text) (line_text before t)) (text_there before text) ∙ (bytes_eq-Decides (line_text before text) (line_text before text)).1 refl) ∙ ap Some (text_there before text))
+    ∙ (cond-true _ _ _ (ap (λ t. bytes_eq (line_text before text) (line_text before t)) (text_there before text)
+    ∙ (bytes_eq-Decides (line_text before text) (line_text before text)).1 refl) ∙ ap Some (text_there before text))

@@ -1,5 +1,7 @@
 -- What is written of a header and of a record says it, and is one line.
-use Rattle.std.proofs.Common.{◌≡◌, ℕ, ◌≤◌, ◌≢◌, List, [], ◌∷◌, Bool, true, false, true≢false, Option, Some, None, option_map, option_and_then, Result, Ok, Err, IfOk, refl, sym, ap, ◌∙◌, subst, arith, lit≤}
+use Rattle.std.proofs.Common.{◌≡◌, ℕ, ◌≤◌, ◌≢◌, List, [], ◌∷◌, Bool, true, false, true≢false, Option, Some, None}
+use Rattle.std.proofs.Common.{option_map, option_and_then, Result, Ok, Err, IfOk, refl, sym, ap, ◌∙◌, subst, arith}
+use Rattle.std.proofs.Common.{lit≤}
 use Rattle.std.specs.List.{AllByRecursion}
 use Rattle.std.specs.Str.{IsUtf8}
 use Rattle.serde_json.specs.Data.{Data, depth}
@@ -52,7 +54,8 @@ record_is_shallow at (Granted author given) = lit≤ tt
 record_is_shallow at Visited = lit≤ tt
 record_is_shallow at (Delivered op) = omega (arith, push_is_shallow [] op)
 
-granted_again : (at : ℕ) (author : List ℕ) (given : Option Right) → entry_in (record_data at (Granted author given)) ≡ Some (entry.Record (Granted author given))
+granted_again : (at : ℕ) (author : List ℕ) (given : Option Right) → entry_in (record_data at (Granted author given))
+    ≡ Some (entry.Record (Granted author given))
 granted_again at author None = refl
 granted_again at author (Some right.Read) = refl
 granted_again at author (Some right.Comment) = refl
@@ -60,18 +63,23 @@ granted_again at author (Some right.Write) = refl
 granted_again at author (Some right.Own) = refl
 
 -- what a record is written as is read as the record
-pub record_again : (at : ℕ) (kept : Record) → IsSayableRecord kept → entry_in (record_data at kept) ≡ Some (entry.Record kept)
+pub record_again : (at : ℕ) (kept : Record) → IsSayableRecord kept → entry_in (record_data at kept)
+    ≡ Some (entry.Record kept)
 record_again at (Named name owner) h = refl
 record_again at (Granted author given) h = granted_again at author given
 record_again at Visited h = refl
-record_again at (Delivered op) (checked, sayable) = ap (λ (o : Option Op). option_map entry.Record (option_map Delivered o)) (reads_again op checked sayable)
+record_again at (Delivered op) (checked, sayable) =
+    ap (λ (o : Option Op). option_map entry.Record (option_map Delivered o)) (reads_again op checked sayable)
 
-pub header_again : (pad : List ℕ) (replica : ℕ) → entry_in (header_data pad replica) ≡ Some (entry.Header (record { pad = pad; replica = replica }))
+pub header_again : (pad : List ℕ) (replica : ℕ) → entry_in (header_data pad replica)
+    ≡ Some (entry.Header (record { pad = pad; replica = replica }))
 header_again pad replica = refl
 
 -- the text of a value that is read as an entry
-pub told : {A E : Type 0} (bytes_of : A → List ℕ) (r : Result A E) (v d : Data) (said : Entry) (Premise : Type 0) → ((x : A) → IsUtf8 (bytes_of x)) → v ≡ d → has_float d ≡ false → depth d ≤ max_depth →
-    (Premise → entry_in d ≡ Some said) → IfOk r (λ text. has_float v ≡ false → bytes_of text ≡ compact_text v) → IfOk r (λ text. depth v ≤ max_depth → read (bytes_of text) ≡ Some v) →
+pub told : {A E : Type 0} (bytes_of : A → List ℕ) (r : Result A E) (v d : Data) (said : Entry) (Premise : Type 0) →
+    ((x : A) → IsUtf8 (bytes_of x)) → v ≡ d → has_float d ≡ false → depth d ≤ max_depth →
+    (Premise → entry_in d ≡ Some said) → IfOk r (λ text. has_float v ≡ false → bytes_of text ≡ compact_text v) →
+    IfOk r (λ text. depth v ≤ max_depth → read (bytes_of text) ≡ Some v) →
     IfOk r (λ text. Premise → Tells said (bytes_of text))
 told bytes_of (Err e) v d said Premise utf8 same floatless low again compact back = tt
 told bytes_of (Ok text) v d said Premise utf8 same floatless low again compact back = λ premise. (plain, says premise)
@@ -81,10 +89,12 @@ told bytes_of (Ok text) v d said Premise utf8 same floatless low again compact b
 
     says : Premise → entry_said (bytes_of text) ≡ Some said
     says premise =
-        ap (option_and_then entry_in) (value_of_text (bytes_of text) v (utf8 text) (back (subst (λ x. depth x ≤ max_depth) (sym same) low)))
+        ap (option_and_then entry_in) (value_of_text (bytes_of text) v (utf8 text)
+        (back (subst (λ x. depth x ≤ max_depth) (sym same) low)))
         ∙ (ap entry_in same ∙ again premise)
 
 -- and where nothing is asked of the entry
-pub told_always : {A E : Type 0} (bytes_of : A → List ℕ) (r : Result A E) (said : Entry) → IfOk r (λ text. Unit {0} → Tells said (bytes_of text)) → IfOk r (λ text. Tells said (bytes_of text))
+pub told_always : {A E : Type 0} (bytes_of : A → List ℕ) (r : Result A E) (said : Entry) →
+    IfOk r (λ text. Unit {0} → Tells said (bytes_of text)) → IfOk r (λ text. Tells said (bytes_of text))
 told_always bytes_of (Ok text) said h = h tt
 told_always bytes_of (Err e) said h = tt

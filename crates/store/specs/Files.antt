@@ -1,5 +1,6 @@
 -- What the bytes of a pad's file lead to: a pad, or the first damage that is found.
-use Rattle.std.specs.Prelude.{ℕ, suc, List, [], ◌∷◌, codes, bytes_eq, ◌==◌, ◌||◌, if◌then◌else◌, string_bytes, Option, Some, None, Result, Ok, Err}
+use Rattle.std.specs.Prelude.{ℕ, suc, List, [], ◌∷◌, codes, bytes_eq, ◌==◌, ◌||◌, if◌then◌else◌, string_bytes, Option}
+use Rattle.std.specs.Prelude.{Some, None, Result, Ok, Err}
 use Rattle.std.specs.List.{starts_with}
 use Rattle.pad_model.specs.declared.refusal.Refusal.{Refusal}
 use Rattle.pad_core.specs.Machine.{Machine, name_of}
@@ -49,7 +50,8 @@ unless_refused number sum before (Err refusal, m) = Err (Refused number refusal)
 
 -- after the line with this number: a header names the same pad, and a record is replayed
 abbrev pub entered : ℕ → List ℕ → Read → Entry × List ℕ → Result Read Damage
-entered number name before (entry.Header header, sum) = if bytes_eq header.pad name then Ok (record before { header = header; sum = sum }) else Err OtherPad
+entered number name before (entry.Header header, sum) = if bytes_eq header.pad name
+    then Ok (record before { header = header; sum = sum }) else Err OtherPad
 entered number name before (entry.Record kept, sum) = unless_refused number sum before (replay kept before.pad)
 
 abbrev pub read_line : ℕ → List ℕ → Read → List ℕ → Result Read Damage
@@ -58,17 +60,20 @@ read_line number name before line = read_on (entered number name before) (entry_
 -- after some more lines, of which the first has this number
 abbrev pub read_lines : ℕ → List ℕ → Read → List (List ℕ) → Result Read Damage
 read_lines number name before [] = Ok before
-read_lines number name before (line ∷ lines) = read_on (λ next. read_lines (suc number) name next lines) (read_line number name before line)
+read_lines number name before (line ∷ lines) = read_on (λ next. read_lines (suc number) name next lines)
+    (read_line number name before line)
 
 -- after the first line, which is a header
 abbrev pub begun : ℕ → List ℕ → Entry × List ℕ → Result Read Damage
-begun replica name (entry.Header header, sum) = if bytes_eq header.pad name then Ok (record { pad = unnamed replica; header = header; sum = sum }) else Err OtherPad
+begun replica name (entry.Header header, sum) = if bytes_eq header.pad name
+    then Ok (record { pad = unnamed replica; header = header; sum = sum }) else Err OtherPad
 begun replica name (entry.Record kept, sum) = Err (Unknown 1)
 
 -- what the lines of the file of a pad lead to, on the server with this number
 abbrev pub file_read : ℕ → List ℕ → List (List ℕ) → Result Read Damage
 file_read replica name [] = Err Empty
-file_read replica name (first ∷ lines) = read_on (λ before. read_lines 2 name before lines) (read_on (begun replica name) (entry_behind 1 [] first))
+file_read replica name (first ∷ lines) = read_on (λ before. read_lines 2 name before lines)
+    (read_on (begun replica name) (entry_behind 1 [] first))
 
 -- a file that was read, if its pad has this name
 abbrev pub if_called : List ℕ → Read → Option (List ℕ) → Result Read Damage
@@ -84,13 +89,15 @@ beginning = codes "[{\"format\":"
 
 -- the damage of a file without a whole line: its first write was cut off, or it was never a pad's
 abbrev pub unbegun : List ℕ → Damage
-unbegun bytes = if starts_with (λ a b. a == b) bytes beginning || starts_with (λ a b. a == b) beginning bytes then Empty else Unlinked 1
+unbegun bytes = if starts_with (λ a b. a == b) bytes beginning || starts_with (λ a b. a == b) beginning bytes then Empty
+    else Unlinked 1
 
 -- the lines of a file with these bytes are read, if there are any
 abbrev pub lines_read : ℕ → List ℕ → List ℕ → List (List ℕ) → Result Read Damage
 lines_read replica name bytes [] = Err (unbegun bytes)
 lines_read replica name bytes (first ∷ lines) = read_on (if_named name) (file_read replica name (first ∷ lines))
 
--- what the bytes of a pad's file lead to on the server with this number: its whole lines are read, and its pad has this name
+-- what the bytes of a pad's file lead to on the server with this number: its whole lines are read, and its pad has this
+-- name
 abbrev pub pad_read : ℕ → List ℕ → List ℕ → Result Read Damage
 pad_read replica name bytes = lines_read replica name bytes (whole_lines bytes)

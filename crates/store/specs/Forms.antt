@@ -1,5 +1,6 @@
 -- What a record is written as, and read as. The time of day stands beside it, and is not read.
-use Rattle.std.specs.Prelude.{IsTrue, ℕ, List, [], ◌∷◌, codes, bytes_eq, if◌then◌else◌, Option, Some, None, option_map, option_and_then}
+use Rattle.std.specs.Prelude.{IsTrue, ℕ, List, [], ◌∷◌, codes, bytes_eq, if◌then◌else◌, Option, Some, None, option_map}
+use Rattle.std.specs.Prelude.{option_and_then}
 use Rattle.serde_json.specs.Data.{Data, string}
 use Rattle.serde_json.specs.Find.{as_str}
 use Rattle.pad_model.specs.Checked.{is_checked}
@@ -20,8 +21,10 @@ given_word (Some right) = right_word right
 
 -- the fields of a record beside its time
 abbrev pub record_fields : Record → List Field
-record_fields (Named name owner) = (codes "kind", string (codes "named")) ∷ (codes "name", string name) ∷ (codes "owner", string owner) ∷ []
-record_fields (Granted author right) = (codes "author", string author) ∷ (codes "kind", string (codes "granted")) ∷ (codes "right", string (given_word right)) ∷ []
+record_fields (Named name owner) = (codes "kind", string (codes "named")) ∷ (codes "name", string name)
+    ∷ (codes "owner", string owner) ∷ []
+record_fields (Granted author right) = (codes "author", string author) ∷ (codes "kind", string (codes "granted"))
+    ∷ (codes "right", string (given_word right)) ∷ []
 record_fields Visited = (codes "kind", string (codes "visited")) ∷ []
 record_fields (Delivered op) = (codes "kind", string (codes "delivered")) ∷ (codes "op", op_data op) ∷ []
 
@@ -44,7 +47,8 @@ text_in key d = field as_str key d
 abbrev pub record_of : List ℕ → Data → Option Record
 record_of kind d =
     if bytes_eq kind (codes "named") then of_two Named (text_in (codes "name") d) (text_in (codes "owner") d)
-    else if bytes_eq kind (codes "granted") then of_two Granted (text_in (codes "author") d) (option_and_then granted_by (text_in (codes "right") d))
+    else if bytes_eq kind (codes "granted") then of_two Granted (text_in (codes "author") d)
+    (option_and_then granted_by (text_in (codes "right") d))
     else if bytes_eq kind (codes "visited") then Some Visited
     else if bytes_eq kind (codes "delivered") then option_map Delivered (field op_in (codes "op") d)
     else None

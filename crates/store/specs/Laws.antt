@@ -23,7 +23,8 @@ Tells said text = IsLine text × (entry_said text ≡ Some said)
 abbrev pub file_of : List (List ℕ) → List ℕ
 file_of texts = bytes_of (lines_behind [] texts)
 
--- the whole lines of a file that was cut off anywhere are those of its first texts: at least of those that stand whole in front of the cut. And each line tells its text
+-- the whole lines of a file that was cut off anywhere are those of its first texts: at least of those that stand whole
+-- in front of the cut. And each line tells its text
 pub record LinesLaw : Type 0 where
   pub front : (texts : List (List ℕ)) (left : ℕ) → AllByRecursion IsLine texts →
       (count : ℕ) × (whole_lines (take left (file_of texts)) ≡ lines_behind [] (take count texts))
@@ -50,11 +51,16 @@ Say (said ∷ more) (text ∷ texts) = IsLine text × (entry_said text ≡ Some 
 abbrev pub entries_of : ℕ → List ℕ → List Record → List Entry
 entries_of replica name records = entry.Header (record { pad = name; replica = replica }) ∷ map entry.Record records
 
--- however much of a pad's file a crash leaves beyond its first line: it is read, as the restarted pad that was there when its first records had been left, and these are at least those that were synced
+-- however much of a pad's file a crash leaves beyond its first line: it is read, as the restarted pad that was there
+-- when its first records had been left, and these are at least those that were synced
 abbrev pub CrashLaw : Type 0
 CrashLaw =
-    (replica : ℕ) (name : List ℕ) (records : List Record) (m : Machine) (texts : List (List ℕ)) (disk : Disk) (bytes : List ℕ) →
-    Life replica records m → Say (entries_of replica name records) texts → disk.written ≡ file_of texts → MayLeave disk bytes → length (file_of (take 1 texts)) ≤ length bytes →
+    (replica : ℕ) (name : List ℕ) (records : List Record) (m : Machine) (texts : List (List ℕ)) (disk : Disk)
+    (bytes : List ℕ) →
+    Life replica records m → Say (entries_of replica name records) texts → disk.written ≡ file_of texts →
+    MayLeave disk bytes → length (file_of (take 1 texts)) ≤ length bytes →
     (count : ℕ) × (had : Machine) × Had replica records m (take count records) had
-    × (read : Read) × (read.pad ≡ restarted had) × (file_read replica name (whole_lines bytes) ≡ Ok read) × (pad_read replica name bytes ≡ if_named name read)
-    × ((synced : ℕ) → synced ≤ length records → length (file_of (take (suc synced) texts)) ≤ disk.synced → synced ≤ count)
+    × (read : Read) × (read.pad ≡ restarted had) × (file_read replica name (whole_lines bytes) ≡ Ok read)
+    × (pad_read replica name bytes ≡ if_named name read)
+    × ((synced : ℕ) → synced ≤ length records → length (file_of (take (suc synced) texts)) ≤ disk.synced →
+    synced ≤ count)

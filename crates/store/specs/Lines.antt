@@ -1,5 +1,6 @@
 -- The lines of a pad's file, and the sums that link them.
-use Rattle.std.specs.Prelude.{ℕ, ◌-◌, ◌==◌, nat_lt, if◌then◌else◌, Bool, List, [], ◌∷◌, ◌++◌, length, take, drop, codes, bytes_eq, Option, Some, None}
+use Rattle.std.specs.Prelude.{ℕ, ◌-◌, ◌==◌, nat_lt, if◌then◌else◌, Bool, List, [], ◌∷◌, ◌++◌, length, take, drop, codes}
+use Rattle.std.specs.Prelude.{bytes_eq, Option, Some, None}
 use Rattle.hex.specs.Hex.{encode_lower}
 use Rattle.sha2.specs.Sha256.{sha256}
 
@@ -15,7 +16,8 @@ line_text before text = codes "[" ++ text ++ codes ",\"" ++ sum_after before tex
 abbrev pub text_behind : List ℕ → List ℕ → Option (List ℕ)
 text_behind before line =
     if nat_lt (length line) 69 then None
-    else if bytes_eq line (line_text before (take (length line - 69) (drop 1 line))) then Some (take (length line - 69) (drop 1 line))
+    else if bytes_eq line (line_text before (take (length line - 69) (drop 1 line)))
+    then Some (take (length line - 69) (drop 1 line))
     else None
 
 -- the lines of some texts, one behind the other, the first behind a sum
@@ -32,7 +34,8 @@ abbrev pub bytes_of : List (List ℕ) → List ℕ
 bytes_of [] = []
 bytes_of (line ∷ lines) = line ++ 10 ∷ bytes_of lines
 
--- the lines with one more byte in front, which belongs to the first one; where none is whole, it belongs to no whole line
+-- the lines with one more byte in front, which belongs to the first one; where none is whole, it belongs to no whole
+-- line
 abbrev pub with_byte : ℕ → List (List ℕ) → List (List ℕ)
 with_byte byte [] = []
 with_byte byte (line ∷ lines) = (byte ∷ line) ∷ lines

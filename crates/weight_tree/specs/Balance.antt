@@ -13,7 +13,8 @@ IsTooHeavy heavy light = (3 * (light + 1) < heavy + 1) × (heavy + 1 ≤ 3 * (li
 abbrev pub IsNearlyBalanced : ℕ → ℕ → Type 0
 IsNearlyBalanced left right = (left + 1 ≤ 3 * (right + 2)) × (right + 1 ≤ 3 * (left + 2))
 
--- a single rotation, which moves the inner part of the heavy side over to the light side, leaves each pair of sides balanced
+-- a single rotation, which moves the inner part of the heavy side over to the light side, leaves each pair of sides
+-- balanced
 abbrev pub SingleMends : ℕ → ℕ → ℕ → Type 0
 SingleMends outer inner light = IsBalanced inner light × IsBalanced outer (inner + light + 1)
 
@@ -21,7 +22,8 @@ SingleMends outer inner light = IsBalanced inner light × IsBalanced outer (inne
 abbrev pub DoubleMends : ℕ → ℕ → ℕ → Type 0
 DoubleMends outer inner light =
     (0 < inner)
-    × ((near far : ℕ) → inner ≡ near + far + 1 → IsBalanced near far → IsBalanced outer near × IsBalanced far light × IsBalanced (outer + near + 1) (far + light + 1))
+    × ((near far : ℕ) → inner ≡ near + far + 1 → IsBalanced near far → IsBalanced outer near × IsBalanced far light
+    × IsBalanced (outer + near + 1) (far + light + 1))
 
 -- four to the height is at most three to the height times the size and one
 abbrev pub IsLow : ℕ → ℕ → Type 0

@@ -15,11 +15,14 @@ IsRising order items = IsNonDecreasingBy (λ item. ordering_index (order item)) 
 abbrev pub count_less : {T : Type 0} → (T → Ordering) → List T → ℕ
 count_less order items = count_by (λ item. is_lt (order item)) items
 
--- for each order that the closure computes and that rises along the items, the rank is how many of them it answers `Less` for
+-- for each order that the closure computes and that rises along the items, the rank is how many of them it answers
+-- `Less` for
 abbrev pub IsRankBy : {T F : Type 0} → Mut F (Bor T × Unit {0}) Ordering → F → List T → ℕ → Type 0
-IsRankBy {T} g f items rank = (order : T → Ordering) → ComputesKey g order f → IsRising order items → rank ≡ count_less order items
+IsRankBy {T} g f items rank = (order : T → Ordering) → ComputesKey g order f → IsRising order items →
+    rank ≡ count_less order items
 
 -- so many calls, each about an item, took the closure from the one state to the other
 abbrev pub AsksTimes : {T F : Type 0} → Mut F (Bor T × Unit {0}) Ordering → ℕ → F → F → Type 0
 AsksTimes g zero before after = after ≡ before
-AsksTimes {T} {F} g (suc n) before after = (item : T) × (answer : Ordering) × (next : F) × CalledAt g before item answer next × AsksTimes g n next after
+AsksTimes {T} {F} g (suc n) before after = (item : T) × (answer : Ordering) × (next : F)
+    × CalledAt g before item answer next × AsksTimes g n next after

@@ -31,6 +31,7 @@ IsWeightTree weight_of None = Unit {0}
 IsWeightTree weight_of (Some b) = IsMended weight_of b.value
 
 -- the items of two sides and one between them are few and light enough to be counted and weighed in 64 bits
-pub record FitTogether {T : Type 0} (weight_of : T → ℕ) (left : ItemsAndHeight T) (middle : T) (right : ItemsAndHeight T) : Type 0 where
+pub record FitTogether {T : Type 0} (weight_of : T → ℕ) (left : ItemsAndHeight T) (middle : T)
+    (right : ItemsAndHeight T) : Type 0 where
   pub size : length left.items + length right.items + 1 < 2 ^ 64
   pub weight : sum_by weight_of left.items + weight_of middle + sum_by weight_of right.items < 2 ^ 64

@@ -6,11 +6,13 @@ use Rattle.serde_json.specs.Find.{get, as_str}
 use Rattle.wire_json.specs.Reading.{field, text_in, right_in}
 use Rattle.wire_json.specs.Words.{granted_by}
 
-mapped : {A B : Type 0} (form : Data → Option A) (f : A → B) (found : Option Data) → option_and_then (λ d. option_map f (form d)) found ≡ option_map f (option_and_then form found)
+mapped : {A B : Type 0} (form : Data → Option A) (f : A → B) (found : Option Data) →
+    option_and_then (λ d. option_map f (form d)) found ≡ option_map f (option_and_then form found)
 mapped form f None = refl
 mapped form f (Some d) = refl
 
-chained : {A B : Type 0} (form : Data → Option A) (f : A → Option B) (found : Option Data) → option_and_then (λ d. option_and_then f (form d)) found ≡ option_and_then f (option_and_then form found)
+chained : {A B : Type 0} (form : Data → Option A) (f : A → Option B) (found : Option Data) →
+    option_and_then (λ d. option_and_then f (form d)) found ≡ option_and_then f (option_and_then form found)
 chained form f None = refl
 chained form f (Some d) = refl
 

@@ -1,11 +1,13 @@
 -- What is written has no byte below 32, and so no line feed.
-use Rattle.std.proofs.Common.{◌≡◌, ℕ, zero, suc, ◌+◌, ◌/◌, ◌%◌, ◌≤◌, ◌==◌, nat_lt, List, [], ◌∷◌, ◌++◌, Bool, true, false, if◌then◌else◌, pos, negsuc, decimal, refl, arith, lit≤}
+use Rattle.std.proofs.Common.{◌≡◌, ℕ, zero, suc, ◌+◌, ◌/◌, ◌%◌, ◌≤◌, ◌==◌, nat_lt, List, [], ◌∷◌, ◌++◌, Bool, true}
+use Rattle.std.proofs.Common.{false, if◌then◌else◌, pos, negsuc, decimal, refl, arith, lit≤}
 use Rattle.std.proofs.lemmas.Bool.{ltb-false}
 use Rattle.std.proofs.lemmas.Bool.Decides.{nat_tests}
 use Rattle.std.specs.Fmt.{digits, digits_onto, digit_glyph}
 use Rattle.std.specs.List.{AllByRecursion}
 use Rattle.json.specs.Print.{escape_letter, escape_byte, escape, quoted}
-use Rattle.serde_json.specs.Data.{Num, unsigned, negative, float, Data, null, boolean, number, string, array, object, Items, no_items, item, Members, no_members, member}
+use Rattle.serde_json.specs.Data.{Num, unsigned, negative, float, Data, null, boolean, number, string, array, object}
+use Rattle.serde_json.specs.Data.{Items, no_items, item, Members, no_members, member}
 use Rattle.serde_json.specs.Written.{number_text, comma_if, compact_text, items_text, members_text}
 
 abbrev IsPlain : List ℕ → Type 0
@@ -15,7 +17,8 @@ plain_append : (xs ys : List ℕ) → IsPlain xs → IsPlain ys → IsPlain (xs 
 plain_append [] ys hx hy = hy
 plain_append (x ∷ xs) ys hx hy = (hx.0, plain_append xs ys hx.1 hy)
 
-plain_if : (b : Bool) (xs ys : List ℕ) → (b ≡ true → IsPlain xs) → (b ≡ false → IsPlain ys) → IsPlain (if b then xs else ys)
+plain_if : (b : Bool) (xs ys : List ℕ) → (b ≡ true → IsPlain xs) → (b ≡ false → IsPlain ys) →
+    IsPlain (if b then xs else ys)
 plain_if true xs ys hx hy = hx refl
 plain_if false xs ys hx hy = hy refl
 
@@ -47,7 +50,19 @@ unfolding escape_byte
 byte_plain x =
     plain_if (nat_lt 0 (escape_letter x)) _ _ (λ h. (lit≤ tt, (letter_plain x h, tt)))
     (λ _. plain_if (nat_lt x 32) _ _
-    (λ _. (lit≤ tt, (lit≤ tt, (lit≤ tt, (lit≤ tt, (glyph_plain (nat_lt (x / 16) 10) (x / 16), (glyph_plain (nat_lt (x % 16) 10) (x % 16), tt)))))))
+    (λ _. (
+      lit≤ tt,
+      (
+        lit≤ tt,
+        (
+          lit≤ tt,
+          (
+            lit≤ tt,
+            (glyph_plain (nat_lt (x / 16) 10) (x / 16), (glyph_plain (nat_lt (x % 16) 10) (x % 16), tt)),
+          ),
+        ),
+      ),
+    ))
     (λ h. (ltb-false x 32 h, tt)))
 
 escape_plain : (xs : List ℕ) → IsPlain (escape xs)
@@ -75,7 +90,8 @@ mutual
   items_plain : (later : Bool) (ds : Items) → IsPlain (items_text later ds)
   items_plain later no_items = (lit≤ tt, tt)
   items_plain later (item d ds) =
-      plain_append (comma_if later) (compact_text d ++ items_text true ds) (comma_plain later) (plain_append (compact_text d) (items_text true ds) (text_plain d) (items_plain true ds))
+      plain_append (comma_if later) (compact_text d ++ items_text true ds) (comma_plain later)
+      (plain_append (compact_text d) (items_text true ds) (text_plain d) (items_plain true ds))
 
   members_plain : (later : Bool) (ms : Members) → IsPlain (members_text later ms)
   members_plain later no_members = (lit≤ tt, tt)

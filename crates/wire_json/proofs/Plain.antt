@@ -1,5 +1,6 @@
 -- What is written is plain: it holds no float, so its text is known, and it nests a few levels deep, so it can be read.
-use Rattle.std.proofs.Common.{◌≡◌, ℕ, ◌≤◌, List, [], ◌∷◌, map, false, Option, Some, None, Result, Ok, Err, refl, arith, lit≤}
+use Rattle.std.proofs.Common.{◌≡◌, ℕ, ◌≤◌, List, [], ◌∷◌, map, false, Option, Some, None, Result, Ok, Err, refl, arith}
+use Rattle.std.proofs.Common.{lit≤}
 use Rattle.serde_json.specs.Data.{Data, depth, items_depth}
 use Rattle.serde_json.specs.View.{items_of}
 use Rattle.serde_json.specs.Written.{has_float, items_have_float}
@@ -20,7 +21,8 @@ use Rattle.wire_json.specs.Forms.{parent_data, span_data, counted_data}
 use Rattle.wire_json.specs.Operations.{part_data, op_data}
 use Rattle.wire_json.specs.Peers.{peer_request, pull_request, vector_request, push_request}
 use Rattle.wire_json.specs.Requests.{op_of}
-use Rattle.wire_json.specs.Replies.{run_data, shown_data, entry_data, present_data, grant_data, pad_data, reply_data, outcome_data}
+use Rattle.wire_json.specs.Replies.{run_data, shown_data, entry_data, present_data, grant_data, pad_data, reply_data}
+use Rattle.wire_json.specs.Replies.{outcome_data}
 
 -- a value holds no float, and nests at most so many levels deep
 record IsPlain (most : ℕ) (d : Data) : Type 0 where

@@ -10,7 +10,8 @@ use Rattle.wire_json.specs.Lines.{value_of}
 pub value_of_text : (line : List ℕ) (d : Data) → IsUtf8 line → read line ≡ Some d → value_of line ≡ Some d
 value_of_text line d utf8 is = rw (is_utf8-from_IsUtf8 line utf8) is
 
-none_at : (line : List ℕ) (b : Bool) → is_utf8 line ≡ b → (IsUtf8 line → read line ≡ None) → (if b then read line else None) ≡ None
+none_at : (line : List ℕ) (b : Bool) → is_utf8 line ≡ b → (IsUtf8 line → read line ≡ None) →
+    (if b then read line else None) ≡ None
 none_at line true is refused = refused (IsUtf8-from_is_utf8 line is)
 none_at line false is refused = refl
 

@@ -1,5 +1,6 @@
 -- What a server asks a peer, and what it takes the peer's answers for.
-use Rattle.std.specs.Prelude.{ℕ, Bool, true, false, if◌then◌else◌, ◌==◌, List, [], ◌∷◌, codes, Option, None, Some, option_map, option_and_then}
+use Rattle.std.specs.Prelude.{ℕ, Bool, true, false, if◌then◌else◌, ◌==◌, List, [], ◌∷◌, codes, Option, None, Some}
+use Rattle.std.specs.Prelude.{option_map, option_and_then}
 use Rattle.serde_json.specs.Data.{Data, string}
 use Rattle.serde_json.specs.Find.{get, as_bool}
 use Rattle.pad_model.specs.declared.limits.TheConstants.{MAX_REPLICA}
@@ -20,12 +21,14 @@ use Rattle.wire_json.specs.declared.peer_answer.Told.TheVariants.{Said, Refused}
 -- a server begins a session at a peer, in version 2
 abbrev pub peer_request : ℕ → List ℕ → Data
 peer_request own token = fields_data
-    ((codes "do", string (codes "peer")) ∷ (codes "number", number_data own) ∷ (codes "token", string token) ∷ (codes "version", number_data 2) ∷ [])
+    ((codes "do", string (codes "peer")) ∷ (codes "number", number_data own) ∷ (codes "token", string token)
+    ∷ (codes "version", number_data 2) ∷ [])
 
 -- it asks for the first operations of a pad that these counts lack
 abbrev pub pull_request : List ℕ → List Counted → ℕ → Data
 pull_request pad seen most = fields_data
-    ((codes "do", string (codes "pull")) ∷ (codes "max", number_data most) ∷ (codes "pad", string pad) ∷ (codes "seen", seen_data seen) ∷ [])
+    ((codes "do", string (codes "pull")) ∷ (codes "max", number_data most) ∷ (codes "pad", string pad)
+    ∷ (codes "seen", seen_data seen) ∷ [])
 
 -- it asks for the counts of a pad
 abbrev pub vector_request : List ℕ → Data
@@ -33,7 +36,8 @@ vector_request pad = fields_data ((codes "do", string (codes "vector")) ∷ (cod
 
 -- it gives an operation of a pad
 abbrev pub push_request : List ℕ → Op → Data
-push_request pad op = fields_data ((codes "do", string (codes "push")) ∷ (codes "op", op_data op) ∷ (codes "pad", string pad) ∷ [])
+push_request pad op = fields_data ((codes "do", string (codes "push")) ∷ (codes "op", op_data op)
+    ∷ (codes "pad", string pad) ∷ [])
 
 -- a refusal has a number and a name
 abbrev pub refused_in : Data → Option Bool
@@ -58,7 +62,8 @@ answered_version (Some d) = option_and_then (λ n. if n == 2 then Some version.T
 
 -- the version of a peer, which tells its replica number too
 abbrev pub peer_answer : Data → Option Version
-peer_answer d = of_two (λ replica told. told) (field (within_in MAX_REPLICA) (codes "replica") d) (answered_version (get (codes "version") d))
+peer_answer d = of_two (λ replica told. told) (field (within_in MAX_REPLICA) (codes "replica") d)
+    (answered_version (get (codes "version") d))
 
 -- the counts of a peer's pad
 abbrev pub vector_answer : Data → Option (List Counted)

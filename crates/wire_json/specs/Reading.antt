@@ -1,5 +1,6 @@
 -- How values are read: a form of values says what each value of the form stands for, and nothing of others.
-use Rattle.std.specs.Prelude.{◌≡◌, ◌⊎◌, ℕ, ◌==◌, nat_lt, nat_le, if◌then◌else◌, List, [], ◌∷◌, Option, Some, None, option_map, option_and_then, is_some, Result, Err, MatchResult}
+use Rattle.std.specs.Prelude.{◌≡◌, ◌⊎◌, ℕ, ◌==◌, nat_lt, nat_le, if◌then◌else◌, List, [], ◌∷◌, Option, Some, None}
+use Rattle.std.specs.Prelude.{option_map, option_and_then, is_some, Result, Err, MatchResult}
 use Rattle.std.specs.Str.{chars}
 use Rattle.serde_json.specs.Data.{Data, Items, no_items, item}
 use Rattle.serde_json.specs.Find.{get, as_number, as_u64, as_str, as_array, as_null}
@@ -18,14 +19,17 @@ use Rattle.wire_json.specs.Words.{granted_by}
 
 -- what is expected was read, or there is nothing to expect, and it is no request
 abbrev pub IsForm : {A : Type 0} → Option A → Result A Refusal → Type 0
-IsForm expected result = MatchResult result (λ found. expected ≡ Some found) (λ refusal. (refusal ≡ NotRequest) × (expected ≡ None))
+IsForm expected result = MatchResult result (λ found. expected ≡ Some found) (λ refusal. (refusal ≡ NotRequest)
+    × (expected ≡ None))
 
 -- the same, or there was no memory
 abbrev pub IsRead : {A : Type 0} → Option A → Result A Refusal → Type 0
 IsRead expected result =
-    MatchResult result (λ found. expected ≡ Some found) (λ refusal. (refusal ≡ Memory) ⊎ ((refusal ≡ NotRequest) × (expected ≡ None)))
+    MatchResult result (λ found. expected ≡ Some found)
+    (λ refusal. (refusal ≡ Memory) ⊎ ((refusal ≡ NotRequest) × (expected ≡ None)))
 
--- a line was read so; or memory ran out while it was read, which is told at once: what follows in the line was not looked at
+-- a line was read so; or memory ran out while it was read, which is told at once: what follows in the line was not
+-- looked at
 abbrev pub IsLine : {A : Type 0} → Result A Refusal → Result A Refusal → Type 0
 IsLine expected result = (result ≡ Err Memory) ⊎ (expected ≡ result)
 
@@ -115,7 +119,8 @@ text_in d = option_map chars (as_str d)
 
 -- the stamp of a counter and a replica
 abbrev pub stamp_of : Data → Data → Option Stamp
-stamp_of counter replica = of_two (λ c r. record { counter = c; replica = r }) (within_in MAX_COUNTER counter) (within_in MAX_REPLICA replica)
+stamp_of counter replica = of_two (λ c r. record { counter = c; replica = r }) (within_in MAX_COUNTER counter)
+    (within_in MAX_REPLICA replica)
 
 -- a stamp
 abbrev pub stamp_in : Data → Option Stamp
@@ -123,7 +128,8 @@ stamp_in d = option_and_then (λ p. stamp_of p.0 p.1) (pair_in d)
 
 -- the name of an operation of an origin and a number
 abbrev pub op_name_of : Data → Data → Option OpName
-op_name_of origin count = of_two (λ o n. record { origin = o; number = n }) (within_in MAX_REPLICA origin) (positive_in count)
+op_name_of origin count = of_two (λ o n. record { origin = o; number = n }) (within_in MAX_REPLICA origin)
+    (positive_in count)
 
 -- the name of an operation
 abbrev pub op_name_in : Data → Option OpName
@@ -131,7 +137,8 @@ op_name_in d = option_and_then (λ p. op_name_of p.0 p.1) (pair_in d)
 
 -- the count of an origin
 abbrev pub counted_of : Data → Data → Option Counted
-counted_of origin count = of_two (λ o n. record { origin = o; count = n }) (within_in MAX_REPLICA origin) (positive_in count)
+counted_of origin count = of_two (λ o n. record { origin = o; count = n }) (within_in MAX_REPLICA origin)
+    (positive_in count)
 
 -- how many operations of an origin are known
 abbrev pub counted_in : Data → Option Counted
@@ -149,7 +156,8 @@ span_in d = option_and_then (λ t. span_of t.0 t.1 t.2) (triple_in d)
 abbrev pub rising_in : ℕ → Items → Option (List Counted)
 rising_in floor no_items = Some []
 rising_in floor (item d ds) =
-    option_and_then (λ pair. if nat_lt floor pair.origin then option_map (λ pairs. pair ∷ pairs) (rising_in pair.origin ds) else None) (counted_in d)
+    option_and_then (λ pair. if nat_lt floor pair.origin then option_map (λ pairs. pair ∷ pairs)
+    (rising_in pair.origin ds) else None) (counted_in d)
 
 -- a version vector
 abbrev pub seen_in : Data → Option (List Counted)

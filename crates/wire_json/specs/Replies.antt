@@ -18,7 +18,8 @@ use Rattle.pad_core.specs.declared.reply.PadReply.TheVariants as pad
 use Rattle.pad_core.specs.declared.reply.Reply.{Reply}
 use Rattle.pad_core.specs.declared.reply.Reply.TheVariants as reply
 use Rattle.wire_json.specs.Words.{right_word, kind_word, state_word}
-use Rattle.wire_json.specs.Forms.{Field, fields_data, list_data, each_data, number_data, text_data, op_name_data, seen_data, author_data}
+use Rattle.wire_json.specs.Forms.{Field, fields_data, list_data, each_data, number_data, text_data, op_name_data}
+use Rattle.wire_json.specs.Forms.{seen_data, author_data}
 use Rattle.wire_json.specs.Operations.{op_data}
 
 -- a stretch of one author
@@ -28,19 +29,23 @@ run_data run = list_data (author_data run.author ∷ number_data run.len ∷ [])
 -- a comment
 abbrev pub shown_data : Shown → Data
 shown_data shown = fields_data
-    ((codes "at", number_data shown.at) ∷ (codes "author", author_data shown.author) ∷ (codes "len", number_data shown.len)
-    ∷ (codes "name", op_name_data shown.name) ∷ (codes "resolved", boolean shown.resolved) ∷ (codes "text", text_data shown.text) ∷ [])
+    ((codes "at", number_data shown.at) ∷ (codes "author", author_data shown.author)
+    ∷ (codes "len", number_data shown.len)
+    ∷ (codes "name", op_name_data shown.name) ∷ (codes "resolved", boolean shown.resolved)
+    ∷ (codes "text", text_data shown.text) ∷ [])
 
 -- the operation that made a revision
 abbrev pub entry_data : Entry → Data
 entry_data entry = fields_data
-    ((codes "author", author_data entry.author) ∷ (codes "kind", string (kind_word entry.kind)) ∷ (codes "name", op_name_data entry.name)
+    ((codes "author", author_data entry.author) ∷ (codes "kind", string (kind_word entry.kind))
+    ∷ (codes "name", op_name_data entry.name)
     ∷ (codes "rev", number_data entry.rev) ∷ [])
 
 -- somebody who is present
 abbrev pub present_data : Present → Data
 present_data present =
-    fields_data ((codes "author", author_data present.author) ∷ (codes "caret", number_data present.caret) ∷ (codes "visit", number_data present.visit) ∷ [])
+    fields_data ((codes "author", author_data present.author) ∷ (codes "caret", number_data present.caret)
+    ∷ (codes "visit", number_data present.visit) ∷ [])
 
 -- a name and its right
 abbrev pub grant_data : Grant → Data
@@ -60,18 +65,22 @@ pad_data pad.Elsewhere = answer []
 pad_data (pad.Joined now visit) = pad_answer now ((codes "visit", number_data visit) ∷ [])
 pad_data (pad.Done now) = pad_answer now []
 pad_data (pad.Made now name) = pad_answer now ((codes "name", op_name_data name) ∷ [])
-pad_data (pad.Changed now name hidden) = pad_answer now ((codes "hidden", number_data hidden) ∷ (codes "name", op_name_data name) ∷ [])
+pad_data (pad.Changed now name hidden) =
+    pad_answer now ((codes "hidden", number_data hidden) ∷ (codes "name", op_name_data name) ∷ [])
 pad_data (pad.Text now rev text) = pad_answer now ((codes "rev", number_data rev) ∷ (codes "text", text_data text) ∷ [])
-pad_data (pad.Runs now rev runs) = pad_answer now ((codes "rev", number_data rev) ∷ (codes "runs", each_data run_data runs) ∷ [])
+pad_data (pad.Runs now rev runs) = pad_answer now ((codes "rev", number_data rev)
+    ∷ (codes "runs", each_data run_data runs) ∷ [])
 pad_data (pad.Comments now rev comments) =
     pad_answer now ((codes "comments", each_data shown_data comments) ∷ (codes "rev", number_data rev) ∷ [])
-pad_data (pad.Revs now cells length) = pad_answer now ((codes "cells", number_data cells) ∷ (codes "length", number_data length) ∷ [])
+pad_data (pad.Revs now cells length) = pad_answer now ((codes "cells", number_data cells)
+    ∷ (codes "length", number_data length) ∷ [])
 pad_data (pad.Entries now entries) = pad_answer now ((codes "entries", each_data entry_data entries) ∷ [])
 pad_data (pad.Who now who) = pad_answer now ((codes "who", each_data present_data who) ∷ [])
 pad_data (pad.Rights now rights) = pad_answer now ((codes "rights", each_data grant_data rights) ∷ [])
 pad_data (pad.Vector now seen) = pad_answer now ((codes "seen", seen_data seen) ∷ [])
 pad_data (pad.Pushed now state released dropped) =
-    pad_answer now ((codes "dropped", number_data dropped) ∷ (codes "released", number_data released) ∷ (codes "state", string (state_word state)) ∷ [])
+    pad_answer now ((codes "dropped", number_data dropped) ∷ (codes "released", number_data released)
+    ∷ (codes "state", string (state_word state)) ∷ [])
 pad_data (pad.Pulled now ops) = pad_answer now ((codes "ops", each_data op_data ops) ∷ [])
 
 -- the version of a session is told to who named it
@@ -89,7 +98,8 @@ reply_data reply.Ended = answer []
 -- why a request is refused
 abbrev pub refusal_data : Refusal → Data
 refusal_data refusal =
-    fields_data ((codes "code", number_data (code_of refusal)) ∷ (codes "error", string (name_of refusal)) ∷ (codes "ok", boolean false) ∷ [])
+    fields_data ((codes "code", number_data (code_of refusal)) ∷ (codes "error", string (name_of refusal))
+    ∷ (codes "ok", boolean false) ∷ [])
 
 -- a reply or a refusal
 abbrev pub outcome_data : Result Reply Refusal → Data
@@ -102,7 +112,8 @@ line_of outcome = compact_text (outcome_data outcome) ++ 10 ∷ []
 
 -- a line says a value: its text reads as it and has no byte below 32, so no line feed but the one behind it
 abbrev pub IsLineFor : Data → List ℕ → Type 0
-IsLineFor d line = (text : List ℕ) × (line ≡ text ++ 10 ∷ []) × AllByRecursion (λ byte. 32 ≤ byte) text × (read text ≡ Some d)
+IsLineFor d line = (text : List ℕ) × (line ≡ text ++ 10 ∷ []) × AllByRecursion (λ byte. 32 ≤ byte) text
+    × (read text ≡ Some d)
 
 -- bytes are the line of a value, and say it
 abbrev pub IsWritten : Data → List ℕ → Type 0

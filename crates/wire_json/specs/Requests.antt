@@ -1,5 +1,6 @@
 -- What requests and operations are read as. What is nothing here is no request.
-use Rattle.std.specs.Prelude.{ℕ, ◌==◌, if◌then◌else◌, Bool, true, false, List, [], ◌∷◌, length, Option, Some, None, option_map, option_and_then, is_some, bytes_eq, codes}
+use Rattle.std.specs.Prelude.{ℕ, ◌==◌, if◌then◌else◌, Bool, true, false, List, [], ◌∷◌, length, Option, Some, None}
+use Rattle.std.specs.Prelude.{option_map, option_and_then, is_some, bytes_eq, codes}
 use Rattle.serde_json.specs.Data.{Data}
 use Rattle.serde_json.specs.Find.{get}
 use Rattle.pad_model.specs.declared.op.Op.{Op}
@@ -18,7 +19,8 @@ use Rattle.pad_core.specs.declared.request.Request.TheVariants as request
 use Rattle.wire_json.specs.declared.act_word.ActWord.{ActWord}
 use Rattle.wire_json.specs.declared.act_word.ActWord.TheVariants as act_word
 use Rattle.wire_json.specs.Words.{kind_of_word, act_word_of}
-use Rattle.wire_json.specs.Reading.{of_two, of_three, of_four, field, null_or, optional, list_in, number_in, name_in, text_in, stamp_in, op_name_in, span_in, seen_in, right_in, version_of}
+use Rattle.wire_json.specs.Reading.{of_two, of_three, of_four, field, null_or, optional, list_in, number_in, name_in}
+use Rattle.wire_json.specs.Reading.{text_in, stamp_in, op_name_in, span_in, seen_in, right_in, version_of}
 
 -- the part of a kind
 abbrev pub part_of : Kind → Data → Option Part
@@ -27,7 +29,8 @@ part_of kind.Insert d =
     (field stamp_in (codes "first") d) (field (null_or stamp_in) (codes "after") d) (field text_in (codes "text") d)
 part_of kind.Delete d = option_map part.Delete (field (list_in span_in) (codes "spans") d)
 part_of kind.Comment d =
-    of_three part.Comment (field stamp_in (codes "first") d) (field stamp_in (codes "last") d) (field text_in (codes "text") d)
+    of_three part.Comment (field stamp_in (codes "first") d) (field stamp_in (codes "last") d)
+    (field text_in (codes "text") d)
 part_of kind.Resolve d = option_map part.Resolve (field op_name_in (codes "comment") d)
 part_of kind.Edit d = None
 
@@ -58,7 +61,8 @@ op_of name seen author parts = record { name = name; seen = seen; author = autho
 -- an operation
 abbrev pub op_in : Data → Option Op
 op_in d =
-    of_four op_of (field op_name_in (codes "name") d) (field seen_in (codes "seen") d) (field name_in (codes "author") d)
+    of_four op_of (field op_name_in (codes "name") d) (field seen_in (codes "seen") d)
+    (field name_in (codes "author") d)
     (option_and_then (λ k. parts_of k d) (kind_in d))
 
 -- a change has either a text or a length
@@ -70,19 +74,23 @@ change_of false false at d = None
 
 -- a change of an edit
 abbrev pub change_in : Data → Option Change
-change_in d = option_and_then (λ at. change_of (is_some (get (codes "text") d)) (is_some (get (codes "len") d)) at d) (field number_in (codes "at") d)
+change_in d = option_and_then (λ at. change_of (is_some (get (codes "text") d)) (is_some (get (codes "len") d)) at d)
+    (field number_in (codes "at") d)
 
 -- the act that its word names, from the fields that it takes
 abbrev pub act_of : ActWord → Data → Option Act
 act_of act_word.Join d = Some act.Join
 act_of act_word.Leave d = Some act.Leave
 act_of act_word.Insert d =
-    of_three act.Insert (field number_in (codes "rev") d) (field number_in (codes "at") d) (field text_in (codes "text") d)
+    of_three act.Insert (field number_in (codes "rev") d) (field number_in (codes "at") d)
+    (field text_in (codes "text") d)
 act_of act_word.Delete d =
-    of_three act.Delete (field number_in (codes "rev") d) (field number_in (codes "at") d) (field number_in (codes "len") d)
+    of_three act.Delete (field number_in (codes "rev") d) (field number_in (codes "at") d)
+    (field number_in (codes "len") d)
 act_of act_word.Edit d = of_two act.Edit (field number_in (codes "rev") d) (field (list_in change_in) (codes "parts") d)
 act_of act_word.Comment d =
-    of_four act.Comment (field number_in (codes "rev") d) (field number_in (codes "at") d) (field number_in (codes "len") d)
+    of_four act.Comment (field number_in (codes "rev") d) (field number_in (codes "at") d)
+    (field number_in (codes "len") d)
     (field text_in (codes "text") d)
 act_of act_word.Resolve d = option_map act.Resolve (field op_name_in (codes "comment") d)
 act_of act_word.Text d = option_map act.Text (optional number_in (codes "rev") d)

@@ -29,9 +29,11 @@ with_more old (suc count) = one_more (with_more old count)
 -- each read that is counted was made of the reader, unless the fault is another
 abbrev pub AreCounted : {X : Type 0} → Result X Fault → ℕ → ℕ → ℕ → ℕ → Type 0
 AreCounted (Err Memory) made made_then counted counted_then = Unit {0}
-AreCounted other made made_then counted counted_then = (count : ℕ) × (counted_then ≡ counted + count) × (made_then ≡ with_more made count)
+AreCounted other made made_then counted counted_then = (count : ℕ) × (counted_then ≡ counted + count)
+    × (made_then ≡ with_more made count)
 
--- a search for a line ends in ReadFault only where the reader failed or all reads were made, and else only out of memory
+-- a search for a line ends in ReadFault only where the reader failed or all reads were made, and else only out of
+-- memory
 abbrev pub HasCause : {X : Type 0} → Result X Fault → ℕ → ℕ → ℕ → Type 0
 HasCause (Ok x) old new reads = new ≡ old
 HasCause (Err ReadFault) old new reads = (new ≡ one_more old) ⊎ ((new ≡ old) × (reads ≡ most_reads))

@@ -12,7 +12,8 @@ use Rattle.wire_lines.specs.declared.std_device.Std.{Std}
 abbrev pub input_rest : Input → List ℕ
 input_rest input = input.rest.now
 
--- how a device is set: it gives or takes so many bytes a call at most, each call is interrupted once or is not, and one call fails (0: none)
+-- how a device is set: it gives or takes so many bytes a call at most, each call is interrupted once or is not, and one
+-- call fails (0: none)
 pub record Settings : Type 0 where
   pub piece : ℕ
   pub is_interrupted : Bool
@@ -39,7 +40,8 @@ output_settings output = record { piece = output.piece; is_interrupted = false; 
 
 -- what a write of so many bytes to an output answers while there is memory
 abbrev pub output_answer : Output → ℕ → Result ℕ WriteError
-output_answer output count = if one_more output.calls == output.fails_at then Err (record {}) else Ok (min output.piece count)
+output_answer output count = if one_more output.calls == output.fails_at then Err (record {})
+    else Ok (min output.piece count)
 
 -- the reader or writer of std
 abbrev pub std_inner : {T : Type 0} → Std T → T

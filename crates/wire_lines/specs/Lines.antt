@@ -18,7 +18,8 @@ without_return line = strip_last 13 line
 
 -- the first line, without its line feed and one carriage return before that; one that no line feed ends is whole
 abbrev pub first_line : List ℕ → List ℕ
-first_line bytes = if nat_lt (line_end bytes) (length bytes) then without_return (take (line_end bytes) bytes) else bytes
+first_line bytes = if nat_lt (line_end bytes) (length bytes) then without_return (take (line_end bytes) bytes)
+    else bytes
 
 -- the bytes behind the first line
 abbrev pub behind_line : List ℕ → List ℕ

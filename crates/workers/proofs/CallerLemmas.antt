@@ -1,5 +1,6 @@
 -- What the crates above need.
-use Rattle.std.proofs.Common.{◌≡◌, ◌⊎◌, inl, inr, ℕ, ◌+◌, Bool, true, false, cond, List, [], ◌∷◌, ◌++◌, length, Option, Some, None, Result, Ok, Err, refl, sym, ap, ◌∙◌, subst}
+use Rattle.std.proofs.Common.{◌≡◌, ◌⊎◌, inl, inr, ℕ, ◌+◌, Bool, true, false, cond, List, [], ◌∷◌, ◌++◌, length, Option}
+use Rattle.std.proofs.Common.{Some, None, Result, Ok, Err, refl, sym, ap, ◌∙◌, subst}
 use Rattle.std.specs.Prelude.{nat_le}
 use Rattle.std.specs.List.{slice_get}
 use Rattle.pad_model.proofs.Newer.{split}
@@ -13,7 +14,8 @@ last_is : {A : Type 0} (xs : List A) (x : A) → slice_get (xs ++ x ∷ []) (len
 last_is [] x = refl
 last_is (y ∷ xs) x = last_is xs x
 
-newcomer_rests : (old new : Server) (actor : ℕ) (full : Bool) → nat_le MAX_ACTORS (length old.actors) ≡ full → with_newcomer old ≡ (Ok actor, new) → IsAtRest new actor
+newcomer_rests : (old new : Server) (actor : ℕ) (full : Bool) → nat_le MAX_ACTORS (length old.actors) ≡ full →
+    with_newcomer old ≡ (Ok actor, new) → IsAtRest new actor
 newcomer_rests old new actor true e is = let told = ap (λ d. d.0) (rw e at is) in cc
 newcomer_rests old new actor false e is =
     let made = rw e at is in

@@ -9,8 +9,15 @@ use Rattle.workers.specs.Session.{Answer}
 use Rattle.workers.specs.declared.connection.Served.{Served}
 
 -- lines were answered, and the session was ended, whatever the bytes are
-pub was_served : {P : Type 0} (calls : P → Request → Answer → P → Type 0) (ends : P → P → Type 0) (old new : P) (known before after : Option (List ℕ)) (result : Result Served Fault)
+pub was_served : {P : Type 0} (calls : P → Request → Answer → P → Type 0) (ends : P → P → Type 0) (old new : P)
+    (known before after : Option (List ℕ)) (result : Result Served Fault)
     → IfOk result (λ served. ThenEnds (ServesAll calls old known served before after) ends new)
     → OnErr result (ThenEnds (BreaksOff calls old known before after) ends new) → ServesConnection calls ends old new
-was_served calls ends old new known before after (Ok served) (last, (asked, answers, tail, serves, whole, counted, written), ended) broken = (asked, answers, last, serves, ended)
-was_served calls ends old new known before after (Err fault) all (last, (asked, answers, tail, count, serves, front, written), ended) = (asked, answers, last, serves, ended)
+was_served calls ends old new known before after (Ok served)
+    (last, (asked, answers, tail, serves, whole, counted, written), ended) broken =
+    (asked, answers, last, serves, ended)
+was_served calls ends old new known before after (Err fault) all (
+  last,
+  (asked, answers, tail, count, serves, front, written),
+  ended,
+) = (asked, answers, last, serves, ended)

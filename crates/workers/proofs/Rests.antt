@@ -1,5 +1,6 @@
 -- An actor has nothing under way after an answer.
-use Rattle.std.proofs.Common.{◌≡◌, ◌⊎◌, inl, inr, ℕ, ◌+◌, Bool, true, false, cond, List, [], ◌∷◌, length, Option, Some, None, Result, Ok, Err, refl, sym, ap, ◌∙◌, subst, get_or}
+use Rattle.std.proofs.Common.{◌≡◌, ◌⊎◌, inl, inr, ℕ, ◌+◌, Bool, true, false, cond, List, [], ◌∷◌, length, Option, Some}
+use Rattle.std.proofs.Common.{None, Result, Ok, Err, refl, sym, ap, ◌∙◌, subst, get_or}
 use Rattle.std.specs.List.{slice_get, slice_set}
 use Rattle.std.proofs.lemmas.Option.{slice_get_within, get_or_from_slice_get}
 use Rattle.std.proofs.lemmas.List.{set-get_or}
@@ -17,7 +18,8 @@ use Rattle.server_core.specs.AtCell.{RowAnswer, row_answer}
 use Rattle.server_core.specs.Machine.{Server, server_step, with_actor}
 use Rattle.server_core.specs.Opening.{create_refusal, act_refusal}
 use Rattle.server_core.specs.Served.{Served, StepFoundNone, FoundNone}
-use Rattle.server_core.specs.Steps.{actor_step, ask, begun, concluded, end, ended, goes_on, leave_first, left_room, move, opened, scanned, told, unless_busy}
+use Rattle.server_core.specs.Steps.{actor_step, ask, begun, concluded, end, ended, goes_on, leave_first, left_room}
+use Rattle.server_core.specs.Steps.{move, opened, scanned, told, unless_busy}
 use Rattle.server_core.specs.declared.step.Moved.{Moved}
 use Rattle.server_core.specs.declared.step.Moved.TheVariants as moved
 use Rattle.server_core.specs.declared.step.Step.{Step}
@@ -43,59 +45,80 @@ told-leaves : (answer : Result Reply Refusal) (a : Actor) → a.task ≡ Resting
 told-leaves (Ok reply) a rest = rest
 told-leaves (Err refusal) a rest = rest
 
-begun-leaves : (asked : Request) (cell : ℕ) (a : Actor) (o : Option Refusal) → a.task ≡ Resting → Leaves (begun asked cell a o).0 (begun asked cell a o).1
+begun-leaves : (asked : Request) (cell : ℕ) (a : Actor) (o : Option Refusal) → a.task ≡ Resting →
+    Leaves (begun asked cell a o).0 (begun asked cell a o).1
 begun-leaves asked cell a None rest = refl
 begun-leaves asked cell a (Some refusal) rest = rest
 
-ask-leaves : (replica : ℕ) (accounts : Accounts) (asked : Request) (a : Actor) → a.task ≡ Resting → Leaves (ask replica accounts asked a).0 (ask replica accounts asked a).1
+ask-leaves : (replica : ℕ) (accounts : Accounts) (asked : Request) (a : Actor) → a.task ≡ Resting →
+    Leaves (ask replica accounts asked a).0 (ask replica accounts asked a).1
 ask-leaves replica accounts (request.Hello name token) a rest = told-leaves _ _ rest
 ask-leaves replica accounts (request.Peer number token version) a rest = told-leaves _ _ rest
-ask-leaves replica accounts (request.Create name) a rest = begun-leaves (request.Create name) (first_cell name a.rooms) a (create_refusal a.who name) rest
-ask-leaves replica accounts (request.On name act) a rest = begun-leaves (request.On name act) (first_cell name a.rooms) a (act_refusal a.who name act) rest
+ask-leaves replica accounts (request.Create name) a rest = begun-leaves (request.Create name)
+    (first_cell name a.rooms) a (create_refusal a.who name) rest
+ask-leaves replica accounts (request.On name act) a rest = begun-leaves (request.On name act)
+    (first_cell name a.rooms) a (act_refusal a.who name act) rest
 
 ended-leaves : (a : Actor) (rooms : List Room) → Leaves (ended a rooms).0 (ended a rooms).1
 ended-leaves a [] = refl
 ended-leaves a (room ∷ rooms) = refl
 
-unless-leaves : (a : Actor) (done : Moved × Actor) → a.task ≡ Resting → Leaves done.0 done.1 → Leaves (unless_busy a done).0 (unless_busy a done).1
-unless-leaves a done rest leaves = subst (λ b. Leaves (cond b (moved.Refused Rattle.pad_model.specs.declared.refusal.Refusal.TheVariants.Busy, a) done).0 (cond b (moved.Refused Rattle.pad_model.specs.declared.refusal.Refusal.TheVariants.Busy, a) done).1) (sym (ap is_busy rest)) leaves
+unless-leaves : (a : Actor) (done : Moved × Actor) → a.task ≡ Resting → Leaves done.0 done.1 →
+    Leaves (unless_busy a done).0 (unless_busy a done).1
+unless-leaves a done rest leaves = subst
+    (λ b. Leaves (cond b (moved.Refused Rattle.pad_model.specs.declared.refusal.Refusal.TheVariants.Busy, a) done).0
+    (cond b (moved.Refused Rattle.pad_model.specs.declared.refusal.Refusal.TheVariants.Busy, a) done).1)
+    (sym (ap is_busy rest)) leaves
 
 -- a call's step
-call-leaves : (replica : ℕ) (accounts : Accounts) (step : Step) (a : Actor) (cells : List Machine) → a.task ≡ Resting → IsCall step
+call-leaves : (replica : ℕ) (accounts : Accounts) (step : Step) (a : Actor) (cells : List Machine) → a.task ≡ Resting →
+    IsCall step
     → Leaves (actor_step replica accounts step a cells).0 (actor_step replica accounts step a cells).1
-call-leaves replica accounts (Ask asked) a cells rest call = unless-leaves a (ask replica accounts asked a) rest (ask-leaves replica accounts asked a rest)
+call-leaves replica accounts (Ask asked) a cells rest call = unless-leaves a (ask replica accounts asked a) rest
+    (ask-leaves replica accounts asked a rest)
 call-leaves replica accounts Move a cells rest call = absurd call
 call-leaves replica accounts (Look cell) a cells rest call = absurd call
 call-leaves replica accounts (Relay number) a cells rest call = unless-leaves a _ rest (told-leaves _ _ rest)
-call-leaves replica accounts End a cells rest call = subst (λ t. Leaves (end t a).0 (end t a).1) (sym rest) (ended-leaves a a.rooms)
+call-leaves replica accounts End a cells rest call = subst (λ t. Leaves (end t a).0 (end t a).1) (sym rest)
+    (ended-leaves a a.rooms)
 
-concluded-leaves : (asked : Request) (answer : Result (Option Reply) Refusal) (a : Actor) → a.task ≡ Resting → Leaves (concluded asked answer) a
+concluded-leaves : (asked : Request) (answer : Result (Option Reply) Refusal) (a : Actor) → a.task ≡ Resting →
+    Leaves (concluded asked answer) a
 concluded-leaves asked (Ok None) a rest = rest
 concluded-leaves asked (Ok (Some reply)) a rest = rest
 concluded-leaves asked (Err refusal) a rest = rest
 
-scan-leaves : (asked : Request) (cell : ℕ) (a : Actor) (done : RowAnswer) → Leaves (scanned asked cell a done).0 (scanned asked cell a done).1
+scan-leaves : (asked : Request) (cell : ℕ) (a : Actor) (done : RowAnswer) →
+    Leaves (scanned asked cell a done).0 (scanned asked cell a done).1
 scan-leaves asked cell a done =
     split (goes_on done.0 cell (length done.2)) (λ e. rw e refl) (λ e. rw e (concluded-leaves asked done.0 _ refl))
 
-leave-leaves : (a : Actor) (rooms : List Room) (cells : List Machine) → Leaves (leave_first a rooms cells).0 (leave_first a rooms cells).1
+leave-leaves : (a : Actor) (rooms : List Room) (cells : List Machine) →
+    Leaves (leave_first a rooms cells).0 (leave_first a rooms cells).1
 leave-leaves a [] cells = refl
 leave-leaves a (room ∷ rooms) cells = ended-leaves a rooms
 
 -- a move of what is under way
-move-leaves : (task : Task) (a : Actor) (cells : List Machine) → is_busy task ≡ true → Leaves (move task a cells).0 (move task a cells).1
+move-leaves : (task : Task) (a : Actor) (cells : List Machine) → is_busy task ≡ true →
+    Leaves (move task a cells).0 (move task a cells).1
 move-leaves Resting a cells busy = cc
 move-leaves (Scanning asked cell) a cells busy = scan-leaves asked cell a (row_answer a.who asked cell a.rooms cells)
 move-leaves Leaving a cells busy = leave-leaves a a.rooms cells
 
 -- a step leaves at the server's actor what it leaves at the actor
-put : (s new : Server) (actor : ℕ) (a : Actor) (done : Moved × Actor × List Machine) (answer : Moved) → slice_get s.actors actor ≡ Some a → with_actor actor s done ≡ (answer, new) → Leaves done.0 done.1
+put : (s new : Server) (actor : ℕ) (a : Actor) (done : Moved × Actor × List Machine) (answer : Moved) →
+    slice_get s.actors actor ≡ Some a → with_actor actor s done ≡ (answer, new) → Leaves done.0 done.1
     → LeavesAt actor answer new
 put s new actor a done answer is step leaves =
-    subst (λ d. LeavesAt actor d.0 d.1) step (done.1, get-set_same s.actors actor done.1 (slice_get_within s.actors actor a is), leaves)
+    subst (λ d. LeavesAt actor d.0 d.1) step (
+      done.1,
+      get-set_same s.actors actor done.1 (slice_get_within s.actors actor a is),
+      leaves,
+    )
 
 -- a step that was out of memory leaves the actor at rest
-none_leaves : (step : Step) (task : Task) (a : Actor) (cells : List Machine) (expected answer : Moved) (new : Actor) (after : List Machine) → a.task ≡ task → FoundNone step task a cells expected answer new after →
+none_leaves : (step : Step) (task : Task) (a : Actor) (cells : List Machine) (expected answer : Moved) (new : Actor)
+    (after : List Machine) → a.task ≡ task → FoundNone step task a cells expected answer new after →
     (answer ≡ moved.Refused Memory) × (new.task ≡ Resting)
 none_leaves (Ask asked) Resting a cells expected answer new after is h = (h.0, ap (λ (b : Actor). b.task) h.1 ∙ is)
 none_leaves (Ask asked) (Scanning request cell) a cells expected answer new after is h = absurd h
@@ -111,23 +134,30 @@ none_leaves End task a cells expected answer new after is h = absurd h
 
 -- any step whose machine's leaves so much
 leaves_at : (s new : Server) (actor : ℕ) (step : Step) (a : Actor) (answer : Moved) → slice_get s.actors actor ≡ Some a
-    → Leaves (actor_step s.replica s.accounts step a s.cells).0 (actor_step s.replica s.accounts step a s.cells).1 → Served s actor step answer new → LeavesAt actor answer new
-leaves_at s new actor step a answer is leaves (inl e) = put s new actor a (actor_step s.replica s.accounts step a s.cells) answer is (rw is at e) leaves
+    → Leaves (actor_step s.replica s.accounts step a s.cells).0 (actor_step s.replica s.accounts step a s.cells).1 →
+    Served s actor step answer new → LeavesAt actor answer new
+leaves_at s new actor step a answer is leaves (inl e) =
+    put s new actor a (actor_step s.replica s.accounts step a s.cells) answer is (rw is at e) leaves
 leaves_at s new actor step a answer is leaves (inr h) =
     let found = rw is at h in
-    let so = none_leaves step a.task a s.cells (actor_step s.replica s.accounts step a s.cells).0 answer found.0 found.1 refl found.2 in
+    let so = none_leaves step a.task a s.cells (actor_step s.replica s.accounts step a s.cells).0 answer found.0 found.1
+    refl found.2 in
     put s new actor a (answer, found.0, found.1) answer is found.3 (subst (λ m. Leaves m found.0) (sym so.0) so.1)
 
-pub step_leaves : (s new : Server) (actor : ℕ) (step : Step) (answer : Moved) → IsAtRest s actor → IsCall step → Served s actor step answer new → LeavesAt actor answer new
+pub step_leaves : (s new : Server) (actor : ℕ) (step : Step) (answer : Moved) → IsAtRest s actor → IsCall step →
+    Served s actor step answer new → LeavesAt actor answer new
 step_leaves s new actor step answer rest call served =
-    leaves_at s new actor step rest.0 answer rest.1 (call-leaves s.replica s.accounts step rest.0 s.cells rest.2 call) served
+    leaves_at s new actor step rest.0 answer rest.1 (call-leaves s.replica s.accounts step rest.0 s.cells rest.2 call)
+    served
 
-pub moves_leave : (s new : Server) (actor : ℕ) (answer : Moved) → IsUnderWay s actor → Served s actor Move answer new → LeavesAt actor answer new
+pub moves_leave : (s new : Server) (actor : ℕ) (answer : Moved) → IsUnderWay s actor → Served s actor Move answer new →
+    LeavesAt actor answer new
 moves_leave s new actor answer busy served =
     leaves_at s new actor Move busy.0 answer busy.1 (move-leaves busy.0.task busy.0 s.cells busy.2) served
 
 -- what is not under way is answered
-pub rests : (actor : ℕ) (answer : Moved) (new : Server) → (answer ≡ moved.Scanning → ⊥) → LeavesAt actor answer new → IsAnswer answer × IsAtRest new actor
+pub rests : (actor : ℕ) (answer : Moved) (new : Server) → (answer ≡ moved.Scanning → ⊥) → LeavesAt actor answer new →
+    IsAnswer answer × IsAtRest new actor
 rests actor moved.Scanning new not leaves = absurd (not refl)
 rests actor (moved.Done reply) new not leaves = (tt, leaves)
 rests actor (moved.Refused refusal) new not leaves = (tt, leaves)

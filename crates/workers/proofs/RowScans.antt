@@ -1,5 +1,6 @@
 -- A scan of a row, cell by cell.
-use Rattle.std.proofs.Common.{◌≡◌, ◌⊎◌, inl, inr, ℕ, suc, ◌+◌, ◌-◌, ◌≤◌, Option, None, Some, Result, Ok, Err, refl, sym, ap, ◌∙◌, subst, arith}
+use Rattle.std.proofs.Common.{◌≡◌, ◌⊎◌, inl, inr, ℕ, suc, ◌+◌, ◌-◌, ◌≤◌, Option, None, Some, Result, Ok, Err, refl, sym}
+use Rattle.std.proofs.Common.{ap, ◌∙◌, subst, arith}
 use Rattle.pad_model.specs.declared.refusal.Refusal.{Refusal}
 use Rattle.pad_model.specs.declared.who.Who.{Who}
 use Rattle.pad_core.specs.declared.reply.Reply.{Reply}
@@ -7,29 +8,45 @@ use Rattle.pad_core.specs.declared.request.Request.{Request}
 use Rattle.workers.specs.Row.{Passes, Scans, Searches, Seated, Seeks, VisitsAt, of_cell}
 
 -- the cell at a place answers
-pub found : (row cell place : ℕ) (who now : Who) (request : Request) (old mid new : Seated) (told : Result (Option Reply) Refusal) (answer : Result Reply Refusal) → cell ≤ place →
-    (now ≡ who) × Passes who request cell (place - cell) old mid → VisitsAt now request place mid told new → told ≡ of_cell answer → Scans row cell who request old answer new
+pub found : (row cell place : ℕ) (who now : Who) (request : Request) (old mid new : Seated)
+    (told : Result (Option Reply) Refusal) (answer : Result Reply Refusal) → cell ≤ place →
+    (now ≡ who) × Passes who request cell (place - cell) old mid → VisitsAt now request place mid told new →
+    told ≡ of_cell answer → Scans row cell who request old answer new
 found row cell place who now request old mid new told answer low (same, passed) visits is =
     let at : place ≡ cell + (place - cell) = omega arith in (
       place - cell,
       mid,
       passed,
-      inl (subst (λ n. VisitsAt who request n mid (of_cell answer) new) at (subst (λ t. VisitsAt who request place mid t new) is (subst (λ w. VisitsAt w request place mid told new) same visits))),
+      inl (subst (λ n. VisitsAt who request n mid (of_cell answer) new) at
+          (subst (λ t. VisitsAt who request place mid t new) is
+          (subst (λ w. VisitsAt w request place mid told new) same visits))),
     )
 
 -- one more cell has another name
-pub passes_on : (cell place : ℕ) (who now then : Who) (request : Request) (old mid new : Seated) (told : Result (Option Reply) Refusal) → cell ≤ place →
-    (now ≡ who) × Passes who request cell (place - cell) old mid → then ≡ now → VisitsAt now request place mid told new → told ≡ Ok None → (then ≡ who) × Passes who request cell (place + 1 - cell) old new
+pub passes_on : (cell place : ℕ) (who now then : Who) (request : Request) (old mid new : Seated)
+    (told : Result (Option Reply) Refusal) → cell ≤ place →
+    (now ≡ who) × Passes who request cell (place - cell) old mid → then ≡ now →
+    VisitsAt now request place mid told new → told ≡ Ok None → (then ≡ who)
+    × Passes who request cell (place + 1 - cell) old new
 passes_on cell place who now then request old mid new told low (same, passed) stays visits is =
     let at : place ≡ cell + (place - cell) = omega arith in
     let next : suc (place - cell) ≡ place + 1 - cell = omega arith in (
       stays ∙ same,
-      subst (λ n. Passes who request cell n old new) next
-          (mid, passed, subst (λ n. VisitsAt who request n mid (Ok None) new) at (subst (λ t. VisitsAt who request place mid t new) is (subst (λ w. VisitsAt w request place mid told new) same visits))),
+      subst (λ n. Passes who request cell n old new) next (
+        mid,
+        passed,
+        subst (λ n. VisitsAt who request n mid (Ok None) new) at
+            (subst (λ t. VisitsAt who request place mid t new) is
+            (subst (λ w. VisitsAt w request place mid told new) same visits)),
+      ),
     )
 
 -- a search where nothing speaks against the request
-pub searched : (r : Option Refusal) (row cell first : ℕ) (who then : Who) (request : Request) (old new : Seated) (answer : Result Reply Refusal) → r ≡ None → first ≡ cell → then ≡ who →
+pub searched : (r : Option Refusal) (row cell first : ℕ) (who then : Who) (request : Request) (old new : Seated)
+    (answer : Result Reply Refusal) → r ≡ None → first ≡ cell → then ≡ who →
     Seeks row first who request old answer new → Searches r row cell who request old answer new × (then ≡ who)
-searched r row cell first who then request old new answer is at same seeks =
-    (subst (λ r. Searches r row cell who request old answer new) (sym is) (subst (λ n. Seeks row n who request old answer new) at seeks), same)
+searched r row cell first who then request old new answer is at same seeks = (
+  subst (λ r. Searches r row cell who request old answer new) (sym is)
+      (subst (λ n. Seeks row n who request old answer new) at seeks),
+  same,
+)

@@ -6,8 +6,10 @@ use Rattle.shared_pads.specs.declared.shared_pad.SharedPad.{SharedPad}
 use Rattle.workers.specs.Seating.{cells_of}
 
 -- one more seat, at the next cell
-pub one_more_seat : {S : Type 0} (old seats new : List Seat) (seat : Seat) (done more : List (SharedPad S)) (pad : SharedPad S)
-    → cells_of seats ≡ cells_of old ++ map (λ p. p.cell) done → new ≡ seats ++ seat ∷ [] → seat.cell ≡ pad.cell → more ≡ done ++ pad ∷ []
+pub one_more_seat : {S : Type 0} (old seats new : List Seat) (seat : Seat) (done more : List (SharedPad S))
+    (pad : SharedPad S)
+    → cells_of seats ≡ cells_of old ++ map (λ p. p.cell) done → new ≡ seats ++ seat ∷ [] → seat.cell ≡ pad.cell →
+    more ≡ done ++ pad ∷ []
     → cells_of new ≡ cells_of old ++ map (λ p. p.cell) more
 one_more_seat {S} old seats new seat done more pad so pushed at grown =
     ap cells_of pushed

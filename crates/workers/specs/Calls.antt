@@ -49,7 +49,8 @@ Scans actor (suc count) old new = (mid : Server) × Scans actor count old mid ×
 
 -- moves lead to an answer
 abbrev pub Finishes : ℕ → Server → Moved → Server → Type 0
-Finishes actor old answer new = (count : ℕ) × (mid : Server) × Scans actor count old mid × Served mid actor Move answer new × IsAnswer answer
+Finishes actor old answer new = (count : ℕ) × (mid : Server) × Scans actor count old mid
+    × Served mid actor Move answer new × IsAnswer answer
 
 -- a step leads to an answer, at once or by the moves that follow it
 abbrev pub Made : Server → ℕ → Step → Moved → Server → Type 0
@@ -63,7 +64,8 @@ Asks old request answer new = Made old.server old.actor (Ask request) (told answ
 
 -- the session is made that of a peer
 abbrev pub Relays : Alone → ℕ → Result Reply Refusal → Alone → Type 0
-Relays old number answer new = Made old.server old.actor (Relay number) (told answer) new.server × (new.actor ≡ old.actor)
+Relays old number answer new = Made old.server old.actor (Relay number) (told answer) new.server
+    × (new.actor ≡ old.actor)
 
 -- the session is ended
 abbrev pub Ends : Alone → Alone → Type 0

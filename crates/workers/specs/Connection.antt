@@ -21,28 +21,36 @@ HasWriteCause (Err WriteFault) old new = new ≡ one_more old
 HasWriteCause (Err PeerReply) old new = ⊥
 HasWriteCause (Err Memory) old new = ⊥
 
--- a connection ends in a fault by what its devices did: the reader failed, or all reads that may be made were made; the writer failed; or none failed, and it was out of memory
+-- a connection ends in a fault by what its devices did: the reader failed, or all reads that may be made were made; the
+-- writer failed; or none failed, and it was out of memory
 abbrev pub HasFaultCause : {X : Type 0} → Result X Fault → ℕ → ℕ → ℕ → ℕ → ℕ → ℕ → Type 0
-HasFaultCause (Ok x) unread unread_then made made_then unwritten unwritten_then = (unread_then ≡ unread) × (unwritten_then ≡ unwritten)
+HasFaultCause (Ok x) unread unread_then made made_then unwritten unwritten_then = (unread_then ≡ unread)
+    × (unwritten_then ≡ unwritten)
 HasFaultCause (Err ReadFault) unread unread_then made made_then unwritten unwritten_then =
-    ((unread_then ≡ one_more unread) ⊎ ((unread_then ≡ unread) × (count : ℕ) × (count ≡ most_reads) × (made_then ≡ with_more made count))) × (unwritten_then ≡ unwritten)
-HasFaultCause (Err WriteFault) unread unread_then made made_then unwritten unwritten_then = (unread_then ≡ unread) × (unwritten_then ≡ one_more unwritten)
+    ((unread_then ≡ one_more unread) ⊎ ((unread_then ≡ unread) × (count : ℕ) × (count ≡ most_reads)
+    × (made_then ≡ with_more made count))) × (unwritten_then ≡ unwritten)
+HasFaultCause (Err WriteFault) unread unread_then made made_then unwritten unwritten_then = (unread_then ≡ unread)
+    × (unwritten_then ≡ one_more unwritten)
 HasFaultCause (Err PeerReply) unread unread_then made made_then unwritten unwritten_then = ⊥
-HasFaultCause (Err Memory) unread unread_then made made_then unwritten unwritten_then = (unread_then ≡ unread) × (unwritten_then ≡ unwritten)
+HasFaultCause (Err Memory) unread unread_then made made_then unwritten unwritten_then = (unread_then ≡ unread)
+    × (unwritten_then ≡ unwritten)
 
 -- the fault of running out of memory is told; any fault stays the result, unless the writer fails
 abbrev pub TellsFault : Fault → Fault → ℕ → ℕ → Option (List ℕ) → Option (List ℕ) → Type 0
 TellsFault Memory told old new before after =
-    (((told ≡ Memory) × (new ≡ old)) ⊎ ((told ≡ WriteFault) × (new ≡ one_more old))) × (count : ℕ) × Appends before after (take count (line_of (Err Refusal.Memory)))
+    (((told ≡ Memory) × (new ≡ old)) ⊎ ((told ≡ WriteFault) × (new ≡ one_more old))) × (count : ℕ)
+    × Appends before after (take count (line_of (Err Refusal.Memory)))
 TellsFault fault told old new before after = (told ≡ fault) × (new ≡ old) × (after ≡ before)
 
 -- an answer was told so, whole, and tells of so many operations
 abbrev pub WritesAnswer : Answer → ℕ → Option (List ℕ) → Option (List ℕ) → Type 0
-WritesAnswer answer count before after = (told : Answer) × IsTold answer told × (count ≡ delivered_of told) × Appends before after (line_of told)
+WritesAnswer answer count before after = (told : Answer) × IsTold answer told × (count ≡ delivered_of told)
+    × Appends before after (line_of told)
 
 -- a front of what is told was written
 abbrev pub WritesPart : Answer → Option (List ℕ) → Option (List ℕ) → Type 0
-WritesPart answer before after = (told : Answer) × (count : ℕ) × IsTold answer told × Appends before after (take count (line_of told))
+WritesPart answer before after = (told : Answer) × (count : ℕ) × IsTold answer told
+    × Appends before after (take count (line_of told))
 
 -- what was reached is ended
 abbrev pub ThenEnds : {P : Type 0} → (P → Type 0) → (P → P → Type 0) → P → Type 0
@@ -52,22 +60,26 @@ module _ {P : Type 0} (calls : P → Request → Answer → P → Type 0) where
   -- a line was answered, and the answer written
   abbrev pub ServesOne : P → List ℕ → Option ℕ → Option (List ℕ) → Option (List ℕ) → P → Type 0
   ServesOne old line told before after new =
-      (answers : List Answer) × Serves calls old (line ∷ []) answers new × Tells told answers × Appends before after (texts answers)
+      (answers : List Answer) × Serves calls old (line ∷ []) answers new × Tells told answers
+      × Appends before after (texts answers)
 
   -- all lines were answered, and all answers written; so many answers, which tell of so many operations
   abbrev pub ServesAll : P → Option (List ℕ) → Served → Option (List ℕ) → Option (List ℕ) → P → Type 0
   ServesAll old known served before after new =
-      (asked : List (List ℕ)) × (answers tail : List Answer) × Serves calls old asked answers new × IsWhole known asked tail
+      (asked : List (List ℕ)) × (answers tail : List Answer) × Serves calls old asked answers new
+      × IsWhole known asked tail
       × IsCount served (answers ++ tail) × Appends before after (texts (answers ++ tail))
 
   -- the first lines were answered, and a front of the answers was written
   abbrev pub BreaksOff : P → Option (List ℕ) → Option (List ℕ) → Option (List ℕ) → P → Type 0
   BreaksOff old known before after new =
-      (asked : List (List ℕ)) × (answers tail : List Answer) × (count : ℕ) × Serves calls old asked answers new × IsFront known asked tail
+      (asked : List (List ℕ)) × (answers tail : List Answer) × (count : ℕ) × Serves calls old asked answers new
+      × IsFront known asked tail
       × Appends before after (take count (texts (answers ++ tail)))
 
   -- each line whose line feed was read was answered, and all answers were written
   abbrev pub ServesRead : P → Option (List ℕ) → Option (List ℕ) → Option (List ℕ) → Option (List ℕ) → P → Type 0
   ServesRead old known unread before after new =
       (asked : List (List ℕ)) × (answers : List Answer) × (part : List ℕ) × Serves calls old asked answers new
-      × IsBefore known asked (prepend_known part unread) × (line_end part ≡ length part) × Appends before after (texts answers)
+      × IsBefore known asked (prepend_known part unread) × (line_end part ≡ length part)
+      × Appends before after (texts answers)

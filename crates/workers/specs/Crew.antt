@@ -14,7 +14,8 @@ use Rattle.workers.specs.declared.shared.Shared.{Shared}
 abbrev pub LeavesRoom : Room → List Seat → List Seat → Type 0
 LeavesRoom room old new =
     (new ≡ old)
-    ⊎ ((seat after : Seat) × (slice_get old room.cell ≡ Some seat) × ((after ≡ seat) ⊎ (after ≡ seat_after 0 None seat)) × (new ≡ slice_set old room.cell after))
+    ⊎ ((seat after : Seat) × (slice_get old room.cell ≡ Some seat) × ((after ≡ seat) ⊎ (after ≡ seat_after 0 None seat))
+    × (new ≡ slice_set old room.cell after))
 
 -- rooms were left, one after the other
 abbrev pub LeavesRooms : List Room → List Seat → List Seat → Type 0
@@ -24,7 +25,8 @@ LeavesRooms (room ∷ rooms) old new = (mid : List Seat) × LeavesRoom room old 
 module _ {P : Type 0} (calls : P → Request → Answer → P → Type 0) (ends : P → P → Type 0) where
   -- a connection was served: lines were answered one after the other, and then the session was ended
   abbrev pub ServesConnection : P → P → Type 0
-  ServesConnection old new = (asked : List (List ℕ)) × (answers : List Answer) × (mid : P) × Serves calls old asked answers mid × ends mid new
+  ServesConnection old new = (asked : List (List ℕ)) × (answers : List Answer) × (mid : P)
+      × Serves calls old asked answers mid × ends mid new
 
   -- so many connections were served, one after the other
   abbrev pub ServesMany : ℕ → P → P → Type 0
@@ -40,16 +42,20 @@ module _ {S R G : Type 0} where
   abbrev pub CallsRow : Shared S R G → Request → Answer → Shared S R G → Type 0
   CallsRow old request answer new =
       (new.row ≡ old.row)
-      × RowAsked old.row.now.replica old.row.now.accounts.now (length old.row.now.cells.now) old.session.who (record { rooms = old.session.rooms; seats = old.seats.items })
+      × RowAsked old.row.now.replica old.row.now.accounts.now (length old.row.now.cells.now) old.session.who
+      (record { rooms = old.session.rooms; seats = old.seats.items })
       request answer new.session.who (record { rooms = new.session.rooms; seats = new.seats.items })
 
   -- the end of a thread's session: it leaves its rooms, and is nobody's then
   abbrev pub EndsRow : Shared S R G → Shared S R G → Type 0
   EndsRow old new =
-      (new.row ≡ old.row) × (new.session.who ≡ Nobody) × (new.session.rooms ≡ []) × LeavesRooms old.session.rooms old.seats.items new.seats.items
+      (new.row ≡ old.row) × (new.session.who ≡ Nobody) × (new.session.rooms ≡ [])
+      × LeavesRooms old.session.rooms old.seats.items new.seats.items
 
-  -- a thread's part of a pool: with these seats and a session that is nobody's it served some connections of the row, one after the other
+  -- a thread's part of a pool: with these seats and a session that is nobody's it served some connections of the row,
+  -- one after the other
   abbrev pub Works : Row S R G → List Seat → List Seat → Type 0
   Works row old new =
-      (begun ended : Shared S R G) × (begun.row.now ≡ row) × (begun.seats.items ≡ old) × (begun.session.who ≡ Nobody) × (begun.session.rooms ≡ [])
+      (begun ended : Shared S R G) × (begun.row.now ≡ row) × (begun.seats.items ≡ old) × (begun.session.who ≡ Nobody)
+      × (begun.session.rooms ≡ [])
       × ServesInTurn CallsRow EndsRow begun ended × (new ≡ ended.seats.items)

@@ -1,5 +1,6 @@
 -- How many operations an answer tells of as delivered, and how many all do.
-use Rattle.std.specs.Prelude.{◌≡◌, ℕ, ◌+◌, ◌-◌, ◌^◌, min, List, [], ◌∷◌, length, sum_by, Option, None, Some, Result, Ok, Err}
+use Rattle.std.specs.Prelude.{◌≡◌, ℕ, ◌+◌, ◌-◌, ◌^◌, min, List, [], ◌∷◌, length, sum_by, Option, None, Some, Result, Ok}
+use Rattle.std.specs.Prelude.{Err}
 use Rattle.pad_core.specs.declared.reply.Pushed.TheVariants as pushed
 use Rattle.pad_core.specs.declared.reply.PadReply.{PadReply}
 use Rattle.pad_core.specs.declared.reply.PadReply.TheVariants as pad
@@ -28,7 +29,8 @@ delivered_of (Err refusal) = 0
 
 -- so many answers tell of so many operations
 abbrev pub IsCount : Served → List Answer → Type 0
-IsCount served answers = (served.lines ≡ up_to (length answers)) × (served.delivered ≡ up_to (sum_by delivered_of answers))
+IsCount served answers = (served.lines ≡ up_to (length answers))
+    × (served.delivered ≡ up_to (sum_by delivered_of answers))
 
 -- no answer, or one that tells of so many operations
 abbrev pub Tells : Option ℕ → List Answer → Type 0

@@ -1,5 +1,6 @@
 -- What a session asks of a row of shared pads.
-use Rattle.std.specs.Prelude.{◌≡◌, ◌⊎◌, ℕ, zero, suc, ◌+◌, ◌≤◌, true, List, slice_get, slice_set, Option, None, Some, Result, Ok, Err}
+use Rattle.std.specs.Prelude.{◌≡◌, ◌⊎◌, ℕ, zero, suc, ◌+◌, ◌≤◌, true, List, slice_get, slice_set, Option, None, Some}
+use Rattle.std.specs.Prelude.{Result, Ok, Err}
 use Rattle.pad_model.specs.Answers.{Answers}
 use Rattle.pad_model.specs.declared.refusal.Refusal.{Refusal}
 use Rattle.pad_model.specs.declared.refusal.Refusal.TheVariants.{SeatsOut, StoreFull}
@@ -25,12 +26,14 @@ pub record Seated : Type 0 where
 abbrev pub VisitsAt : Who → Request → ℕ → Seated → Result (Option Reply) Refusal → Seated → Type 0
 VisitsAt who request cell old answer new =
     ((answer ≡ Err SeatsOut) × (new ≡ old))
-    ⊎ ((seat : Seat) × (after : Seat) × (slice_get old.seats cell ≡ Some seat) × Called seat who request old.rooms answer after new.rooms × (new.seats ≡ slice_set old.seats cell after))
+    ⊎ ((seat : Seat) × (after : Seat) × (slice_get old.seats cell ≡ Some seat)
+    × Called seat who request old.rooms answer after new.rooms × (new.seats ≡ slice_set old.seats cell after))
 
 -- so many cells in a row, from one on, were visited, and their pads have other names
 abbrev pub Passes : Who → Request → ℕ → ℕ → Seated → Seated → Type 0
 Passes who request cell zero old new = new ≡ old
-Passes who request cell (suc count) old new = (mid : Seated) × Passes who request cell count old mid × VisitsAt who request (cell + count) mid (Ok None) new
+Passes who request cell (suc count) old new = (mid : Seated) × Passes who request cell count old mid
+    × VisitsAt who request (cell + count) mid (Ok None) new
 
 -- an answer of a cell, as the session's
 abbrev pub of_cell : Result Reply Refusal → Result (Option Reply) Refusal
@@ -41,7 +44,8 @@ of_cell (Err refusal) = Err refusal
 abbrev pub Scans : ℕ → ℕ → Who → Request → Seated → Result Reply Refusal → Seated → Type 0
 Scans row cell who request old answer new =
     (count : ℕ) × (mid : Seated) × Passes who request cell count old mid
-    × (VisitsAt who request (cell + count) mid (of_cell answer) new ⊎ ((row ≤ cell + count) × (answer ≡ Err (past_row request)) × (new ≡ mid)))
+    × (VisitsAt who request (cell + count) mid (of_cell answer) new
+    ⊎ ((row ≤ cell + count) × (answer ≡ Err (past_row request)) × (new ≡ mid)))
 
 -- a scan, or the refusal of a request that may leave records, where they cannot be kept
 abbrev pub Seeks : ℕ → ℕ → Who → Request → Seated → Result Reply Refusal → Seated → Type 0
@@ -53,11 +57,16 @@ abbrev pub Searches : Option Refusal → ℕ → ℕ → Who → Request → Sea
 Searches (Some refusal) row cell who request old answer new = (answer ≡ Err refusal) × (new ≡ old)
 Searches None row cell who request old answer new = Seeks row cell who request old answer new
 
--- a session asks a row of so many cells: its own requests are answered as by the server machine, others by a scan or as 901
+-- a session asks a row of so many cells: its own requests are answered as by the server machine, others by a scan or as
+-- 901
 abbrev pub RowAsked : ℕ → Accounts → ℕ → Who → Seated → Request → Result Reply Refusal → Who → Seated → Type 0
-RowAsked replica accounts row who old (request.Hello name token) answer then new = Answers who (hello replica accounts name token who) answer then × (new ≡ old)
-RowAsked replica accounts row who old (request.Peer number token version) answer then new = (peer replica accounts number token version who ≡ (answer, then)) × (new ≡ old)
+RowAsked replica accounts row who old (request.Hello name token) answer then new =
+    Answers who (hello replica accounts name token who) answer then × (new ≡ old)
+RowAsked replica accounts row who old (request.Peer number token version) answer then new =
+    (peer replica accounts number token version who ≡ (answer, then)) × (new ≡ old)
 RowAsked replica accounts row who old (request.Create name) answer then new =
-    Searches (create_refusal who name) row (first_cell name old.rooms) who (request.Create name) old answer new × (then ≡ who)
+    Searches (create_refusal who name) row (first_cell name old.rooms) who (request.Create name) old answer new
+    × (then ≡ who)
 RowAsked replica accounts row who old (request.On name act) answer then new =
-    Searches (act_refusal who name act) row (first_cell name old.rooms) who (request.On name act) old answer new × (then ≡ who)
+    Searches (act_refusal who name act) row (first_cell name old.rooms) who (request.On name act) old answer new
+    × (then ≡ who)

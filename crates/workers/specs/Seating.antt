@@ -11,4 +11,5 @@ cells_of seats = map (λ seat. seat.cell) seats
 -- a seat at each cell of a row, in order, behind the seats that are there; or at the first ones alone
 abbrev pub TakesSeats : {S : Type 0} → List (SharedPad S) → List Seat → Result (Unit {0}) Refusal → List Seat → Type 0
 TakesSeats row old (Ok done) new = cells_of new ≡ cells_of old ++ map (λ pad. pad.cell) row
-TakesSeats row old (Err refusal) new = (count : ℕ) × (cells_of new ≡ cells_of old ++ map (λ pad. pad.cell) (take count row))
+TakesSeats row old (Err refusal) new = (count : ℕ)
+    × (cells_of new ≡ cells_of old ++ map (λ pad. pad.cell) (take count row))

@@ -1,5 +1,6 @@
 -- What a session answers to its lines, and what is written.
-use Rattle.std.specs.Prelude.{◌≡◌, ◌⊎◌, ℕ, if◌then◌else◌, List, [], ◌∷◌, ◌++◌, take, flat_map, Option, None, Some, Result, Ok, Err}
+use Rattle.std.specs.Prelude.{◌≡◌, ◌⊎◌, ℕ, if◌then◌else◌, List, [], ◌∷◌, ◌++◌, take, flat_map, Option, None, Some}
+use Rattle.std.specs.Prelude.{Result, Ok, Err}
 use Rattle.std.specs.Io.KnownBytes.{Appends}
 use Rattle.pad_model.specs.declared.refusal.Refusal.{Refusal}
 use Rattle.pad_model.specs.declared.refusal.Refusal.TheVariants.{Memory, TooLong}
@@ -47,7 +48,8 @@ module _ {P : Type 0} (calls : P → Request → Answer → P → Type 0) where
   -- some first of the lines were answered, and a front of the answers was written
   abbrev pub ServesSome : P → List (List ℕ) → Option (List ℕ) → Option (List ℕ) → P → Type 0
   ServesSome old lines before after new =
-      (asked more : List (List ℕ)) × (answers : List Answer) × (count : ℕ) × (lines ≡ asked ++ more) × Serves old asked answers new
+      (asked more : List (List ℕ)) × (answers : List Answer) × (count : ℕ) × (lines ≡ asked ++ more)
+      × Serves old asked answers new
       × Appends before after (take count (texts answers))
 
 -- that a line is too long, where one ends the lines of the bytes
@@ -63,11 +65,13 @@ IsWhole (Some bytes) asked tail = (asked ≡ lines bytes) × (tail ≡ cut_answe
 abbrev pub no_memory : List Answer
 no_memory = Err Memory ∷ []
 
--- the lines that were answered are the first of the bytes, where they are known; then there may have been no memory for a line
+-- the lines that were answered are the first of the bytes, where they are known; then there may have been no memory for
+-- a line
 abbrev pub IsFront : Option (List ℕ) → List (List ℕ) → List Answer → Type 0
 IsFront None asked tail = (tail ≡ []) ⊎ (tail ≡ Err TooLong ∷ []) ⊎ (tail ≡ no_memory)
 IsFront (Some bytes) asked tail =
-    (more : List (List ℕ)) × (lines bytes ≡ asked ++ more) × ((tail ≡ []) ⊎ ((more ≡ []) × (tail ≡ cut_answers bytes)) ⊎ (tail ≡ no_memory))
+    (more : List (List ℕ)) × (lines bytes ≡ asked ++ more) × ((tail ≡ []) ⊎ ((more ≡ []) × (tail ≡ cut_answers bytes))
+    ⊎ (tail ≡ no_memory))
 
 -- the lines that were answered are those before some bytes that stay, where the bytes are known
 abbrev pub IsBefore : Option (List ℕ) → List (List ℕ) → Option (List ℕ) → Type 0

@@ -5,4 +5,5 @@ use Rattle.anchors.proofs.show.list.Given as goal
 
 -- the comments that were passed
 abbrev pub invariant-loop-comment : goal.invariant-loop-comment
-invariant-loop-comment g l = l.rows.items ≡ comments_at l.rev (g.S.Sequence.cells l.sequence) (take l.comment-index l.comments)
+invariant-loop-comment g l = l.rows.items ≡ comments_at l.rev (g.S.Sequence.cells l.sequence)
+    (take l.comment-index l.comments)

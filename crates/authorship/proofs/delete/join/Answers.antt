@@ -2,11 +2,15 @@ use Rattle.std.proofs.Common.{◌≡◌, refl, ap, sym, ◌∙◌, arith}
 use Rattle.authorship.specs.Kept.{places, IsProper}
 use Rattle.authorship.proofs.Takes.{read_run, proper-apart, joined-seam}
 use Rattle.authorship.proofs.delete.join.Goals as goal
-use Rattle.authorship.proofs.delete.join.Goals.{else-seam-gt0-via-then-seam-gt0+then-seam-len+else-index, else-seam-gt0-via-then-seam-gt0+else-seam-len, else-seam-gt0-via-else-seam-gt0}
+use Rattle.authorship.proofs.delete.join.Goals.{else-seam-gt0-via-then-seam-gt0+then-seam-len+else-index}
+use Rattle.authorship.proofs.delete.join.Goals.{else-seam-gt0-via-then-seam-gt0+else-seam-len}
+use Rattle.authorship.proofs.delete.join.Goals.{else-seam-gt0-via-else-seam-gt0}
 
-merged : (c : goal.After-merge) → (places c.merge.new.runs.items ≡ places c.args.runs.now.items) × IsProper c.merge.new.runs.items
+merged : (c : goal.After-merge) → (places c.merge.new.runs.items ≡ places c.args.runs.now.items)
+    × IsProper c.merge.new.runs.items
 merged c =
-    joined-seam _ _ c.args.seam _ _ c.if-seam-gt0.true (omega arith) c.index.ensures c.index-then-seam-len.ensures c.if-index.true c.merge.ensures.items c.requires.before c.requires.behind
+    joined-seam _ _ c.args.seam _ _ c.if-seam-gt0.true (omega arith) c.index.ensures c.index-then-seam-len.ensures
+    c.if-index.true c.merge.ensures.items c.requires.before c.requires.behind
 
 pub returns-then-index-clause-places : goal.returns-then-index-clause-places
 returns-then-index-clause-places c = (merged c).0

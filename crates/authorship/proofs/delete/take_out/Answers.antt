@@ -13,7 +13,8 @@ take_between-seam-requires-clause-order c =
     omega arith
 
 pub join-requires-clause-before : goal.join-requires-clause-before
-join-requires-clause-before c = rw (c.take_between-seam.ensures.seam, c.take_between-seam.ensures.items) (proper-left _ _ _ c.requires.proper)
+join-requires-clause-before c = rw (c.take_between-seam.ensures.seam, c.take_between-seam.ensures.items)
+    (proper-left _ _ _ c.requires.proper)
 
 pub join-requires-clause-behind : goal.join-requires-clause-behind
 join-requires-clause-behind c =

@@ -5,4 +5,5 @@ use Rattle.block_seq.proofs.erase.erase.Given as goal
 
 -- the cells so far are marked
 abbrev pub invariant-loop-cell : goal.invariant-loop-cell
-invariant-loop-cell l = l.cells ≡ map (erased_at l.rev l.spans) (take l.cell-index l.initial.cells) ++ drop l.cell-index l.initial.cells
+invariant-loop-cell l = l.cells ≡ map (erased_at l.rev l.spans) (take l.cell-index l.initial.cells)
+    ++ drop l.cell-index l.initial.cells

@@ -9,4 +9,5 @@ use Rattle.block_seq.proofs.erase.has_spans.Given as goal
 -- the spans so far are there
 abbrev pub invariant-loop-span : goal.invariant-loop-span
 invariant-loop-span l =
-    list_all (λ span. list_all (λ s. has_stamp kept_character l.cells s) (span_stamps span)) (drop l.span-index l.spans) ≡ list_all (λ span. list_all (λ s. has_stamp kept_character l.cells s) (span_stamps span)) l.spans
+    list_all (λ span. list_all (λ s. has_stamp kept_character l.cells s) (span_stamps span)) (drop l.span-index l.spans)
+    ≡ list_all (λ span. list_all (λ s. has_stamp kept_character l.cells s) (span_stamps span)) l.spans

@@ -7,6 +7,7 @@ use Rattle.block_seq.proofs.measure.count_before.Given as goal
 -- what is counted, and what is left to count
 abbrev pub invariant-loop-cell : goal.invariant-loop-cell
 invariant-loop-cell l = record {
-  counted : l.count + shown_before kept_character (is_shown l.rev) (drop l.cell-index l.cells) l.stamp ≡ shown_before kept_character (is_shown l.rev) l.cells l.stamp;
+  counted : l.count + shown_before kept_character (is_shown l.rev) (drop l.cell-index l.cells) l.stamp
+      ≡ shown_before kept_character (is_shown l.rev) l.cells l.stamp;
   small : l.count ≤ l.cell-index;
 }

@@ -8,4 +8,6 @@ use Rattle.block_seq.proofs.measure.stands_before.Given as goal
 -- once the first is passed, the last has to be in what is left
 abbrev pub invariant-loop-cell : goal.invariant-loop-cell
 invariant-loop-cell l =
-    stands_before kept_character l.cells l.first l.last ≡ cond l.passed (has_stamp kept_character (drop l.cell-index l.cells) l.last) (stands_before kept_character (drop l.cell-index l.cells) l.first l.last)
+    stands_before kept_character l.cells l.first l.last
+    ≡ cond l.passed (has_stamp kept_character (drop l.cell-index l.cells) l.last)
+    (stands_before kept_character (drop l.cell-index l.cells) l.first l.last)

@@ -7,4 +7,5 @@ use Rattle.block_seq.proofs.parts.each_fits.Given as goal
 
 -- the parts so far fit
 abbrev pub invariant-loop-part : goal.invariant-loop-part
-invariant-loop-part l = list_all (part_fits kept_character l.cells) (drop l.part-index l.parts) ≡ list_all (part_fits kept_character l.cells) l.parts
+invariant-loop-part l = list_all (part_fits kept_character l.cells) (drop l.part-index l.parts)
+    ≡ list_all (part_fits kept_character l.cells) l.parts

@@ -5,4 +5,5 @@ use Rattle.block_seq.proofs.readers.shown_stamp.Given as goal
 
 -- the character is among what is left
 abbrev pub invariant-loop-cell : goal.invariant-loop-cell
-invariant-loop-cell l = slice_get (filter (is_shown l.rev) l.cells) l.place ≡ slice_get (filter (is_shown l.rev) (drop l.cell-index l.cells)) l.left
+invariant-loop-cell l = slice_get (filter (is_shown l.rev) l.cells) l.place
+    ≡ slice_get (filter (is_shown l.rev) (drop l.cell-index l.cells)) l.left

@@ -17,7 +17,9 @@ loop-span-init c = record {
 }
 
 pub returns-in_err-cut_span-clause-cells : goal.returns-in_err-cut_span-clause-cells
-returns-in_err-cut_span-clause-cells c = same_then c.args.tree.now.items c.loop-span.tree.items c.cut_span.new.tree.items c.loop-span.invariant.cells c.cut_span.ensures.cells
+returns-in_err-cut_span-clause-cells c =
+    same_then c.args.tree.now.items c.loop-span.tree.items c.cut_span.new.tree.items c.loop-span.invariant.cells
+    c.cut_span.ensures.cells
 
 pub returns-in_err-cut_span-clause-labelled : goal.returns-in_err-cut_span-clause-labelled
 returns-in_err-cut_span-clause-labelled c = labelled_then c.loop-span.invariant.labelled c.cut_span.ensures.labelled
@@ -25,8 +27,11 @@ returns-in_err-cut_span-clause-labelled c = labelled_then c.loop-span.invariant.
 pub loop-span-preserved : goal.loop-span-preserved
 loop-span-preserved c = record {
   kept = c.cut_span.ensures.kept;
-  cells = same_then c.args.tree.now.items c.loop-span.tree.items c.cut_span.new.tree.items c.loop-span.invariant.cells c.cut_span.ensures.cells;
-  cut = cut_out_more c.loop-span.index c.cut_span.new.index c.args.spans.now c.loop-span.span-index _ c.span-item.result c.loop-span-test.true c.span-item.is refl c.cut_span.ensures.edges c.loop-span.invariant.cut c.in_ok-cut_span.ensures.cut;
+  cells = same_then c.args.tree.now.items c.loop-span.tree.items c.cut_span.new.tree.items c.loop-span.invariant.cells
+      c.cut_span.ensures.cells;
+  cut = cut_out_more c.loop-span.index c.cut_span.new.index c.args.spans.now c.loop-span.span-index _ c.span-item.result
+      c.loop-span-test.true c.span-item.is refl c.cut_span.ensures.edges c.loop-span.invariant.cut
+      c.in_ok-cut_span.ensures.cut;
   more = omega (arith, c.loop-span.invariant.more, c.cut_span.ensures.more);
   labelled = labelled_then c.loop-span.invariant.labelled c.cut_span.ensures.labelled;
   counts = omega (arith, c.loop-span.invariant.counts, c.cut_span.ensures.counts);

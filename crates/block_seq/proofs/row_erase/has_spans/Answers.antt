@@ -13,13 +13,17 @@ pub returns-then-not-has_span : goal.returns-then-not-has_span
 returns-then-not-has_span c = λ authors text w.
     let t = has_stamp character_of (cells_of authors text c.args.tree.now.items) in
     sym (has_spans-each t c.args.spans.now
-    ∙ list_all_at (λ span. list_all t (span_stamps span)) c.args.spans.now c.loop-span.span-index c.span-item.result c.loop-span-test.true
-    (ap (λ span. list_all t (span_stamps span)) (sym c.span-item.is) ∙ sym (c.has_span.ensures authors text w) ∙ c.if-not-has_span.true))
+    ∙ list_all_at (λ span. list_all t (span_stamps span)) c.args.spans.now c.loop-span.span-index c.span-item.result
+    c.loop-span-test.true
+    (ap (λ span. list_all t (span_stamps span)) (sym c.span-item.is) ∙ sym (c.has_span.ensures authors text w)
+    ∙ c.if-not-has_span.true))
 
 pub loop-span-preserved : goal.loop-span-preserved
 loop-span-preserved c = λ authors text w.
     let t = has_stamp character_of (cells_of authors text c.args.tree.now.items) in
-    passes_one (λ span. list_all t (span_stamps span)) c.args.spans.now c.loop-span.span-index c.span-item.result c.loop-span-test.true c.span-item.is (sym (c.has_span.ensures authors text w) ∙ c.if-not-has_span.false) (c.loop-span.invariant authors text w)
+    passes_one (λ span. list_all t (span_stamps span)) c.args.spans.now c.loop-span.span-index c.span-item.result
+    c.loop-span-test.true c.span-item.is (sym (c.has_span.ensures authors text w) ∙ c.if-not-has_span.false)
+    (c.loop-span.invariant authors text w)
 
 pub returns : goal.returns
 returns c = λ authors text w.

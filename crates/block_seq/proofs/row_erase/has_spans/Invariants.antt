@@ -13,4 +13,6 @@ use Rattle.block_seq.proofs.row_erase.has_spans.Given as goal
 abbrev pub invariant-loop-span : goal.invariant-loop-span
 invariant-loop-span l =
     (authors : List Author) (text : List ℕ) → AllByRecursion (IsWithin (length authors) (length text)) l.tree.items →
-    list_all (λ span. list_all (λ s. has_stamp character_of (cells_of authors text l.tree.items) s) (span_stamps span)) (drop l.span-index l.spans) ≡ list_all (λ span. list_all (λ s. has_stamp character_of (cells_of authors text l.tree.items) s) (span_stamps span)) l.spans
+    list_all (λ span. list_all (λ s. has_stamp character_of (cells_of authors text l.tree.items) s) (span_stamps span))
+    (drop l.span-index l.spans) ≡ list_all
+    (λ span. list_all (λ s. has_stamp character_of (cells_of authors text l.tree.items) s) (span_stamps span)) l.spans

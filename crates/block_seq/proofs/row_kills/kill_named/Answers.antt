@@ -15,7 +15,8 @@ loop-span-init c = record {
 pub overflow_add-hidden : goal.overflow_add-hidden
 overflow_add-hidden c =
     let total =
-    spans_step_hidden c.args.rev c.args.spans.now c.loop-span.span-index _ c.span-item.result c.args.tree.now.items c.loop-span.tree.items c.loop-span.hidden c.kill_span-hidden.result c.loop-span-test.true c.span-item.is refl
+    spans_step_hidden c.args.rev c.args.spans.now c.loop-span.span-index _ c.span-item.result c.args.tree.now.items
+    c.loop-span.tree.items c.loop-span.hidden c.kill_span-hidden.result c.loop-span-test.true c.span-item.is refl
     c.loop-span.invariant.items c.loop-span.invariant.hidden c.kill_span-hidden.ensures.hidden
     in
     let small = hidden_all (take (c.loop-span.span-index + 1) c.args.spans.now) c.args.tree.now.items in
@@ -27,8 +28,11 @@ loop-span-preserved c = record {
   slid = c.kill_span-hidden.ensures.slid;
   dated = c.kill_span-hidden.ensures.dated;
   room = λ some. c.kill_span-hidden.ensures.room;
-  items = spans_step c.args.rev c.args.spans.now c.loop-span.span-index _ c.span-item.result c.args.tree.now.items c.loop-span.tree.items c.kill_span-hidden.new.tree.items c.loop-span-test.true c.span-item.is refl
+  items = spans_step c.args.rev c.args.spans.now c.loop-span.span-index _ c.span-item.result c.args.tree.now.items
+      c.loop-span.tree.items c.kill_span-hidden.new.tree.items c.loop-span-test.true c.span-item.is refl
       c.loop-span.invariant.items c.kill_span-hidden.ensures.items;
-  hidden = spans_step_hidden c.args.rev c.args.spans.now c.loop-span.span-index _ c.span-item.result c.args.tree.now.items c.loop-span.tree.items c.loop-span.hidden c.kill_span-hidden.result c.loop-span-test.true c.span-item.is refl
+  hidden = spans_step_hidden c.args.rev c.args.spans.now c.loop-span.span-index _ c.span-item.result
+      c.args.tree.now.items c.loop-span.tree.items c.loop-span.hidden c.kill_span-hidden.result c.loop-span-test.true
+      c.span-item.is refl
       c.loop-span.invariant.items c.loop-span.invariant.hidden c.kill_span-hidden.ensures.hidden;
 }

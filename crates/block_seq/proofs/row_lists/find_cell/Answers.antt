@@ -10,10 +10,12 @@ loop-block-preserved c =
     let inv = c.loop-block.invariant in
     let b = c.in-Some.block.now in
     let steps = c.in-Some.ensures.steps in
-    let within = subst (AllByRecursion (IsWithin (length c.args.authors.now) (length c.args.text.now))) steps inv.within in
+    let within = subst (AllByRecursion (IsWithin (length c.args.authors.now) (length c.args.text.now))) steps
+    inv.within in
     let sized = subst (AllByRecursion IsSized) steps inv.sized in
     record {
-      place = sym (cell_behind c.args.authors.now c.args.text.now b c.next.new.self c.loop-block.block-iterator c.loop-block.left steps within.0.1 (omega (arith, c.if-left-block.false))) ∙ inv.place;
+      place = sym (cell_behind c.args.authors.now c.args.text.now b c.next.new.self c.loop-block.block-iterator
+          c.loop-block.left steps within.0.1 (omega (arith, c.if-left-block.false))) ∙ inv.place;
       sized = sized.1;
       within = within.1;
     }

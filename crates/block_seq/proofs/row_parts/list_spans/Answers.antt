@@ -6,4 +6,5 @@ use Rattle.block_seq.proofs.row_parts.list_spans.Goals as goal
 pub loop-part-preserved : goal.loop-part-preserved
 loop-part-preserved c =
     c.in_ok-add_spans.ensures ∙ ap (λ l. l ++ part_spans c.part-item.result) c.loop-part.invariant
-    ∙ sym (flat_more part_spans c.args.parts.now c.loop-part.part-index c.part-item.result c.loop-part-test.true c.part-item.is)
+    ∙ sym (flat_more part_spans c.args.parts.now c.loop-part.part-index c.part-item.result c.loop-part-test.true
+    c.part-item.is)

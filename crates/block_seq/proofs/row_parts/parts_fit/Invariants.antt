@@ -11,4 +11,5 @@ use Rattle.block_seq.proofs.row_parts.parts_fit.Given as goal
 abbrev pub invariant-loop-part : goal.invariant-loop-part
 invariant-loop-part l =
     (authors : List Author) (text : List ℕ) → AllByRecursion (IsWithin (length authors) (length text)) l.tree.items →
-    list_all (part_fits character_of (cells_of authors text l.tree.items)) (drop l.part-index l.parts) ≡ list_all (part_fits character_of (cells_of authors text l.tree.items)) l.parts
+    list_all (part_fits character_of (cells_of authors text l.tree.items)) (drop l.part-index l.parts)
+    ≡ list_all (part_fits character_of (cells_of authors text l.tree.items)) l.parts

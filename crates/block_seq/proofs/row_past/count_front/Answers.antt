@@ -16,12 +16,17 @@ count_alive-alive-requires-clause-inside c =
 pub returns-then-row-rev : goal.returns-then-row-rev
 returns-then-row-rev c = λ b e.
     c.count_alive-alive.ensures b e
-    ∙ alive_front c.args.row.latest c.args.rev c.args.row.tree.now.items c.args.spot.rank c.args.spot.offset b c.if-row-rev.true c.requires.dated e
+    ∙ alive_front c.args.row.latest c.args.rev c.args.row.tree.now.items c.args.spot.rank c.args.spot.offset b
+    c.if-row-rev.true c.requires.dated e
 
 pub loop-low-init : goal.loop-low-init
 loop-low-init c =
     let all = c.count_visible-high.ensures in
     record {
-      between = λ b e. (omega arith, (let most = shown_front-most c.args.rev c.args.row.tree.now.items c.args.spot.rank c.args.spot.offset b e (c.requires.inside b e) in omega arith));
+      between = λ b e. (
+        omega arith,
+        (let most = shown_front-most c.args.rev c.args.row.tree.now.items c.args.spot.rank
+            c.args.spot.offset b e (c.requires.inside b e) in omega arith),
+      );
       top = omega arith;
     }

@@ -8,7 +8,9 @@ use Rattle.block_seq.proofs.row_past.count_front.Given as goal
 -- the number lies from low to high
 abbrev pub invariant-loop-low : goal.invariant-loop-low
 invariant-loop-low l = record {
-  between : (b : Block) → slice_get l.row.tree.now.items l.spot.rank ≡ Some b → (l.low ≤ shown_front l.rev l.row.tree.now.items l.spot.rank l.spot.offset b) × (shown_front l.rev l.row.tree.now.items l.spot.rank l.spot.offset b ≤ l.high);
+  between : (b : Block) → slice_get l.row.tree.now.items l.spot.rank ≡ Some b →
+      (l.low ≤ shown_front l.rev l.row.tree.now.items l.spot.rank l.spot.offset b)
+      × (shown_front l.rev l.row.tree.now.items l.spot.rank l.spot.offset b ≤ l.high);
   top : l.high ≤ sum_by (shown_len l.rev) l.row.tree.now.items;
 }
 

@@ -12,6 +12,8 @@ abbrev pub invariant-loop-rank : goal.invariant-loop-rank
 invariant-loop-rank l = record {
   done : List Stamp;
   spans : l.spans.items ≡ spans done;
-  all : done ++ take l.left (drop l.skip (flat_map (shown_stamps l.rev) (drop l.rank l.row.tree.now.items))) ≡ take l.len (drop l.at (flat_map (shown_stamps l.rev) l.row.tree.now.items));
-  small : sum_by (λ s. s.len) l.spans.items + sum_by (shown_len l.rev) (drop l.rank l.row.tree.now.items) ≤ MAX_CHARACTERS;
+  all : done ++ take l.left (drop l.skip (flat_map (shown_stamps l.rev) (drop l.rank l.row.tree.now.items)))
+      ≡ take l.len (drop l.at (flat_map (shown_stamps l.rev) l.row.tree.now.items));
+  small : sum_by (λ s. s.len) l.spans.items + sum_by (shown_len l.rev) (drop l.rank l.row.tree.now.items)
+      ≤ MAX_CHARACTERS;
 }

@@ -21,7 +21,9 @@ loop-run-init c = record {
 }
 
 pub returns-in_err-cut_parent-clause-cells : goal.returns-in_err-cut_parent-clause-cells
-returns-in_err-cut_parent-clause-cells c = same_then c.args.tree.now.items c.loop-run.tree.items c.cut_parent.new.tree.items c.loop-run.invariant.cells c.cut_parent.ensures.cells
+returns-in_err-cut_parent-clause-cells c =
+    same_then c.args.tree.now.items c.loop-run.tree.items c.cut_parent.new.tree.items c.loop-run.invariant.cells
+    c.cut_parent.ensures.cells
 
 pub returns-in_err-cut_parent-clause-labelled : goal.returns-in_err-cut_parent-clause-labelled
 returns-in_err-cut_parent-clause-labelled c = labelled_then c.loop-run.invariant.labelled c.cut_parent.ensures.labelled
@@ -29,11 +31,15 @@ returns-in_err-cut_parent-clause-labelled c = labelled_then c.loop-run.invariant
 pub loop-run-preserved : goal.loop-run-preserved
 loop-run-preserved c = record {
   kept = c.cut_parent.ensures.kept;
-  cells = same_then c.args.tree.now.items c.loop-run.tree.items c.cut_parent.new.tree.items c.loop-run.invariant.cells c.cut_parent.ensures.cells;
+  cells = same_then c.args.tree.now.items c.loop-run.tree.items c.cut_parent.new.tree.items c.loop-run.invariant.cells
+      c.cut_parent.ensures.cells;
   edges = λ s edge. c.cut_parent.ensures.edges s (c.loop-run.invariant.edges s edge);
   cut =
-      all_more (λ (run : Bor Run). IsCutBehind c.loop-run.index run.now.after) (λ run. IsCutBehind c.cut_parent.new.index run.now.after) c.args.runs.now c.loop-run.run-index _ c.run-item.result c.loop-run-test.true c.run-item.is refl
-      (λ run. still_behind c.loop-run.index c.cut_parent.new.index run.now.after c.cut_parent.ensures.edges) c.loop-run.invariant.cut c.in_ok-cut_parent.ensures.cut;
+      all_more (λ (run : Bor Run). IsCutBehind c.loop-run.index run.now.after)
+      (λ run. IsCutBehind c.cut_parent.new.index run.now.after) c.args.runs.now c.loop-run.run-index _ c.run-item.result
+      c.loop-run-test.true c.run-item.is refl
+      (λ run. still_behind c.loop-run.index c.cut_parent.new.index run.now.after c.cut_parent.ensures.edges)
+      c.loop-run.invariant.cut c.in_ok-cut_parent.ensures.cut;
   more = omega (arith, c.loop-run.invariant.more, c.cut_parent.ensures.more);
   labelled = labelled_then c.loop-run.invariant.labelled c.cut_parent.ensures.labelled;
   counts = omega (arith, c.loop-run.invariant.counts, c.cut_parent.ensures.counts);

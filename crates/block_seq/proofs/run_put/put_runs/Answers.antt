@@ -1,4 +1,5 @@
-use Rattle.std.proofs.Common.{◌≡◌, ℕ, ◌+◌, ◌-◌, ◌≤◌, ◌<◌, [], ◌∷◌, ◌++◌, max, true, List, length, map, drop, take, sum_by, sym, ap, ap₂, ◌∙◌, refl, subst, arith}
+use Rattle.std.proofs.Common.{◌≡◌, ℕ, ◌+◌, ◌-◌, ◌≤◌, ◌<◌, [], ◌∷◌, ◌++◌, max, true, List, length, map, drop, take}
+use Rattle.std.proofs.Common.{sum_by, sym, ap, ap₂, ◌∙◌, refl, subst, arith}
 use Rattle.std.proofs.lemmas.Bool.{and_parts}
 use Rattle.std.proofs.lemmas.List.Edits.{length-remove}
 use Rattle.std.proofs.lemmas.List.Sums.{sum_by-cons}
@@ -14,7 +15,8 @@ use Rattle.block_seq.specs.RowParts.{AreRanks, MayPut, with_all, without_ranks}
 use Rattle.block_seq.specs.RowSlides.{IsSlidRow}
 use Rattle.block_seq.proofs.RowCounts.{on_error, undone_nothing}
 use Rattle.block_seq.proofs.RowChange.{cut_out_put, lent_from, lent_sizes, named_below, run_sized}
-use Rattle.block_seq.proofs.RowRuns.{front_of_front, may_put_next, one_rank_more, spans_stay, take_front, without_ranks-last}
+use Rattle.block_seq.proofs.RowRuns.{front_of_front, may_put_next, one_rank_more, spans_stay, take_front}
+use Rattle.block_seq.proofs.RowRuns.{without_ranks-last}
 use Rattle.block_seq.proofs.run_put.put_runs.Goals as goal
 use Rattle.block_seq.proofs.run_put.put_runs.Goals.{After-run-item}
 
@@ -54,17 +56,25 @@ cells c = cells_of c.args.batch.now.authors.now c.loop-run.text.items c.loop-run
 abbrev rest : (c : After-run-item) → List Run
 rest c = map (λ run. run.now) (drop (c.loop-run.run-index + 1) c.args.runs.now)
 
-from : (c : After-run-item) → map (λ run. run.now) (drop c.loop-run.run-index c.args.runs.now) ≡ c.run-item.result.now ∷ rest c
-from c = lent_from (λ run. run.now) c.args.runs.now c.loop-run.run-index c.run-item.result c.loop-run-test.true c.run-item.is
+from : (c : After-run-item) → map (λ run. run.now) (drop c.loop-run.run-index c.args.runs.now) ≡ c.run-item.result.now
+    ∷ rest c
+from c = lent_from (λ run. run.now) c.args.runs.now c.loop-run.run-index c.run-item.result c.loop-run-test.true
+    c.run-item.is
 
 -- the next run may be put
-may : (c : After-run-item) → MayPut c.args.batch.now.rev (author_at c.args.batch.now.authors.now c.args.batch.now.author) (cells c) c.loop-run.index (c.run-item.result.now ∷ rest c)
-may c = subst (MayPut c.args.batch.now.rev (author_at c.args.batch.now.authors.now c.args.batch.now.author) (cells c) c.loop-run.index) (from c) c.loop-run.invariant.may
+may : (c : After-run-item) → MayPut c.args.batch.now.rev
+    (author_at c.args.batch.now.authors.now c.args.batch.now.author) (cells c) c.loop-run.index (c.run-item.result.now
+    ∷ rest c)
+may c = subst (MayPut c.args.batch.now.rev (author_at c.args.batch.now.authors.now c.args.batch.now.author)
+    (cells c) c.loop-run.index) (from c) c.loop-run.invariant.may
 
 -- what the next run and those behind it take
-sizes : (c : After-run-item) → sum_by (λ run. length run.now.text) (drop c.loop-run.run-index c.args.runs.now) ≡ length c.run-item.result.now.text + sum_by (λ run. length run.text) (rest c)
+sizes : (c : After-run-item) → sum_by (λ run. length run.now.text) (drop c.loop-run.run-index c.args.runs.now)
+    ≡ length c.run-item.result.now.text + sum_by (λ run. length run.text) (rest c)
 sizes c =
-    lent_sizes (λ run. run.now) (drop c.loop-run.run-index c.args.runs.now) ∙ ap (sum_by (λ (run : Run). length run.text)) (from c) ∙ sum_by-cons (λ (run : Run). length run.text) c.run-item.result.now (rest c)
+    lent_sizes (λ run. run.now) (drop c.loop-run.run-index c.args.runs.now)
+    ∙ ap (sum_by (λ (run : Run). length run.text)) (from c)
+    ∙ sum_by-cons (λ (run : Run). length run.text) c.run-item.result.now (rest c)
 
 pub put_run-requires-clause-row : goal.put_run-requires-clause-row
 put_run-requires-clause-row c = c.loop-run.invariant.row
@@ -91,43 +101,67 @@ put_run-requires-clause-text c =
     omega (arith, all, c.loop-run.invariant.text_room)
 
 pub put_run-requires-clause-slides : goal.put_run-requires-clause-slides
-put_run-requires-clause-slides c = omega (arith, c.loop-run.invariant.slides_len, c.loop-run.invariant.slides_room, c.requires.slides, c.loop-run-test.true)
+put_run-requires-clause-slides c = omega (
+  arith,
+  c.loop-run.invariant.slides_len,
+  c.loop-run.invariant.slides_room,
+  c.requires.slides,
+  c.loop-run-test.true,
+)
 
 pub push_reserved-requires : goal.push_reserved-requires
-push_reserved-requires c = omega (arith, c.loop-run.invariant.ranks_len, c.loop-run.invariant.ranks_room, c.loop-run-test.true)
+push_reserved-requires c = omega (
+  arith,
+  c.loop-run.invariant.ranks_len,
+  c.loop-run.invariant.ranks_room,
+  c.loop-run-test.true,
+)
 
 pub take_blocks-requires-clause-ranks : goal.take_blocks-requires-clause-ranks
 take_blocks-requires-clause-ranks c =
-    subst (AreRanks (without_labels c.put_run.new.tree.items)) (sym c.as_slice.ensures.value) (subst (λ l. AreRanks l c.loop-run.ranks.items) (sym c.in-Err.ensures.same_blocks) c.loop-run.invariant.ranks)
+    subst (AreRanks (without_labels c.put_run.new.tree.items)) (sym c.as_slice.ensures.value)
+    (subst (λ l. AreRanks l c.loop-run.ranks.items) (sym c.in-Err.ensures.same_blocks) c.loop-run.invariant.ranks)
 
 pub returns-in-Err-clause-capacity : goal.returns-in-Err-clause-capacity
-returns-in-Err-clause-capacity c = c.truncate-in-Err.ensures.capacity ∙ c.put_run.ensures.slides_capacity ∙ c.loop-run.invariant.slides_room
+returns-in-Err-clause-capacity c = c.truncate-in-Err.ensures.capacity ∙ c.put_run.ensures.slides_capacity
+    ∙ c.loop-run.invariant.slides_room
 
 pub returns-in-Err-clause-same_blocks : goal.returns-in-Err-clause-same_blocks
 returns-in-Err-clause-same_blocks c =
-    c.take_blocks.ensures.taken ∙ ap₂ (λ l ranks. without_ranks l ranks) c.in-Err.ensures.same_blocks c.as_slice.ensures.value ∙ c.loop-run.invariant.back
+    c.take_blocks.ensures.taken ∙ ap₂ (λ l ranks. without_ranks l ranks) c.in-Err.ensures.same_blocks
+    c.as_slice.ensures.value ∙ c.loop-run.invariant.back
 
 pub returns-in-Err-clause-more : goal.returns-in-Err-clause-more
 returns-in-Err-clause-more c =
-    let same = c.take_blocks.ensures.taken ∙ ap₂ (λ l ranks. without_ranks l ranks) c.in-Err.ensures.same_blocks c.as_slice.ensures.value ∙ c.loop-run.invariant.back in
-    let size = sym (length-without_labels c.take_blocks.new.tree.items) ∙ ap length same ∙ length-without_labels c.args.tree.now.items in
+    let same = c.take_blocks.ensures.taken ∙ ap₂ (λ l ranks. without_ranks l ranks) c.in-Err.ensures.same_blocks
+    c.as_slice.ensures.value ∙ c.loop-run.invariant.back in
+    let size = sym (length-without_labels c.take_blocks.new.tree.items) ∙ ap length same
+    ∙ length-without_labels c.args.tree.now.items in
     omega (arith, size)
 
 pub returns-in_err-reserve-clause-undone : goal.returns-in_err-reserve-clause-undone
-returns-in_err-reserve-clause-undone c = on_error c.from_residual.result (undone_nothing c.args.tree.now.items c.args.respacings.now)
+returns-in_err-reserve-clause-undone c =
+    on_error c.from_residual.result (undone_nothing c.args.tree.now.items c.args.respacings.now)
 
 pub returns-in-Err-clause-undone : goal.returns-in-Err-clause-undone
-returns-in-Err-clause-undone c = (c.put_run.new.tree.items, labelled_then c.loop-run.invariant.labelled c.put_run.ensures.labelled, c.take_blocks.ensures.labels)
+returns-in-Err-clause-undone c = (
+  c.put_run.new.tree.items,
+  labelled_then c.loop-run.invariant.labelled c.put_run.ensures.labelled,
+  c.take_blocks.ensures.labels,
+)
 
 pub returns-in-Err-clause-same_text : goal.returns-in-Err-clause-same_text
-returns-in-Err-clause-same_text c = c.truncate.ensures.items ∙ ap₂ (λ n l. take n l) (c.len-start.ensures ∙ c.args.text.now.ok.0) c.in-Err.ensures.same_text ∙ c.loop-run.invariant.text
+returns-in-Err-clause-same_text c = c.truncate.ensures.items ∙ ap₂ (λ n l. take n l)
+    (c.len-start.ensures ∙ c.args.text.now.ok.0) c.in-Err.ensures.same_text ∙ c.loop-run.invariant.text
 
 pub returns-in-Err-clause-same_slides : goal.returns-in-Err-clause-same_slides
-returns-in-Err-clause-same_slides c = c.truncate-in-Err.ensures.items ∙ ap₂ (λ n l. take n l) (c.len-known.ensures ∙ c.args.slides.now.ok.0) c.in-Err.ensures.same_slides ∙ c.loop-run.invariant.slides
+returns-in-Err-clause-same_slides c = c.truncate-in-Err.ensures.items ∙ ap₂ (λ n l. take n l)
+    (c.len-known.ensures ∙ c.args.slides.now.ok.0) c.in-Err.ensures.same_slides ∙ c.loop-run.invariant.slides
 
 pub overflow_sub-len : goal.overflow_sub-len
 overflow_sub-len c =
-    let run = run_sized (author_at c.args.batch.now.authors.now c.args.batch.now.author).origin 0 c.run-item.result.now (and_parts _ _ (may (goal.at.overflow_sub-len c).After-run-item).checked).0 in
+    let run = run_sized (author_at c.args.batch.now.authors.now c.args.batch.now.author).origin 0 c.run-item.result.now
+    (and_parts _ _ (may (goal.at.overflow_sub-len c).After-run-item).checked).0 in
     omega (arith, run.0, c.len.ensures)
 
 pub loop-run-preserved : goal.loop-run-preserved
@@ -142,9 +176,12 @@ loop-run-preserved c =
     let made = c.in-Ok.ensures.cells in
     let edges = c.in-Ok.ensures.edges in
     let after = without_labels c.put_run.new.tree.items in
-    let clock : c.max-clock.result ≡ max c.loop-run.clock (run.first.counter + (length run.text - 1)) = c.max-clock.ensures ∙ ap₂ (λ counter len. max c.loop-run.clock (counter + (len - 1))) c.counter.ensures.value c.len.ensures in
+    let clock : c.max-clock.result ≡ max c.loop-run.clock (run.first.counter + (length run.text - 1)) =
+    c.max-clock.ensures ∙ ap₂ (λ counter len. max c.loop-run.clock (counter + (len - 1))) c.counter.ensures.value
+    c.len.ensures in
     let pushed = c.push_reserved.ensures.items in
-    let grown = ap length c.in-Ok.ensures.text ∙ Rattle.std.proofs.Common.length-append c.loop-run.text.items run.text in
+    let grown = ap length c.in-Ok.ensures.text ∙ Rattle.std.proofs.Common.length-append c.loop-run.text.items
+    run.text in
     let all = sizes g in
     let left = lent_sizes (λ run. run.now) (drop (c.loop-run.run-index + 1) c.args.runs.now) in
     let fewer = length-remove after c.in-Ok.rank c.in-Ok.ensures.within in
@@ -152,20 +189,39 @@ loop-run-preserved c =
     let new_size = length-without_labels c.put_run.new.tree.items in
     let old_size = length-without_labels c.loop-run.tree.items in
     record {
-      row = subst (λ k. IsSlidRow rev k c.args.batch.now.authors.now c.put_run.new.text.items c.put_run.new.slides.items c.put_run.new.index c.put_run.new.tree.items) (sym clock) c.in-Ok.ensures.row;
-      may = may_put_next rev (length run.text) author (cells g) _ c.loop-run.index c.put_run.new.index run (rest g) here order made edges;
+      row = subst (λ k. IsSlidRow rev k c.args.batch.now.authors.now c.put_run.new.text.items c.put_run.new.slides.items
+          c.put_run.new.index c.put_run.new.tree.items) (sym clock) c.in-Ok.ensures.row;
+      may = may_put_next rev (length run.text) author (cells g) _ c.loop-run.index c.put_run.new.index run
+          (rest g) here order made edges;
       all = ap (λ l. with_all rev author l (rest g)) made ∙ ap (with_all rev author (cells g)) (sym (from g)) ∙ inv.all;
       cut = λ spans there checked cut. (let so = inv.cut spans there checked cut in (
-        subst (λ l. has_spans character_of l spans ≡ true) (sym made) (spans_stay rev run author (cells g) spans order here.join.0 so.0),
-        cut_out_put c.loop-run.index c.put_run.new.index spans run.first (length run.text) edges (named_below spans (cells g) run.first run.after so.0 here.join.0) checked so.1,
+        subst (λ l. has_spans character_of l spans ≡ true) (sym made)
+            (spans_stay rev run author (cells g) spans order here.join.0 so.0),
+        cut_out_put c.loop-run.index c.put_run.new.index spans run.first (length run.text) edges
+            (named_below spans (cells g) run.first run.after so.0 here.join.0) checked so.1,
       ));
-      ranks = subst (AreRanks after) (sym pushed) (one_rank_more after c.loop-run.ranks.items c.in-Ok.rank c.in-Ok.ensures.within (subst (λ l. AreRanks l c.loop-run.ranks.items) (sym c.in-Ok.ensures.block) inv.ranks));
-      back = ap (without_ranks after) pushed ∙ without_ranks-last after c.loop-run.ranks.items c.in-Ok.rank ∙ ap (λ l. without_ranks l c.loop-run.ranks.items) c.in-Ok.ensures.block ∙ inv.back;
+      ranks = subst (AreRanks after) (sym pushed)
+          (one_rank_more after c.loop-run.ranks.items c.in-Ok.rank c.in-Ok.ensures.within
+          (subst (λ l. AreRanks l c.loop-run.ranks.items) (sym c.in-Ok.ensures.block) inv.ranks));
+      back = ap (without_ranks after) pushed ∙ without_ranks-last after c.loop-run.ranks.items c.in-Ok.rank
+          ∙ ap (λ l. without_ranks l c.loop-run.ranks.items) c.in-Ok.ensures.block ∙ inv.back;
       ranks_len = omega (arith, c.push_reserved.ensures.len, inv.ranks_len);
       ranks_room = omega (arith, c.push_reserved.ensures.capacity, inv.ranks_room);
-      text = front_of_front c.args.text.now.items c.loop-run.text.items c.put_run.new.text.items inv.text (ap (take (length c.loop-run.text.items)) c.in-Ok.ensures.text ∙ take_front c.loop-run.text.items run.text (length c.loop-run.text.items) refl);
-      text_room = omega (arith, grown, all, left, inv.text_room, c.put_run.ensures.text_capacity, c.put_run.new.text.ok.0, c.loop-run.text.ok.0);
-      slides = front_of_front c.args.slides.now.items c.loop-run.slides.items c.put_run.new.slides.items inv.slides c.in-Ok.ensures.slide;
+      text = front_of_front c.args.text.now.items c.loop-run.text.items c.put_run.new.text.items inv.text
+          (ap (take (length c.loop-run.text.items)) c.in-Ok.ensures.text ∙ take_front c.loop-run.text.items run.text
+          (length c.loop-run.text.items) refl);
+      text_room = omega (
+        arith,
+        grown,
+        all,
+        left,
+        inv.text_room,
+        c.put_run.ensures.text_capacity,
+        c.put_run.new.text.ok.0,
+        c.loop-run.text.ok.0,
+      );
+      slides = front_of_front c.args.slides.now.items c.loop-run.slides.items c.put_run.new.slides.items inv.slides
+          c.in-Ok.ensures.slide;
       slides_len = omega (arith, inv.slides_len, c.in-Ok.ensures.one_slide);
       slides_room = c.put_run.ensures.slides_capacity ∙ inv.slides_room;
       live = omega (arith, inv.live, c.in-Ok.ensures.live);
@@ -188,7 +244,12 @@ pub returns-clause-capacity : goal.returns-clause-capacity
 returns-clause-capacity c = c.loop-run.invariant.slides_room
 
 pub returns-clause-slides : goal.returns-clause-slides
-returns-clause-slides c = omega (arith, c.loop-run.invariant.slides_len, c.loop-run-test.false, c.loop-run.auto.run-index-end)
+returns-clause-slides c = omega (
+  arith,
+  c.loop-run.invariant.slides_len,
+  c.loop-run-test.false,
+  c.loop-run.auto.run-index-end,
+)
 
 pub returns-clause-live : goal.returns-clause-live
 returns-clause-live c = omega (arith, c.loop-run.invariant.live, c.loop-run.auto.run-index-end)
@@ -201,5 +262,9 @@ returns-clause-few c = omega (arith, c.loop-run.invariant.few, c.loop-run.auto.r
 
 pub returns-clause-cells : goal.returns-clause-cells
 returns-clause-cells c =
-    let none : map (λ run. run.now) (drop c.loop-run.run-index c.args.runs.now) ≡ [] = ap (map (λ run. run.now)) (Rattle.std.proofs.lemmas.List.drop_all c.loop-run.run-index c.args.runs.now (omega (arith, c.loop-run-test.false))) in
-    sym (ap (with_all c.args.batch.now.rev (author_at c.args.batch.now.authors.now c.args.batch.now.author) (cells_of c.args.batch.now.authors.now c.loop-run.text.items c.loop-run.tree.items)) none) ∙ c.loop-run.invariant.all
+    let none : map (λ run. run.now) (drop c.loop-run.run-index c.args.runs.now) ≡ [] =
+    ap (map (λ run. run.now)) (Rattle.std.proofs.lemmas.List.drop_all c.loop-run.run-index c.args.runs.now
+    (omega (arith, c.loop-run-test.false))) in
+    sym (ap (with_all c.args.batch.now.rev (author_at c.args.batch.now.authors.now c.args.batch.now.author)
+    (cells_of c.args.batch.now.authors.now c.loop-run.text.items c.loop-run.tree.items)) none)
+    ∙ c.loop-run.invariant.all

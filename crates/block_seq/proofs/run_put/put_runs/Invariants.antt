@@ -22,8 +22,11 @@ invariant-loop-run l =
     let first_cells = cells_of authors l.initial.text.items l.initial.tree.items in record {
       row : IsSlidRow l.batch.rev l.clock authors l.text.items l.slides.items l.index l.tree.items;
       may : MayPut l.batch.rev author cells l.index (map (λ run. run.now) (drop l.run-index l.runs));
-      all : with_all l.batch.rev author cells (map (λ run. run.now) (drop l.run-index l.runs)) ≡ with_all l.batch.rev author first_cells (map (λ run. run.now) l.runs);
-      cut : (spans : List Span) → has_spans character_of first_cells spans ≡ true → list_all is_span spans ≡ true → AllByRecursion (IsCutOut l.initial.index) spans → (has_spans character_of cells spans ≡ true) × AllByRecursion (IsCutOut l.index) spans;
+      all : with_all l.batch.rev author cells (map (λ run. run.now) (drop l.run-index l.runs))
+          ≡ with_all l.batch.rev author first_cells (map (λ run. run.now) l.runs);
+      cut : (spans : List Span) → has_spans character_of first_cells spans ≡ true → list_all is_span spans ≡ true →
+          AllByRecursion (IsCutOut l.initial.index) spans → (has_spans character_of cells spans ≡ true)
+          × AllByRecursion (IsCutOut l.index) spans;
       ranks : AreRanks (without_labels l.tree.items) l.ranks.items;
       back : without_ranks (without_labels l.tree.items) l.ranks.items ≡ without_labels l.initial.tree.items;
       ranks_len : vec_len l.ranks ≡ l.run-index;

@@ -7,11 +7,14 @@ use Rattle.block_seq.proofs.run_put.take_blocks.Goals as goal
 use Rattle.block_seq.proofs.run_put.take_blocks.Goals.{In-loop-left}
 
 -- the next rank
-next : (c : In-loop-left) → OneTaken c.loop-left.tree.items c.args.ranks.now (c.loop-left.left - 1) (get_or c.args.ranks.now (c.loop-left.left - 1) 0) (without_ranks (without_labels c.args.tree.now.items) c.args.ranks.now)
+next : (c : In-loop-left) → OneTaken c.loop-left.tree.items c.args.ranks.now (c.loop-left.left - 1)
+    (get_or c.args.ranks.now (c.loop-left.left - 1) 0)
+    (without_ranks (without_labels c.args.tree.now.items) c.args.ranks.now)
 next c =
     let within = c.loop-left.invariant.within in
     let some = c.loop-left-test.true in
-    one_taken c.loop-left.tree.items c.args.ranks.now c.loop-left.left (c.loop-left.left - 1) (without_ranks (without_labels c.args.tree.now.items) c.args.ranks.now)
+    one_taken c.loop-left.tree.items c.args.ranks.now c.loop-left.left (c.loop-left.left - 1)
+    (without_ranks (without_labels c.args.tree.now.items) c.args.ranks.now)
     (omega (arith, some)) (omega (arith, some, within)) c.loop-left.invariant.ranks c.loop-left.invariant.taken
 
 pub take_block-requires-clause-within : goal.take_block-requires-clause-within
@@ -24,7 +27,10 @@ loop-left-preserved c =
     record {
       within = omega (arith, within);
       kept = c.take_block.ensures.kept;
-      ranks = subst (λ l. AreRanks (without_labels l) (take (c.loop-left.left - 1) c.args.ranks.now)) (sym c.take_block.ensures.taken) n.ranks';
-      labels = keeps_then c.take_block.new.tree.items c.loop-left.tree.items c.args.tree.now.items c.take_block.ensures.labels c.loop-left.invariant.labels;
-      taken = ap (λ l. without_ranks (without_labels l) (take (c.loop-left.left - 1) c.args.ranks.now)) c.take_block.ensures.taken ∙ n.taken;
+      ranks = subst (λ l. AreRanks (without_labels l) (take (c.loop-left.left - 1) c.args.ranks.now))
+          (sym c.take_block.ensures.taken) n.ranks';
+      labels = keeps_then c.take_block.new.tree.items c.loop-left.tree.items c.args.tree.now.items
+          c.take_block.ensures.labels c.loop-left.invariant.labels;
+      taken = ap (λ l. without_ranks (without_labels l) (take (c.loop-left.left - 1) c.args.ranks.now))
+          c.take_block.ensures.taken ∙ n.taken;
     }

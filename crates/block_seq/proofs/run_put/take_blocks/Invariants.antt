@@ -12,7 +12,8 @@ invariant-loop-left l = record {
   kept : IsKept l.index l.tree.items;
   ranks : AreRanks (without_labels l.tree.items) (take l.left l.ranks);
   labels : KeepsLabels l.tree.items l.initial.tree.items;
-  taken : without_ranks (without_labels l.tree.items) (take l.left l.ranks) ≡ without_ranks (without_labels l.initial.tree.items) l.ranks;
+  taken : without_ranks (without_labels l.tree.items) (take l.left l.ranks)
+      ≡ without_ranks (without_labels l.initial.tree.items) l.ranks;
 }
 
 abbrev pub decreases-loop-left : goal.decreases-loop-left

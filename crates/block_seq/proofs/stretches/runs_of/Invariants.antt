@@ -7,7 +7,8 @@ use Rattle.block_seq.proofs.stretches.runs_of.Given as goal
 abbrev pub invariant-loop-place : goal.invariant-loop-place
 invariant-loop-place l =
     (l.place ≤ length l.authors)
-    × (l.runs.items ++ runs (map (λ author. author.now) (drop l.place l.authors)) ≡ runs (map (λ author. author.now) l.authors))
+    × (l.runs.items ++ runs (map (λ author. author.now) (drop l.place l.authors))
+    ≡ runs (map (λ author. author.now) l.authors))
 
 abbrev pub decreases-loop-place : goal.decreases-loop-place
 decreases-loop-place l = length l.authors - l.place

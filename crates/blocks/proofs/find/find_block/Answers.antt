@@ -18,7 +18,9 @@ returns-clause-spot c =
     let label : b.label ≡ p.label = ap (λ (e : Entry). e.label) found.4 ∙ sym some.2.1 in
     let len : b.len ≡ some.0.len = ap (λ (e : Entry). e.len) found.4 in
     let rank : c.rank_of.result ≡ found.0 = c.rank_of.ensures found.0 b found.2 label in
-    let there : slice_get c.args.tree.now.items c.rank_of.result ≡ Some b = ap (slice_get c.args.tree.now.items) rank ∙ found.2 in
+    let there : slice_get c.args.tree.now.items c.rank_of.result ≡ Some b = ap (slice_get c.args.tree.now.items) rank
+    ∙ found.2 in
     let inside = some.2.0 in
-    subst (λ o. IsSomeAnd o (λ (x : Block). (c.args.stamp ≡ stamp_behind x.first p.offset) × (p.offset < x.len))) (sym there)
+    subst (λ o. IsSomeAnd o (λ (x : Block). (c.args.stamp ≡ stamp_behind x.first p.offset) × (p.offset < x.len)))
+    (sym there)
     (subst (λ f. c.args.stamp ≡ stamp_behind f p.offset) (sym found.3) place.stamp, omega arith)

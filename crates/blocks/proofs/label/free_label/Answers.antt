@@ -17,11 +17,14 @@ respace-requires-clause-room c =
     omega (arith, w.fits, under)
 
 -- from the window to its end
-fits : (c : After-respace) → c.window_round-window.result.low + c.window_round-window.result.step * (c.window_round-window.result.to - c.window_round-window.result.from + 1)
-    ≤ above c.args.tree.now.items (c.window_round-window.result.from + (c.window_round-window.result.to - c.window_round-window.result.from)) LAST_LABEL
+fits : (c : After-respace) → c.window_round-window.result.low + c.window_round-window.result.step
+    * (c.window_round-window.result.to - c.window_round-window.result.from + 1)
+    ≤ above c.args.tree.now.items (c.window_round-window.result.from
+    + (c.window_round-window.result.to - c.window_round-window.result.from)) LAST_LABEL
 fits c =
     let w = c.window_round-window.ensures.window in
-    let end : c.window_round-window.result.from + (c.window_round-window.result.to - c.window_round-window.result.from) ≡ c.window_round-window.result.to = omega (arith, w.before, w.behind) in
+    let end : c.window_round-window.result.from + (c.window_round-window.result.to - c.window_round-window.result.from)
+    ≡ c.window_round-window.result.to = omega (arith, w.before, w.behind) in
     rw end w.fits
 
 rises : (c : After-respace) → Rises 1 0 c.respace.new.tree.items LAST_LABEL
@@ -29,7 +32,9 @@ rises c =
     let r = c.window_round-window.result in
     let w = c.window_round-window.ensures.window in
     subst (λ l. Rises 1 0 l LAST_LABEL) (sym c.respace.ensures.respaced)
-    (rises_front r.step 0 r.low LAST_LABEL r.from (r.to - r.from) c.args.tree.now.items (omega (arith, c.window_round-window.ensures.room)) c.requires.kept.rises (omega (arith, w.before, w.behind, w.within)) w.low (fits c))
+    (rises_front r.step 0 r.low LAST_LABEL r.from (r.to - r.from) c.args.tree.now.items
+    (omega (arith, c.window_round-window.ensures.room)) c.requires.kept.rises
+    (omega (arith, w.before, w.behind, w.within)) w.low (fits c))
 
 size : (c : After-respace) → length c.respace.new.tree.items ≡ length c.args.tree.now.items
 size c =
@@ -37,18 +42,22 @@ size c =
     ap length c.respace.ensures.respaced ∙ length-front r.step r.low r.from (r.to - r.from) c.args.tree.now.items
 
 -- there is room at the rank now
-room : (c : After-respace) → below 0 c.respace.new.tree.items c.args.rank + 2 ≤ above c.respace.new.tree.items c.args.rank LAST_LABEL
+room : (c : After-respace) → below 0 c.respace.new.tree.items c.args.rank + 2
+    ≤ above c.respace.new.tree.items c.args.rank LAST_LABEL
 room c =
     let r = c.window_round-window.result in
     let w = c.window_round-window.ensures.window in
-    let gap = gap_front r.step 0 r.low LAST_LABEL r.from (r.to - r.from) c.args.rank c.args.tree.now.items c.requires.kept.rises (omega (arith, w.before, w.behind, w.within)) w.low (fits c) w.before (omega (arith, w.before, w.behind)) in
+    let gap = gap_front r.step 0 r.low LAST_LABEL r.from (r.to - r.from) c.args.rank c.args.tree.now.items
+    c.requires.kept.rises (omega (arith, w.before, w.behind, w.within)) w.low (fits c) w.before
+    (omega (arith, w.before, w.behind)) in
     rw c.respace.ensures.respaced (omega (arith, gap, c.window_round-window.ensures.room))
 
 pub label_between-requires-2-clause-rises : goal.label_between-requires-2-clause-rises
 label_between-requires-2-clause-rises c = rises (goal.at.label_between-requires-2-clause-rises c).After-respace
 
 pub label_between-requires-2-clause-within : goal.label_between-requires-2-clause-within
-label_between-requires-2-clause-within c = let same = size (goal.at.label_between-requires-2-clause-within c).After-respace in omega (arith, same, c.requires.within)
+label_between-requires-2-clause-within c = let same =
+    size (goal.at.label_between-requires-2-clause-within c).After-respace in omega (arith, same, c.requires.within)
 
 pub unreachable-requires : goal.unreachable-requires
 unreachable-requires c =
@@ -62,4 +71,5 @@ returns-clause-kept c = record { listed = c.respace.ensures.listed; rises = rise
 pub returns-clause-labels : goal.returns-clause-labels
 returns-clause-labels c =
     let r = c.window_round-window.result in
-    ap without_labels c.respace.ensures.respaced ∙ unlabelled-front r.step r.low r.from (r.to - r.from) c.args.tree.now.items
+    ap without_labels c.respace.ensures.respaced ∙ unlabelled-front r.step r.low r.from
+    (r.to - r.from) c.args.tree.now.items

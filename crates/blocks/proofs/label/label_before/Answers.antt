@@ -9,4 +9,5 @@ returns-then-rank-eq0 c =
     sym (ap (below 0 c.args.tree.now.items) none ∙ below-zero 0 c.args.tree.now.items)
 
 pub returns : goal.returns
-returns c = sym (below-get 0 c.args.tree.now.items c.args.rank (c.args.rank - 1) c.get.result.now c.get.ensures.item (omega arith))
+returns c = sym (below-get 0 c.args.tree.now.items c.args.rank (c.args.rank - 1) c.get.result.now c.get.ensures.item
+    (omega arith))

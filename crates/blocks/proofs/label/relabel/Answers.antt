@@ -13,7 +13,8 @@ use Rattle.blocks.proofs.label.relabel.Goals as goal
 use Rattle.blocks.proofs.label.relabel.Goals.{After-get, After-relabel}
 
 there : (c : After-get) → get c.args.index.now c.get.result.now.first ≡ Some (entry c.get.result.now)
-there c = c.requires.listed.index c.get.result.now.first ∙ entry_here c.args.tree.now.items c.args.rank c.get.result.now c.requires.listed.apart c.get.ensures.item
+there c = c.requires.listed.index c.get.result.now.first ∙ entry_here c.args.tree.now.items c.args.rank c.get.result.now
+    c.requires.listed.apart c.get.ensures.item
 
 pub relabel-requires : goal.relabel-requires
 relabel-requires c = rw (there (goal.at.relabel-requires c).After-get) refl
@@ -21,7 +22,8 @@ relabel-requires c = rw (there (goal.at.relabel-requires c).After-get) refl
 pub replace-requires-clause-weight_fits : goal.replace-requires-clause-weight_fits
 replace-requires-clause-weight_fits c =
     let small = len_small c.args.tree.now.items c.args.rank c.get.result.now c.get.ensures.item in
-    weight_fits_set c.args.index.now c.args.tree.now.items c.args.rank _ c.requires.listed (omega (arith, small, c.requires.listed.small))
+    weight_fits_set c.args.index.now c.args.tree.now.items c.args.rank _ c.requires.listed
+    (omega (arith, small, c.requires.listed.small))
 
 pub returns-clause-listed : goal.returns-clause-listed
 returns-clause-listed c =
@@ -31,7 +33,8 @@ returns-clause-listed c =
     let new = rw is at c.relabel.ensures in
     let sized = each_get IsSized c.args.tree.now.items c.args.rank b c.requires.listed.sized c.get.ensures.item in
     subst (IsListed c.relabel.new.self) (sym c.replace.ensures.items)
-    (listed_set c.args.index.now c.relabel.new.self c.args.tree.now.items c.args.rank b e c.requires.listed c.get.ensures.item refl sized (omega arith)
+    (listed_set c.args.index.now c.relabel.new.self c.args.tree.now.items c.args.rank b e c.requires.listed
+    c.get.ensures.item refl sized (omega arith)
     (λ q. ap (λ m. get m q) new ∙ get-insert stamp_cmp_total c.args.index.now b.first (entry e) q))
 
 pub returns-clause-held : goal.returns-clause-held
@@ -39,7 +42,9 @@ returns-clause-held c = λ first s h.
     let b = c.get.result.now in
     let is = there (goal.at.returns-clause-held c).After-get in
     let new = rw is at c.relabel.ensures in
-    elim (holds_insert c.args.index.now b.first (record (entry b) { label = c.args.label }) first s (subst (λ m. Holds m first s) new h)) [
-      | inl here ↦ subst (λ (o : Stamp). Holds c.args.index.now o s) (sym here.0) (subst (λ o. IsSomeAnd o (λ (x : Entry). Covers b.first x.len s)) (sym is) here.1)
+    elim (holds_insert c.args.index.now b.first (record (entry b) { label = c.args.label }) first s
+    (subst (λ m. Holds m first s) new h)) [
+      | inl here ↦ subst (λ (o : Stamp). Holds c.args.index.now o s) (sym here.0)
+          (subst (λ o. IsSomeAnd o (λ (x : Entry). Covers b.first x.len s)) (sym is) here.1)
       | inr beside ↦ beside.1
     ]

@@ -9,6 +9,7 @@ invariant-loop-rank l = record {
   listed : IsListed l.index l.tree.items;
   held : HoldsNoMore l.initial.index l.index;
   begun : l.window.from ≤ l.rank;
-  items : l.tree.items ≡ take l.window.from l.initial.tree.items ++ spread l.window.step l.window.low (l.rank - l.window.from) (drop l.window.from l.initial.tree.items);
+  items : l.tree.items ≡ take l.window.from l.initial.tree.items ++ spread l.window.step l.window.low
+      (l.rank - l.window.from) (drop l.window.from l.initial.tree.items);
   label : l.label ≡ l.window.low + l.window.step * (l.rank - l.window.from);
 }

@@ -8,5 +8,7 @@ use Rattle.holdback.proofs.order.place_for.Goals as goal
 pub returns : goal.returns
 returns c =
     let facts = c.partition_point.ensures in
-    let sides = IsPartitionPoint-from_clause (λ op. precedes op.name c.args.name) c.args.held.now c.partition_point.result facts.partitioned (partitioned c.args.held.now c.args.name c.requires) (λ a r f' called. search rules) in
+    let sides = IsPartitionPoint-from_clause (λ op. precedes op.name c.args.name) c.args.held.now
+    c.partition_point.result facts.partitioned (partitioned c.args.held.now c.args.name c.requires)
+    (λ a r f' called. search rules) in
     record { in_range = facts.bound; before = sides.0; behind = sides.1 }

@@ -10,7 +10,8 @@ pub returns-in-Some-clause-found : goal.returns-in-Some-clause-found
 returns-in-Some-clause-found c =
     let lt = ltb-true _ _ (sym c.in-Some.ensures.lookup.0) in
     found_at c.args.held.now c.args.name c.place_for-place.result c.in-Some.op.now c.requires c.place_for-place.ensures
-    (read_at c.args.held.now c.place_for-place.result c.in-Some.op.now lt c.in-Some.ensures.lookup.1) (sym c.eq.ensures ∙ c.if-eq.true) lt
+    (read_at c.args.held.now c.place_for-place.result c.in-Some.op.now lt c.in-Some.ensures.lookup.1)
+    (sym c.eq.ensures ∙ c.if-eq.true) lt
 
 -- it has another
 pub returns-in_default-clause-absent : goal.returns-in_default-clause-absent
@@ -24,4 +25,8 @@ returns-in_default-clause-absent c =
 pub returns-in_default-2-clause-absent : goal.returns-in_default-2-clause-absent
 returns-in_default-2-clause-absent c =
     gap_at c.args.held.now c.args.name c.place_for-place.result c.requires c.place_for-place.ensures
-    (λ x at. absurd (omega (arith, slice_get_within c.args.held.now c.place_for-place.result x at, ltb-false _ _ (sym (rw c.in_default.is at c.get.ensures.lookup.0)))))
+    (λ x at. absurd (omega (
+      arith,
+      slice_get_within c.args.held.now c.place_for-place.result x at,
+      ltb-false _ _ (sym (rw c.in_default.is at c.get.ensures.lookup.0)),
+    )))

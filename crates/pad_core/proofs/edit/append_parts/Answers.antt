@@ -4,7 +4,9 @@ use Rattle.pad_core.proofs.Made.{appended_answers}
 use Rattle.pad_core.proofs.edit.append_parts.Goals as goal
 
 pub append-requires-clause-allowed : goal.append-requires-clause-allowed
-append-requires-clause-allowed g c = ap (λ op. delivery_refusal op c.args.ledger.now) c.in_ok-op.ensures ∙ c.requires.allowed
+append-requires-clause-allowed g c = ap (λ op. delivery_refusal op c.args.ledger.now) c.in_ok-op.ensures
+    ∙ c.requires.allowed
 
 pub returns : goal.returns
-returns g c = appended_answers c.args.writer.replica c.args.writer.author.now c.args.parts c.args.ledger.now c.append.new.self c.in_ok-op.op c.in_ok-hidden.hidden c.in_ok-op.ensures c.in_ok-hidden.ensures
+returns g c = appended_answers c.args.writer.replica c.args.writer.author.now c.args.parts c.args.ledger.now
+    c.append.new.self c.in_ok-op.op c.in_ok-hidden.hidden c.in_ok-op.ensures c.in_ok-hidden.ensures

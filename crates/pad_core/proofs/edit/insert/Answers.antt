@@ -9,12 +9,18 @@ use Rattle.pad_core.proofs.edit.insert.Goals as goal
 
 pub append_parts-requires-clause-checked : goal.append_parts-requires-clause-checked
 append_parts-requires-clause-checked g c =
-    let none : edit_refusal c.args.rev (Insert c.args.at c.args.text.now ∷ []) c.args.ledger.now ≡ None = search rules in
-    ap (λ parts. is_checked (op_of c.args.writer.replica c.args.writer.author.now parts c.args.ledger.now)) c.in_ok-parts.ensures
-    ∙ edit_checked c.args.writer.replica c.args.rev c.args.writer.author.now (Insert c.args.at c.args.text.now ∷ []) c.args.ledger.now none c.in_default.ensures.sound.history c.requires.author c.requires.replica
+    let none : edit_refusal c.args.rev (Insert c.args.at c.args.text.now ∷ []) c.args.ledger.now ≡ None =
+    search rules in
+    ap (λ parts. is_checked (op_of c.args.writer.replica c.args.writer.author.now parts c.args.ledger.now))
+    c.in_ok-parts.ensures
+    ∙ edit_checked c.args.writer.replica c.args.rev c.args.writer.author.now (Insert c.args.at c.args.text.now
+    ∷ []) c.args.ledger.now none c.in_default.ensures.sound.history c.requires.author c.requires.replica
 
 pub append_parts-requires-clause-allowed : goal.append_parts-requires-clause-allowed
 append_parts-requires-clause-allowed g c =
-    let none : edit_refusal c.args.rev (Insert c.args.at c.args.text.now ∷ []) c.args.ledger.now ≡ None = search rules in
-    ap (λ parts. delivery_refusal (op_of c.args.writer.replica c.args.writer.author.now parts c.args.ledger.now) c.args.ledger.now) c.in_ok-parts.ensures
-    ∙ edit_fits c.args.writer.replica c.args.rev c.args.writer.author.now (Insert c.args.at c.args.text.now ∷ []) c.args.ledger.now none c.in_default.ensures.sound.history
+    let none : edit_refusal c.args.rev (Insert c.args.at c.args.text.now ∷ []) c.args.ledger.now ≡ None =
+    search rules in
+    ap (λ parts. delivery_refusal (op_of c.args.writer.replica c.args.writer.author.now parts c.args.ledger.now)
+    c.args.ledger.now) c.in_ok-parts.ensures
+    ∙ edit_fits c.args.writer.replica c.args.rev c.args.writer.author.now (Insert c.args.at c.args.text.now
+    ∷ []) c.args.ledger.now none c.in_default.ensures.sound.history

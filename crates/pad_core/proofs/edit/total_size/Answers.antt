@@ -6,5 +6,6 @@ use Rattle.pad_core.proofs.edit.total_size.Goals as goal
 
 pub returns : goal.returns
 returns c =
-    let folded : c.fold.result ≡ fold (λ total (change : Change). min (total + size_of change) 18446744073709551615) 0 c.args.changes.now = search rules in
+    let folded : c.fold.result ≡ fold (λ total (change : Change). min (total + size_of change) 18446744073709551615) 0
+    c.args.changes.now = search rules in
     folded ∙ fold_total size_of 18446744073709551615 c.args.changes.now

@@ -8,8 +8,10 @@ use Rattle.pad_core.proofs.judge.count_inserted.Goals as goal
 -- the count is the sum, which is small
 counts : (c : goal.After-fold) → c.fold.result ≡ sum_by part_growth c.args.op.now.parts
 counts c =
-    let folded : c.fold.result ≡ fold (λ total part. min (total + part_growth part) 18446744073709551615) 0 c.args.op.now.parts = search rules in
-    let bounded : c.fold.result ≡ min (sum_by part_growth c.args.op.now.parts) 18446744073709551615 = folded ∙ fold_total part_growth 18446744073709551615 c.args.op.now.parts in
+    let folded : c.fold.result ≡ fold (λ total part. min (total + part_growth part) 18446744073709551615) 0
+    c.args.op.now.parts = search rules in
+    let bounded : c.fold.result ≡ min (sum_by part_growth c.args.op.now.parts) 18446744073709551615 =
+    folded ∙ fold_total part_growth 18446744073709551615 c.args.op.now.parts in
     let few = growth-few c.args.op.now c.requires in
     omega arith
 

@@ -8,7 +8,8 @@ use Rattle.pad_core.proofs.make.make_parts.Given as goal
 -- with the parts of the changes that are left, all parts are made; and there are counters for them
 abbrev pub invariant-loop-change : goal.invariant-loop-change
 invariant-loop-change g l = record {
-  made : l.parts ++ parts_from l.counter l.replica (characters_at l.rev l.ledger) (drop l.change-index l.changes) ≡ made_parts l.replica l.rev l.changes l.ledger;
+  made : l.parts ++ parts_from l.counter l.replica (characters_at l.rev l.ledger) (drop l.change-index l.changes)
+      ≡ made_parts l.replica l.rev l.changes l.ledger;
   low : 1 ≤ l.counter;
   clock : l.counter + sum_by growth_of (drop l.change-index l.changes) ≤ MAX_COUNTER + 1;
 }

@@ -5,4 +5,5 @@ use Rattle.pad_core.proofs.presence.show.Given as goal
 
 -- the visits so far and the rest are all
 abbrev pub invariant-loop-visit : goal.invariant-loop-visit
-invariant-loop-visit g l = l.who.items ++ map (shown_visit l.replica l.ledger) (drop l.visit-index l.visits) ≡ map (shown_visit l.replica l.ledger) l.visits
+invariant-loop-visit g l = l.who.items ++ map (shown_visit l.replica l.ledger) (drop l.visit-index l.visits)
+    ≡ map (shown_visit l.replica l.ledger) l.visits

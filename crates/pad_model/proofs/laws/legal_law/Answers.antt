@@ -17,5 +17,6 @@ is_erased_has (x ∷ xs) s (inr h) =
 pub returns : goal.returns
 returns c = λ log h. record {
   tree = IsTree-history log h;
-  erased = λ s there. erased-inserted log s h (is_erased_has (characters_in log).erased s (Has-from_Contains (characters_in log).erased s there));
+  erased = λ s there. erased-inserted log s h
+      (is_erased_has (characters_in log).erased s (Has-from_Contains (characters_in log).erased s there));
 }

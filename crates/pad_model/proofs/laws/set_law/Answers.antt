@@ -4,4 +4,5 @@ use Rattle.pad_model.proofs.laws.set_law.Goals as goal
 
 pub returns : goal.returns
 returns _ s t p q h =
-    set_law itself s t p.distinct q.distinct (λ c m. Has-from_Contains t c ((h c).0 (Contains-from_Has s c m))) (λ c m. Has-from_Contains s c ((h c).1 (Contains-from_Has t c m)))
+    set_law itself s t p.distinct q.distinct (λ c m. Has-from_Contains t c ((h c).0 (Contains-from_Has s c m)))
+    (λ c m. Has-from_Contains s c ((h c).1 (Contains-from_Has t c m)))

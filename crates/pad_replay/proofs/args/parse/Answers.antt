@@ -1,4 +1,5 @@
-use Rattle.std.proofs.Common.{◌≡◌, ◌∙◌, ℕ, List, Option, Some, None, map, string_bytes, codes, refl, ap, subst, true, [], Bor}
+use Rattle.std.proofs.Common.{◌≡◌, ◌∙◌, ℕ, List, Option, Some, None, map, string_bytes, codes, refl, ap, subst, true}
+use Rattle.std.proofs.Common.{[], Bor}
 use Rattle.std.specs.Prelude.{option_map, unwrap_or}
 use Rattle.clap.specs.Faults.{fault_of, is_simple_and_free}
 use Rattle.clap.specs.Words.{App, found_of, is_simple, one_of}
@@ -23,13 +24,17 @@ pub returns-clause-asked : goal.returns-clause-asked
 returns-clause-asked c =
     let words = map string_bytes c.args.words.now in
     let m = c.in_ok-matches.matches in
-    let rows = rows_found c.in_ok-command.field-0 line words m c.in_ok-command.ensures is_simple_line c.in_ok-matches.ensures.matches in
+    let rows = rows_found c.in_ok-command.field-0 line words m c.in_ok-command.ensures is_simple_line
+    c.in_ok-matches.ensures.matches in
     let flag = one_text-rows (found_of m) (codes "plain") ∙ ap (one_of (codes "plain")) rows in
     record {
-      replica = gives_number line words m (codes "replica") 1 65535 1 c.replica_of.result rows c.replica_of.ensures.value;
-      cells = gives_number line words m (codes "cells") 0 MAX_CELLS MAX_CELLS c.cells_of.result rows c.cells_of.ensures.value;
+      replica = gives_number line words m (codes "replica") 1 65535 1 c.replica_of.result rows
+          c.replica_of.ensures.value;
+      cells = gives_number line words m (codes "cells") 0 MAX_CELLS MAX_CELLS c.cells_of.result rows
+          c.cells_of.ensures.value;
       accounts = ap (λ (b : Bor (List ℕ)). b.now) c.unwrap_or.ensures
-          ∙ text_or_none c.get_str.result _ _ refl (c.get_str.ensures ∙ gives_text line words m (codes "accounts") rows);
+          ∙ text_or_none c.get_str.result _ _ refl (c.get_str.ensures
+          ∙ gives_text line words m (codes "accounts") rows);
       plain = record {
         absent = λ e. c.get_flag.ensures.none (flag ∙ e);
         set = λ e. c.get_flag.ensures.value (flag ∙ e);

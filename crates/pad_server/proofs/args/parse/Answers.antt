@@ -18,12 +18,15 @@ pub returns-clause-asked : goal.returns-clause-asked
 returns-clause-asked c =
     let words = map string_bytes c.args.words.now in
     let m = c.in-Ok.matches in
-    let rows = rows_found c.in_ok-command.field-0 line words m c.in_ok-command.ensures is_simple_line c.in-Ok.ensures.matches in
+    let rows = rows_found c.in_ok-command.field-0 line words m c.in_ok-command.ensures is_simple_line
+    c.in-Ok.ensures.matches in
     let flag = one_text-rows (found_of m) (codes "stdin") ∙ ap (one_of (codes "stdin")) rows in
     let renewed = one_text-rows (found_of m) (codes "new-replica") ∙ ap (one_of (codes "new-replica")) rows in
     record {
-      replica = gives_number line words m (codes "replica") 1 65535 1 c.replica_of.result rows c.replica_of.ensures.value;
-      cells = gives_number line words m (codes "cells") 0 MAX_CELLS MAX_CELLS c.cells_of.result rows c.cells_of.ensures.value;
+      replica = gives_number line words m (codes "replica") 1 65535 1 c.replica_of.result rows
+          c.replica_of.ensures.value;
+      cells = gives_number line words m (codes "cells") 0 MAX_CELLS MAX_CELLS c.cells_of.result rows
+          c.cells_of.ensures.value;
       accounts = c.get_str.ensures ∙ gives_text line words m (codes "accounts") rows;
       stdin = record {
         absent = λ e. c.get_flag.ensures.none (flag ∙ e);
@@ -31,8 +34,10 @@ returns-clause-asked c =
         unset = λ e. c.get_flag.ensures.other (flag ∙ e);
       };
       listen = c.get_str-2.ensures ∙ gives_text line words m (codes "listen") rows;
-      workers = gives_number line words m (codes "workers") 0 MAX_WORKERS DEFAULT_WORKERS c.workers_of.result rows c.workers_of.ensures.value;
-      connections = λ other. gives_number line words m (codes "connections") 0 4294967295 other _ rows (c.connections_of.ensures other);
+      workers = gives_number line words m (codes "workers") 0 MAX_WORKERS DEFAULT_WORKERS c.workers_of.result rows
+          c.workers_of.ensures.value;
+      connections = λ other. gives_number line words m (codes "connections") 0 4294967295 other _ rows
+          (c.connections_of.ensures other);
       idle = λ other. gives_number line words m (codes "idle") 0 4294967295 other _ rows (c.idle_of.ensures other);
       store = c.get_str-3.ensures ∙ gives_text line words m (codes "store") rows;
       new_replica = record {

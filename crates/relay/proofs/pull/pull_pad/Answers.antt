@@ -11,43 +11,67 @@ loop-turn-init g c = record { goes = here; cell = (refl, refl) }
 
 pub returns-in-Ok-Spent-clause-goes : goal.returns-in-Ok-Spent-clause-goes
 returns-in-Ok-Spent-clause-goes g c =
-    join_at g.P.Pads.calls g.P.Pads.names c.pull_turn.result Spent (after_turn c.args.pad.now c.loop-turn.turn) _ (world c.args.talk.now c.args.pads.now (g.L.Exchange.wire c.args.link.now)) _
-    (world c.loop-turn.talk c.loop-turn.pads (g.L.Exchange.wire c.loop-turn.link)) (world c.pull_turn.new.talk c.pull_turn.new.pads (g.L.Exchange.wire c.pull_turn.new.link))
+    join_at g.P.Pads.calls g.P.Pads.names c.pull_turn.result Spent (after_turn c.args.pad.now c.loop-turn.turn) _
+    (world c.args.talk.now c.args.pads.now (g.L.Exchange.wire c.args.link.now)) _
+    (world c.loop-turn.talk c.loop-turn.pads (g.L.Exchange.wire c.loop-turn.link))
+    (world c.pull_turn.new.talk c.pull_turn.new.pads (g.L.Exchange.wire c.pull_turn.new.link))
     c.loop-turn.invariant.goes (c.in-Ok-Spent.is ∙ ap Ok c.in-Ok-Spent.field-0-is) c.pull_turn.ensures.goes
 
 pub returns-in-Ok-Over-clause-goes : goal.returns-in-Ok-Over-clause-goes
 returns-in-Ok-Over-clause-goes g c =
-    join_at g.P.Pads.calls g.P.Pads.names c.pull_turn.result Over (after_turn c.args.pad.now c.loop-turn.turn) _ (world c.args.talk.now c.args.pads.now (g.L.Exchange.wire c.args.link.now)) _
-    (world c.loop-turn.talk c.loop-turn.pads (g.L.Exchange.wire c.loop-turn.link)) (world c.pull_turn.new.talk c.pull_turn.new.pads (g.L.Exchange.wire c.pull_turn.new.link))
+    join_at g.P.Pads.calls g.P.Pads.names c.pull_turn.result Over (after_turn c.args.pad.now c.loop-turn.turn) _
+    (world c.args.talk.now c.args.pads.now (g.L.Exchange.wire c.args.link.now)) _
+    (world c.loop-turn.talk c.loop-turn.pads (g.L.Exchange.wire c.loop-turn.link))
+    (world c.pull_turn.new.talk c.pull_turn.new.pads (g.L.Exchange.wire c.pull_turn.new.link))
     c.loop-turn.invariant.goes (c.in-Ok-Over.is ∙ ap Ok c.in-Ok-Over.field-0-is) c.pull_turn.ensures.goes
 
 pub returns-in-Ok-Spent-clause-cell : goal.returns-in-Ok-Spent-clause-cell
-returns-in-Ok-Spent-clause-cell g c = (c.pull_turn.ensures.cell.0 ∙ c.loop-turn.invariant.cell.0, c.pull_turn.ensures.cell.1 ∙ c.loop-turn.invariant.cell.1)
+returns-in-Ok-Spent-clause-cell g c = (
+  c.pull_turn.ensures.cell.0 ∙ c.loop-turn.invariant.cell.0,
+  c.pull_turn.ensures.cell.1 ∙ c.loop-turn.invariant.cell.1,
+)
 
 pub returns-in-Ok-Over-clause-cell : goal.returns-in-Ok-Over-clause-cell
-returns-in-Ok-Over-clause-cell g c = (c.pull_turn.ensures.cell.0 ∙ c.loop-turn.invariant.cell.0, c.pull_turn.ensures.cell.1 ∙ c.loop-turn.invariant.cell.1)
+returns-in-Ok-Over-clause-cell g c = (
+  c.pull_turn.ensures.cell.0 ∙ c.loop-turn.invariant.cell.0,
+  c.pull_turn.ensures.cell.1 ∙ c.loop-turn.invariant.cell.1,
+)
 
 pub returns-in-Err-clause-cell : goal.returns-in-Err-clause-cell
-returns-in-Err-clause-cell g c = (c.pull_turn.ensures.cell.0 ∙ c.loop-turn.invariant.cell.0, c.pull_turn.ensures.cell.1 ∙ c.loop-turn.invariant.cell.1)
+returns-in-Err-clause-cell g c = (
+  c.pull_turn.ensures.cell.0 ∙ c.loop-turn.invariant.cell.0,
+  c.pull_turn.ensures.cell.1
+      ∙ c.loop-turn.invariant.cell.1,
+)
 
 pub returns-in-Err-clause-breaks : goal.returns-in-Err-clause-breaks
 returns-in-Err-clause-breaks g c =
-    later g.P.Pads.calls g.P.Pads.names c.in-Err.fault _ (world c.args.talk.now c.args.pads.now (g.L.Exchange.wire c.args.link.now)) _
-    (world c.loop-turn.talk c.loop-turn.pads (g.L.Exchange.wire c.loop-turn.link)) _ _ c.loop-turn.invariant.goes c.in-Err.ensures.breaks
+    later g.P.Pads.calls g.P.Pads.names c.in-Err.fault _
+    (world c.args.talk.now c.args.pads.now (g.L.Exchange.wire c.args.link.now)) _
+    (world c.loop-turn.talk c.loop-turn.pads (g.L.Exchange.wire c.loop-turn.link)) _ _ c.loop-turn.invariant.goes
+    c.in-Err.ensures.breaks
 
 pub loop-turn-preserved : goal.loop-turn-preserved
 loop-turn-preserved g c = record {
-  goes = join_at g.P.Pads.calls g.P.Pads.names c.pull_turn.result Gained (after_turn c.args.pad.now c.loop-turn.turn) _ (world c.args.talk.now c.args.pads.now (g.L.Exchange.wire c.args.link.now)) _
-      (world c.loop-turn.talk c.loop-turn.pads (g.L.Exchange.wire c.loop-turn.link)) (world c.pull_turn.new.talk c.pull_turn.new.pads (g.L.Exchange.wire c.pull_turn.new.link))
+  goes = join_at g.P.Pads.calls g.P.Pads.names c.pull_turn.result Gained (after_turn c.args.pad.now c.loop-turn.turn) _
+      (world c.args.talk.now c.args.pads.now (g.L.Exchange.wire c.args.link.now)) _
+      (world c.loop-turn.talk c.loop-turn.pads (g.L.Exchange.wire c.loop-turn.link))
+      (world c.pull_turn.new.talk c.pull_turn.new.pads (g.L.Exchange.wire c.pull_turn.new.link))
       c.loop-turn.invariant.goes (c.in-Ok-Gained.is ∙ ap Ok c.in-Ok-Gained.field-0-is) c.pull_turn.ensures.goes;
-  cell = (c.pull_turn.ensures.cell.0 ∙ c.loop-turn.invariant.cell.0, c.pull_turn.ensures.cell.1 ∙ c.loop-turn.invariant.cell.1);
+  cell = (
+    c.pull_turn.ensures.cell.0 ∙ c.loop-turn.invariant.cell.0,
+    c.pull_turn.ensures.cell.1
+        ∙ c.loop-turn.invariant.cell.1,
+  );
 }
 
 pub returns-clause-goes : goal.returns-clause-goes
 returns-clause-goes g c =
     let w = world c.loop-turn.talk c.loop-turn.pads (g.L.Exchange.wire c.loop-turn.link) in
-    join g.P.Pads.calls g.P.Pads.names _ (world c.args.talk.now c.args.pads.now (g.L.Exchange.wire c.args.link.now)) _ w _ w
-    c.loop-turn.invariant.goes (turns_spent g.P.Pads.calls g.P.Pads.names c.args.pad.now c.loop-turn.turn w (search rules))
+    join g.P.Pads.calls g.P.Pads.names _ (world c.args.talk.now c.args.pads.now (g.L.Exchange.wire c.args.link.now)) _ w
+    _ w
+    c.loop-turn.invariant.goes (turns_spent g.P.Pads.calls g.P.Pads.names c.args.pad.now c.loop-turn.turn w
+    (search rules))
 
 pub returns-clause-cell : goal.returns-clause-cell
 returns-clause-cell g c = c.loop-turn.invariant.cell

@@ -6,18 +6,24 @@ use Rattle.relay.proofs.pull.pull_turn.Goals as goal
 
 pub returns-in-Ok-true-clause-goes : goal.returns-in-Ok-true-clause-goes
 returns-in-Ok-true-clause-goes g c =
-    join_ok g.P.Pads.calls g.P.Pads.names c.take_answer.result (after_turn c.args.pad.now c.args.turn) _ (world c.args.talk.now c.args.pads.now (g.L.Exchange.wire c.args.link.now)) _
-    (world c.ask_peer.new.talk c.ask_peer.new.pads (g.L.Exchange.wire c.ask_peer.new.link)) (world c.take_answer.new.talk c.take_answer.new.pads (g.L.Exchange.wire c.take_answer.new.link))
-    (turn_asked g.P.Pads.calls g.P.Pads.names c.args.pad.now c.args.turn c.ask_peer.result _ _ _ (c.in-Ok-true.is ∙ ap Ok c.in-Ok-true.field-0-test) c.requires c.ask_peer.ensures.goes)
+    join_ok g.P.Pads.calls g.P.Pads.names c.take_answer.result (after_turn c.args.pad.now c.args.turn) _
+    (world c.args.talk.now c.args.pads.now (g.L.Exchange.wire c.args.link.now)) _
+    (world c.ask_peer.new.talk c.ask_peer.new.pads (g.L.Exchange.wire c.ask_peer.new.link))
+    (world c.take_answer.new.talk c.take_answer.new.pads (g.L.Exchange.wire c.take_answer.new.link))
+    (turn_asked g.P.Pads.calls g.P.Pads.names c.args.pad.now c.args.turn c.ask_peer.result _ _ _ (c.in-Ok-true.is
+    ∙ ap Ok c.in-Ok-true.field-0-test) c.requires c.ask_peer.ensures.goes)
     c.take_answer.ensures.goes
 
 pub returns-in-Ok-true-clause-breaks : goal.returns-in-Ok-true-clause-breaks
 returns-in-Ok-true-clause-breaks g c =
-    join_err g.P.Pads.calls g.P.Pads.names c.take_answer.result _ (world c.args.talk.now c.args.pads.now (g.L.Exchange.wire c.args.link.now)) _
+    join_err g.P.Pads.calls g.P.Pads.names c.take_answer.result _
+    (world c.args.talk.now c.args.pads.now (g.L.Exchange.wire c.args.link.now)) _
     (world c.ask_peer.new.talk c.ask_peer.new.pads (g.L.Exchange.wire c.ask_peer.new.link)) _ _
-    (turn_asked g.P.Pads.calls g.P.Pads.names c.args.pad.now c.args.turn c.ask_peer.result _ _ _ (c.in-Ok-true.is ∙ ap Ok c.in-Ok-true.field-0-test) c.requires c.ask_peer.ensures.goes)
+    (turn_asked g.P.Pads.calls g.P.Pads.names c.args.pad.now c.args.turn c.ask_peer.result _ _ _ (c.in-Ok-true.is
+    ∙ ap Ok c.in-Ok-true.field-0-test) c.requires c.ask_peer.ensures.goes)
     c.take_answer.ensures.breaks
 
 pub returns-in-Ok-false-clause-goes : goal.returns-in-Ok-false-clause-goes
 returns-in-Ok-false-clause-goes g c =
-    turn_asked g.P.Pads.calls g.P.Pads.names c.args.pad.now c.args.turn c.ask_peer.result _ _ _ (c.in-Ok-false.is ∙ ap Ok c.in-Ok-false.field-0-test) c.requires c.ask_peer.ensures.goes
+    turn_asked g.P.Pads.calls g.P.Pads.names c.args.pad.now c.args.turn c.ask_peer.result _ _ _ (c.in-Ok-false.is
+    ∙ ap Ok c.in-Ok-false.field-0-test) c.requires c.ask_peer.ensures.goes

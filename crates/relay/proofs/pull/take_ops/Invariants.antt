@@ -8,7 +8,8 @@ use Rattle.relay.proofs.pull.take_ops.Given as goal
 
 abbrev pub invariant-loop-op : goal.invariant-loop-op
 invariant-loop-op g l = record {
-  goes : (turn : ℕ) (wire : Wire) → Reaches g.P.Pads.calls g.P.Pads.names (Taking l.pad turn false l.fn.ops) (world l.fn.talk l.fn.pads wire)
+  goes : (turn : ℕ) (wire : Wire) → Reaches g.P.Pads.calls g.P.Pads.names (Taking l.pad turn false l.fn.ops)
+      (world l.fn.talk l.fn.pads wire)
       (Taking l.pad turn l.gained l.op-iterator.rest.items) (world l.talk l.pads wire);
   cell : (l.talk.cell ≡ l.fn.talk.cell) × (l.talk.cells ≡ l.fn.talk.cells);
 }

@@ -11,34 +11,55 @@ loop-turn-init g c = record { goes = here; cell = (refl, refl) }
 
 pub returns-in-Ok-false-clause-goes : goal.returns-in-Ok-false-clause-goes
 returns-in-Ok-false-clause-goes g c =
-    join_at g.P.Pads.calls g.P.Pads.names c.push_turn.result false (λ more. if more then Pushing c.args.pad.now (c.loop-turn.turn + 1) else Over) _ (world c.args.talk.now c.args.pads.now (g.L.Exchange.wire c.args.link.now)) _
-    (world c.loop-turn.talk c.loop-turn.pads (g.L.Exchange.wire c.loop-turn.link)) (world c.push_turn.new.talk c.push_turn.new.pads (g.L.Exchange.wire c.push_turn.new.link))
+    join_at g.P.Pads.calls g.P.Pads.names c.push_turn.result false (λ more. if more
+    then Pushing c.args.pad.now (c.loop-turn.turn + 1) else Over) _
+    (world c.args.talk.now c.args.pads.now (g.L.Exchange.wire c.args.link.now)) _
+    (world c.loop-turn.talk c.loop-turn.pads (g.L.Exchange.wire c.loop-turn.link))
+    (world c.push_turn.new.talk c.push_turn.new.pads (g.L.Exchange.wire c.push_turn.new.link))
     c.loop-turn.invariant.goes (c.in-Ok-false.is ∙ ap Ok c.in-Ok-false.field-0-test) c.push_turn.ensures.goes
 
 pub returns-in-Ok-false-clause-cell : goal.returns-in-Ok-false-clause-cell
-returns-in-Ok-false-clause-cell g c = (c.push_turn.ensures.cell.0 ∙ c.loop-turn.invariant.cell.0, c.push_turn.ensures.cell.1 ∙ c.loop-turn.invariant.cell.1)
+returns-in-Ok-false-clause-cell g c = (
+  c.push_turn.ensures.cell.0 ∙ c.loop-turn.invariant.cell.0,
+  c.push_turn.ensures.cell.1 ∙ c.loop-turn.invariant.cell.1,
+)
 
 pub returns-in-Err-clause-cell : goal.returns-in-Err-clause-cell
-returns-in-Err-clause-cell g c = (c.push_turn.ensures.cell.0 ∙ c.loop-turn.invariant.cell.0, c.push_turn.ensures.cell.1 ∙ c.loop-turn.invariant.cell.1)
+returns-in-Err-clause-cell g c = (
+  c.push_turn.ensures.cell.0 ∙ c.loop-turn.invariant.cell.0,
+  c.push_turn.ensures.cell.1
+      ∙ c.loop-turn.invariant.cell.1,
+)
 
 pub returns-in-Err-clause-breaks : goal.returns-in-Err-clause-breaks
 returns-in-Err-clause-breaks g c =
-    later g.P.Pads.calls g.P.Pads.names c.in-Err.fault _ (world c.args.talk.now c.args.pads.now (g.L.Exchange.wire c.args.link.now)) _
-    (world c.loop-turn.talk c.loop-turn.pads (g.L.Exchange.wire c.loop-turn.link)) _ _ c.loop-turn.invariant.goes c.in-Err.ensures.breaks
+    later g.P.Pads.calls g.P.Pads.names c.in-Err.fault _
+    (world c.args.talk.now c.args.pads.now (g.L.Exchange.wire c.args.link.now)) _
+    (world c.loop-turn.talk c.loop-turn.pads (g.L.Exchange.wire c.loop-turn.link)) _ _ c.loop-turn.invariant.goes
+    c.in-Err.ensures.breaks
 
 pub loop-turn-preserved : goal.loop-turn-preserved
 loop-turn-preserved g c = record {
-  goes = join_at g.P.Pads.calls g.P.Pads.names c.push_turn.result true (λ more. if more then Pushing c.args.pad.now (c.loop-turn.turn + 1) else Over) _ (world c.args.talk.now c.args.pads.now (g.L.Exchange.wire c.args.link.now)) _
-      (world c.loop-turn.talk c.loop-turn.pads (g.L.Exchange.wire c.loop-turn.link)) (world c.push_turn.new.talk c.push_turn.new.pads (g.L.Exchange.wire c.push_turn.new.link))
+  goes = join_at g.P.Pads.calls g.P.Pads.names c.push_turn.result true (λ more. if more
+      then Pushing c.args.pad.now (c.loop-turn.turn + 1) else Over) _
+      (world c.args.talk.now c.args.pads.now (g.L.Exchange.wire c.args.link.now)) _
+      (world c.loop-turn.talk c.loop-turn.pads (g.L.Exchange.wire c.loop-turn.link))
+      (world c.push_turn.new.talk c.push_turn.new.pads (g.L.Exchange.wire c.push_turn.new.link))
       c.loop-turn.invariant.goes (c.in-Ok-true.is ∙ ap Ok c.in-Ok-true.field-0-test) c.push_turn.ensures.goes;
-  cell = (c.push_turn.ensures.cell.0 ∙ c.loop-turn.invariant.cell.0, c.push_turn.ensures.cell.1 ∙ c.loop-turn.invariant.cell.1);
+  cell = (
+    c.push_turn.ensures.cell.0 ∙ c.loop-turn.invariant.cell.0,
+    c.push_turn.ensures.cell.1
+        ∙ c.loop-turn.invariant.cell.1,
+  );
 }
 
 pub returns-clause-goes : goal.returns-clause-goes
 returns-clause-goes g c =
     let w = world c.loop-turn.talk c.loop-turn.pads (g.L.Exchange.wire c.loop-turn.link) in
-    join g.P.Pads.calls g.P.Pads.names _ (world c.args.talk.now c.args.pads.now (g.L.Exchange.wire c.args.link.now)) _ w _ w
-    c.loop-turn.invariant.goes (pushes_spent g.P.Pads.calls g.P.Pads.names c.args.pad.now c.loop-turn.turn w (search rules))
+    join g.P.Pads.calls g.P.Pads.names _ (world c.args.talk.now c.args.pads.now (g.L.Exchange.wire c.args.link.now)) _ w
+    _ w
+    c.loop-turn.invariant.goes (pushes_spent g.P.Pads.calls g.P.Pads.names c.args.pad.now c.loop-turn.turn w
+    (search rules))
 
 pub returns-clause-cell : goal.returns-clause-cell
 returns-clause-cell g c = c.loop-turn.invariant.cell

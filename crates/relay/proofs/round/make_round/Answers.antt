@@ -9,55 +9,87 @@ use Rattle.relay.proofs.Steps.{join, later, unheard}
 use Rattle.relay.proofs.round.make_round.Goals as goal
 
 pub returns-in-Err-clause-fault : goal.returns-in-Err-clause-fault
-returns-in-Err-clause-fault g c = greeting_unsent g.P.Pads.calls g.P.Pads.names c.args.own c.args.token.now c.in-Err.fault (g.P.Pads.width c.args.pads.now) _ _ _ c.in-Err.ensures.unsent
+returns-in-Err-clause-fault g c = greeting_unsent g.P.Pads.calls g.P.Pads.names c.args.own c.args.token.now
+    c.in-Err.fault (g.P.Pads.width c.args.pads.now) _ _ _ c.in-Err.ensures.unsent
 
 pub returns-in-Ok-Some-Refused-clause-fault : goal.returns-in-Ok-Some-Refused-clause-fault
 returns-in-Ok-Some-Refused-clause-fault g c =
     let at = c.in-Ok-Some-Refused in
-    later g.P.Pads.calls g.P.Pads.names PeerReply _ (begun (g.P.Pads.width c.args.pads.now) c.args.pads.now (g.L.Exchange.wire c.args.link.now)) _ (begun (g.P.Pads.width c.args.pads.now) c.args.pads.now (g.L.Exchange.wire c.send_greeting.new.link)) _ (g.L.Exchange.wire c.hear_version.new.link) (greeting_sent g.P.Pads.calls g.P.Pads.names c.args.own c.args.token.now _ _ _ _ c.in-Ok.ensures.sent)
-    (greeted_wrong g.P.Pads.calls g.P.Pads.names _ at.field-0 _ _ (g.L.Exchange.wire c.hear_version.new.link) (inl (at.field-0-is ∙ ap Some at.field-0-0-is)) at.ensures.heard)
+    later g.P.Pads.calls g.P.Pads.names PeerReply _ (begun (g.P.Pads.width c.args.pads.now) c.args.pads.now
+    (g.L.Exchange.wire c.args.link.now)) _ (begun (g.P.Pads.width c.args.pads.now) c.args.pads.now
+    (g.L.Exchange.wire c.send_greeting.new.link)) _ (g.L.Exchange.wire c.hear_version.new.link)
+    (greeting_sent g.P.Pads.calls g.P.Pads.names c.args.own c.args.token.now _ _ _ _ c.in-Ok.ensures.sent)
+    (greeted_wrong g.P.Pads.calls g.P.Pads.names _ at.field-0 _ _ (g.L.Exchange.wire c.hear_version.new.link)
+    (inl (at.field-0-is ∙ ap Some at.field-0-0-is)) at.ensures.heard)
 
 pub returns-in-Ok-None-clause-fault : goal.returns-in-Ok-None-clause-fault
 returns-in-Ok-None-clause-fault g c =
-    later g.P.Pads.calls g.P.Pads.names PeerReply _ (begun (g.P.Pads.width c.args.pads.now) c.args.pads.now (g.L.Exchange.wire c.args.link.now)) _ (begun (g.P.Pads.width c.args.pads.now) c.args.pads.now (g.L.Exchange.wire c.send_greeting.new.link)) _ (g.L.Exchange.wire c.hear_version.new.link) (greeting_sent g.P.Pads.calls g.P.Pads.names c.args.own c.args.token.now _ _ _ _ c.in-Ok.ensures.sent)
-    (greeted_wrong g.P.Pads.calls g.P.Pads.names _ c.in-Ok-None.field-0 _ _ (g.L.Exchange.wire c.hear_version.new.link) (inr c.in-Ok-None.field-0-is) c.in-Ok-None.ensures.heard)
+    later g.P.Pads.calls g.P.Pads.names PeerReply _ (begun (g.P.Pads.width c.args.pads.now) c.args.pads.now
+    (g.L.Exchange.wire c.args.link.now)) _ (begun (g.P.Pads.width c.args.pads.now) c.args.pads.now
+    (g.L.Exchange.wire c.send_greeting.new.link)) _ (g.L.Exchange.wire c.hear_version.new.link)
+    (greeting_sent g.P.Pads.calls g.P.Pads.names c.args.own c.args.token.now _ _ _ _ c.in-Ok.ensures.sent)
+    (greeted_wrong g.P.Pads.calls g.P.Pads.names _ c.in-Ok-None.field-0 _ _ (g.L.Exchange.wire c.hear_version.new.link)
+    (inr c.in-Ok-None.field-0-is) c.in-Ok-None.ensures.heard)
 
 pub returns-in-Err-hear_version-clause-fault : goal.returns-in-Err-hear_version-clause-fault
 returns-in-Err-hear_version-clause-fault g c =
-    later g.P.Pads.calls g.P.Pads.names _ _ (begun (g.P.Pads.width c.args.pads.now) c.args.pads.now (g.L.Exchange.wire c.args.link.now)) _ (begun (g.P.Pads.width c.args.pads.now) c.args.pads.now (g.L.Exchange.wire c.send_greeting.new.link)) _ _ (greeting_sent g.P.Pads.calls g.P.Pads.names c.args.own c.args.token.now _ _ _ _ c.in-Ok.ensures.sent)
-    (unheard g.P.Pads.calls g.P.Pads.names c.in-Err-hear_version.fault Greeted (begun (g.P.Pads.width c.args.pads.now) c.args.pads.now (g.L.Exchange.wire c.send_greeting.new.link)) _ c.in-Err-hear_version.ensures.fault)
+    later g.P.Pads.calls g.P.Pads.names _ _ (begun (g.P.Pads.width c.args.pads.now) c.args.pads.now
+    (g.L.Exchange.wire c.args.link.now)) _ (begun (g.P.Pads.width c.args.pads.now) c.args.pads.now
+    (g.L.Exchange.wire c.send_greeting.new.link)) _ _
+    (greeting_sent g.P.Pads.calls g.P.Pads.names c.args.own c.args.token.now _ _ _ _ c.in-Ok.ensures.sent)
+    (unheard g.P.Pads.calls g.P.Pads.names c.in-Err-hear_version.fault Greeted
+    (begun (g.P.Pads.width c.args.pads.now) c.args.pads.now (g.L.Exchange.wire c.send_greeting.new.link)) _
+    c.in-Err-hear_version.ensures.fault)
 
 pub loop-talk-init : goal.loop-talk-init
 loop-talk-init g c =
     let at = c.in-Ok-Some-Said in
-    let so = join g.P.Pads.calls g.P.Pads.names _ (begun (g.P.Pads.width c.args.pads.now) c.args.pads.now (g.L.Exchange.wire c.args.link.now)) _ (begun (g.P.Pads.width c.args.pads.now) c.args.pads.now (g.L.Exchange.wire c.send_greeting.new.link)) _ _ (greeting_sent g.P.Pads.calls g.P.Pads.names c.args.own c.args.token.now _ _ _ _ c.in-Ok.ensures.sent)
-    (greeted_then g.P.Pads.calls g.P.Pads.names _ at.field-0 at.version _ _ (g.L.Exchange.wire c.hear_version.new.link) (at.field-0-is ∙ ap Some at.field-0-0-is) at.ensures.heard) in
+    let so = join g.P.Pads.calls g.P.Pads.names _ (begun (g.P.Pads.width c.args.pads.now) c.args.pads.now
+    (g.L.Exchange.wire c.args.link.now)) _ (begun (g.P.Pads.width c.args.pads.now) c.args.pads.now
+    (g.L.Exchange.wire c.send_greeting.new.link)) _ _
+    (greeting_sent g.P.Pads.calls g.P.Pads.names c.args.own c.args.token.now _ _ _ _ c.in-Ok.ensures.sent)
+    (greeted_then g.P.Pads.calls g.P.Pads.names _ at.field-0 at.version _ _ (g.L.Exchange.wire c.hear_version.new.link)
+    (at.field-0-is ∙ ap Some at.field-0-0-is) at.ensures.heard) in
     record {
-      goes = subst (λ r. Reaches g.P.Pads.calls g.P.Pads.names (Greeting c.args.own c.args.token.now) (begun (g.P.Pads.width c.args.pads.now) c.args.pads.now (g.L.Exchange.wire c.args.link.now)) Next
+      goes = subst (λ r. Reaches g.P.Pads.calls g.P.Pads.names (Greeting c.args.own c.args.token.now)
+          (begun (g.P.Pads.width c.args.pads.now) c.args.pads.now (g.L.Exchange.wire c.args.link.now)) Next
           (record { cells = c.cells.result; cell = 0; version = at.version; relayed = r; pads = c.args.pads.now; wire = g.L.Exchange.wire c.hear_version.new.link })) (sym c.new.ensures)
-          (subst (λ n. Reaches g.P.Pads.calls g.P.Pads.names (Greeting c.args.own c.args.token.now) (begun (g.P.Pads.width c.args.pads.now) c.args.pads.now (g.L.Exchange.wire c.args.link.now)) Next
+          (subst (λ n. Reaches g.P.Pads.calls g.P.Pads.names (Greeting c.args.own c.args.token.now)
+          (begun (g.P.Pads.width c.args.pads.now) c.args.pads.now (g.L.Exchange.wire c.args.link.now)) Next
           (record { cells = n; cell = 0; version = at.version; relayed = none_yet; pads = c.args.pads.now; wire = g.L.Exchange.wire c.hear_version.new.link })) (sym c.cells.ensures) so);
       fits = omega (arith, c.cells.type_inv);
     }
 
 pub overflow_add-talk : goal.overflow_add-talk
-overflow_add-talk g c = omega (arith, c.loop-talk-test.true, c.exchange_cell.ensures.cell.0, c.exchange_cell.ensures.cell.1, c.loop-talk.invariant.fits)
+overflow_add-talk g c = omega (
+  arith,
+  c.loop-talk-test.true,
+  c.exchange_cell.ensures.cell.0,
+  c.exchange_cell.ensures.cell.1,
+  c.loop-talk.invariant.fits,
+)
 
 pub loop-talk-preserved : goal.loop-talk-preserved
 loop-talk-preserved g c = record {
-  goes = past_one g.P.Pads.calls g.P.Pads.names _ (begun (g.P.Pads.width c.args.pads.now) c.args.pads.now (g.L.Exchange.wire c.args.link.now)) c.loop-talk.talk c.exchange_cell.new.talk _ _ _ _ _
+  goes = past_one g.P.Pads.calls g.P.Pads.names _ (begun (g.P.Pads.width c.args.pads.now) c.args.pads.now
+      (g.L.Exchange.wire c.args.link.now)) c.loop-talk.talk c.exchange_cell.new.talk _ _ _ _ _
       c.loop-talk.invariant.goes c.in-Ok-exchange_cell.ensures.goes refl;
   fits = omega (arith, c.exchange_cell.ensures.cell.1, c.loop-talk.invariant.fits);
 }
 
 pub returns-in-Err-exchange_cell-clause-fault : goal.returns-in-Err-exchange_cell-clause-fault
 returns-in-Err-exchange_cell-clause-fault g c =
-    later g.P.Pads.calls g.P.Pads.names c.in-Err-exchange_cell.fault _ (begun (g.P.Pads.width c.args.pads.now) c.args.pads.now (g.L.Exchange.wire c.args.link.now)) _ (world c.loop-talk.talk c.loop-talk.pads (g.L.Exchange.wire c.loop-talk.link)) _ _ c.loop-talk.invariant.goes c.in-Err-exchange_cell.ensures.breaks
+    later g.P.Pads.calls g.P.Pads.names c.in-Err-exchange_cell.fault _
+    (begun (g.P.Pads.width c.args.pads.now) c.args.pads.now (g.L.Exchange.wire c.args.link.now)) _
+    (world c.loop-talk.talk c.loop-talk.pads (g.L.Exchange.wire c.loop-talk.link)) _ _ c.loop-talk.invariant.goes
+    c.in-Err-exchange_cell.ensures.breaks
 
 pub returns-clause-all : goal.returns-clause-all
 returns-clause-all g c = (
   world c.loop-talk.talk c.loop-talk.pads (g.L.Exchange.wire c.loop-talk.link),
-  ends g.P.Pads.calls g.P.Pads.names (Greeting c.args.own c.args.token.now) (begun (g.P.Pads.width c.args.pads.now) c.args.pads.now (g.L.Exchange.wire c.args.link.now)) c.loop-talk.talk c.loop-talk.pads (g.L.Exchange.wire c.loop-talk.link) c.loop-talk.invariant.goes c.loop-talk-test.false,
+  ends g.P.Pads.calls g.P.Pads.names (Greeting c.args.own c.args.token.now)
+      (begun (g.P.Pads.width c.args.pads.now) c.args.pads.now (g.L.Exchange.wire c.args.link.now)) c.loop-talk.talk
+      c.loop-talk.pads (g.L.Exchange.wire c.loop-talk.link) c.loop-talk.invariant.goes c.loop-talk-test.false,
   refl,
   refl,
   refl,

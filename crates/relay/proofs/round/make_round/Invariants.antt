@@ -7,7 +7,8 @@ use Rattle.relay.proofs.round.make_round.Given as goal
 
 abbrev pub invariant-loop-talk : goal.invariant-loop-talk
 invariant-loop-talk g l = record {
-  goes : Reaches g.P.Pads.calls g.P.Pads.names (Greeting l.fn.own l.fn.token) (begun (g.P.Pads.width l.fn.pads) l.fn.pads (g.L.Exchange.wire l.fn.link))
+  goes : Reaches g.P.Pads.calls g.P.Pads.names (Greeting l.fn.own l.fn.token)
+      (begun (g.P.Pads.width l.fn.pads) l.fn.pads (g.L.Exchange.wire l.fn.link))
       Next (world l.talk l.pads (g.L.Exchange.wire l.link));
   fits : l.talk.cells < 4294967296;
 }

@@ -5,4 +5,5 @@ use Rattle.revisions.proofs.track.highest_of.Goals as goal
 pub returns-in-Some : goal.returns-in-Some
 returns-in-Some c =
     let is = sym c.in-Some.ensures.value in
-    sym (highest_is_last c.args.marks.now _ 0 c.in-Some.mark.now (omega (arith, some_behind c.args.marks.now _ c.in-Some.mark.now is)) is)
+    sym (highest_is_last c.args.marks.now _ 0 c.in-Some.mark.now
+    (omega (arith, some_behind c.args.marks.now _ c.in-Some.mark.now is)) is)

@@ -15,6 +15,10 @@ returns c =
     let marks = c.args.marks.now in
     let start = c.partition_point-start.result in
     let facts = c.partition_point-start.ensures in
-    let parts = IsPartitionPoint-from_clause (λ m. ltb m.place from || leb m.highest count) marks start facts.partitioned (partitioned_above marks from count c.requires) (λ a r f' called. search rules) in
-    let found = find_behind (λ m. ltb m.place from || leb m.highest count) (is_above from count) (λ m. ltb count m.number) (passed_above from count) (left_above from count) marks start c.requires facts.bound parts.0 parts.1 in
-    c.first_above.ensures ∙ ap (λ (ms : List Mark). option_map (λ (m : Mark). m.place) (find (λ m. ltb count m.number) ms)) (take_rest marks start) ∙ ap (option_map (λ (m : Mark). m.place)) (sym found)
+    let parts = IsPartitionPoint-from_clause (λ m. ltb m.place from || leb m.highest count) marks start
+    facts.partitioned (partitioned_above marks from count c.requires) (λ a r f' called. search rules) in
+    let found = find_behind (λ m. ltb m.place from || leb m.highest count) (is_above from count)
+    (λ m. ltb count m.number) (passed_above from count) (left_above from count) marks start c.requires facts.bound
+    parts.0 parts.1 in
+    c.first_above.ensures ∙ ap (λ (ms : List Mark). option_map (λ (m : Mark). m.place)
+    (find (λ m. ltb count m.number) ms)) (take_rest marks start) ∙ ap (option_map (λ (m : Mark). m.place)) (sym found)

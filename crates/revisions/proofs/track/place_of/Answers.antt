@@ -13,6 +13,9 @@ returns c =
     let marks = c.args.marks.now in
     let start = c.partition_point-start.result in
     let facts = c.partition_point-start.ensures in
-    let parts = IsPartitionPoint-from_clause (λ m. ltb m.highest number) marks start facts.partitioned (partitioned_low marks number c.requires) (λ a r f' called. search rules) in
-    let found = find_behind (λ m. ltb m.highest number) (λ m. eqb m.number number) (λ m. eqb m.number number) (passed_numbered number) (λ m e. refl) marks start c.requires facts.bound parts.0 parts.1 in
-    c.first_numbered.ensures ∙ ap (λ (ms : List Mark). option_map (λ (m : Mark). m.place) (find (λ m. eqb m.number number) ms)) (take_rest marks start) ∙ ap (option_map (λ (m : Mark). m.place)) (sym found)
+    let parts = IsPartitionPoint-from_clause (λ m. ltb m.highest number) marks start facts.partitioned
+    (partitioned_low marks number c.requires) (λ a r f' called. search rules) in
+    let found = find_behind (λ m. ltb m.highest number) (λ m. eqb m.number number) (λ m. eqb m.number number)
+    (passed_numbered number) (λ m e. refl) marks start c.requires facts.bound parts.0 parts.1 in
+    c.first_numbered.ensures ∙ ap (λ (ms : List Mark). option_map (λ (m : Mark). m.place)
+    (find (λ m. eqb m.number number) ms)) (take_rest marks start) ∙ ap (option_map (λ (m : Mark). m.place)) (sym found)

@@ -7,9 +7,11 @@ use Rattle.sequence_tests.proofs.comments.book_of.Goals as goal
 pub returns : goal.returns
 returns c cells rev there =
     let noted : AreHeld cells (born_by rev c.add.new.self) =
-    subst (λ book. AreHeld cells (born_by rev book)) (sym (c.in_ok-add.ensures.ok ∙ ap (with_comment _) c.new-book.ensures)) (held-with_comment cells rev [] _ tt there)
+    subst (λ book. AreHeld cells (born_by rev book))
+    (sym (c.in_ok-add.ensures.ok ∙ ap (with_comment _) c.new-book.ensures)) (held-with_comment cells rev [] _ tt there)
     in
     elim c.match-draft.branch [
-      | in-Some+in_ok-resolve w ↦ subst (λ book. AreHeld cells (born_by rev book)) (sym (w.book-is ∙ w.in_ok-resolve.ensures.ok.1)) (held-with_resolution cells _ _ rev c.add.new.self noted)
+      | in-Some+in_ok-resolve w ↦ subst (λ book. AreHeld cells (born_by rev book))
+          (sym (w.book-is ∙ w.in_ok-resolve.ensures.ok.1)) (held-with_resolution cells _ _ rev c.add.new.self noted)
       | in_default w ↦ subst (λ book. AreHeld cells (born_by rev book)) (sym w.book-is) noted
     ]

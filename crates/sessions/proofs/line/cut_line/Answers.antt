@@ -15,4 +15,5 @@ returns-in-Some-clause-lines c =
 
 pub returns-in-None-clause-lines : goal.returns-in-None-clause-lines
 returns-in-None-clause-lines c =
-    ap lines_of_parts (split_absent (λ b. eqb b 10) c.args.bytes.now (sym c.place_of.ensures ∙ c.in-None.is)) ∙ last_line c.args.bytes.now c.requires
+    ap lines_of_parts (split_absent (λ b. eqb b 10) c.args.bytes.now (sym c.place_of.ensures ∙ c.in-None.is))
+    ∙ last_line c.args.bytes.now c.requires

@@ -8,7 +8,8 @@ pub returns-in-Some : goal.returns-in-Some
 returns-in-Some c =
     let text = c.args.text.now in
     let end = c.in-Some.end in
-    split_found (λ b. eqb b 32) text end (sym c.place_of.ensures ∙ c.in-Some.is) ∙ ap (λ (rest : List ℕ). take end text ∷ words rest) (sym (take_rest text (end + 1)))
+    split_found (λ b. eqb b 32) text end (sym c.place_of.ensures ∙ c.in-Some.is)
+    ∙ ap (λ (rest : List ℕ). take end text ∷ words rest) (sym (take_rest text (end + 1)))
 
 pub returns-in-None : goal.returns-in-None
 returns-in-None c = split_absent (λ b. eqb b 32) c.args.text.now (sym c.place_of.ensures ∙ c.in-None.is)

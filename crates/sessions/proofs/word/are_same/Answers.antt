@@ -8,4 +8,5 @@ loop-i-preserved c =
     let b = c.args.b.now in
     let i = c.loop-i.i in
     let same = eqb (get_or a i 0) (get_or b i 0) in
-    no_difference c.loop-i.differs same ∙ ap (λ before. before && same) c.loop-i.invariant ∙ sym (same_more a b i (omega arith) (omega arith))
+    no_difference c.loop-i.differs same ∙ ap (λ before. before && same) c.loop-i.invariant
+    ∙ sym (same_more a b i (omega arith) (omega arith))

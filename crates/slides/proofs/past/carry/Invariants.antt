@@ -6,4 +6,5 @@ use Rattle.slides.proofs.past.carry.Given as goal
 
 -- the slides from here on lead from where the character was carried so far
 abbrev pub invariant-loop-slide : goal.invariant-loop-slide
-invariant-loop-slide l = (old new : List Stamp) → Leads l.slides old new → (mid : List Stamp) × Leads (drop l.slide-index l.slides) mid new × (slice_get mid l.at ≡ slice_get old l.place)
+invariant-loop-slide l = (old new : List Stamp) → Leads l.slides old new → (mid : List Stamp)
+    × Leads (drop l.slide-index l.slides) mid new × (slice_get mid l.at ≡ slice_get old l.place)

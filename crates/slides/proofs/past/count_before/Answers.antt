@@ -8,7 +8,8 @@ overflow_sub-count c =
     let j = c.loop-i.i - 1 in
     let s = c.index-slides-i.result in
     let there = leads-from j c.args.slides.now c.requires.old c.requires.new c.requires.leads in
-    let step = counts_next c.args.slides.now c.loop-i.i j s c.loop-i.count c.args.many (omega arith) c.index-slides-i.is (omega arith) c.loop-i.invariant there.0 c.requires.new there.1 c.requires.size in
+    let step = counts_next c.args.slides.now c.loop-i.i j s c.loop-i.count c.args.many (omega arith) c.index-slides-i.is
+    (omega arith) c.loop-i.invariant there.0 c.requires.new there.1 c.requires.size in
     let size = shown_len s there.0 step.0 step.1 c.if-slide.true in
     let counted = step.2 in
     omega (arith, size.0, counted)
@@ -16,7 +17,8 @@ overflow_sub-count c =
 pub loop-i-preserved-then-slide : goal.loop-i-preserved-then-slide
 loop-i-preserved-then-slide c mid new leads size =
     let s = c.index-slides-i.result in
-    let step = counts_next c.args.slides.now c.loop-i.i (c.loop-i.i - 1) s c.loop-i.count c.args.many (omega arith) c.index-slides-i.is (omega arith) c.loop-i.invariant mid new leads size in
+    let step = counts_next c.args.slides.now c.loop-i.i (c.loop-i.i - 1) s c.loop-i.count c.args.many
+    (omega arith) c.index-slides-i.is (omega arith) c.loop-i.invariant mid new leads size in
     let sizes = shown_len s mid step.0 step.1 c.if-slide.true in
     let counted = step.2 in
     omega (arith, sizes.0, counted)
@@ -26,7 +28,8 @@ overflow_add-count c =
     let j = c.loop-i.i - 1 in
     let s = c.index-slides-i.result in
     let there = leads-from j c.args.slides.now c.requires.old c.requires.new c.requires.leads in
-    let step = counts_next c.args.slides.now c.loop-i.i j s c.loop-i.count c.args.many (omega arith) c.index-slides-i.is (omega arith) c.loop-i.invariant there.0 c.requires.new there.1 c.requires.size in
+    let step = counts_next c.args.slides.now c.loop-i.i j s c.loop-i.count c.args.many (omega arith) c.index-slides-i.is
+    (omega arith) c.loop-i.invariant there.0 c.requires.new there.1 c.requires.size in
     let sizes = hidden_len s there.0 step.0 step.1 c.if-slide.false in
     let counted = step.2 in
     omega (arith, sizes.0, sizes.2, counted)
@@ -34,7 +37,8 @@ overflow_add-count c =
 pub loop-i-preserved : goal.loop-i-preserved
 loop-i-preserved c mid new leads size =
     let s = c.index-slides-i.result in
-    let step = counts_next c.args.slides.now c.loop-i.i (c.loop-i.i - 1) s c.loop-i.count c.args.many (omega arith) c.index-slides-i.is (omega arith) c.loop-i.invariant mid new leads size in
+    let step = counts_next c.args.slides.now c.loop-i.i (c.loop-i.i - 1) s c.loop-i.count c.args.many
+    (omega arith) c.index-slides-i.is (omega arith) c.loop-i.invariant mid new leads size in
     let sizes = hidden_len s mid step.0 step.1 c.if-slide.false in
     let counted = step.2 in
     omega (arith, sizes.0, counted)

@@ -6,4 +6,5 @@ use Rattle.slides.proofs.past.count_before.Given as goal
 
 -- the slides from here on lead from as many characters as were counted
 abbrev pub invariant-loop-i : goal.invariant-loop-i
-invariant-loop-i l = (mid new : List Stamp) → Leads (drop l.i l.slides) mid new → length new ≡ l.many → l.count ≡ length mid
+invariant-loop-i l = (mid new : List Stamp) → Leads (drop l.i l.slides) mid new → length new ≡ l.many →
+    l.count ≡ length mid

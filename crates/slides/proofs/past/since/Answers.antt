@@ -19,8 +19,12 @@ returns c =
     let seen = c.partition_point-seen.result in
     let rev = c.args.rev in
     let point =
-    IsPartitionPoint-from_clause (λ (s : Slide). nat_le s.rev rev) slides seen c.partition_point-seen.ensures.partitioned
+    IsPartitionPoint-from_clause (λ (s : Slide). nat_le s.rev rev) slides seen
+    c.partition_point-seen.ensures.partitioned
     (IsPartitionedBy-leb (λ (s : Slide). s.rev) slides rev (rises 0 slides c.requires))
     (λ a r f k. search (rules, of_calls)) in
-    let many : prefix_len (λ (s : Slide). nat_le s.rev rev) slides ≡ seen = prefix_len_is (λ (s : Slide). nat_le s.rev rev) slides seen no_slide c.partition_point-seen.ensures.bound (λ k l. point.0 k no_slide (omega arith) l) (λ l. point.1 seen no_slide (omega arith) l) in
-    ap (λ n. take n (drop seen slides)) (sym (length-drop seen slides)) ∙ take-length (drop seen slides) ∙ ap (λ n. drop n slides) (sym many)
+    let many : prefix_len (λ (s : Slide). nat_le s.rev rev) slides ≡ seen =
+    prefix_len_is (λ (s : Slide). nat_le s.rev rev) slides seen no_slide c.partition_point-seen.ensures.bound
+    (λ k l. point.0 k no_slide (omega arith) l) (λ l. point.1 seen no_slide (omega arith) l) in
+    ap (λ n. take n (drop seen slides)) (sym (length-drop seen slides)) ∙ take-length (drop seen slides)
+    ∙ ap (λ n. drop n slides) (sym many)

@@ -8,5 +8,7 @@ use Rattle.store.proofs.reader.record_text.Goals as goal
 
 pub returns : goal.returns
 returns c =
-    told string_bytes c.to_string.result (view c.in_ok-value.value) (record_data c.args.at c.args.kept.now) (entry.Record c.args.kept.now) (IsSayableRecord c.args.kept.now) (λ s. IsUtf8-string_bytes s) c.in_ok-value.ensures
-    (record_has_no_float c.args.at c.args.kept.now) (record_is_shallow c.args.at c.args.kept.now) (record_again c.args.at c.args.kept.now) c.to_string.ensures.text c.to_string.ensures.reads_back
+    told string_bytes c.to_string.result (view c.in_ok-value.value) (record_data c.args.at c.args.kept.now)
+    (entry.Record c.args.kept.now) (IsSayableRecord c.args.kept.now) (λ s. IsUtf8-string_bytes s) c.in_ok-value.ensures
+    (record_has_no_float c.args.at c.args.kept.now) (record_is_shallow c.args.at c.args.kept.now)
+    (record_again c.args.at c.args.kept.now) c.to_string.ensures.text c.to_string.ensures.reads_back

@@ -4,13 +4,19 @@ use Rattle.store.proofs.Feeds.{ends, fails, goes_on}
 use Rattle.store.proofs.reader.replay_lines.Goals as goal
 
 pub returns-in-Err-clause-read : goal.returns-in-Err-clause-read
-returns-in-Err-clause-read g c = fails c.loop-end.number _ c.args.name.now (so_far c.loop-end.pad c.loop-end.last) c.loop-end.rest.now c.in-Some.end c.in-Err.damage _ (omega arith) c.in-Some.ensures c.in-Err.ensures c.loop-end.invariant.0
+returns-in-Err-clause-read g c = fails c.loop-end.number _ c.args.name.now (so_far c.loop-end.pad c.loop-end.last)
+    c.loop-end.rest.now c.in-Some.end c.in-Err.damage _ (omega arith) c.in-Some.ensures c.in-Err.ensures
+    c.loop-end.invariant.0
 
 pub loop-end-preserved : goal.loop-end-preserved
-loop-end-preserved g c = goes_on c.loop-end.number _ c.args.name.now (so_far c.loop-end.pad c.loop-end.last) (so_far c.next_line.new.pad c.in-Ok.next) c.loop-end.rest.now _ c.in-Some.end (c.in-Some.end + 1) _ _ _ (omega arith) (omega arith) refl c.in-Some.ensures c.in-Ok.ensures c.loop-end.invariant
+loop-end-preserved g c = goes_on c.loop-end.number _ c.args.name.now (so_far c.loop-end.pad c.loop-end.last)
+    (so_far c.next_line.new.pad c.in-Ok.next) c.loop-end.rest.now _ c.in-Some.end (c.in-Some.end + 1) _ _ _
+    (omega arith) (omega arith) refl c.in-Some.ensures c.in-Ok.ensures c.loop-end.invariant
 
 pub returns-clause-read : goal.returns-clause-read
-returns-clause-read g c = (ends c.loop-end.number c.args.name.now (so_far c.loop-end.pad c.loop-end.last) c.loop-end.rest.now _ _ _ c.in_default.ensures c.loop-end.invariant).0
+returns-clause-read g c = (ends c.loop-end.number c.args.name.now (so_far c.loop-end.pad c.loop-end.last)
+    c.loop-end.rest.now _ _ _ c.in_default.ensures c.loop-end.invariant).0
 
 pub returns-clause-cut : goal.returns-clause-cut
-returns-clause-cut g c = (ends c.loop-end.number c.args.name.now (so_far c.loop-end.pad c.loop-end.last) c.loop-end.rest.now _ _ _ c.in_default.ensures c.loop-end.invariant).1
+returns-clause-cut g c = (ends c.loop-end.number c.args.name.now (so_far c.loop-end.pad c.loop-end.last)
+    c.loop-end.rest.now _ _ _ c.in_default.ensures c.loop-end.invariant).1

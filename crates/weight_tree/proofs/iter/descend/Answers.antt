@@ -19,11 +19,14 @@ loop-tree-preserved g c =
     let inside : depth + b.right.height < length waiting = omega arith in
     let left_room : depth + 1 + b.left.height ≤ length waiting = omega arith in
     let waits : WaitsAt (length waiting) depth (Some c.deref.result) = rw c.deref.ensures inside in
-    let same : length (slice_set waiting depth (Some c.deref.result)) ≡ length waiting = length-set waiting depth (Some c.deref.result) in
+    let same : length (slice_set waiting depth (Some c.deref.result)) ≡ length waiting =
+    length-set waiting depth (Some c.deref.result) in
     record {
-      waiting = rw same (IsWaiting_more (length waiting) waiting depth (Some c.deref.result) below c.loop-tree.invariant.waiting waits);
+      waiting = rw same (IsWaiting_more (length waiting) waiting depth (Some c.deref.result) below
+          c.loop-tree.invariant.waiting waits);
       room = rw (same, c.deref-in-Some.ensures) left_room;
-      items = from_waiting_more _ waiting depth c.deref.result _ below (rw (c.deref.ensures, c.deref-in-Some.ensures, ← items) c.loop-tree.invariant.items);
+      items = from_waiting_more _ waiting depth c.deref.result _ below
+          (rw (c.deref.ensures, c.deref-in-Some.ensures, ← items) c.loop-tree.invariant.items);
     }
 
 pub loop-tree-smaller : goal.loop-tree-smaller

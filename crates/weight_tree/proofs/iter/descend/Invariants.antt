@@ -8,7 +8,8 @@ invariant-loop-tree g l =
     record {
       waiting : IsWaiting (length l.waiting) l.depth l.waiting;
       room : l.depth + l.tree.height ≤ length l.waiting;
-      items : l.tree.items ++ from_waiting (take l.depth l.waiting) ≡ l.fn.tree.items ++ from_waiting (take l.fn.depth l.fn.waiting);
+      items : l.tree.items ++ from_waiting (take l.depth l.waiting) ≡ l.fn.tree.items
+          ++ from_waiting (take l.fn.depth l.fn.waiting);
     }
 
 abbrev pub decreases-loop-tree : goal.decreases-loop-tree

@@ -7,6 +7,7 @@ use Rattle.wire_json.proofs.form.seen.Given as goal
 
 abbrev pub invariant-loop-pair : goal.invariant-loop-pair
 invariant-loop-pair l = record {
-  counted : rising_in 0 (items_view l.pair-items) ≡ option_map (λ rest. l.seen ++ rest) (rising_in l.last (items_view (drop l.pair-index l.pair-items)));
+  counted : rising_in 0 (items_view l.pair-items) ≡ option_map (λ rest. l.seen ++ rest)
+      (rising_in l.last (items_view (drop l.pair-index l.pair-items)));
   below : AllByRecursion (λ pair. pair.origin ≤ l.last) l.seen;
 }

@@ -5,4 +5,5 @@ use Rattle.wire_json.specs.Reading.{each_in}
 use Rattle.wire_json.proofs.list.list.Given as goal
 
 abbrev pub invariant-loop-item : goal.invariant-loop-item
-invariant-loop-item g l = each_in g.T.FromJson.form (items_view l.item-items) ≡ option_map (λ rest. l.list ++ rest) (each_in g.T.FromJson.form (items_view (drop l.item-index l.item-items)))
+invariant-loop-item g l = each_in g.T.FromJson.form (items_view l.item-items) ≡ option_map (λ rest. l.list ++ rest)
+    (each_in g.T.FromJson.form (items_view (drop l.item-index l.item-items)))

@@ -6,4 +6,6 @@ use Rattle.wire_json.proofs.Spelled.{said}
 use Rattle.wire_json.proofs.peer_request.push_line.Goals as goal
 
 pub returns : goal.returns
-returns c = said string_bytes (push_request c.args.pad.now c.args.op.now) c.push_value.result _ (push_has_no_float c.args.pad.now c.args.op.now) (push_is_shallow c.args.pad.now c.args.op.now) (search rules) c.value_line.ensures
+returns c = said string_bytes (push_request c.args.pad.now c.args.op.now) c.push_value.result _
+    (push_has_no_float c.args.pad.now c.args.op.now) (push_is_shallow c.args.pad.now c.args.op.now)
+    (search rules) c.value_line.ensures

@@ -6,4 +6,5 @@ use Rattle.wire_json.proofs.Spelled.{said}
 use Rattle.wire_json.proofs.peer_request.vector_line.Goals as goal
 
 pub returns : goal.returns
-returns c = said string_bytes (vector_request c.args.pad.now) c.vector_value.result _ (vector_has_no_float c.args.pad.now) (vector_is_shallow c.args.pad.now) (search rules) c.value_line.ensures
+returns c = said string_bytes (vector_request c.args.pad.now) c.vector_value.result _
+    (vector_has_no_float c.args.pad.now) (vector_is_shallow c.args.pad.now) (search rules) c.value_line.ensures

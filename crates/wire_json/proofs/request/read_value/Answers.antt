@@ -7,4 +7,8 @@ pub returns-in-Ok : goal.returns-in-Ok
 returns-in-Ok c = let h = c.in-Ok.ensures.ok in value_of_text c.args.line.now _ h.0 h.1
 
 pub returns-in-Err-2 : goal.returns-in-Err-2
-returns-in-Err-2 c = inr (refl, no_value c.args.line.now (c.in-Err.ensures.err (λ m. true≢false (sym (c.if-is_memory.ensures.1 m)))))
+returns-in-Err-2 c = inr (
+  refl,
+  no_value c.args.line.now
+      (c.in-Err.ensures.err (λ m. true≢false (sym (c.if-is_memory.ensures.1 m)))),
+)

@@ -7,7 +7,8 @@ use Rattle.workers.proofs.connection.serve_lines.Given as goal
 -- the lines so far are answered, and no call has failed
 abbrev pub invariant-loop-found : goal.invariant-loop-found
 invariant-loop-found g l = record {
-  so : IsServing g.P.Pads.calls l.fn.pads l.pads (g.R.Source.remaining l.fn.reader) (ahead l.buffer (g.R.Source.remaining l.reader)) l.served
+  so : IsServing g.P.Pads.calls l.fn.pads l.pads (g.R.Source.remaining l.fn.reader)
+      (ahead l.buffer (g.R.Source.remaining l.reader)) l.served
       (g.W.Sink.contents l.fn.writer) (g.W.Sink.contents l.writer);
   fault : l.buffer.fault ≡ None;
   failures : g.W.Sink.failures l.writer ≡ g.W.Sink.failures l.fn.writer;

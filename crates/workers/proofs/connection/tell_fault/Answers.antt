@@ -13,5 +13,6 @@ returns-in-Ok g c =
     let after = g.W.Sink.contents c.write_all.new.writer in
     let line = line_of (Err Refusal.Memory) in
     let whole = subst (Appends before after) c.memory_line.ensures c.in-Ok.ensures.whole in
-    subst (λ fault. TellsFault fault Memory (g.W.Sink.failures c.args.writer.now) (g.W.Sink.failures c.write_all.new.writer) before after) (sym c.in-Memory.is)
+    subst (λ fault. TellsFault fault Memory (g.W.Sink.failures c.args.writer.now)
+    (g.W.Sink.failures c.write_all.new.writer) before after) (sym c.in-Memory.is)
     (inl (refl, c.in-Ok.ensures.none), length line, whole_text line before after whole)

@@ -6,11 +6,15 @@ use Rattle.workers.proofs.seating.take_seats.Goals as goal
 
 pub loop-cell-preserved : goal.loop-cell-preserved
 loop-cell-preserved g c =
-    let one_more : take (c.loop-cell.cell-index + 1) c.args.cells.now ≡ take c.loop-cell.cell-index c.args.cells.now ++ c.cell-item.result ∷ [] =
-    take_more c.args.cells.now c.loop-cell.cell-index c.cell-item.result c.loop-cell-test.true ∙ ap (λ e. take c.loop-cell.cell-index c.args.cells.now ++ e ∷ []) (sym c.cell-item.is)
+    let one_more : take (c.loop-cell.cell-index + 1) c.args.cells.now ≡ take c.loop-cell.cell-index c.args.cells.now
+    ++ c.cell-item.result ∷ [] =
+    take_more c.args.cells.now c.loop-cell.cell-index c.cell-item.result c.loop-cell-test.true
+    ∙ ap (λ e. take c.loop-cell.cell-index c.args.cells.now ++ e ∷ []) (sym c.cell-item.is)
     in
     let pushed : c.push_reserved.new.self.items ≡ c.loop-cell.seats.items ++ c.in_ok-seat.field-0 ∷ [] =
     c.push_reserved.ensures.items ∙ ap (λ (s : List Seat). s ++ c.in_ok-seat.field-0 ∷ []) c.in_ok-reserve.ensures.items
     in
-    one_more_seat c.args.seats.now.items c.loop-cell.seats.items c.push_reserved.new.self.items c.in_ok-seat.field-0 (take c.loop-cell.cell-index c.args.cells.now) (take (c.loop-cell.cell-index + 1) c.args.cells.now) c.cell-item.result
+    one_more_seat c.args.seats.now.items c.loop-cell.seats.items c.push_reserved.new.self.items c.in_ok-seat.field-0
+    (take c.loop-cell.cell-index c.args.cells.now) (take (c.loop-cell.cell-index + 1) c.args.cells.now)
+    c.cell-item.result
     c.loop-cell.invariant pushed c.in_ok-seat.ensures.seat.0 one_more

@@ -4,4 +4,5 @@ use Rattle.workers.proofs.seating.take_seats.Given as goal
 
 -- there is a seat at each cell so far
 abbrev pub invariant-loop-cell : goal.invariant-loop-cell
-invariant-loop-cell g l = cells_of l.seats.items ≡ cells_of l.fn.seats.items ++ map (λ pad. pad.cell) (take l.cell-index l.cells)
+invariant-loop-cell g l = cells_of l.seats.items ≡ cells_of l.fn.seats.items ++ map (λ pad. pad.cell)
+    (take l.cell-index l.cells)

@@ -8,9 +8,14 @@ use Rattle.anchors.proofs.book.CommentBook.add.Goals as goal
 pub insert-requires : goal.insert-requires
 insert-requires c =
     let place = rw c.as_slice.ensures.value at c.place_of-place.ensures in
-    omega (arith, prefix_len-le-length (λ comment. precedes comment.name c.args.given.name) c.self.inside.comments.items)
+    omega (
+      arith,
+      prefix_len-le-length (λ comment. precedes comment.name c.args.given.name)
+          c.self.inside.comments.items,
+    )
 
 pub invariant_of-self-2 : goal.invariant_of-self-2
 invariant_of-self-2 c =
     let place = rw c.as_slice.ensures.value at c.place_of-place.ensures in
-    rw (c.in_ok-insert.ensures.items, place) (book-with_comment c.self.inside.comments.items _ c.self.invariant (ap (is_comment c.args.given.name) c.self.view_is ∙ c.requires) (omega (arith, ap length c.self.view_is)))
+    rw (c.in_ok-insert.ensures.items, place) (book-with_comment c.self.inside.comments.items _ c.self.invariant
+    (ap (is_comment c.args.given.name) c.self.view_is ∙ c.requires) (omega (arith, ap length c.self.view_is)))

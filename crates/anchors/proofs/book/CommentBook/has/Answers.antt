@@ -5,5 +5,6 @@ use Rattle.anchors.proofs.book.CommentBook.has.Goals as goal
 
 pub returns : goal.returns
 returns c =
-    c.is_some.ensures ∙ found_or_none c.as_slice.result.now c.args.name c.find.result c.find.ensures.found c.find.ensures.none
+    c.is_some.ensures ∙ found_or_none c.as_slice.result.now c.args.name c.find.result c.find.ensures.found
+    c.find.ensures.none
     ∙ ap (is_comment c.args.name) (c.as_slice.ensures.value ∙ c.self.view_is)

@@ -10,7 +10,10 @@ loop-place-preserved c =
       counted = omega (arith, c.loop-place.invariant.counted);
       room = ap (λ s. s.spare) c.delete.ensures ∙ room;
       partly =
-          out_goes_on c.args.places.now c.args.self.now.authors (drop c.loop-place.place-index c.args.places.now) c.loop-place.self.authors c.loop-place.gone (slice_index_or c.args.places.now c.loop-place.place-index 0)
-          (drop (c.loop-place.place-index + 1) c.args.places.now) c.delete.new.self.authors c.loop-place.invariant.partly
-          (drop_more c.args.places.now c.loop-place.place-index 0 c.loop-place-test.true) (ap (λ s. s.authors) c.delete.ensures);
+          out_goes_on c.args.places.now c.args.self.now.authors (drop c.loop-place.place-index c.args.places.now)
+          c.loop-place.self.authors c.loop-place.gone (slice_index_or c.args.places.now c.loop-place.place-index 0)
+          (drop (c.loop-place.place-index + 1) c.args.places.now) c.delete.new.self.authors
+          c.loop-place.invariant.partly
+          (drop_more c.args.places.now c.loop-place.place-index 0 c.loop-place-test.true)
+          (ap (λ s. s.authors) c.delete.ensures);
     }

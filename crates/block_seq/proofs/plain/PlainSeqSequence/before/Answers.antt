@@ -8,11 +8,18 @@ use Rattle.block_seq.proofs.Kept.{has_view, unless_has, where_has}
 use Rattle.block_seq.proofs.plain.PlainSeqSequence.before.Goals as goal
 
 pub returns-then-not-has : goal.returns-then-not-has
-returns-then-not-has c = unless_has c.has.result (has_stamp character_of c.args.self.now c.args.stamp) _ (has_view c.self.inside.authors.items c.self.inside.cells.items c.as_slice-cells.result.now c.args.self.now c.args.stamp c.has.result c.self.view_is c.as_slice-cells.ensures.value c.has.ensures) c.if-not-has.true
+returns-then-not-has c = unless_has c.has.result (has_stamp character_of c.args.self.now c.args.stamp) _
+    (has_view c.self.inside.authors.items c.self.inside.cells.items c.as_slice-cells.result.now c.args.self.now
+    c.args.stamp c.has.result c.self.view_is c.as_slice-cells.ensures.value c.has.ensures) c.if-not-has.true
 
 pub returns : goal.returns
 returns c =
-    where_has c.has.result (has_stamp character_of c.args.self.now c.args.stamp) c.count_before.result (shown_before character_of (shown_at c.args.rev) c.args.self.now c.args.stamp) (has_view c.self.inside.authors.items c.self.inside.cells.items c.as_slice-cells.result.now c.args.self.now c.args.stamp c.has.result c.self.view_is c.as_slice-cells.ensures.value c.has.ensures) c.if-not-has.false
-    (c.count_before.ensures ∙ ap (λ l. shown_before kept_character (is_shown c.args.rev) l c.args.stamp) c.as_slice-cells.ensures.value
-    ∙ sym (shown_before-map (cell_of c.self.inside.authors.items) character_of (shown_at c.args.rev) c.self.inside.cells.items c.args.stamp)
+    where_has c.has.result (has_stamp character_of c.args.self.now c.args.stamp) c.count_before.result
+    (shown_before character_of (shown_at c.args.rev) c.args.self.now c.args.stamp)
+    (has_view c.self.inside.authors.items c.self.inside.cells.items c.as_slice-cells.result.now c.args.self.now
+    c.args.stamp c.has.result c.self.view_is c.as_slice-cells.ensures.value c.has.ensures) c.if-not-has.false
+    (c.count_before.ensures ∙ ap (λ l. shown_before kept_character (is_shown c.args.rev) l c.args.stamp)
+    c.as_slice-cells.ensures.value
+    ∙ sym (shown_before-map (cell_of c.self.inside.authors.items) character_of
+    (shown_at c.args.rev) c.self.inside.cells.items c.args.stamp)
     ∙ ap (λ l. shown_before character_of (shown_at c.args.rev) l c.args.stamp) c.self.view_is)

@@ -6,6 +6,7 @@ use Rattle.block_seq.proofs.plain.PlainSeqSequence.stamp_at.Goals as goal
 
 pub returns : goal.returns
 returns c =
-    c.shown_stamp.ensures ∙ ap (λ l. option_map (λ x. x.stamp) (slice_get (filter (is_shown c.args.rev) l) c.args.place)) c.as_slice.ensures.value
+    c.shown_stamp.ensures ∙ ap (λ l. option_map (λ x. x.stamp)
+    (slice_get (filter (is_shown c.args.rev) l) c.args.place)) c.as_slice.ensures.value
     ∙ sym (cell_stamp_at-cells_of c.self.inside.authors.items c.args.rev c.self.inside.cells.items c.args.place)
     ∙ ap (λ l. cell_stamp_at c.args.rev l c.args.place) c.self.view_is

@@ -23,83 +23,114 @@ use Rattle.block_seq.proofs.RowRuns.{all_commute, all_hidden, all_later, all_len
 use Rattle.block_seq.proofs.RowSteps.{unchanged, same_cells_kept}
 use Rattle.block_seq.proofs.RowCounts.{cells_seen, labelled_seen, on_error, undone_seen}
 use Rattle.block_seq.proofs.rows.BlockSeq.change.Goals as goal
-use Rattle.block_seq.proofs.rows.BlockSeq.change.Goals.{After-cut_parents, After-place_author, After-as_slice, In_ok-clock, After-kill_named-hidden}
+use Rattle.block_seq.proofs.rows.BlockSeq.change.Goals.{After-cut_parents, After-place_author, After-as_slice}
+use Rattle.block_seq.proofs.rows.BlockSeq.change.Goals.{In_ok-clock, After-kill_named-hidden}
 
 -- what a cut, one more author or other labels leave
-moved : (c : After-place_author) (text : _) (n : Index) (after : _) → text ≡ c.self.inside.text.items → IsKept n after → SameCells c.self.inside.tree.items after → IsBlockSeq c.self.inside.latest c.self.inside.clock c.place_author.new.authors.items text n after
+moved : (c : After-place_author) (text : _) (n : Index) (after : _) → text ≡ c.self.inside.text.items → IsKept n after →
+    SameCells c.self.inside.tree.items after →
+    IsBlockSeq c.self.inside.latest c.self.inside.clock c.place_author.new.authors.items text n after
     × (cells_of c.place_author.new.authors.items text after ≡ c.args.self.now.cells)
 moved c text n after is kept same =
-    let done = unchanged c.self.inside.authors.items c.place_author.new.authors.items c.args.author.now c.self.inside.text.items c.self.inside.index n c.self.inside.tree.items after c.self.invariant.row c.place_author.ensures.more kept same in
-    (subst (λ t. IsBlockSeq c.self.inside.latest c.self.inside.clock c.place_author.new.authors.items t n after) (sym is) done.0, ap (λ t. cells_of c.place_author.new.authors.items t after) is ∙ done.1 ∙ (cells_seen c.self.view_is))
+    let done = unchanged c.self.inside.authors.items c.place_author.new.authors.items c.args.author.now
+    c.self.inside.text.items c.self.inside.index n c.self.inside.tree.items after c.self.invariant.row
+    c.place_author.ensures.more kept same in (
+      subst (λ t. IsBlockSeq c.self.inside.latest c.self.inside.clock c.place_author.new.authors.items t n after)
+          (sym is) done.0,
+      ap (λ t. cells_of c.place_author.new.authors.items t after) is ∙ done.1
+          ∙ (cells_seen c.self.view_is),
+    )
 
 -- and of the slides
-whole : (c : After-place_author) (text : _) (slides : _) (n : Index) (after : _) → text ≡ c.self.inside.text.items → slides ≡ c.self.inside.slides.items → IsKept n after → SameCells c.self.inside.tree.items after
+whole : (c : After-place_author) (text : _) (slides : _) (n : Index) (after : _) → text ≡ c.self.inside.text.items →
+    slides ≡ c.self.inside.slides.items → IsKept n after → SameCells c.self.inside.tree.items after
     → IsSlidRow c.self.inside.latest c.self.inside.clock c.place_author.new.authors.items text slides n after
 whole c text slides n after text_is slides_is kept same = record {
   row = (moved c text n after text_is kept same).0;
   slid = subst (λ l. IsSlid l after) (sym slides_is)
-      (slid_cut c.self.inside.slides.items c.self.inside.authors.items c.self.inside.text.items c.self.inside.index n c.self.inside.tree.items after c.self.invariant.row kept same c.self.invariant.slid);
+      (slid_cut c.self.inside.slides.items c.self.inside.authors.items c.self.inside.text.items c.self.inside.index n
+      c.self.inside.tree.items after c.self.invariant.row kept same c.self.invariant.slid);
 }
 
 -- the row that is cut
 cut : (c : After-cut_parents) → SameCells c.self.inside.tree.items c.cut_parents.new.tree.items
-cut c = same_then c.self.inside.tree.items c.cut_spans.new.tree.items c.cut_parents.new.tree.items c.cut_spans.ensures.cells c.cut_parents.ensures.cells
+cut c = same_then c.self.inside.tree.items c.cut_spans.new.tree.items c.cut_parents.new.tree.items
+    c.cut_spans.ensures.cells c.cut_parents.ensures.cells
 
 pub cut_parents-requires-clause-later : goal.cut_parents-requires-clause-later
 cut_parents-requires-clause-later c = all_later (λ run. run.now) c.args.self.now.cells c.args.runs.now c.requires.fit
 
 pub invariant_of-self : goal.invariant_of-self
 invariant_of-self c = record {
-  row = (same_cells_kept c.self.inside.authors.items c.self.inside.text.items c.self.inside.index c.cut_spans.new.index c.self.inside.tree.items c.cut_spans.new.tree.items c.self.invariant.row c.cut_spans.ensures.kept c.cut_spans.ensures.cells).0;
-  slid = slid_cut c.self.inside.slides.items c.self.inside.authors.items c.self.inside.text.items c.self.inside.index c.cut_spans.new.index c.self.inside.tree.items c.cut_spans.new.tree.items c.self.invariant.row c.cut_spans.ensures.kept c.cut_spans.ensures.cells
+  row = (same_cells_kept c.self.inside.authors.items c.self.inside.text.items c.self.inside.index c.cut_spans.new.index
+      c.self.inside.tree.items c.cut_spans.new.tree.items c.self.invariant.row c.cut_spans.ensures.kept
+      c.cut_spans.ensures.cells).0;
+  slid = slid_cut c.self.inside.slides.items c.self.inside.authors.items c.self.inside.text.items c.self.inside.index
+      c.cut_spans.new.index c.self.inside.tree.items c.cut_spans.new.tree.items c.self.invariant.row
+      c.cut_spans.ensures.kept c.cut_spans.ensures.cells
       c.self.invariant.slid;
 }
 
 pub invariant_of-self-in_err-cut_parents : goal.invariant_of-self-in_err-cut_parents
 invariant_of-self-in_err-cut_parents c =
     let same = cut (goal.at.invariant_of-self-in_err-cut_parents c).After-cut_parents in record {
-      row = (same_cells_kept c.self.inside.authors.items c.self.inside.text.items c.self.inside.index c.cut_parents.new.index c.self.inside.tree.items c.cut_parents.new.tree.items c.self.invariant.row c.cut_parents.ensures.kept same).0;
-      slid = slid_cut c.self.inside.slides.items c.self.inside.authors.items c.self.inside.text.items c.self.inside.index c.cut_parents.new.index c.self.inside.tree.items c.cut_parents.new.tree.items c.self.invariant.row c.cut_parents.ensures.kept same c.self.invariant.slid;
+      row = (same_cells_kept c.self.inside.authors.items c.self.inside.text.items c.self.inside.index
+          c.cut_parents.new.index c.self.inside.tree.items c.cut_parents.new.tree.items c.self.invariant.row
+          c.cut_parents.ensures.kept same).0;
+      slid = slid_cut c.self.inside.slides.items c.self.inside.authors.items c.self.inside.text.items
+          c.self.inside.index c.cut_parents.new.index c.self.inside.tree.items c.cut_parents.new.tree.items
+          c.self.invariant.row c.cut_parents.ensures.kept same c.self.invariant.slid;
     }
 
 pub invariant_of-self-in_err-author : goal.invariant_of-self-in_err-author
 invariant_of-self-in_err-author c =
     let g = goal.at.invariant_of-self-in_err-author c in
-    whole g.After-place_author c.self.inside.text.items c.self.inside.slides.items c.cut_parents.new.index c.cut_parents.new.tree.items refl refl c.cut_parents.ensures.kept (cut g.After-cut_parents)
+    whole g.After-place_author c.self.inside.text.items c.self.inside.slides.items c.cut_parents.new.index
+    c.cut_parents.new.tree.items refl refl c.cut_parents.ensures.kept (cut g.After-cut_parents)
 
 pub returns-in_err-author-clause-answers : goal.returns-in_err-author-clause-answers
 returns-in_err-author-clause-answers c =
     let g = goal.at.returns-in_err-author-clause-answers c in
     answers_memory c.from_residual-in_err-author.result c.from_residual-in_err-author.ensures.1
-    (moved g.After-place_author c.self.inside.text.items c.cut_parents.new.index c.cut_parents.new.tree.items refl c.cut_parents.ensures.kept (cut g.After-cut_parents)).1 refl
+    (moved g.After-place_author c.self.inside.text.items c.cut_parents.new.index c.cut_parents.new.tree.items refl
+    c.cut_parents.ensures.kept (cut g.After-cut_parents)).1 refl
 
 pub invariant_of-self-in_err-reserve : goal.invariant_of-self-in_err-reserve
 invariant_of-self-in_err-reserve c =
     let g = goal.at.invariant_of-self-in_err-reserve c in
-    whole g.After-place_author c.reserve.new.self.items c.self.inside.slides.items c.cut_parents.new.index c.cut_parents.new.tree.items c.reserve.ensures.items refl c.cut_parents.ensures.kept (cut g.After-cut_parents)
+    whole g.After-place_author c.reserve.new.self.items c.self.inside.slides.items c.cut_parents.new.index
+    c.cut_parents.new.tree.items c.reserve.ensures.items refl c.cut_parents.ensures.kept (cut g.After-cut_parents)
 
 pub returns-in_err-reserve-clause-answers : goal.returns-in_err-reserve-clause-answers
 returns-in_err-reserve-clause-answers c =
     let g = goal.at.returns-in_err-reserve-clause-answers c in
     answers_memory c.from_residual-in_err-reserve.result c.from_residual-in_err-reserve.ensures.1
-    (moved g.After-place_author c.reserve.new.self.items c.cut_parents.new.index c.cut_parents.new.tree.items c.reserve.ensures.items c.cut_parents.ensures.kept (cut g.After-cut_parents)).1 refl
+    (moved g.After-place_author c.reserve.new.self.items c.cut_parents.new.index c.cut_parents.new.tree.items
+    c.reserve.ensures.items c.cut_parents.ensures.kept (cut g.After-cut_parents)).1 refl
 
 pub invariant_of-self-in_err-reserve-2 : goal.invariant_of-self-in_err-reserve-2
 invariant_of-self-in_err-reserve-2 c =
     let g = goal.at.invariant_of-self-in_err-reserve-2 c in
-    whole g.After-place_author c.reserve.new.self.items c.reserve-2.new.self.items c.cut_parents.new.index c.cut_parents.new.tree.items c.reserve.ensures.items c.reserve-2.ensures.items c.cut_parents.ensures.kept (cut g.After-cut_parents)
+    whole g.After-place_author c.reserve.new.self.items c.reserve-2.new.self.items c.cut_parents.new.index
+    c.cut_parents.new.tree.items c.reserve.ensures.items c.reserve-2.ensures.items c.cut_parents.ensures.kept
+    (cut g.After-cut_parents)
 
 pub returns-in_err-reserve-2-clause-answers : goal.returns-in_err-reserve-2-clause-answers
 returns-in_err-reserve-2-clause-answers c =
     let g = goal.at.returns-in_err-reserve-2-clause-answers c in
     answers_memory c.from_residual-in_err-reserve-2.result c.from_residual-in_err-reserve-2.ensures.1
-    (moved g.After-place_author c.reserve.new.self.items c.cut_parents.new.index c.cut_parents.new.tree.items c.reserve.ensures.items c.cut_parents.ensures.kept (cut g.After-cut_parents)).1 refl
+    (moved g.After-place_author c.reserve.new.self.items c.cut_parents.new.index c.cut_parents.new.tree.items
+    c.reserve.ensures.items c.cut_parents.ensures.kept (cut g.After-cut_parents)).1 refl
 
 pub returns-in_err-cut_parents-clause-answers : goal.returns-in_err-cut_parents-clause-answers
 returns-in_err-cut_parents-clause-answers c =
     let same = cut (goal.at.returns-in_err-cut_parents-clause-answers c).After-cut_parents in
-    answers_memory c.from_residual-in_err-cut_parents.result (subst (λ m. IsErrAnd c.from_residual-in_err-cut_parents.result (λ e. e ≡ m)) c.in_err-cut_parents.ensures.memory c.from_residual-in_err-cut_parents.ensures.1)
-    ((same_cells_kept c.self.inside.authors.items c.self.inside.text.items c.self.inside.index c.cut_parents.new.index c.self.inside.tree.items c.cut_parents.new.tree.items c.self.invariant.row c.cut_parents.ensures.kept same).1 ∙ (cells_seen c.self.view_is)) refl
+    answers_memory c.from_residual-in_err-cut_parents.result
+    (subst (λ m. IsErrAnd c.from_residual-in_err-cut_parents.result (λ e. e ≡ m)) c.in_err-cut_parents.ensures.memory
+    c.from_residual-in_err-cut_parents.ensures.1)
+    ((same_cells_kept c.self.inside.authors.items c.self.inside.text.items c.self.inside.index c.cut_parents.new.index
+    c.self.inside.tree.items c.cut_parents.new.tree.items c.self.invariant.row c.cut_parents.ensures.kept same).1
+    ∙ (cells_seen c.self.view_is)) refl
 
 pub overflow_add-kills : goal.overflow_add-kills
 overflow_add-kills c =
@@ -109,16 +140,24 @@ overflow_add-kills c =
     omega (arith, small, listed.small, c.count_kills-kills.ensures.few, few, c.requires.room)
 
 -- the row before the runs
-ready : (c : After-as_slice) → SameCells c.self.inside.tree.items c.cut_parents.new.tree.items → (whole_row : IsSlidRow c.self.inside.latest c.self.inside.clock c.place_author.new.authors.items c.reserve.new.self.items c.reserve-2.new.self.items c.cut_parents.new.index c.cut_parents.new.tree.items) → (cells_of c.place_author.new.authors.items c.reserve.new.self.items c.cut_parents.new.tree.items ≡ c.args.self.now.cells) → IsSlidRow c.args.rev c.self.inside.clock c.as_slice.result.now c.reserve.new.self.items c.reserve-2.new.self.items c.cut_parents.new.index c.cut_parents.new.tree.items
+ready : (c : After-as_slice) → SameCells c.self.inside.tree.items c.cut_parents.new.tree.items →
+    (whole_row : IsSlidRow c.self.inside.latest c.self.inside.clock c.place_author.new.authors.items
+    c.reserve.new.self.items c.reserve-2.new.self.items c.cut_parents.new.index c.cut_parents.new.tree.items) →
+    (cells_of c.place_author.new.authors.items c.reserve.new.self.items c.cut_parents.new.tree.items
+    ≡ c.args.self.now.cells) → IsSlidRow c.args.rev c.self.inside.clock c.as_slice.result.now c.reserve.new.self.items
+    c.reserve-2.new.self.items c.cut_parents.new.index c.cut_parents.new.tree.items
 ready c same w seen =
-    subst (λ l. IsSlidRow c.args.rev c.self.inside.clock l c.reserve.new.self.items c.reserve-2.new.self.items c.cut_parents.new.index c.cut_parents.new.tree.items) (sym c.as_slice.ensures.value)
+    subst (λ l. IsSlidRow c.args.rev c.self.inside.clock l c.reserve.new.self.items c.reserve-2.new.self.items
+    c.cut_parents.new.index c.cut_parents.new.tree.items) (sym c.as_slice.ensures.value)
     (record {
       row = record { kept = w.row.kept; within = w.row.within; full = w.row.full; order = w.row.order; dated = subst (AllByRecursion (IsBy c.args.rev)) (sym seen) c.requires.latest; newest = w.row.newest };
       slid = w.slid;
     })
 
 -- its cells, and the author of the runs
-seen : (c : After-as_slice) → cells_of c.place_author.new.authors.items c.reserve.new.self.items c.cut_parents.new.tree.items ≡ c.args.self.now.cells → cells_of c.as_slice.result.now c.reserve.new.self.items c.cut_parents.new.tree.items ≡ c.args.self.now.cells
+seen : (c : After-as_slice) → cells_of c.place_author.new.authors.items c.reserve.new.self.items
+    c.cut_parents.new.tree.items ≡ c.args.self.now.cells →
+    cells_of c.as_slice.result.now c.reserve.new.self.items c.cut_parents.new.tree.items ≡ c.args.self.now.cells
 seen c same = ap (λ l. cells_of l c.reserve.new.self.items c.cut_parents.new.tree.items) c.as_slice.ensures.value ∙ same
 
 who : (c : After-as_slice) → author_at c.as_slice.result.now c.in_ok-author.author ≡ c.args.author.now
@@ -128,13 +167,17 @@ pub put_runs-requires-clause-row : goal.put_runs-requires-clause-row
 put_runs-requires-clause-row c =
     let g = goal.at.put_runs-requires-clause-row c in
     ready g.After-as_slice (cut g.After-cut_parents)
-    (whole g.After-place_author c.reserve.new.self.items c.reserve-2.new.self.items c.cut_parents.new.index c.cut_parents.new.tree.items c.reserve.ensures.items c.reserve-2.ensures.items c.cut_parents.ensures.kept (cut g.After-cut_parents))
-    (moved g.After-place_author c.reserve.new.self.items c.cut_parents.new.index c.cut_parents.new.tree.items c.reserve.ensures.items c.cut_parents.ensures.kept (cut g.After-cut_parents)).1
+    (whole g.After-place_author c.reserve.new.self.items c.reserve-2.new.self.items c.cut_parents.new.index
+    c.cut_parents.new.tree.items c.reserve.ensures.items c.reserve-2.ensures.items c.cut_parents.ensures.kept
+    (cut g.After-cut_parents))
+    (moved g.After-place_author c.reserve.new.self.items c.cut_parents.new.index c.cut_parents.new.tree.items
+    c.reserve.ensures.items c.cut_parents.ensures.kept (cut g.After-cut_parents)).1
 
 pub put_runs-requires-clause-runs : goal.put_runs-requires-clause-runs
 put_runs-requires-clause-runs c =
     let g = goal.at.put_runs-requires-clause-runs c in
-    let same = seen g.After-as_slice (moved g.After-place_author c.reserve.new.self.items c.cut_parents.new.index c.cut_parents.new.tree.items c.reserve.ensures.items c.cut_parents.ensures.kept (cut g.After-cut_parents)).1 in
+    let same = seen g.After-as_slice (moved g.After-place_author c.reserve.new.self.items c.cut_parents.new.index
+    c.cut_parents.new.tree.items c.reserve.ensures.items c.cut_parents.ensures.kept (cut g.After-cut_parents)).1 in
     let runs = map (λ run. run.now) c.args.runs.now in
     let sizes = lent_sizes (λ run. run.now) c.args.runs.now in
     let room = c.requires.room in
@@ -142,113 +185,166 @@ put_runs-requires-clause-runs c =
       checked = sym (lent_checked (λ run. run.now) c.args.author.now.origin c.args.runs.now) ∙ c.requires.runs;
       join = c.requires.join;
       rooted = all_rooted (λ run. run.now) c.args.self.now.cells c.args.runs.now c.requires.fit;
-      cut = all_lent (λ run. run.now) (λ run. IsCutBehind c.cut_parents.new.index run.after) c.args.runs.now c.in_ok-cut_parents.ensures.cut;
+      cut = all_lent (λ run. run.now) (λ run. IsCutBehind c.cut_parents.new.index run.after) c.args.runs.now
+          c.in_ok-cut_parents.ensures.cut;
       room = omega (arith, sizes, room);
     } in
-    subst (λ x. MayPut c.args.rev x (cells_of c.as_slice.result.now c.reserve.new.self.items c.cut_parents.new.tree.items) c.cut_parents.new.index runs) (sym (who g.After-as_slice))
+    subst (λ x. MayPut c.args.rev x (cells_of c.as_slice.result.now c.reserve.new.self.items
+    c.cut_parents.new.tree.items) c.cut_parents.new.index runs) (sym (who g.After-as_slice))
     (subst (λ l. MayPut c.args.rev c.args.author.now l c.cut_parents.new.index runs) (sym same) base)
 
 pub invariant_of-self-in_err-clock : goal.invariant_of-self-in_err-clock
 invariant_of-self-in_err-clock c =
     let g = goal.at.invariant_of-self-in_err-clock c in
-    whole g.After-place_author c.put_runs.new.text.items c.put_runs.new.slides.items c.put_runs.new.index c.put_runs.new.tree.items (c.in_err-clock.ensures.same_text ∙ c.reserve.ensures.items) (c.in_err-clock.ensures.same_slides ∙ c.reserve-2.ensures.items) c.put_runs.ensures.kept
-    (same_then c.self.inside.tree.items c.cut_parents.new.tree.items c.put_runs.new.tree.items (cut g.After-cut_parents) (same_unlabelled c.cut_parents.new.tree.items c.put_runs.new.tree.items c.in_err-clock.ensures.same_blocks))
+    whole g.After-place_author c.put_runs.new.text.items c.put_runs.new.slides.items c.put_runs.new.index
+    c.put_runs.new.tree.items (c.in_err-clock.ensures.same_text ∙ c.reserve.ensures.items)
+    (c.in_err-clock.ensures.same_slides ∙ c.reserve-2.ensures.items) c.put_runs.ensures.kept
+    (same_then c.self.inside.tree.items c.cut_parents.new.tree.items c.put_runs.new.tree.items (cut g.After-cut_parents)
+    (same_unlabelled c.cut_parents.new.tree.items c.put_runs.new.tree.items c.in_err-clock.ensures.same_blocks))
 
 pub returns-in_err-clock-clause-answers : goal.returns-in_err-clock-clause-answers
 returns-in_err-clock-clause-answers c =
     let g = goal.at.returns-in_err-clock-clause-answers c in
-    answers_memory c.from_residual-in_err-clock.result (subst (λ m. IsErrAnd c.from_residual-in_err-clock.result (λ e. e ≡ m)) c.in_err-clock.ensures.memory c.from_residual-in_err-clock.ensures.1)
-    (moved g.After-place_author c.put_runs.new.text.items c.put_runs.new.index c.put_runs.new.tree.items (c.in_err-clock.ensures.same_text ∙ c.reserve.ensures.items) c.put_runs.ensures.kept
-    (same_then c.self.inside.tree.items c.cut_parents.new.tree.items c.put_runs.new.tree.items (cut g.After-cut_parents) (same_unlabelled c.cut_parents.new.tree.items c.put_runs.new.tree.items c.in_err-clock.ensures.same_blocks))).1 refl
+    answers_memory c.from_residual-in_err-clock.result
+    (subst (λ m. IsErrAnd c.from_residual-in_err-clock.result (λ e. e ≡ m)) c.in_err-clock.ensures.memory
+    c.from_residual-in_err-clock.ensures.1)
+    (moved g.After-place_author c.put_runs.new.text.items c.put_runs.new.index c.put_runs.new.tree.items
+    (c.in_err-clock.ensures.same_text ∙ c.reserve.ensures.items) c.put_runs.ensures.kept
+    (same_then c.self.inside.tree.items c.cut_parents.new.tree.items c.put_runs.new.tree.items (cut g.After-cut_parents)
+    (same_unlabelled c.cut_parents.new.tree.items c.put_runs.new.tree.items c.in_err-clock.ensures.same_blocks))).1 refl
 
 -- the spans are still cut out of the row with the runs
-still_cut : (c : In_ok-clock) → cells_of c.as_slice.result.now c.reserve.new.self.items c.cut_parents.new.tree.items ≡ c.args.self.now.cells → AllByRecursion (IsCutOut c.put_runs.new.index) c.args.spans.now
+still_cut : (c : In_ok-clock) → cells_of c.as_slice.result.now c.reserve.new.self.items c.cut_parents.new.tree.items
+    ≡ c.args.self.now.cells → AllByRecursion (IsCutOut c.put_runs.new.index) c.args.spans.now
 still_cut c seen =
-    c.in_ok-clock.ensures.cut c.args.spans.now (subst (λ l. has_spans character_of l c.args.spans.now ≡ true) (sym seen) c.requires.there) c.requires.spans
-    (cut_out_kept c.cut_spans.new.index c.cut_parents.new.index c.args.spans.now c.cut_parents.ensures.edges c.in_ok-cut_spans.ensures.cut)
+    c.in_ok-clock.ensures.cut c.args.spans.now (subst (λ l. has_spans character_of l c.args.spans.now ≡ true)
+    (sym seen) c.requires.there) c.requires.spans
+    (cut_out_kept c.cut_spans.new.index c.cut_parents.new.index c.args.spans.now c.cut_parents.ensures.edges
+    c.in_ok-cut_spans.ensures.cut)
 
 pub kill_named-hidden-requires-clause-cut : goal.kill_named-hidden-requires-clause-cut
 kill_named-hidden-requires-clause-cut c =
     let g = goal.at.kill_named-hidden-requires-clause-cut c in
-    still_cut g.In_ok-clock (seen g.After-as_slice (moved g.After-place_author c.reserve.new.self.items c.cut_parents.new.index c.cut_parents.new.tree.items c.reserve.ensures.items c.cut_parents.ensures.kept (cut g.After-cut_parents)).1)
+    still_cut g.In_ok-clock (seen g.After-as_slice
+    (moved g.After-place_author c.reserve.new.self.items c.cut_parents.new.index c.cut_parents.new.tree.items
+    c.reserve.ensures.items c.cut_parents.ensures.kept (cut g.After-cut_parents)).1)
 
 pub kill_named-hidden-requires-clause-dated : goal.kill_named-hidden-requires-clause-dated
 kill_named-hidden-requires-clause-dated c =
     let row = c.in_ok-clock.ensures.row.row in
-    dated_blocks c.args.rev c.as_slice.result.now c.put_runs.new.text.items c.put_runs.new.tree.items row.within row.kept.listed.sized row.dated
+    dated_blocks c.args.rev c.as_slice.result.now c.put_runs.new.text.items c.put_runs.new.tree.items row.within
+    row.kept.listed.sized row.dated
 
 -- the runs
 abbrev runs : (c : After-kill_named-hidden) → List Run
 runs c = map (λ run. run.now) c.args.runs.now
 
 -- the row with the runs and without what the spans name
-done : (c : After-kill_named-hidden) → AllByRecursion (IsCutOut c.put_runs.new.index) c.args.spans.now → cells_of c.as_slice.result.now c.reserve.new.self.items c.cut_parents.new.tree.items ≡ c.args.self.now.cells → author_at c.as_slice.result.now c.in_ok-author.author ≡ c.args.author.now
-    → (IsBlockSeq (max c.self.inside.latest c.args.rev) c.in_ok-clock.clock c.place_author.new.authors.items c.put_runs.new.text.items c.put_runs.new.index c.kill_named-hidden.new.tree.items
-    × (cells_of c.place_author.new.authors.items c.put_runs.new.text.items c.kill_named-hidden.new.tree.items ≡ with_all c.args.rev c.args.author.now (without_spans c.args.rev c.args.spans.now c.args.self.now.cells) (runs c)))
+done : (c : After-kill_named-hidden) → AllByRecursion (IsCutOut c.put_runs.new.index) c.args.spans.now →
+    cells_of c.as_slice.result.now c.reserve.new.self.items c.cut_parents.new.tree.items ≡ c.args.self.now.cells →
+    author_at c.as_slice.result.now c.in_ok-author.author ≡ c.args.author.now
+    → (IsBlockSeq (max c.self.inside.latest c.args.rev) c.in_ok-clock.clock c.place_author.new.authors.items
+    c.put_runs.new.text.items c.put_runs.new.index c.kill_named-hidden.new.tree.items
+    × (cells_of c.place_author.new.authors.items c.put_runs.new.text.items c.kill_named-hidden.new.tree.items
+    ≡ with_all c.args.rev c.args.author.now (without_spans c.args.rev c.args.spans.now c.args.self.now.cells) (runs c)))
     × (c.kill_named-hidden.result ≡ count_by (is_hidden_by c.args.spans.now) c.args.self.now.cells)
 done c cut seen who =
     let authors = c.place_author.new.authors.items in
     let text = c.put_runs.new.text.items in
     let bs = c.put_runs.new.tree.items in
-    let row = subst (λ l. IsBlockSeq c.args.rev c.in_ok-clock.clock l text c.put_runs.new.index bs) c.as_slice.ensures.value c.in_ok-clock.ensures.row.row in
+    let row = subst (λ l. IsBlockSeq c.args.rev c.in_ok-clock.clock l text c.put_runs.new.index bs)
+    c.as_slice.ensures.value c.in_ok-clock.ensures.row.row in
     let cells : cells_of authors text bs ≡ with_all c.args.rev c.args.author.now c.args.self.now.cells (runs c) =
-    ap (λ l. cells_of l text bs) (sym c.as_slice.ensures.value) ∙ c.in_ok-clock.ensures.cells ∙ ap₂ (λ x l. with_all c.args.rev x l (runs c)) who seen
+    ap (λ l. cells_of l text bs) (sym c.as_slice.ensures.value) ∙ c.in_ok-clock.ensures.cells
+    ∙ ap₂ (λ x l. with_all c.args.rev x l (runs c)) who seen
     in
-    let killed = row_killed (max c.self.inside.latest c.args.rev) c.args.rev c.args.spans.now authors text c.put_runs.new.index bs c.kill_named-hidden.new.tree.items (with_all c.args.rev c.args.author.now c.args.self.now.cells (runs c)) (omega arith) (omega arith) row cells cut c.kill_named-hidden.ensures.kept c.kill_named-hidden.ensures.items in
+    let killed = row_killed (max c.self.inside.latest c.args.rev) c.args.rev c.args.spans.now authors text
+    c.put_runs.new.index bs c.kill_named-hidden.new.tree.items
+    (with_all c.args.rev c.args.author.now c.args.self.now.cells (runs c)) (omega arith)
+    (omega arith) row cells cut c.kill_named-hidden.ensures.kept c.kill_named-hidden.ensures.items in
     let order = subst IsInOrder (cells_seen c.self.view_is) c.self.invariant.row.order in (
-      (killed.0, killed.1 ∙ all_commute c.args.rev c.args.spans.now c.args.author.now c.args.self.now.cells (runs c) order c.requires.join c.requires.there),
-      c.kill_named-hidden.ensures.hidden ∙ sym (killed_count c.args.spans.now authors text bs row.within (all_aligned c.put_runs.new.index bs c.args.spans.now row.kept.listed cut))
-          ∙ ap (count_by (is_hidden_by c.args.spans.now)) cells ∙ all_hidden c.args.rev c.args.spans.now c.args.author.now c.args.self.now.cells (runs c) order c.requires.join c.requires.there,
+      (
+        killed.0,
+        killed.1 ∙ all_commute c.args.rev c.args.spans.now c.args.author.now c.args.self.now.cells
+            (runs c) order c.requires.join c.requires.there,
+      ),
+      c.kill_named-hidden.ensures.hidden
+          ∙ sym (killed_count c.args.spans.now authors text bs row.within
+          (all_aligned c.put_runs.new.index bs c.args.spans.now row.kept.listed cut))
+          ∙ ap (count_by (is_hidden_by c.args.spans.now)) cells
+          ∙ all_hidden c.args.rev c.args.spans.now c.args.author.now c.args.self.now.cells
+          (runs c) order c.requires.join c.requires.there,
     )
 
 pub invariant_of-self-2 : goal.invariant_of-self-2
 invariant_of-self-2 c =
     let g = goal.at.invariant_of-self-2 c in
-    let same = seen g.After-as_slice (moved g.After-place_author c.reserve.new.self.items c.cut_parents.new.index c.cut_parents.new.tree.items c.reserve.ensures.items c.cut_parents.ensures.kept (cut g.After-cut_parents)).1 in
+    let same = seen g.After-as_slice (moved g.After-place_author c.reserve.new.self.items c.cut_parents.new.index
+    c.cut_parents.new.tree.items c.reserve.ensures.items c.cut_parents.ensures.kept (cut g.After-cut_parents)).1 in
     let left = (done g.After-kill_named-hidden (still_cut g.In_ok-clock same) same (who g.After-as_slice)).0.0 in
     record {
-      row = subst (λ n. IsBlockSeq n c.in_ok-clock.clock c.place_author.new.authors.items c.put_runs.new.text.items c.put_runs.new.index c.kill_named-hidden.new.tree.items) (sym c.max-self-inside.ensures) left;
+      row = subst (λ n. IsBlockSeq n c.in_ok-clock.clock c.place_author.new.authors.items c.put_runs.new.text.items
+          c.put_runs.new.index c.kill_named-hidden.new.tree.items) (sym c.max-self-inside.ensures) left;
       slid = c.kill_named-hidden.ensures.slid;
     }
 
 pub returns-clause-answers : goal.returns-clause-answers
 returns-clause-answers c =
     let g = goal.at.returns-clause-answers c in
-    let same = seen g.After-as_slice (moved g.After-place_author c.reserve.new.self.items c.cut_parents.new.index c.cut_parents.new.tree.items c.reserve.ensures.items c.cut_parents.ensures.kept (cut g.After-cut_parents)).1 in
+    let same = seen g.After-as_slice (moved g.After-place_author c.reserve.new.self.items c.cut_parents.new.index
+    c.cut_parents.new.tree.items c.reserve.ensures.items c.cut_parents.ensures.kept (cut g.After-cut_parents)).1 in
     let d = done g.After-kill_named-hidden (still_cut g.In_ok-clock same) same (who g.After-as_slice) in
     inr (ap₂ (λ n l. (Ok n, l)) (sym d.1) (sym d.0.1))
 
 pub returns-in_err-cut_spans-clause-undone : goal.returns-in_err-cut_spans-clause-undone
-returns-in_err-cut_spans-clause-undone c = on_error c.from_residual.result (undone_seen c.self.view_is c.cut_spans.new.tree.items c.cut_spans.new.respacings c.cut_spans.ensures.labelled)
+returns-in_err-cut_spans-clause-undone c =
+    on_error c.from_residual.result (undone_seen c.self.view_is c.cut_spans.new.tree.items c.cut_spans.new.respacings
+    c.cut_spans.ensures.labelled)
 
 -- how the blocks came about when they are cut
-when_cut : (c : After-cut_parents) → Labelled c.self.inside.tree.items c.self.inside.respaced c.cut_parents.new.tree.items c.cut_parents.new.respacings
+when_cut : (c : After-cut_parents) → Labelled c.self.inside.tree.items c.self.inside.respaced
+    c.cut_parents.new.tree.items c.cut_parents.new.respacings
 when_cut c = labelled_then c.cut_spans.ensures.labelled c.cut_parents.ensures.labelled
 
 pub returns-in_err-cut_parents-clause-undone : goal.returns-in_err-cut_parents-clause-undone
 returns-in_err-cut_parents-clause-undone c =
-    on_error c.from_residual-in_err-cut_parents.result (undone_seen c.self.view_is c.cut_parents.new.tree.items c.cut_parents.new.respacings (when_cut (goal.at.returns-in_err-cut_parents-clause-undone c).After-cut_parents))
+    on_error c.from_residual-in_err-cut_parents.result
+    (undone_seen c.self.view_is c.cut_parents.new.tree.items c.cut_parents.new.respacings
+    (when_cut (goal.at.returns-in_err-cut_parents-clause-undone c).After-cut_parents))
 
 pub returns-in_err-author-clause-undone : goal.returns-in_err-author-clause-undone
 returns-in_err-author-clause-undone c =
-    on_error c.from_residual-in_err-author.result (undone_seen c.self.view_is c.cut_parents.new.tree.items c.cut_parents.new.respacings (when_cut (goal.at.returns-in_err-author-clause-undone c).After-cut_parents))
+    on_error c.from_residual-in_err-author.result
+    (undone_seen c.self.view_is c.cut_parents.new.tree.items c.cut_parents.new.respacings
+    (when_cut (goal.at.returns-in_err-author-clause-undone c).After-cut_parents))
 
 pub returns-in_err-reserve-clause-undone : goal.returns-in_err-reserve-clause-undone
 returns-in_err-reserve-clause-undone c =
-    on_error c.from_residual-in_err-reserve.result (undone_seen c.self.view_is c.cut_parents.new.tree.items c.cut_parents.new.respacings (when_cut (goal.at.returns-in_err-reserve-clause-undone c).After-cut_parents))
+    on_error c.from_residual-in_err-reserve.result
+    (undone_seen c.self.view_is c.cut_parents.new.tree.items c.cut_parents.new.respacings
+    (when_cut (goal.at.returns-in_err-reserve-clause-undone c).After-cut_parents))
 
 pub returns-in_err-reserve-2-clause-undone : goal.returns-in_err-reserve-2-clause-undone
 returns-in_err-reserve-2-clause-undone c =
-    on_error c.from_residual-in_err-reserve-2.result (undone_seen c.self.view_is c.cut_parents.new.tree.items c.cut_parents.new.respacings (when_cut (goal.at.returns-in_err-reserve-2-clause-undone c).After-cut_parents))
+    on_error c.from_residual-in_err-reserve-2.result
+    (undone_seen c.self.view_is c.cut_parents.new.tree.items c.cut_parents.new.respacings
+    (when_cut (goal.at.returns-in_err-reserve-2-clause-undone c).After-cut_parents))
 
 pub returns-in_err-clock-clause-undone : goal.returns-in_err-clock-clause-undone
 returns-in_err-clock-clause-undone c =
     let undone = c.in_err-clock.ensures.undone in
     let made = labelled_then (when_cut (goal.at.returns-in_err-clock-clause-undone c).After-cut_parents) undone.1 in
-    on_error c.from_residual-in_err-clock.result (undone.0, labelled_seen c.self.view_is undone.0 c.put_runs.new.respacings made, undone.2)
+    on_error c.from_residual-in_err-clock.result (
+      undone.0,
+      labelled_seen c.self.view_is undone.0 c.put_runs.new.respacings made,
+      undone.2,
+    )
 
 pub returns-clause-labelled : goal.returns-clause-labelled
 returns-clause-labelled c =
-    let made = labelled_then (when_cut (goal.at.returns-clause-labelled c).After-cut_parents) c.in_ok-clock.ensures.labelled in
-    changed c.put_runs.new.tree.items c.kill_named-hidden.new.tree.items c.put_runs.new.respacings (labelled_seen c.self.view_is c.put_runs.new.tree.items c.put_runs.new.respacings made)
-    (keeps_listed c.put_runs.new.index c.put_runs.new.tree.items c.kill_named-hidden.new.tree.items c.put_runs.ensures.kept.listed c.kill_named-hidden.ensures.kept.listed)
+    let made = labelled_then (when_cut (goal.at.returns-clause-labelled c).After-cut_parents)
+    c.in_ok-clock.ensures.labelled in
+    changed c.put_runs.new.tree.items c.kill_named-hidden.new.tree.items c.put_runs.new.respacings
+    (labelled_seen c.self.view_is c.put_runs.new.tree.items c.put_runs.new.respacings made)
+    (keeps_listed c.put_runs.new.index c.put_runs.new.tree.items c.kill_named-hidden.new.tree.items
+    c.put_runs.ensures.kept.listed c.kill_named-hidden.ensures.kept.listed)

@@ -15,16 +15,22 @@ use Rattle.block_seq.proofs.rows.BlockSeq.erase.Goals as goal
 use Rattle.block_seq.proofs.rows.BlockSeq.erase.Goals.{After-cut_spans, After-kill_named-hidden}
 
 -- what the cuts leave
-row : (c : After-cut_spans) → IsBlockSeq c.self.inside.latest c.self.inside.clock c.self.inside.authors.items c.self.inside.text.items c.cut_spans.new.index c.cut_spans.new.tree.items
-row c = (same_cells_kept c.self.inside.authors.items c.self.inside.text.items c.self.inside.index c.cut_spans.new.index c.self.inside.tree.items c.cut_spans.new.tree.items c.self.invariant.row c.cut_spans.ensures.kept c.cut_spans.ensures.cells).0
+row : (c : After-cut_spans) → IsBlockSeq c.self.inside.latest c.self.inside.clock c.self.inside.authors.items
+    c.self.inside.text.items c.cut_spans.new.index c.cut_spans.new.tree.items
+row c = (same_cells_kept c.self.inside.authors.items c.self.inside.text.items c.self.inside.index c.cut_spans.new.index
+    c.self.inside.tree.items c.cut_spans.new.tree.items c.self.invariant.row c.cut_spans.ensures.kept
+    c.cut_spans.ensures.cells).0
 
 slid : (c : After-cut_spans) → IsSlid c.self.inside.slides.items c.cut_spans.new.tree.items
 slid c =
-    slid_cut c.self.inside.slides.items c.self.inside.authors.items c.self.inside.text.items c.self.inside.index c.cut_spans.new.index c.self.inside.tree.items c.cut_spans.new.tree.items c.self.invariant.row c.cut_spans.ensures.kept c.cut_spans.ensures.cells
+    slid_cut c.self.inside.slides.items c.self.inside.authors.items c.self.inside.text.items c.self.inside.index
+    c.cut_spans.new.index c.self.inside.tree.items c.cut_spans.new.tree.items c.self.invariant.row
+    c.cut_spans.ensures.kept c.cut_spans.ensures.cells
     c.self.invariant.slid
 
 pub invariant_of-self : goal.invariant_of-self
-invariant_of-self c = let g = goal.at.invariant_of-self c in record { row = row g.After-cut_spans; slid = slid g.After-cut_spans }
+invariant_of-self c = let g = goal.at.invariant_of-self c in
+    record { row = row g.After-cut_spans; slid = slid g.After-cut_spans }
 
 pub invariant_of-self-in_err-reserve : goal.invariant_of-self-in_err-reserve
 invariant_of-self-in_err-reserve c =
@@ -33,29 +39,43 @@ invariant_of-self-in_err-reserve c =
 
 pub kill_named-hidden-requires-clause-slid : goal.kill_named-hidden-requires-clause-slid
 kill_named-hidden-requires-clause-slid c =
-    subst (λ l. IsSlid l c.cut_spans.new.tree.items) (sym c.reserve.ensures.items) (slid (goal.at.kill_named-hidden-requires-clause-slid c).After-cut_spans)
+    subst (λ l. IsSlid l c.cut_spans.new.tree.items) (sym c.reserve.ensures.items)
+    (slid (goal.at.kill_named-hidden-requires-clause-slid c).After-cut_spans)
 
 pub kill_named-hidden-requires-clause-dated : goal.kill_named-hidden-requires-clause-dated
 kill_named-hidden-requires-clause-dated c =
     let cut = row (goal.at.kill_named-hidden-requires-clause-dated c).After-cut_spans in
-    let cells = c.cut_spans.ensures.cells.cells c.self.inside.authors.items c.self.inside.text.items c.self.invariant.row.within ∙ (cells_seen c.self.view_is) in
-    dated_blocks c.args.rev c.self.inside.authors.items c.self.inside.text.items c.cut_spans.new.tree.items cut.within cut.kept.listed.sized (subst (AllByRecursion (IsBy c.args.rev)) (sym cells) c.requires.latest)
+    let cells = c.cut_spans.ensures.cells.cells c.self.inside.authors.items c.self.inside.text.items
+    c.self.invariant.row.within ∙ (cells_seen c.self.view_is) in
+    dated_blocks c.args.rev c.self.inside.authors.items c.self.inside.text.items c.cut_spans.new.tree.items cut.within
+    cut.kept.listed.sized (subst (AllByRecursion (IsBy c.args.rev)) (sym cells) c.requires.latest)
 
-done : (c : After-kill_named-hidden) → (IsBlockSeq (max c.self.inside.latest c.args.rev) c.self.inside.clock c.self.inside.authors.items c.self.inside.text.items c.cut_spans.new.index c.kill_named-hidden.new.tree.items
-    × (cells_of c.self.inside.authors.items c.self.inside.text.items c.kill_named-hidden.new.tree.items ≡ without_spans c.args.rev c.args.spans.now c.args.self.now.cells))
+done : (c : After-kill_named-hidden) → (IsBlockSeq (max c.self.inside.latest c.args.rev) c.self.inside.clock
+    c.self.inside.authors.items c.self.inside.text.items c.cut_spans.new.index c.kill_named-hidden.new.tree.items
+    × (cells_of c.self.inside.authors.items c.self.inside.text.items c.kill_named-hidden.new.tree.items
+    ≡ without_spans c.args.rev c.args.spans.now c.args.self.now.cells))
     × (c.kill_named-hidden.result ≡ count_by (is_hidden_by c.args.spans.now) c.args.self.now.cells)
 done c =
-    let cut = same_cells_kept c.self.inside.authors.items c.self.inside.text.items c.self.inside.index c.cut_spans.new.index c.self.inside.tree.items c.cut_spans.new.tree.items c.self.invariant.row c.cut_spans.ensures.kept c.cut_spans.ensures.cells in
+    let cut = same_cells_kept c.self.inside.authors.items c.self.inside.text.items c.self.inside.index
+    c.cut_spans.new.index c.self.inside.tree.items c.cut_spans.new.tree.items c.self.invariant.row
+    c.cut_spans.ensures.kept c.cut_spans.ensures.cells in
     let is = cut.1 ∙ (cells_seen c.self.view_is) in (
-      row_killed (max c.self.inside.latest c.args.rev) c.args.rev c.args.spans.now c.self.inside.authors.items c.self.inside.text.items c.cut_spans.new.index c.cut_spans.new.tree.items c.kill_named-hidden.new.tree.items c.args.self.now.cells (omega arith) (omega arith) cut.0 is c.in_ok-cut_spans.ensures.cut c.kill_named-hidden.ensures.kept c.kill_named-hidden.ensures.items,
+      row_killed (max c.self.inside.latest c.args.rev) c.args.rev c.args.spans.now c.self.inside.authors.items
+          c.self.inside.text.items c.cut_spans.new.index c.cut_spans.new.tree.items c.kill_named-hidden.new.tree.items
+          c.args.self.now.cells (omega arith) (omega arith) cut.0 is c.in_ok-cut_spans.ensures.cut
+          c.kill_named-hidden.ensures.kept c.kill_named-hidden.ensures.items,
       c.kill_named-hidden.ensures.hidden
-          ∙ sym (killed_count c.args.spans.now c.self.inside.authors.items c.self.inside.text.items c.cut_spans.new.tree.items cut.0.within (all_aligned c.cut_spans.new.index c.cut_spans.new.tree.items c.args.spans.now cut.0.kept.listed c.in_ok-cut_spans.ensures.cut))
+          ∙ sym (killed_count c.args.spans.now c.self.inside.authors.items c.self.inside.text.items
+          c.cut_spans.new.tree.items cut.0.within
+          (all_aligned c.cut_spans.new.index c.cut_spans.new.tree.items c.args.spans.now cut.0.kept.listed
+          c.in_ok-cut_spans.ensures.cut))
           ∙ ap (count_by (is_hidden_by c.args.spans.now)) is,
     )
 
 pub invariant_of-self-2 : goal.invariant_of-self-2
 invariant_of-self-2 c = record {
-  row = subst (λ n. IsBlockSeq n c.self.inside.clock c.self.inside.authors.items c.self.inside.text.items c.cut_spans.new.index c.kill_named-hidden.new.tree.items) (sym c.max-self-inside.ensures)
+  row = subst (λ n. IsBlockSeq n c.self.inside.clock c.self.inside.authors.items c.self.inside.text.items
+      c.cut_spans.new.index c.kill_named-hidden.new.tree.items) (sym c.max-self-inside.ensures)
       (done (goal.at.invariant_of-self-2 c).After-kill_named-hidden).0.0;
   slid = c.kill_named-hidden.ensures.slid;
 }
@@ -66,12 +86,17 @@ returns-clause-answers c =
     inr (ap₂ (λ n l. (Ok n, l)) (sym d.1) (sym d.0.1))
 
 pub returns-in_err-cut_spans-clause-undone : goal.returns-in_err-cut_spans-clause-undone
-returns-in_err-cut_spans-clause-undone c = on_error c.from_residual.result (undone_seen c.self.view_is c.cut_spans.new.tree.items c.cut_spans.new.respacings c.cut_spans.ensures.labelled)
+returns-in_err-cut_spans-clause-undone c =
+    on_error c.from_residual.result (undone_seen c.self.view_is c.cut_spans.new.tree.items c.cut_spans.new.respacings
+    c.cut_spans.ensures.labelled)
 
 pub returns-in_err-reserve-clause-undone : goal.returns-in_err-reserve-clause-undone
-returns-in_err-reserve-clause-undone c = on_error c.from_residual-in_err-reserve.result (undone_seen c.self.view_is c.cut_spans.new.tree.items c.cut_spans.new.respacings c.cut_spans.ensures.labelled)
+returns-in_err-reserve-clause-undone c = on_error c.from_residual-in_err-reserve.result
+    (undone_seen c.self.view_is c.cut_spans.new.tree.items c.cut_spans.new.respacings c.cut_spans.ensures.labelled)
 
 pub returns-clause-labelled : goal.returns-clause-labelled
 returns-clause-labelled c =
-    changed c.cut_spans.new.tree.items c.kill_named-hidden.new.tree.items c.cut_spans.new.respacings (labelled_seen c.self.view_is c.cut_spans.new.tree.items c.cut_spans.new.respacings c.cut_spans.ensures.labelled)
-    (keeps_listed c.cut_spans.new.index c.cut_spans.new.tree.items c.kill_named-hidden.new.tree.items c.cut_spans.ensures.kept.listed c.kill_named-hidden.ensures.kept.listed)
+    changed c.cut_spans.new.tree.items c.kill_named-hidden.new.tree.items c.cut_spans.new.respacings
+    (labelled_seen c.self.view_is c.cut_spans.new.tree.items c.cut_spans.new.respacings c.cut_spans.ensures.labelled)
+    (keeps_listed c.cut_spans.new.index c.cut_spans.new.tree.items c.kill_named-hidden.new.tree.items
+    c.cut_spans.ensures.kept.listed c.kill_named-hidden.ensures.kept.listed)

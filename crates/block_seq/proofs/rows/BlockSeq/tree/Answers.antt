@@ -2,4 +2,7 @@ use Rattle.block_seq.proofs.RowCounts.{cells_seen}
 use Rattle.block_seq.proofs.rows.BlockSeq.tree.Goals as goal
 
 pub returns-clause-row : goal.returns-clause-row
-returns-clause-row c = (c.self.inside.index, record { authors = c.self.inside.authors.items; text = c.self.inside.text.items; kept = c.self.invariant.row.kept; same = (cells_seen c.self.view_is) })
+returns-clause-row c = (
+  c.self.inside.index,
+  record { authors = c.self.inside.authors.items; text = c.self.inside.text.items; kept = c.self.invariant.row.kept; same = (cells_seen c.self.view_is) },
+)

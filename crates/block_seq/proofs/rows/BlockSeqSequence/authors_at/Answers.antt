@@ -10,5 +10,6 @@ pub returns : goal.returns
 returns c =
     c.from_vec.ensures ∙ c.in_ok-read_authors.ensures
     ∙ ap runs (ap (λ l. flat_map (shown_by c.args.rev l) c.self.inside.tree.items) c.as_slice-authors.ensures.value
-    ∙ sym (authors-at c.args.rev c.self.inside.authors.items c.self.inside.text.items c.self.inside.tree.items c.self.invariant.row.within)
+    ∙ sym (authors-at c.args.rev c.self.inside.authors.items c.self.inside.text.items c.self.inside.tree.items
+    c.self.invariant.row.within)
     ∙ ap (λ l. map (λ x. x.author) (cells_at c.args.rev l)) (cells_seen c.self.view_is))

@@ -7,6 +7,8 @@ use Rattle.block_seq.proofs.rows.BlockSeqSequence.empty.Goals as goal
 
 pub invariant_of-result : goal.invariant_of-result
 invariant_of-result c = record {
-  row = nothing_kept c.new-4.result.items c.new-3.result.items c.new-2.result c.new.result.items (ap (λ (t : ItemsAndHeight Block). t.items) c.new.ensures.empty) c.new-3.ensures.items c.new-2.ensures;
-  slid = slid_nothing c.new-5.result.items c.new.result.items c.new-5.ensures.items (ap (λ (t : ItemsAndHeight Block). t.items) c.new.ensures.empty);
+  row = nothing_kept c.new-4.result.items c.new-3.result.items c.new-2.result c.new.result.items
+      (ap (λ (t : ItemsAndHeight Block). t.items) c.new.ensures.empty) c.new-3.ensures.items c.new-2.ensures;
+  slid = slid_nothing c.new-5.result.items c.new.result.items c.new-5.ensures.items
+      (ap (λ (t : ItemsAndHeight Block). t.items) c.new.ensures.empty);
 }

@@ -11,4 +11,5 @@ parts_fit-requires-clause-checked c = spans_checked c.args._origin c.args.parts.
 
 pub returns : goal.returns
 returns c =
-    c.parts_fit.ensures c.self.inside.authors.items c.self.inside.text.items c.self.invariant.row.within ∙ ap (λ l. list_all (part_fits character_of l) c.args.parts.now) (cells_seen c.self.view_is)
+    c.parts_fit.ensures c.self.inside.authors.items c.self.inside.text.items c.self.invariant.row.within
+    ∙ ap (λ l. list_all (part_fits character_of l) c.args.parts.now) (cells_seen c.self.view_is)

@@ -6,5 +6,6 @@ use Rattle.block_seq.proofs.rows.BlockSeqSequence.len_at.Goals as goal
 
 pub returns : goal.returns
 returns c =
-    c.count_visible.ensures ∙ sym (length-at c.args.rev c.self.inside.authors.items c.self.inside.text.items c.self.inside.tree.items c.self.invariant.row.within)
+    c.count_visible.ensures ∙ sym (length-at c.args.rev c.self.inside.authors.items c.self.inside.text.items
+    c.self.inside.tree.items c.self.invariant.row.within)
     ∙ ap (λ l. length (cells_at c.args.rev l)) (cells_seen c.self.view_is)

@@ -6,5 +6,6 @@ use Rattle.block_seq.proofs.rows.BlockSeqSequence.stamp_at.Goals as goal
 
 pub returns : goal.returns
 returns c =
-    c.find_visible.ensures ∙ sym (stamp-at c.args.rev c.self.inside.authors.items c.self.inside.text.items c.self.inside.tree.items c.args.place c.self.invariant.row.within)
+    c.find_visible.ensures ∙ sym (stamp-at c.args.rev c.self.inside.authors.items c.self.inside.text.items
+    c.self.inside.tree.items c.args.place c.self.invariant.row.within)
     ∙ ap (λ l. cell_stamp_at c.args.rev l c.args.place) (cells_seen c.self.view_is)

@@ -18,7 +18,8 @@ pub returns-in-Ok-clause-taken : goal.returns-in-Ok-clause-taken
 returns-in-Ok-clause-taken c =
     let held = c.self.inside.operations.items in
     let at : IsAt held c.args.name c.in-Ok.place = rw c.deref.ensures.value at c.in-Ok.ensures.found in
-    sym (read_at held c.in-Ok.place c.remove.result at.in_range c.remove.ensures.value) ∙ sym at.found ∙ ap (λ (ops : List Op). find (has_name c.args.name) ops) c.self.view_is
+    sym (read_at held c.in-Ok.place c.remove.result at.in_range c.remove.ensures.value) ∙ sym at.found
+    ∙ ap (λ (ops : List Op). find (has_name c.args.name) ops) c.self.view_is
 
 -- none has the name, and all stay
 pub returns-in-Err-clause-taken : goal.returns-in-Err-clause-taken

@@ -7,7 +7,8 @@ use Rattle.ident_index.proofs.index.IdentIndex.locate.Goals as goal
 pub returns-in_err-key-clause-place : goal.returns-in_err-key-clause-place
 returns-in_err-key-clause-place c =
     rw c.from_residual.ensures
-    (none_from_range c.self.inside.entries _ _ _ c.self.view_is (rw c.new.ensures.value at (c.range.ensures.in_range tt)) c.in_err-key.ensures.steps.0)
+    (none_from_range c.self.inside.entries _ _ _ c.self.view_is
+    (rw c.new.ensures.value at (c.range.ensures.in_range tt)) c.in_err-key.ensures.steps.0)
 
 pub returns-then-key-replica-clause-place : goal.returns-then-key-replica-clause-place
 returns-then-key-replica-clause-place c = λ first h.
@@ -33,6 +34,8 @@ pub returns-clause-place : goal.returns-clause-place
 returns-clause-place c =
     let part = rw c.new.ensures.value at (c.range.ensures.in_range tt) in
     let near = nearest_from_range c.self.inside.entries _ _ _ c.self.view_is part _ _ _ c.in_ok-key.ensures.steps in
-    let first : c.in-Ok.first ≡ stamp_of c.in_ok-key.key.now = same_stamps _ _ c.in-Ok.ensures.value.0 c.in-Ok.ensures.value.1 in
+    let first : c.in-Ok.first ≡ stamp_of c.in_ok-key.key.now =
+    same_stamps _ _ c.in-Ok.ensures.value.0 c.in-Ok.ensures.value.1 in
     rw (first, c.counter.ensures.value)
-    (nearest_place _ _ _ _ (rw c.self.view_is at c.self.invariant) near (omega arith) (rw c.counter.ensures.value at c.if-offset-entry.false))
+    (nearest_place _ _ _ _ (rw c.self.view_is at c.self.invariant) near (omega arith)
+    (rw c.counter.ensures.value at c.if-offset-entry.false))

@@ -11,7 +11,8 @@ use Rattle.ident_index.proofs.index.IdentIndex.relabel.Goals.{in-Some, in_defaul
 
 -- the entry that was there, and the index with its label changed
 relabelled : (c : goal.Joined-get_mut) → (old : Entry) × (get c.args.self.now c.args.first ≡ Some old)
-    × (index_of c.match-get_mut.self-inside.entries.entries ≡ insert c.args.self.now c.args.first (record old { label = c.args.label }))
+    × (index_of c.match-get_mut.self-inside.entries.entries ≡ insert c.args.self.now c.args.first
+    (record old { label = c.args.label }))
 relabelled c = elim c.match-get_mut.branch [
   | in-Some w ↦
       let old = w.in-Some.entry.now in
@@ -23,7 +24,8 @@ relabelled c = elim c.match-get_mut.branch [
         rw w.self-inside-is (kept_insert _ _ _ c.args.first e c.self.view_is (rw c.new.ensures.value at written)),
       )
   | in_default w ↦
-      absurd (there _ c.requires (get-kept _ _ c.args.first c.self.view_is ∙ sym (rw c.new.ensures.value at w.in_default.ensures.value)))
+      absurd (there _ c.requires (get-kept _ _ c.args.first c.self.view_is
+      ∙ sym (rw c.new.ensures.value at w.in_default.ensures.value)))
 ]
 
 pub invariant_of-self : goal.invariant_of-self

@@ -13,7 +13,8 @@ invariant_of-self c = rw (removed c) (sound_remove _ _ (rw c.self.view_is at c.s
 
 pub returns-clause-was_there : goal.returns-clause-was_there
 returns-clause-was_there c =
-    c.is_some.ensures ∙ ap is_some ((rw c.new.ensures.value at c.remove.ensures.value) ∙ sym (get-kept _ _ c.args.first c.self.view_is))
+    c.is_some.ensures ∙ ap is_some ((rw c.new.ensures.value at c.remove.ensures.value)
+    ∙ sym (get-kept _ _ c.args.first c.self.view_is))
 
 pub returns-clause-rest : goal.returns-clause-rest
 returns-clause-rest c = removed c

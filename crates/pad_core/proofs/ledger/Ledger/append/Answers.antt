@@ -13,30 +13,54 @@ pub count_and_enter-requires-clause-ledger : goal.count_and_enter-requires-claus
 count_and_enter-requires-clause-ledger g c = c.self.invariant
 
 pub count_and_enter-requires-clause-next : goal.count_and_enter-requires-clause-next
-count_and_enter-requires-clause-next g c = subst (λ log. c.args.op.name.number ≡ count_in (vector_of log) c.args.op.name.origin + 1) (sym c.self.view_is) c.requires.next
+count_and_enter-requires-clause-next g c =
+    subst (λ log. c.args.op.name.number ≡ count_in (vector_of log) c.args.op.name.origin + 1)
+    (sym c.self.view_is) c.requires.next
 
 pub count_and_enter-requires-clause-allowed : goal.count_and_enter-requires-clause-allowed
 count_and_enter-requires-clause-allowed g c = ap (delivery_refusal c.args.op) c.self.view_is ∙ c.requires.allowed
 
 pub invariant_of-self-2 : goal.invariant_of-self-2
 invariant_of-self-2 g c =
-    IsLedger-push c.self.inside.log.operations c.push.new.self.operations c.args.op c.self.inside.seen c.count_and_enter.new.seen (g.S.Sequence.cells c.self.inside.sequence) (g.S.Sequence.cells c.count_and_enter.new.sequence) c.self.inside.comments c.count_and_enter.new.comments c.in_ok-hidden.hidden
-    c.self.invariant c.requires.checked (subst (λ log. c.args.op.name.number ≡ count_in (vector_of log) c.args.op.name.origin + 1) (sym c.self.view_is) c.requires.next)
-    (ap (delivery_refusal c.args.op) c.self.view_is ∙ c.requires.allowed) c.in_ok-hidden.ensures.entered (c.push.ensures.operations ∙ (ap (λ op. c.count_and_enter.new.log.operations ++ op ∷ []) c.fitted.ensures ∙ ap (λ log. log ++ c.args.op ∷ []) c.count_and_enter.ensures.log)) c.in_ok-hidden.ensures.counted
+    IsLedger-push c.self.inside.log.operations c.push.new.self.operations c.args.op c.self.inside.seen
+    c.count_and_enter.new.seen (g.S.Sequence.cells c.self.inside.sequence)
+    (g.S.Sequence.cells c.count_and_enter.new.sequence) c.self.inside.comments c.count_and_enter.new.comments
+    c.in_ok-hidden.hidden
+    c.self.invariant c.requires.checked (subst (λ log. c.args.op.name.number
+    ≡ count_in (vector_of log) c.args.op.name.origin + 1) (sym c.self.view_is) c.requires.next)
+    (ap (delivery_refusal c.args.op) c.self.view_is ∙ c.requires.allowed) c.in_ok-hidden.ensures.entered
+    (c.push.ensures.operations ∙ (ap (λ op. c.count_and_enter.new.log.operations ++ op ∷ []) c.fitted.ensures
+    ∙ ap (λ log. log ++ c.args.op ∷ []) c.count_and_enter.ensures.log)) c.in_ok-hidden.ensures.counted
 
 pub returns : goal.returns
 returns g c =
-    subst (λ log. Answers log (Ok (hidden_by (erased_by c.args.op) (characters_in log)), log ++ c.args.op ∷ []) (Ok c.in_ok-hidden.hidden) c.push.new.self.operations) c.self.view_is
-    (append_answers c.self.inside.log.operations c.push.new.self.operations c.args.op (g.S.Sequence.cells c.self.inside.sequence, c.self.inside.comments) (g.S.Sequence.cells c.count_and_enter.new.sequence, c.count_and_enter.new.comments) c.in_ok-hidden.hidden c.in_ok-hidden.ensures.entered
-    (c.push.ensures.operations ∙ (ap (λ op. c.count_and_enter.new.log.operations ++ op ∷ []) c.fitted.ensures ∙ ap (λ log. log ++ c.args.op ∷ []) c.count_and_enter.ensures.log)))
+    subst (λ log. Answers log (Ok (hidden_by (erased_by c.args.op) (characters_in log)), log ++ c.args.op ∷ [])
+    (Ok c.in_ok-hidden.hidden) c.push.new.self.operations) c.self.view_is
+    (append_answers c.self.inside.log.operations c.push.new.self.operations c.args.op
+    (g.S.Sequence.cells c.self.inside.sequence, c.self.inside.comments)
+    (g.S.Sequence.cells c.count_and_enter.new.sequence, c.count_and_enter.new.comments) c.in_ok-hidden.hidden
+    c.in_ok-hidden.ensures.entered
+    (c.push.ensures.operations ∙ (ap (λ op. c.count_and_enter.new.log.operations ++ op ∷ []) c.fitted.ensures
+    ∙ ap (λ log. log ++ c.args.op ∷ []) c.count_and_enter.ensures.log)))
 
 pub invariant_of-self : goal.invariant_of-self
 invariant_of-self g c =
-    IsLedger-kept c.self.inside.log.operations c.count_and_enter.new.log.operations c.args.op c.self.inside.seen c.count_and_enter.new.seen (g.S.Sequence.cells c.self.inside.sequence) (g.S.Sequence.cells c.count_and_enter.new.sequence) c.self.inside.comments c.count_and_enter.new.comments c.in_err-hidden.field-0.0
+    IsLedger-kept c.self.inside.log.operations c.count_and_enter.new.log.operations c.args.op c.self.inside.seen
+    c.count_and_enter.new.seen (g.S.Sequence.cells c.self.inside.sequence)
+    (g.S.Sequence.cells c.count_and_enter.new.sequence) c.self.inside.comments c.count_and_enter.new.comments
+    c.in_err-hidden.field-0.0
     c.self.invariant c.count_and_enter.ensures.log c.in_err-hidden.ensures.uncounted c.in_err-hidden.ensures.entered
 
 pub returns-in_err-hidden : goal.returns-in_err-hidden
 returns-in_err-hidden g c =
-    subst (λ log. Answers log (Ok (hidden_by (erased_by c.args.op) (characters_in log)), log ++ c.args.op ∷ []) c.from_residual.result c.count_and_enter.new.log.operations) c.self.view_is
-    (answers_passed c.from_residual.result c.from_residual.ensures.1 (append_fails c.self.inside.log.operations c.count_and_enter.new.log.operations c.args.op (g.S.Sequence.cells c.self.inside.sequence, c.self.inside.comments) (g.S.Sequence.cells c.count_and_enter.new.sequence, c.count_and_enter.new.comments) c.in_err-hidden.field-0.0 c.in_err-hidden.ensures.entered
+    subst (λ log. Answers log (
+      Ok (hidden_by (erased_by c.args.op) (characters_in log)),
+      log ++ c.args.op
+          ∷ [],
+    ) c.from_residual.result c.count_and_enter.new.log.operations) c.self.view_is
+    (answers_passed c.from_residual.result c.from_residual.ensures.1
+    (append_fails c.self.inside.log.operations c.count_and_enter.new.log.operations c.args.op
+    (g.S.Sequence.cells c.self.inside.sequence, c.self.inside.comments)
+    (g.S.Sequence.cells c.count_and_enter.new.sequence, c.count_and_enter.new.comments) c.in_err-hidden.field-0.0
+    c.in_err-hidden.ensures.entered
     c.count_and_enter.ensures.log))

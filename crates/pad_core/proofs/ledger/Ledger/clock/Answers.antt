@@ -9,5 +9,6 @@ use Rattle.pad_core.proofs.ledger.Ledger.clock.Goals as goal
 pub returns : goal.returns
 returns g c =
     c.clock.ensures ∙ ap clock_of c.self.invariant.kept
-    ∙ clock_of-cells_of c.self.inside.log.operations (IsTree-history c.self.inside.log.operations c.self.invariant.delivered.history)
+    ∙ clock_of-cells_of c.self.inside.log.operations
+    (IsTree-history c.self.inside.log.operations c.self.invariant.delivered.history)
     ∙ ap (λ log. clock_of_characters (characters_in log).inserted) c.self.view_is

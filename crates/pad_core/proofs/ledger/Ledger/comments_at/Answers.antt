@@ -19,7 +19,9 @@ pub returns : goal.returns
 returns g c =
     let log = c.self.inside.log.operations in
     let rev = c.args.rev in
-    let listed : list_of rev (g.S.Sequence.cells c.self.inside.sequence) c.self.inside.comments ≡ comments_of (take rev c.args.self.now) =
-    ap₂ (list_of rev) c.self.invariant.kept c.self.invariant.commented ∙ comments_at-book_of log rev c.self.invariant.delivered ∙ ap (λ l. comments_of (take rev l)) c.self.view_is
+    let listed : list_of rev (g.S.Sequence.cells c.self.inside.sequence) c.self.inside.comments
+    ≡ comments_of (take rev c.args.self.now) =
+    ap₂ (list_of rev) c.self.invariant.kept c.self.invariant.commented
+    ∙ comments_at-book_of log rev c.self.invariant.delivered ∙ ap (λ l. comments_of (take rev l)) c.self.view_is
     in
     subst (λ rows. MatchResult c.list_at.result (λ shown. shown ≡ rows) (λ e. e ≡ Memory)) listed c.list_at.ensures

@@ -6,5 +6,6 @@ use Rattle.pad_core.proofs.ledger.Ledger.len_at.Goals as goal
 
 pub returns : goal.returns
 returns g c =
-    c.len_at.ensures ∙ length-kept c.self.inside.log.operations (g.S.Sequence.cells c.self.inside.sequence) c.args.rev c.self.invariant.delivered.history c.self.invariant.kept
+    c.len_at.ensures ∙ length-kept c.self.inside.log.operations (g.S.Sequence.cells c.self.inside.sequence) c.args.rev
+    c.self.invariant.delivered.history c.self.invariant.kept
     ∙ ap (λ log. length (visible (characters_at c.args.rev log))) c.self.view_is

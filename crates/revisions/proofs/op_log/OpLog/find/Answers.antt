@@ -10,12 +10,15 @@ use Rattle.revisions.proofs.op_log.OpLog.find.Goals as goal
 pub place_of-requires : goal.place_of-requires
 place_of-requires c =
     let ops = c.self.inside.operations.items in
-    let own : c.marks_of.result.now ≡ marks_of c.args.name.origin ops = c.marks_of.ensures ops (rw c.deref.ensures.value c.self.invariant.index) in
+    let own : c.marks_of.result.now ≡ marks_of c.args.name.origin ops =
+    c.marks_of.ensures ops (rw c.deref.ensures.value c.self.invariant.index) in
     rw own (marks_rise c.args.name.origin 0 0 ops)
 
 pub returns : goal.returns
 returns c =
     let ops = c.self.inside.operations.items in
-    let own : c.marks_of.result.now ≡ marks_of c.args.name.origin ops = c.marks_of.ensures ops (rw c.deref.ensures.value c.self.invariant.index) in
-    c.place_of.ensures ∙ ap (λ (ms : List Mark). option_map (λ (m : Mark). m.place) (find (λ m. eqb m.number c.args.name.number) ms)) own ∙ named_position c.args.name ops
+    let own : c.marks_of.result.now ≡ marks_of c.args.name.origin ops =
+    c.marks_of.ensures ops (rw c.deref.ensures.value c.self.invariant.index) in
+    c.place_of.ensures ∙ ap (λ (ms : List Mark). option_map (λ (m : Mark). m.place)
+    (find (λ m. eqb m.number c.args.name.number) ms)) own ∙ named_position c.args.name ops
     ∙ ap (λ (l : Log). position (has_name c.args.name) l.operations) c.self.view_is

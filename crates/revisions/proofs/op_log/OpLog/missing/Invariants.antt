@@ -6,4 +6,5 @@ use Rattle.revisions.proofs.op_log.OpLog.missing.Given as goal
 
 abbrev pub invariant-loop-n : goal.invariant-loop-n
 invariant-loop-n l =
-    l.answer ++ take (l.max - l._n) (picked (is_missing l.seen) l.from 0 l.self.operations) ≡ missing l.self.operations l.seen l.max
+    l.answer ++ take (l.max - l._n) (picked (is_missing l.seen) l.from 0 l.self.operations)
+    ≡ missing l.self.operations l.seen l.max

@@ -6,4 +6,5 @@ use Rattle.rights.proofs.book.RightsBook.list.Given as goal
 
 -- the rows so far, and those of the grants that are left, are all
 abbrev pub invariant-loop-name : goal.invariant-loop-name
-invariant-loop-name l = l.rows ++ map (λ e. let it : Grant = record { name = e.0; right = e.1 } in it) l.name-iterator ≡ listed (record { owner = l.self.owner; grants = l.self.grants })
+invariant-loop-name l = l.rows ++ map (λ e. let it : Grant = record { name = e.0; right = e.1 } in it) l.name-iterator
+    ≡ listed (record { owner = l.self.owner; grants = l.self.grants })

@@ -14,8 +14,11 @@ returns g c =
     let row = c.as_mut_slice-cells.result.now in
     let a = c.index_mut.result.now in
     let many : length c.step.new.cells ≡ length row =
-    acted-cells c.self.inside.replica c.self.inside.accounts c.args.step.now a row c.step.result c.step.new.self c.step.new.cells c.step.ensures
+    acted-cells c.self.inside.replica c.self.inside.accounts c.args.step.now a row c.step.result c.step.new.self
+    c.step.new.cells c.step.ensures
     in
-    served _ s _ _ a a row _ _ _ c.self.view_is (omega arith) c.index_mut.ensures.value c.as_mut_slice-cells.ensures.value
-    (subst (λ cells. Acted c.args.step.now row a (actor_step c.self.inside.replica c.self.inside.accounts c.args.step.now a row) c.step.result c.step.new.self cells)
+    served _ s _ _ a a row _ _ _ c.self.view_is (omega arith) c.index_mut.ensures.value
+    c.as_mut_slice-cells.ensures.value
+    (subst (λ cells. Acted c.args.step.now row a
+    (actor_step c.self.inside.replica c.self.inside.accounts c.args.step.now a row) c.step.result c.step.new.self cells)
     (sym (with_items_is c.self.inside.cells c.step.new.cells (many ∙ c.as_mut_slice-cells.ensures.len))) c.step.ensures)

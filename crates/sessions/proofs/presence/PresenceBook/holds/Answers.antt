@@ -8,8 +8,10 @@ pub returns-in-Some : goal.returns-in-Some
 returns-in-Some c =
     let i = c.self.inside in
     let at = sym c.get.ensures.value ∙ ap option_copied c.in-Some.is in
-    let same : c.is.result ≡ bytes_eq c.in-Some.visitor.now.author c.args.author.now = search (rules, bytes_eq-Decides) in
-    same ∙ sym (author_where_found c.args.author.now i.given c.args.visit i.visitors.entries c.in-Some.visitor.now c.self.invariant.numbered at)
+    let same : c.is.result ≡ bytes_eq c.in-Some.visitor.now.author c.args.author.now =
+    search (rules, bytes_eq-Decides) in
+    same ∙ sym (author_where_found c.args.author.now i.given c.args.visit i.visitors.entries c.in-Some.visitor.now
+    c.self.invariant.numbered at)
     ∙ ap (λ (p : Presence). is_joined_by c.args.visit c.args.author.now p.present) c.self.view_is
 
 pub returns-in-None : goal.returns-in-None

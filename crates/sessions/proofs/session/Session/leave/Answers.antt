@@ -6,5 +6,6 @@ use Rattle.sessions.proofs.session.Session.leave.Goals as goal
 
 pub returns-clause-rooms : goal.returns-clause-rooms
 returns-clause-rooms c =
-    let kept = filter_same _ (λ (room : Room). not (is_of c.args.pad.now room)) _ (λ room kept f called. search rules) _ _ c.retain.ensures.filtered in
+    let kept = filter_same _ (λ (room : Room). not (is_of c.args.pad.now room)) _ (λ room kept f called. search rules) _
+    _ c.retain.ensures.filtered in
     kept ∙ ap (λ (s : Session). filter (λ (room : Room). not (is_of c.args.pad.now room)) s.rooms) c.self.view_is

@@ -36,4 +36,5 @@ returns-clause-counts g c = counts _ _ _ _ _ c.args.seat.now _ _ _ _ _ _ _ _
 pub returns-clause-called : goal.returns-clause-called
 returns-clause-called g c = called _ _ _ _ _ c.args.seat.now _ _ _ _ _ _ _ _
     (record { view = c.self.view_is; known = c.requires.known; kept = c.self.invariant; visited = c.request_at-answer.ensures.visited; was = c.revision-before.ensures.value; is = c.revision.ensures.value })
-    c.edit_of.result c.with_call-tally.result c.edit_of.ensures c.with_call-tally.ensures c.revision-before.ensures.delivered c.revision.ensures.delivered
+    c.edit_of.result c.with_call-tally.result c.edit_of.ensures c.with_call-tally.ensures
+    c.revision-before.ensures.delivered c.revision.ensures.delivered

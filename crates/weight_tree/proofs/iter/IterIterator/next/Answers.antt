@@ -5,7 +5,8 @@ use Rattle.weight_tree.proofs.iter.IterIterator.next.Goals as goal
 pub returns-clause-steps : goal.returns-clause-steps
 returns-clause-steps g c =
     let b = c.in-Some.branch.now in
-    let top = from_waiting_top c.self.inside.waiting c.self.inside.depth _ (Some c.in-Some.branch) (omega arith) (search rules) c.in-Some.is in
+    let top = from_waiting_top c.self.inside.waiting c.self.inside.depth _ (Some c.in-Some.branch) (omega arith)
+    (search rules) c.in-Some.is in
     sym c.self.view_is ∙ top ∙ ap (λ l. b.item ∷ l) (sym c.descend-self-inside.ensures.items)
 
 pub returns-clause-goes : goal.returns-clause-goes

@@ -16,7 +16,8 @@ returns-then-offset-item_weight-clause-some g t c =
     let b = c.in-Some.branch.value in
     let is = items_at _ _ c.args.self.now c.self.view_is c.in-Some.is in
     let rank : c.len-rank.result ≡ length b.left.items = grind arith in
-    let before : sum_by g.T.Weigh.weight_of b.left.items + (c.args.number - c.weight-left_weight.result) ≡ c.args.number = grind arith in
+    let before : sum_by g.T.Weigh.weight_of b.left.items + (c.args.number - c.weight-left_weight.result)
+    ≡ c.args.number = grind arith in
     let inside : c.args.number - c.weight-left_weight.result < g.T.Weigh.weight_of b.item = grind arith in
     rw is (falls_here g.T.Weigh.weight_of b.left.items b.item b.right.items _ _ _ rank before inside)
 
@@ -26,7 +27,8 @@ returns-clause-some g t c =
     let is = items_at _ _ c.args.self.now c.self.view_is c.in-Some.is in
     let left : c.weight-left_weight.result ≡ sum_by g.T.Weigh.weight_of b.left.items = grind arith in
     let own : c.weight-item_weight.result ≡ g.T.Weigh.weight_of b.item = grind arith in
-    let rank : c.len-rank.result + 1 + c.in_ok-found-2.found.rank ≡ length b.left.items + 1 + c.in_ok-found-2.found.rank = grind arith in
+    let rank : c.len-rank.result + 1 + c.in_ok-found-2.found.rank ≡ length b.left.items + 1
+    + c.in_ok-found-2.found.rank = grind arith in
     let past : sum_by g.T.Weigh.weight_of b.left.items + g.T.Weigh.weight_of b.item ≤ c.args.number = omega arith in
     let below = rw (c.deref-4.ensures, left, own) at c.in_ok-found-2.ensures.some in
     rw is (falls_right g.T.Weigh.weight_of b.left.items b.item b.right.items _ _ _ _ rank past below)

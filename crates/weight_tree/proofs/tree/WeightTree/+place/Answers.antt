@@ -14,7 +14,8 @@ returns-then-below-clause-rank g t c =
     let asked = c.ask.ensures.answer order by in
     let less : is_lt (order b.item) ≡ true = grind (arith, asked.1) in
     let spread = subst (IsRising order) is rising in
-    let below = (rw c.deref-then-below.ensures at c.place-right.ensures.rank) order asked.0 (rising_right order b.left.items b.item b.right.items spread) in
+    let below = (rw c.deref-then-below.ensures at c.place-right.ensures.rank) order asked.0
+    (rising_right order b.left.items b.item b.right.items spread) in
     let left : c.len.result ≡ length b.left.items = grind arith in
     rw (is, left, below) (sym (count_past order b.left.items b.item b.right.items spread less))
 
@@ -26,7 +27,8 @@ returns-else-below-clause-rank g t c =
     let asked = c.ask.ensures.answer order by in
     let not_less : is_lt (order b.item) ≡ false = grind (arith, asked.1) in
     let spread = subst (IsRising order) is rising in
-    let below = (rw c.deref-else-below.ensures at c.place-left.ensures.rank) order asked.0 (rising_left order b.left.items b.item b.right.items spread) in
+    let below = (rw c.deref-else-below.ensures at c.place-left.ensures.rank) order asked.0
+    (rising_left order b.left.items b.item b.right.items spread) in
     rw (is, below) (sym (count_up_to order b.left.items b.item b.right.items spread not_less))
 
 pub returns-then-below-clause-calls : goal.returns-then-below-clause-calls

@@ -25,14 +25,20 @@ loop-found-preserved g c =
       fault = grind (arith, common_steps);
       failures = grind (arith, common_steps);
       counted =
-          counted_more (g.R.Source.reads c.args.source.now) (g.R.Source.reads c.loop-found.source) (g.R.Source.reads c.read_more.new.source) c.args.self.now.reads c.loop-found.self.reads c.read_more.new.self.reads
-          before.counted (c.read_more.ensures.reads ∙ ap (λ n. n + 1) c.take_line.ensures.reads) c.in_ok-read_more.ensures.counted;
+          counted_more (g.R.Source.reads c.args.source.now) (g.R.Source.reads c.loop-found.source)
+          (g.R.Source.reads c.read_more.new.source) c.args.self.now.reads c.loop-found.self.reads
+          c.read_more.new.self.reads
+          before.counted (c.read_more.ensures.reads ∙ ap (λ n. n + 1) c.take_line.ensures.reads)
+          c.in_ok-read_more.ensures.counted;
     }
 
 pub returns-in_err-read_more-clause-counted : goal.returns-in_err-read_more-clause-counted
 returns-in_err-read_more-clause-counted g c =
     let exit = err_from_is_err_and c.from_residual.result c.from_residual.ensures.1 in
     let passed : c.from_residual.result ≡ Err c.in_err-read_more.field-0.0 = exit.1 ∙ ap Err exit.2 in
-    subst (λ (r : Result Found Fault). AreCounted r (g.R.Source.reads c.args.source.now) (g.R.Source.reads c.read_more.new.source) c.args.self.now.reads c.read_more.new.self.reads) (sym passed)
-    (counted_fault (Unit {0}) Found (g.R.Source.reads c.args.source.now) (g.R.Source.reads c.loop-found.source) (g.R.Source.reads c.read_more.new.source) c.args.self.now.reads c.loop-found.self.reads c.read_more.new.self.reads
-    c.in_err-read_more.field-0.0 c.loop-found.invariant.counted (c.read_more.ensures.reads ∙ ap (λ n. n + 1) c.take_line.ensures.reads) c.in_err-read_more.ensures.counted)
+    subst (λ (r : Result Found Fault). AreCounted r (g.R.Source.reads c.args.source.now)
+    (g.R.Source.reads c.read_more.new.source) c.args.self.now.reads c.read_more.new.self.reads) (sym passed)
+    (counted_fault (Unit {0}) Found (g.R.Source.reads c.args.source.now) (g.R.Source.reads c.loop-found.source)
+    (g.R.Source.reads c.read_more.new.source) c.args.self.now.reads c.loop-found.self.reads c.read_more.new.self.reads
+    c.in_err-read_more.field-0.0 c.loop-found.invariant.counted (c.read_more.ensures.reads
+    ∙ ap (λ n. n + 1) c.take_line.ensures.reads) c.in_err-read_more.ensures.counted)

@@ -4,5 +4,9 @@ use Rattle.workers.specs.Calls.{Alone, Made}
 use Rattle.workers.proofs.alone.AlonePads.end.Goals as goal
 
 pub returns : goal.returns
-returns g c =
-    (c.make-ended.result, subst (λ (o : Alone). Made o.server o.actor End c.make-ended.result c.make-ended.new.server) c.self.view_is c.make-ended.ensures.made, ap (λ o. o.actor) c.self.view_is)
+returns g c = (
+  c.make-ended.result,
+  subst (λ (o : Alone). Made o.server o.actor End c.make-ended.result c.make-ended.new.server)
+      c.self.view_is c.make-ended.ensures.made,
+  ap (λ o. o.actor) c.self.view_is,
+)

@@ -7,7 +7,8 @@ use Rattle.workers.proofs.row.Row.leave_all.Given as goal
 abbrev pub invariant-loop-room : goal.invariant-loop-room
 invariant-loop-room g l =
     (l.session.who ≡ l.fn.session.who)
-    × ((last : List Seat) → LeavesRooms l.session.rooms l.seats.items last → LeavesRooms l.fn.session.rooms l.fn.seats.items last)
+    × ((last : List Seat) → LeavesRooms l.session.rooms l.seats.items last →
+    LeavesRooms l.fn.session.rooms l.fn.seats.items last)
 
 -- the pads that are left
 abbrev pub decreases-loop-room : goal.decreases-loop-room

@@ -6,4 +6,6 @@ use Rattle.workers.proofs.row.Row.scan.Given as goal
 abbrev pub invariant-loop-place : goal.invariant-loop-place
 invariant-loop-place g l =
     (l.session.who ≡ l.fn.session.who)
-    × Passes l.fn.session.who l.fn.request l.fn.start (l.place - l.fn.start) (record { rooms = l.fn.session.rooms; seats = l.fn.seats.items }) (record { rooms = l.session.rooms; seats = l.seats.items })
+    × Passes l.fn.session.who l.fn.request l.fn.start (l.place - l.fn.start)
+    (record { rooms = l.fn.session.rooms; seats = l.fn.seats.items })
+    (record { rooms = l.session.rooms; seats = l.seats.items })

@@ -1,3 +1,4 @@
+-- The lemmas, by topic.
 pub mod Grown
 pub mod Steps
 pub mod Pulls

@@ -1,3 +1,4 @@
+-- The definitions that the contracts cite, by topic.
 pub mod Wire
 pub mod Counts
 pub mod Round

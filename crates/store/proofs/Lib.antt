@@ -1,3 +1,4 @@
+-- The lemmas, by topic.
 pub mod Crashes
 pub mod Feeds
 pub mod Fronts

@@ -1,3 +1,4 @@
+-- The lemmas, by topic.
 pub mod Plain
 pub mod Fields
 pub mod Values

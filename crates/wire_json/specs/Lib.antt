@@ -1,3 +1,4 @@
+-- The definitions that the contracts cite, by topic.
 pub mod Words
 pub mod Forms
 pub mod Operations

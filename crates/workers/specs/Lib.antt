@@ -1,3 +1,4 @@
+-- The definitions that the contracts cite, by topic.
 pub mod Calls
 pub mod Connection
 pub mod Crew

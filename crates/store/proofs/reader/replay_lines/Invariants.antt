@@ -1,3 +1,4 @@
+-- The loop of `replay_lines`: the lines that are left lead from the pad so far to where all lead, and the loop ends.
 use Rattle.std.proofs.Common.{◌≡◌, ◌+◌, ◌≤◌, suc, length}
 use Rattle.store.specs.Files.{read_lines, so_far}
 use Rattle.store.specs.Lines.{bytes_of, whole_lines}

@@ -1,3 +1,4 @@
+-- The loop of `serve_lines`: the lines so far are answered, no call has failed, and the loop ends.
 use Rattle.std.proofs.Common.{◌≡◌, None}
 use Rattle.wire_lines.specs.Buffer.{ahead, budget}
 use Rattle.wire_lines.specs.Causes.{with_more}

@@ -1,3 +1,4 @@
+-- The loop of `serve_all`: the connections so far were served in turn.
 use Rattle.workers.specs.Crew.{ServesInTurn}
 use Rattle.workers.proofs.crew.serve_all.Given as goal
 

@@ -1,3 +1,4 @@
+-- The loop of `open_row`: there is a pad for each cell so far.
 use Rattle.std.proofs.Common.{◌≡◌, vec_len}
 use Rattle.workers.proofs.row.open_row.Given as goal
 

@@ -1,3 +1,4 @@
+-- The loop of `take_all_seats`: there are seats for each thread so far.
 use Rattle.std.proofs.Common.{◌≡◌, ◌+◌, vec_len}
 use Rattle.workers.proofs.seating.take_all_seats.Given as goal
 

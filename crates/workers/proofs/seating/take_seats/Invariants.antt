@@ -1,3 +1,4 @@
+-- The loop of `take_seats`: there is a seat at each cell so far.
 use Rattle.std.proofs.Common.{◌≡◌, ◌++◌, map, take}
 use Rattle.workers.specs.Seating.{cells_of}
 use Rattle.workers.proofs.seating.take_seats.Given as goal

@@ -1,3 +1,4 @@
+-- The loop of `finish`: some moves were made, something is still under way, and the moves left become fewer.
 use Rattle.std.proofs.Common.{ℕ}
 use Rattle.workers.specs.Calls.{IsUnderWay, Scans}
 use Rattle.workers.specs.Fuel.{moves_left}

@@ -1,3 +1,4 @@
+-- The loop of `leave_all`: leaving the rooms that are left leaves all of them, and the loop ends.
 use Rattle.std.proofs.Common.{◌≡◌, List, length}
 use Rattle.shared_pads.specs.declared.seat.Seat.{Seat}
 use Rattle.workers.specs.Crew.{LeavesRooms}

@@ -1,3 +1,4 @@
+-- The loop of `scan`: the cells visited so far have other names.
 use Rattle.std.proofs.Common.{◌≡◌, ◌-◌}
 use Rattle.workers.specs.Row.{Passes}
 use Rattle.workers.proofs.row.Row.scan.Given as goal

@@ -37,27 +37,44 @@ pub fn pad_line(alloc: Global, reply: &PadReply) -> Result<String, AllocError>
             dropped,
         } => pushed_line(alloc, *now, *state, *released, *dropped),
         PadReply::Text { now, rev, text } => {
-            value_line(alloc, read_value(alloc, *now, *rev, text))
+            said_line(alloc, reply, read_value(alloc, *now, *rev, text))
         }
         PadReply::Runs { now, rev, runs } => {
-            value_line(alloc, runs_value(alloc, *now, *rev, runs.as_slice()))
+            said_line(alloc, reply, runs_value(alloc, *now, *rev, runs.as_slice()))
         }
-        PadReply::Comments { now, rev, comments } => value_line(
+        PadReply::Comments { now, rev, comments } => said_line(
             alloc,
+            reply,
             comments_value(alloc, *now, *rev, comments.as_slice()),
         ),
         PadReply::Entries { now, entries } => {
-            value_line(alloc, entries_value(alloc, *now, entries.as_slice()))
+            said_line(alloc, reply, entries_value(alloc, *now, entries.as_slice()))
         }
-        PadReply::Who { now, who } => value_line(alloc, who_value(alloc, *now, who.as_slice())),
+        PadReply::Who { now, who } => said_line(
+            alloc,
+            reply,
+            who_value(alloc, *now, who.as_slice()),
+        ),
         PadReply::Rights { now, rights } => {
-            value_line(alloc, rights_value(alloc, *now, rights.as_slice()))
+            said_line(alloc, reply, rights_value(alloc, *now, rights.as_slice()))
         }
-        PadReply::Vector { now, seen } => value_line(alloc, vector_value(alloc, *now, seen)),
+        PadReply::Vector { now, seen } => said_line(alloc, reply, vector_value(alloc, *now, seen)),
         PadReply::Pulled { now, ops } => {
-            value_line(alloc, pulled_value(alloc, *now, ops.as_slice()))
+            said_line(alloc, reply, pulled_value(alloc, *now, ops.as_slice()))
         }
     }
+}
+
+/// The line of a reply whose value is made first.
+fn said_line(
+    alloc: Global,
+    reply: &PadReply,
+    value: Result<Value, AllocError>,
+) -> Result<String, AllocError>
+    requires { IfOk value (λ v. view v ≡ pad_data reply.now) }
+    ensures { IfOk result (λ line. IsWritten (pad_data reply.now) (string_bytes line)) }
+{
+    value_line(alloc, value)
 }
 
 /// An answer that has one field more than its revision.

@@ -53,7 +53,7 @@ fn compare(rt: &impl Abort, both: &Both) {
     both.weight(rt);
     for rank in 0..both.size().0 {
         both.before(rt, rank);
-        both.find(rt, rank as u64 * 3);
+        both.find(rt, (rank as u64).wrapping_mul(3));
     }
 }
 

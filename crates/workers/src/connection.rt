@@ -175,10 +175,8 @@ fn answer_line<P: Pads, G: Gate>(
 ) -> Result<Reply, Refusal>
     ensures { Hears P.calls pads.old (request line.now) result pads.new }
 {
-    match read_line(alloc, line, connection, gate) {
-        Ok(request) => pads.call(alloc, &request),
-        Err(refusal) => Err(refusal),
-    }
+    let request = read_line(alloc, line, connection, gate)?;
+    pads.call(alloc, &request)
 }
 
 // Reads a line as a request; a gate may let long ones wait for each other.

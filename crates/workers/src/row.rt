@@ -118,10 +118,8 @@ impl<'a, S: Sequence, R: Wait, G: Gate> Row<'a, S, R, G> {
             if place < start as usize {
                 continue;
             }
-            match self.visit(alloc, seats, session, place, request) {
-                Ok(None) => {}
-                Ok(Some(reply)) => return Ok(reply),
-                Err(refusal) => return Err(refusal),
+            if let Some(reply) = self.visit(alloc, seats, session, place, request)? {
+                return Ok(reply);
             }
         }
         Err(past_row(request))

@@ -50,9 +50,7 @@ pub fn make_insertion<S: Sequence>(
     ensures { MatchResult result (λ parts. parts ≡ made_parts replica rev (Insert at text.now ∷ []) ledger.now) (λ e. e ≡ Refusal.Memory) }
 {
     let run = make_run(ledger, replica, ledger.clock() + 1, rev, at, text)?;
-    let mut parts = Row::new(alloc);
-    parts.push(Part::Insert(run))?;
-    Ok(parts)
+    Ok(Row::of_one(alloc, Part::Insert(run))?)
 }
 
 fn make_part<S: Sequence>(

@@ -66,8 +66,7 @@ fn note<S: Sequence>(
     requires allowed { delivery_refusal (op_of writer.replica writer.author.now (part ∷ []) ledger.old) ledger.old ≡ None }
     ensures { Answers ledger.old (noted None writer.entry.replica writer.entry.author.now (part ∷ []) ledger.old) result ledger.new }
 {
-    let mut parts = Row::new(alloc);
-    parts.push(part)?;
+    let parts = Row::of_one(alloc, part)?;
     let op = make_op(ledger, writer, parts)?;
     let name = op.name;
     ledger.append(alloc, op)?;

@@ -48,6 +48,17 @@ impl<T> Row<T> {
         }
     }
 
+    /// A row of one item, with no room for more: a vector that grows would begin with room for four.
+    pub fn of_one(alloc: Global, item: T) -> Result<Row<T>, AllocError>
+    where
+        T: Drop,
+        ensures { IfOk result (λ row. row ≡ item ∷ []) }
+    {
+        let mut items = Vec::with_capacity(alloc, 1)?;
+        items.push_reserved(item);
+        Ok(Row { items })
+    }
+
     pub fn from_vec(items: Vec<T>) -> Row<T>
         ensures { result ≡ items.items }
     {

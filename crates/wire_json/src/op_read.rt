@@ -60,9 +60,7 @@ fn read_parts(alloc: Global, kind: Kind, value: &Value) -> Result<Row<Part>, Ref
 fn only(alloc: Global, part: Part) -> Result<Row<Part>, Refusal>
     ensures { MatchResult result (λ parts. parts ≡ part ∷ []) (λ e. e ≡ Refusal.Memory) }
 {
-    let mut parts = Row::new(alloc);
-    parts.push(part)?;
-    Ok(parts)
+    Ok(Row::of_one(alloc, part)?)
 }
 
 /// The parts of an edit. One part alone has the form of its kind.

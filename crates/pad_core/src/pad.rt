@@ -59,16 +59,14 @@ impl<S: Sequence> Pad<S> {
         requires { 1 ≤ replica }
         ensures { MatchResult result (λ pad. pad ≡ record { owned = None; replica = replica; log = []; held = []; presence = nobody_present }) (λ e. e ≡ Refusal.Memory) }
     {
-        match Ledger::new(alloc) {
-            Ok(ledger) => Ok(Pad {
-                owned: None,
-                replica,
-                ledger,
-                held: Hold::new(alloc),
-                presence: PresenceBook::new(alloc),
-            }),
-            Err(refusal) => Err(refusal),
-        }
+        let ledger = Ledger::new(alloc)?;
+        Ok(Pad {
+            owned: None,
+            replica,
+            ledger,
+            held: Hold::new(alloc),
+            presence: PresenceBook::new(alloc),
+        })
     }
 
     /// The name, once the pad is claimed.

@@ -80,7 +80,8 @@ impl Seen {
         name.number <= self.count(name.origin)
     }
 
-    /// Sets the count of an origin; 0 takes the origin out. It needs no memory where the origin is there already.
+    /// Sets the count of an origin; 0 takes the origin out, and gives its room back. It needs no memory where the origin is
+    /// there already.
     pub fn set(&mut self, origin: u16, count: u64) -> Result<(), Refusal>
         ensures ok { OnOk result (self.new ≡ with_count self.old origin count) }
         ensures memory { IfErr result (λ e. (e ≡ Refusal.Memory) × (self.new ≡ self.old)) }
@@ -89,6 +90,7 @@ impl Seen {
         match place_of(&self.pairs, origin) {
             Ok(place) if count == 0 => {
                 self.pairs.remove(place);
+                self.pairs.shrink_to_fit();
             }
             Ok(place) => self.pairs[place] = Counted { origin, count },
             Err(_) if count == 0 => {}

@@ -4,12 +4,13 @@ use Rattle.pad_model.proofs.SeenLemmas.{set_at, remove_at, insert_at, none_at, g
 use Rattle.pad_model.proofs.seen.Seen.set.Goals as goal
 
 -- the pair of the origin is taken out
-removed : (c : goal.After-remove) → c.remove.new.self.items
+removed : (c : goal.After-shrink_to_fit) → c.shrink_to_fit.new.self.items
     ≡ with_count c.self.inside.pairs.items c.args.origin c.args.count
 removed c =
     let at : IsAt c.self.inside.pairs.items c.args.origin c.in-Ok.place =
     rw c.deref.ensures.value at c.in-Ok.ensures.found in
-    rw (c.remove.ensures.items, c.if-count-eq0.true) (remove_at _ c.self.invariant c.args.origin c.in-Ok.place at)
+    rw (c.shrink_to_fit.ensures.items, c.remove.ensures.items, c.if-count-eq0.true)
+    (remove_at _ c.self.invariant c.args.origin c.in-Ok.place at)
 
 pub invariant_of-self : goal.invariant_of-self
 invariant_of-self c = subst IsVector (sym (removed c))

@@ -1,5 +1,5 @@
 -- What a request that was out of memory leaves at a cell, and in a scan.
-use Rattle.std.proofs.Common.{◌≡◌, ◌⊎◌, inl, inr, ℕ, Bool, true, false, List, Option, Some, None, Result, Ok, Err, IsOk}
+use Rattle.std.proofs.Common.{◌≡◌, inl, inr, ℕ, false, List, Option, Some, Result, Ok, Err, IsOk}
 use Rattle.std.proofs.Common.{length, refl, sym, ap, ap₂, ◌∙◌, subst}
 use Rattle.pad_model.specs.declared.refusal.Refusal.{Refusal}
 use Rattle.pad_model.specs.declared.refusal.Refusal.TheVariants.{Memory}
@@ -15,8 +15,8 @@ use Rattle.pad_core.specs.declared.reply.PadReply.TheVariants as pad
 use Rattle.pad_core.specs.declared.reply.Reply.{Reply}
 use Rattle.pad_core.specs.declared.request.Request.{Request}
 use Rattle.pad_core.specs.declared.request.Request.TheVariants.{On}
-use Rattle.server_core.specs.Actor.{Actor, rested, visit_on}
-use Rattle.server_core.specs.AtCell.{RowAnswer, act_at, passed_on, row_answer, rooms_after}
+use Rattle.server_core.specs.Actor.{Actor, visit_on}
+use Rattle.server_core.specs.AtCell.{act_at, passed_on, row_answer, rooms_after}
 use Rattle.server_core.specs.Served.{Acted, RowVisited, TakesRoom, Visited}
 use Rattle.server_core.specs.Steps.{concluded, goes_on, move, scanned}
 use Rattle.server_core.specs.declared.step.Moved.{Moved}

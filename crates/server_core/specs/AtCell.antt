@@ -1,5 +1,5 @@
 -- What a request does at one cell.
-use Rattle.std.specs.Prelude.{ℕ, Bool, not, List, [], ◌∷◌, ◌++◌, filter, slice_get, slice_set, Option, Some, None}
+use Rattle.std.specs.Prelude.{ℕ, not, List, [], ◌∷◌, ◌++◌, filter, slice_get, slice_set, Option, Some, None}
 use Rattle.std.specs.Prelude.{Result, Ok, Err}
 use Rattle.pad_model.specs.declared.refusal.Refusal.{Refusal}
 use Rattle.pad_model.specs.declared.refusal.Refusal.TheVariants.{NoSession, NoPad, PadExists, NoSlot}

@@ -1,7 +1,6 @@
 -- What a visit to a cell takes.
-use Rattle.std.specs.Prelude.{◌≡◌, ℕ, ◌≤◌, List, Option, Some, Result, Ok, IsTrue}
+use Rattle.std.specs.Prelude.{◌≡◌, ℕ, ◌≤◌, List, Option, Some, IsTrue}
 use Rattle.pad_model.specs.Checked.{is_name}
-use Rattle.pad_model.specs.declared.refusal.Refusal.{Refusal}
 use Rattle.pad_core.specs.declared.act.Act.{Act}
 use Rattle.pad_core.specs.declared.act.Act.TheVariants as act
 use Rattle.pad_core.specs.declared.request.Request.{Request}

@@ -13,7 +13,7 @@ use Rattle.pad_core.specs.declared.reply.Reply.{Reply}
 use Rattle.pad_core.specs.declared.reply.Reply.TheVariants.{Ended}
 use Rattle.pad_core.specs.declared.request.Request.{Request}
 use Rattle.pad_core.specs.declared.request.Request.TheVariants as request
-use Rattle.server_core.specs.Actor.{Actor, first_cell, is_busy, rested}
+use Rattle.server_core.specs.Actor.{Actor, first_cell, is_busy}
 use Rattle.server_core.specs.AtCell.{RowAnswer, row_answer, past_row}
 use Rattle.server_core.specs.Opening.{hello, peer, relay, create_refusal, act_refusal}
 use Rattle.server_core.specs.declared.step.Moved.{Moved}

@@ -43,10 +43,7 @@ fn act_at<S: Sequence>(
     ensures who { session.new.who ≡ session.old.who }
     ensures visited { Visited session.old.who (request.On pad.now act.now) session.old.rooms cell.old (acted_at session.old.who pad.now act.now place session.old.rooms cell.old) result session.new.rooms cell.new }
 {
-    let name = match make_room(alloc, session, pad, act) {
-        Ok(name) => name,
-        Err(refusal) => return Err(refusal),
-    };
+    let name = make_room(alloc, session, pad, act)?;
     let event = PadEvent {
         pad: pad.as_str(),
         who: session.who(),

@@ -112,7 +112,7 @@ pub enum PadReply {
         now: u64,
         seen: Seen,
     },
-    /// What became of a pushed operation, how many held ones were delivered, and how many of these were dropped.
+    /// What became of a pushed operation, and how many held ones were then delivered, and dropped.
     Pushed {
         now: u64,
         state: Pushed,

@@ -1,5 +1,7 @@
 -- What a thread that serves connections does with its seats.
-use Rattle.std.specs.Prelude.{◌≡◌, ◌⊎◌, ℕ, zero, suc, List, [], ◌∷◌, length, slice_get, slice_set, Some, None}
+use Rattle.std.specs.Prelude.{◌≡◌, ◌<◌, ◌⊎◌, ℕ, zero, suc, List, [], ◌∷◌, length, Some, None, Vec}
+use Rattle.std.specs.Prelude.{slice_get, slice_set, slice_index_or}
+use Rattle.std.specs.declared.alloc.Global.{Global}
 use Rattle.pad_model.specs.declared.who.Who.TheVariants.{Nobody}
 use Rattle.sessions.specs.declared.session.Room.{Room}
 use Rattle.pad_core.specs.declared.request.Request.{Request}
@@ -59,3 +61,9 @@ module _ {S R G : Type 0} where
       (begun ended : Shared S R G) × (begun.row.now ≡ row) × (begun.seats.items ≡ old) × (begun.session.who ≡ Nobody)
       × (begun.session.rooms ≡ [])
       × ServesInTurn CallsRow EndsRow begun ended × (new ≡ ended.seats.items)
+
+  -- each thread of a pool did its part with its own seats
+  abbrev pub AllWork : Row S R G → List (Vec Seat Global) → List (Vec Seat Global) → Type 0
+  AllWork row old new =
+      (place : ℕ) (d : Vec Seat Global) → place < length old
+      → Works row (slice_index_or old place d).items (slice_index_or new place d).items

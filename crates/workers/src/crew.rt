@@ -1,6 +1,5 @@
 //! The threads that serve connections: each has seats of its own at the pads, and serves one connection at a time.
-ghost use Rattle.std.specs.Prelude.{ℕ, ◌<◌, length, slice_index_or};
-ghost use Rattle.workers.specs.Crew.{ServesConnection, ServesInTurn, Works};
+ghost use Rattle.workers.specs.Crew.{AllWork, ServesConnection, ServesInTurn, Works};
 
 use crate::connection::{Served, serve_connection};
 use crate::pads::Pads;
@@ -53,13 +52,18 @@ pub fn pool<
     R: Threads + Wait + Sync,
     G: Gate + Sync,
     C: Connection + Send + Drop,
->(alloc: Global, row: &Row<'_, S, R, G>, connections: &Receiver<(u64, C)>, crew: &mut [Vec<Seat>]) {
+>(alloc: Global, row: &Row<'_, S, R, G>, connections: &Receiver<(u64, C)>, crew: &mut [Vec<Seat>])
+    // Each thread's seats are its own, after some connections that it served.
+    ensures { AllWork row.now crew.old crew.new }
+{
     let threads = crew.len().max(1);
     thread::for_each_mut(
         row.rt,
         crew,
         threads,
-        &|_, seats: &mut Vec<Seat>| work(alloc, row, connections, seats),
+        &|_, seats: &mut Vec<Seat>|
+            ensures { Works row.entry.now seats.entry.now.items seats.exit.now.items }
+        { work(alloc, row, connections, seats) },
     );
 }
 

@@ -1,4 +1,4 @@
-use Rattle.std.proofs.Common.{◌≡◌, refl, sym, ap, ◌∙◌}
+use Rattle.std.proofs.Common.{sym, ap, ◌∙◌}
 use Rattle.workers.proofs.RowScans.{searched}
 use Rattle.server_core.specs.Opening.{act_refusal, create_refusal}
 use Rattle.workers.proofs.row.Row.ask.Goals as goal

@@ -1,4 +1,4 @@
-use Rattle.std.proofs.Common.{◌≡◌, ◌≤◌, Ok, Err, Some, None, ap, ◌∙◌, arith}
+use Rattle.std.proofs.Common.{◌≤◌, Ok, Err, ap, ◌∙◌, arith}
 use Rattle.pad_core.proofs.Exits.{passed_on}
 use Rattle.workers.proofs.RowScans.{found, passes_on}
 use Rattle.workers.proofs.row.Row.scan.Goals as goal

@@ -34,12 +34,6 @@ pub at_front : {A : Type 0} (items : List A) (i : ℕ) (x : A) → i < length it
 at_front items i x inside is = rw add-one (drop-cons items i x inside ∙ ap (λ y. y ∷ drop (suc i) items) (sym is))
 
 -- a test that is made step by step
-pub or_so : (a b c : Bool) → a ≡ true → c ≡ true → (a || b) ≡ c
-or_so a b c is so = rw (is, so) refl
-
-pub or_else : (a b c : Bool) → a ≡ false → c ≡ b → (a || b) ≡ c
-or_else a b c is so = rw (is, so) refl
-
 pub and_so : (a b c : Bool) → a ≡ true → c ≡ b → (a && b) ≡ c
 and_so a b c is so = rw (is, so) refl
 

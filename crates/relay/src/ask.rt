@@ -19,10 +19,7 @@ pub fn own_vector<P: Pads>(alloc: Global, pads: &mut P, pad: &Name) -> Result<Op
     ensures asks { AsksFor P.calls pad.now act.Vector vector_told result pads.old pads.new }
     ensures memory { IfErr result (λ fault. fault ≡ Memory) }
 {
-    match ask(alloc, pads, pad, Act::Vector) {
-        Ok(answer) => vector_in(answer),
-        Err(fault) => Err(fault),
-    }
+    vector_in(ask(alloc, pads, pad, Act::Vector)?)
 }
 
 /// The first operations of a pad that a vector lacks. None: this server refuses.
@@ -36,10 +33,7 @@ pub fn own_ops<P: Pads>(
     ensures memory { IfErr result (λ fault. fault ≡ Memory) }
 {
     let act = Act::Pull { seen, max: MAX_OPS };
-    match ask(alloc, pads, pad, act) {
-        Ok(answer) => ops_in(answer),
-        Err(fault) => Err(fault),
-    }
+    ops_in(ask(alloc, pads, pad, act)?)
 }
 
 /// How many operations this server delivers when it is given one. None: it refuses.
@@ -52,10 +46,8 @@ pub fn deliver<P: Pads>(
     ensures asks { AsksFor P.calls pad.now (act.Push op) count_told result pads.old pads.new }
     ensures memory { IfErr result (λ fault. fault ≡ Memory) }
 {
-    match ask(alloc, pads, pad, Act::Push { op }) {
-        Ok(answer) => count_in(&answer),
-        Err(fault) => Err(fault),
-    }
+    let answer = ask(alloc, pads, pad, Act::Push { op })?;
+    count_in(&answer)
 }
 
 /// The name of a cell, if it has one and this server tells it.
@@ -80,10 +72,7 @@ fn ask<P: Pads>(
     ensures asked { IfOk result (λ answer. P.calls pads.old (request.On pad.now act) answer pads.new) }
     ensures memory { IfErr result (λ fault. (fault ≡ Memory) × (pads.new ≡ pads.old)) }
 {
-    let pad = match pad.clone() {
-        Ok(pad) => pad,
-        Err(_) => return Err(Fault::Memory),
-    };
+    let pad = pad.clone()?;
     Ok(pads.call(alloc, &Request::On { pad, act }))
 }
 

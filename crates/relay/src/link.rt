@@ -83,10 +83,9 @@ impl<R: Source, W: Sink> Exchange for Link<R, W> {
     }
 
     fn hear(&mut self) -> Result<bool, Fault> {
-        match self.buffer.find_line(&mut self.reader) {
-            Ok(Found::Text) => Ok(true),
-            Ok(Found::TooLong | Found::End) => Ok(false),
-            Err(fault) => Err(fault),
+        match self.buffer.find_line(&mut self.reader)? {
+            Found::Text => Ok(true),
+            Found::TooLong | Found::End => Ok(false),
         }
     }
 

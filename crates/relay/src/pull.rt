@@ -45,11 +45,10 @@ pub fn pull_pad<P: Pads, L: Exchange>(
     ensures cell { (talk.new.cell ≡ talk.old.cell) × (talk.new.cells ≡ talk.old.cells) }
 {
     for turn in 0..MAX_TURNS {
-        match pull_turn(alloc, pads, link, talk, pad, turn) {
-            Ok(Turn::Gained) => {}
-            Ok(Turn::Spent) => return Ok(true),
-            Ok(Turn::Over) => return Ok(false),
-            Err(fault) => return Err(fault),
+        match pull_turn(alloc, pads, link, talk, pad, turn)? {
+            Turn::Gained => {}
+            Turn::Spent => return Ok(true),
+            Turn::Over => return Ok(false),
         }
     }
     Ok(true)
@@ -71,11 +70,10 @@ fn pull_turn<P: Pads, L: Exchange>(
         (world talk.old pads.old (L.wire link.old)) pads.new (L.wire link.new)) }
     ensures cell { (talk.new.cell ≡ talk.old.cell) × (talk.new.cells ≡ talk.old.cells) }
 {
-    match ask_peer(alloc, pads, link, talk, pad) {
-        Ok(true) => take_answer(alloc, pads, link, talk, pad, turn),
-        Ok(false) => Ok(Turn::Over),
-        Err(fault) => Err(fault),
+    if !ask_peer(alloc, pads, link, talk, pad)? {
+        return Ok(Turn::Over);
     }
+    take_answer(alloc, pads, link, talk, pad, turn)
 }
 
 /// Sends this server's vector of a pad to the peer. False where the pad's part is over.
@@ -92,10 +90,9 @@ fn ask_peer<P: Pads, L: Exchange>(
         (world talk.old pads.old (L.wire link.old)) pads.new (L.wire link.new)) }
     ensures cell { (talk.new.cell ≡ talk.old.cell) × (talk.new.cells ≡ talk.old.cells) }
 {
-    match own_vector(alloc, pads, pad) {
-        Ok(Some(seen)) => send_pull(alloc, link, talk, pad, &seen),
-        Ok(None) => Ok(false),
-        Err(fault) => Err(fault),
+    match own_vector(alloc, pads, pad)? {
+        Some(seen) => send_pull(alloc, link, talk, pad, &seen),
+        None => Ok(false),
     }
 }
 
@@ -115,14 +112,9 @@ fn send_pull<L: Exchange>(
         talk.relayed = talk.relayed.with_unsaid();
         return Ok(false);
     }
-    let line = match pull_line(alloc, pad, seen, MAX_OPS) {
-        Ok(line) => line,
-        Err(_) => return Err(Fault::Memory),
-    };
-    match link.send(line.as_str()) {
-        Ok(()) => Ok(true),
-        Err(fault) => Err(fault),
-    }
+    let line = pull_line(alloc, pad, seen, MAX_OPS)?;
+    link.send(line.as_str())?;
+    Ok(true)
 }
 
 /// Hears what the peer gives, and delivers it here.
@@ -140,17 +132,16 @@ fn take_answer<P: Pads, L: Exchange>(
         (world talk.old pads.old (L.wire link.old)) pads.new (L.wire link.new)) }
     ensures cell { (talk.new.cell ≡ talk.old.cell) × (talk.new.cells ≡ talk.old.cells) }
 {
-    let ops = match hear_ops(alloc, link) {
-        Ok(Some(Told::Said(ops))) => ops,
-        Ok(Some(Told::Refused)) => return Ok(Turn::Over),
-        Ok(None) => return Err(Fault::PeerReply),
-        Err(fault) => return Err(fault),
+    let ops = match hear_ops(alloc, link)? {
+        Some(Told::Said(ops)) => ops,
+        Some(Told::Refused) => return Ok(Turn::Over),
+        None => return Err(Fault::PeerReply),
     };
     talk.relayed = talk.relayed.with_pull(turn);
-    match take_ops(alloc, pads, talk, pad, ops) {
-        Ok(true) => Ok(Turn::Gained),
-        Ok(false) => Ok(Turn::Spent),
-        Err(fault) => Err(fault),
+    if take_ops(alloc, pads, talk, pad, ops)? {
+        Ok(Turn::Gained)
+    } else {
+        Ok(Turn::Spent)
     }
 }
 
@@ -170,13 +161,12 @@ fn take_ops<P: Pads>(
 {
     let mut gained = false;
     for op in ops.into_vec() {
-        match deliver(alloc, pads, pad, op) {
-            Ok(Some(count)) => {
+        match deliver(alloc, pads, pad, op)? {
+            Some(count) => {
                 talk.relayed = talk.relayed.with_pulled(count);
                 gained = gained || count > 0;
             }
-            Ok(None) => talk.relayed = talk.relayed.with_refused(),
-            Err(fault) => return Err(fault),
+            None => talk.relayed = talk.relayed.with_refused(),
         }
     }
     Ok(gained)

@@ -37,10 +37,8 @@ pub fn push_pad<P: Pads, L: Exchange>(
     ensures cell { (talk.new.cell ≡ talk.old.cell) × (talk.new.cells ≡ talk.old.cells) }
 {
     for turn in 0..MAX_TURNS {
-        match push_turn(alloc, pads, link, talk, pad, turn) {
-            Ok(true) => {}
-            Ok(false) => return Ok(()),
-            Err(fault) => return Err(fault),
+        if !push_turn(alloc, pads, link, talk, pad, turn)? {
+            return Ok(());
         }
     }
     Ok(())
@@ -62,17 +60,12 @@ fn push_turn<P: Pads, L: Exchange>(
         (world talk.old pads.old (L.wire link.old)) pads.new (L.wire link.new)) }
     ensures cell { (talk.new.cell ≡ talk.old.cell) × (talk.new.cells ≡ talk.old.cells) }
 {
-    match send_vector(alloc, link, pad) {
-        Ok(()) => {}
-        Err(fault) => return Err(fault),
+    send_vector(alloc, link, pad)?;
+    match hear_vector(alloc, link)? {
+        Some(Told::Said(seen)) => push_lacking(alloc, pads, link, talk, pad, seen),
+        Some(Told::Refused) => Ok(false),
+        None => Err(Fault::PeerReply),
     }
-    let seen = match hear_vector(alloc, link) {
-        Ok(Some(Told::Said(seen))) => seen,
-        Ok(Some(Told::Refused)) => return Ok(false),
-        Ok(None) => return Err(Fault::PeerReply),
-        Err(fault) => return Err(fault),
-    };
-    push_lacking(alloc, pads, link, talk, pad, seen)
 }
 
 /// Asks for the peer's vector of a pad.
@@ -80,10 +73,7 @@ fn send_vector<L: Exchange>(alloc: Global, link: &mut L, pad: &Name) -> Result<(
     ensures sent { OnOk result (Writes (line_of (vector_request pad.now)) (L.wire link.old) (L.wire link.new)) }
     ensures unsent { IfErr result (λ fault. IsUnsent fault (line_of (vector_request pad.now)) (L.wire link.old) (L.wire link.new)) }
 {
-    let line = match vector_line(alloc, pad) {
-        Ok(line) => line,
-        Err(_) => return Err(Fault::Memory),
-    };
+    let line = vector_line(alloc, pad)?;
     link.send(line.as_str())
 }
 
@@ -103,10 +93,8 @@ fn push_lacking<P: Pads, L: Exchange>(
         (world talk.old pads.old (L.wire link.old)) pads.new (L.wire link.new)) }
     ensures cell { (talk.new.cell ≡ talk.old.cell) × (talk.new.cells ≡ talk.old.cells) }
 {
-    let ops = match own_ops(alloc, pads, pad, seen) {
-        Ok(Some(ops)) => ops,
-        Ok(None) => return Ok(false),
-        Err(fault) => return Err(fault),
+    let Some(ops) = own_ops(alloc, pads, pad, seen)? else {
+        return Ok(false);
     };
     let mut due = 0usize;
     let mut whole = true;
@@ -116,17 +104,12 @@ fn push_lacking<P: Pads, L: Exchange>(
             whole = false;
             break;
         }
-        match send_push(alloc, link, pad, op) {
-            Ok(()) => due += 1,
-            Err(fault) => return Err(fault),
-        }
+        send_push(alloc, link, pad, op)?;
+        due += 1;
     }
     let mut gained = false;
     for _ in 0..due {
-        match hear_delivered(alloc, link, talk) {
-            Ok(delivered) => gained = gained || delivered,
-            Err(fault) => return Err(fault),
-        }
+        gained |= hear_delivered(alloc, link, talk)?;
     }
     Ok(gained && whole)
 }
@@ -136,10 +119,7 @@ fn send_push<L: Exchange>(alloc: Global, link: &mut L, pad: &Name, op: &Op) -> R
     ensures sent { OnOk result (Writes (line_of (push_request pad.now op.now)) (L.wire link.old) (L.wire link.new)) }
     ensures unsent { IfErr result (λ fault. IsUnsent fault (line_of (push_request pad.now op.now)) (L.wire link.old) (L.wire link.new)) }
 {
-    let line = match push_line(alloc, pad, op) {
-        Ok(line) => line,
-        Err(_) => return Err(Fault::Memory),
-    };
+    let line = push_line(alloc, pad, op)?;
     link.send(line.as_str())
 }
 
@@ -151,17 +131,16 @@ fn hear_delivered<L: Exchange>(alloc: Global, link: &mut L, talk: &mut Talk) -> 
         ⊎ ((fault ≡ PeerReply) × HearsAs push_answer None (L.wire link.old) (L.wire link.new))) }
     ensures cell { (talk.new.cell ≡ talk.old.cell) × (talk.new.cells ≡ talk.old.cells) }
 {
-    match hear_push(alloc, link) {
-        Ok(Some(Told::Said(Pushed::Delivered))) => {
+    match hear_push(alloc, link)? {
+        Some(Told::Said(Pushed::Delivered)) => {
             talk.relayed = talk.relayed.with_pushed();
             Ok(true)
         }
-        Ok(Some(Told::Said(_))) => Ok(false),
-        Ok(Some(Told::Refused)) => {
+        Some(Told::Said(_)) => Ok(false),
+        Some(Told::Refused) => {
             talk.relayed = talk.relayed.with_refused();
             Ok(false)
         }
-        Ok(None) => Err(Fault::PeerReply),
-        Err(fault) => Err(fault),
+        None => Err(Fault::PeerReply),
     }
 }

@@ -58,15 +58,11 @@ fn make_round<P: Pads, L: Exchange>(
     ensures fault { IfErr result (λ fault. Breaks P.calls P.names fault (Greeting own token.now)
         (begun (P.width pads.old) pads.old (L.wire link.old)) pads.new (L.wire link.new)) }
 {
-    match send_greeting(alloc, link, own, token) {
-        Ok(()) => {}
-        Err(fault) => return Err(fault),
-    }
-    let version = match hear_version(alloc, link) {
-        Ok(Some(Told::Said(version))) => version,
-        Ok(Some(Told::Refused)) => return Err(Fault::PeerReply),
-        Ok(None) => return Err(Fault::PeerReply),
-        Err(fault) => return Err(fault),
+    send_greeting(alloc, link, own, token)?;
+    let version = match hear_version(alloc, link)? {
+        Some(Told::Said(version)) => version,
+        Some(Told::Refused) => return Err(Fault::PeerReply),
+        None => return Err(Fault::PeerReply),
     };
     let mut talk = Talk {
         cells: pads.cells(),
@@ -75,10 +71,8 @@ fn make_round<P: Pads, L: Exchange>(
         relayed: Relayed::new(),
     };
     while talk.cell < talk.cells {
-        match exchange_cell(alloc, pads, link, &mut talk) {
-            Ok(()) => talk.cell += 1,
-            Err(fault) => return Err(fault),
-        }
+        exchange_cell(alloc, pads, link, &mut talk)?;
+        talk.cell += 1;
     }
     Ok(talk.relayed)
 }
@@ -93,10 +87,7 @@ fn send_greeting<L: Exchange>(
     ensures sent { OnOk result (Writes (line_of (peer_request own token.now)) (L.wire link.old) (L.wire link.new)) }
     ensures unsent { IfErr result (λ fault. IsUnsent fault (line_of (peer_request own token.now)) (L.wire link.old) (L.wire link.new)) }
 {
-    let line = match peer_line(alloc, own, token) {
-        Ok(line) => line,
-        Err(_) => return Err(Fault::Memory),
-    };
+    let line = peer_line(alloc, own, token)?;
     link.send(line.as_str())
 }
 
@@ -114,10 +105,9 @@ fn exchange_cell<P: Pads, L: Exchange>(
         (world talk.old pads.old (L.wire link.old)) pads.new (L.wire link.new)) }
     ensures cell { (talk.new.cell ≡ talk.old.cell) × (talk.new.cells ≡ talk.old.cells) }
 {
-    match name_in(pads.name_of(alloc, talk.cell)) {
-        Ok(Some(pad)) => exchange_pad(alloc, pads, link, talk, &pad),
-        Ok(None) => Ok(()),
-        Err(fault) => Err(fault),
+    match name_in(pads.name_of(alloc, talk.cell))? {
+        Some(pad) => exchange_pad(alloc, pads, link, talk, &pad),
+        None => Ok(()),
     }
 }
 
@@ -135,9 +125,8 @@ fn exchange_pad<P: Pads, L: Exchange>(
         (world talk.old pads.old (L.wire link.old)) pads.new (L.wire link.new)) }
     ensures cell { (talk.new.cell ≡ talk.old.cell) × (talk.new.cells ≡ talk.old.cells) }
 {
-    match pull_pad(alloc, pads, link, talk, pad) {
-        Ok(true) => push_pad(alloc, pads, link, talk, pad),
-        Ok(false) => Ok(()),
-        Err(fault) => Err(fault),
+    if !pull_pad(alloc, pads, link, talk, pad)? {
+        return Ok(());
     }
+    push_pad(alloc, pads, link, talk, pad)
 }

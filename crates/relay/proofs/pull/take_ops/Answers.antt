@@ -1,4 +1,5 @@
 use Rattle.std.proofs.Common.{refl, Ok, false, sym, subst, ap, ◌∙◌}
+use Rattle.pad_core.proofs.Exits.{fails_passed}
 use Rattle.relay.specs.Kept.{world}
 use Rattle.relay.specs.Round.{Reaches}
 use Rattle.relay.specs.Round.Stage.{Taking}
@@ -19,7 +20,7 @@ pub loop-op-preserved-then-gained : goal.loop-op-preserved-then-gained
 loop-op-preserved-then-gained g c = record {
   goes = takes_more g.P.Pads.calls g.P.Pads.names _ c.in-Some.op _ _ _ c.loop-op.gained _ c.deliver.result _
       c.args.talk.now c.loop-op.talk _ _ _ _ c.in-Some.ensures.steps.0
-      (c.in-Ok-Some.is ∙ ap Ok c.in-Ok-Some.field-0-is) c.deliver.ensures.asks (rw c.if-gained.true refl)
+      (c.in_ok-count.was ∙ ap Ok c.in-Some-2.is) c.deliver.ensures.asks (rw c.if-gained.true refl)
       (ap (λ r. record { cells = c.loop-op.talk.cells; cell = c.loop-op.talk.cell; version = c.loop-op.talk.version; relayed = r }) c.with_pulled-talk.ensures) c.loop-op.invariant.goes;
   cell = c.loop-op.invariant.cell;
 }
@@ -28,7 +29,7 @@ pub loop-op-preserved-else-gained : goal.loop-op-preserved-else-gained
 loop-op-preserved-else-gained g c = record {
   goes = takes_more g.P.Pads.calls g.P.Pads.names _ c.in-Some.op _ _ _ c.loop-op.gained _ c.deliver.result _
       c.args.talk.now c.loop-op.talk _ _ _ _ c.in-Some.ensures.steps.0
-      (c.in-Ok-Some.is ∙ ap Ok c.in-Ok-Some.field-0-is) c.deliver.ensures.asks (rw c.if-gained.false refl)
+      (c.in_ok-count.was ∙ ap Ok c.in-Some-2.is) c.deliver.ensures.asks (rw c.if-gained.false refl)
       (ap (λ r. record { cells = c.loop-op.talk.cells; cell = c.loop-op.talk.cell; version = c.loop-op.talk.version; relayed = r }) c.with_pulled-talk.ensures) c.loop-op.invariant.goes;
   cell = c.loop-op.invariant.cell;
 }
@@ -37,18 +38,20 @@ pub loop-op-preserved : goal.loop-op-preserved
 loop-op-preserved g c = record {
   goes = takes_more g.P.Pads.calls g.P.Pads.names _ c.in-Some.op _ _ _ c.loop-op.gained _ c.deliver.result _
       c.args.talk.now c.loop-op.talk _ _ _ _ c.in-Some.ensures.steps.0
-      (c.in-Ok-None.is ∙ ap Ok c.in-Ok-None.field-0-is) c.deliver.ensures.asks refl
+      (c.in_ok-count.was ∙ ap Ok c.in-None-2.is) c.deliver.ensures.asks refl
       (ap (λ r. record { cells = c.loop-op.talk.cells; cell = c.loop-op.talk.cell; version = c.loop-op.talk.version; relayed = r }) c.with_refused-talk.ensures) c.loop-op.invariant.goes;
   cell = c.loop-op.invariant.cell;
 }
 
-pub returns-in-Err-clause-lacks : goal.returns-in-Err-clause-lacks
-returns-in-Err-clause-lacks g c = takes_none g.P.Pads.calls g.P.Pads.names _ c.in-Some.op _ _ _ c.loop-op.gained
-    c.deliver.result c.in-Err.fault _ _ _ _ _ c.in-Some.ensures.steps.0 c.in-Err.is c.in-Err.ensures.memory
-    c.deliver.ensures.asks c.loop-op.invariant.goes
+pub returns-in_err-count-clause-lacks : goal.returns-in_err-count-clause-lacks
+returns-in_err-count-clause-lacks g c =
+    fails_passed _ c.from_residual.result c.from_residual.ensures.1
+    (takes_none g.P.Pads.calls g.P.Pads.names _ c.in-Some.op _ _ _ c.loop-op.gained c.deliver.result
+    c.in_err-count.field-0.0 _ _ _ _ _ c.in-Some.ensures.steps.0 c.in_err-count.was c.in_err-count.ensures.memory
+    c.deliver.ensures.asks c.loop-op.invariant.goes)
 
-pub returns-in-Err-clause-cell : goal.returns-in-Err-clause-cell
-returns-in-Err-clause-cell g c = c.loop-op.invariant.cell
+pub returns-in_err-count-clause-cell : goal.returns-in_err-count-clause-cell
+returns-in_err-count-clause-cell g c = c.loop-op.invariant.cell
 
 pub returns-clause-goes : goal.returns-clause-goes
 returns-clause-goes g c =

@@ -1,22 +1,24 @@
 use Rattle.std.proofs.Common.{◌+◌, ◌-◌, Ok, ap, refl, arith, sym, subst, ◌∙◌, drop_of_length-le}
+use Rattle.pad_core.proofs.Exits.{fails_passed}
 use Rattle.relay.specs.Kept.{world}
 use Rattle.relay.specs.Round.{Reaches, is_readable}
 use Rattle.relay.specs.Round.Stage.{Giving, Lacking}
 use Rattle.relay.proofs.Pushes.{and_else, and_so, gives_end, gives_more, gives_none, gives_unsaid, hears_end}
-use Rattle.relay.proofs.Pushes.{hears_more, hears_none, lacks_none, lacks_ops, lacks_over, or_else, or_so}
-use Rattle.relay.proofs.push.push_lacking.Goals.{else-gained, else-gained-2, else-loop-op-test, then-gained}
-use Rattle.relay.proofs.push.push_lacking.Goals.{then-gained-2, then-loop-op-test+then-not-is_readable}
+use Rattle.relay.proofs.Pushes.{hears_more, hears_none, lacks_none, lacks_ops, lacks_over}
+use Rattle.relay.proofs.push.push_lacking.Goals.{else-gained, else-loop-op-test, then-gained}
+use Rattle.relay.proofs.push.push_lacking.Goals.{then-loop-op-test+then-not-is_readable}
 use Rattle.relay.proofs.push.push_lacking.Goals as goal
 
-pub returns-in-Ok-None-clause-goes : goal.returns-in-Ok-None-clause-goes
-returns-in-Ok-None-clause-goes g c =
-    lacks_over g.P.Pads.calls g.P.Pads.names _ c.args.seen c.own_ops.result c.args.talk.now _ _ _ (c.in-Ok-None.is
-    ∙ ap Ok c.in-Ok-None.field-0-is) c.own_ops.ensures.asks
+pub returns-in_default-clause-goes : goal.returns-in_default-clause-goes
+returns-in_default-clause-goes g c =
+    lacks_over g.P.Pads.calls g.P.Pads.names _ c.args.seen c.own_ops.result c.args.talk.now _ _ _ (c.in_ok-ops.was
+    ∙ ap Ok c.in_default.is) c.own_ops.ensures.asks
 
-pub returns-in-Err-clause-breaks : goal.returns-in-Err-clause-breaks
-returns-in-Err-clause-breaks g c =
-    lacks_none g.P.Pads.calls g.P.Pads.names _ c.args.seen c.own_ops.result c.in-Err.fault c.args.talk.now _ _ _
-    c.in-Err.is c.in-Err.ensures.memory c.own_ops.ensures.asks
+pub returns-in_err-ops-clause-breaks : goal.returns-in_err-ops-clause-breaks
+returns-in_err-ops-clause-breaks g c =
+    fails_passed _ c.from_residual.result c.from_residual.ensures.1
+    (lacks_none g.P.Pads.calls g.P.Pads.names _ c.args.seen c.own_ops.result c.in_err-ops.field-0.0 c.args.talk.now
+    _ _ _ c.in_err-ops.was c.in_err-ops.ensures.memory c.own_ops.ensures.asks)
 
 pub loop-op-init : goal.loop-op-init
 loop-op-init g c = record {
@@ -24,8 +26,8 @@ loop-op-init g c = record {
       (world c.args.talk.now c.args.pads.now (g.L.Exchange.wire c.args.link.now))
       (Giving c.args.pad.now turn 0 l) (world c.args.talk.now c.own_ops.new.pads (g.L.Exchange.wire c.args.link.now)))
       (sym c.as_slice-op-items.ensures)
-      (lacks_ops g.P.Pads.calls g.P.Pads.names _ c.args.seen c.own_ops.result c.in-Ok-Some.ops c.args.talk.now _ _ _
-      (c.in-Ok-Some.is ∙ ap Ok c.in-Ok-Some.field-0-is) c.own_ops.ensures.asks turn);
+      (lacks_ops g.P.Pads.calls g.P.Pads.names _ c.args.seen c.own_ops.result c.in-Some.ops c.args.talk.now _ _ _
+      (c.in_ok-ops.was ∙ ap Ok c.in-Some.is) c.own_ops.ensures.asks turn);
   count = refl;
   whole = refl;
   cell = (refl, refl);
@@ -34,18 +36,19 @@ loop-op-init g c = record {
 pub overflow_add-due : goal.overflow_add-due
 overflow_add-due g c = omega (arith, c.loop-op.invariant.count, c.loop-op-test.true, c.as_slice-op-items.type_inv.0)
 
-pub returns-in-Err-send_push-clause-breaks : goal.returns-in-Err-send_push-clause-breaks
-returns-in-Err-send_push-clause-breaks g c =
-    gives_none g.P.Pads.calls g.P.Pads.names _ c.in-Err-send_push.fault
+pub returns-in_err-send_push-clause-breaks : goal.returns-in_err-send_push-clause-breaks
+returns-in_err-send_push-clause-breaks g c =
+    fails_passed _ c.from_residual-in_err-send_push.result c.from_residual-in_err-send_push.ensures.1
+    (gives_none g.P.Pads.calls g.P.Pads.names _ c.in_err-send_push.field-0.0
     (λ turn. Lacking c.args.pad.now turn c.args.seen)
     (world c.args.talk.now c.args.pads.now (g.L.Exchange.wire c.args.link.now)) c.loop-op.due c.loop-op.op-index
     c.op-item.result c.as_slice-op-items.result.now c.loop-op.talk _ _ _
     c.loop-op-test.true c.op-item.is (ap (λ b. is_readable c.loop-op.talk.version b) (sym c.op_in_v1.ensures)
     ∙ sym c.is_readable.ensures ∙ c.if-not-is_readable.false)
-    c.in-Err-send_push.ensures.unsent c.loop-op.invariant.goes
+    c.in_err-send_push.ensures.unsent c.loop-op.invariant.goes)
 
-pub returns-in-Err-send_push-clause-cell : goal.returns-in-Err-send_push-clause-cell
-returns-in-Err-send_push-clause-cell g c = c.loop-op.invariant.cell
+pub returns-in_err-send_push-clause-cell : goal.returns-in_err-send_push-clause-cell
+returns-in_err-send_push-clause-cell g c = c.loop-op.invariant.cell
 
 pub loop-op-preserved : goal.loop-op-preserved
 loop-op-preserved g c = record {
@@ -54,7 +57,7 @@ loop-op-preserved g c = record {
       c.op-item.result c.as_slice-op-items.result.now c.loop-op.talk _ _ _
       c.loop-op-test.true c.op-item.is (ap (λ b. is_readable c.loop-op.talk.version b) (sym c.op_in_v1.ensures)
       ∙ sym c.is_readable.ensures ∙ c.if-not-is_readable.false)
-      c.in-Ok.ensures.sent c.loop-op.invariant.goes;
+      c.in_ok-send_push.ensures.sent c.loop-op.invariant.goes;
   count = ap (λ n. n + 1) c.loop-op.invariant.count;
   whole = c.loop-op.invariant.whole;
   cell = c.loop-op.invariant.cell;
@@ -90,16 +93,17 @@ loop-init g c = elim c.loop-op-test.branch [
   })
 ]
 
-pub returns-in-Err-hear_delivered-clause-breaks : goal.returns-in-Err-hear_delivered-clause-breaks
-returns-in-Err-hear_delivered-clause-breaks g c =
-    hears_none g.P.Pads.calls g.P.Pads.names _ c.in-Err-hear_delivered.fault
+pub returns-in_err-gained-clause-breaks : goal.returns-in_err-gained-clause-breaks
+returns-in_err-gained-clause-breaks g c =
+    fails_passed _ c.from_residual-in_err-gained.result c.from_residual-in_err-gained.ensures.1
+    (hears_none g.P.Pads.calls g.P.Pads.names _ c.in_err-gained.field-0.0
     (λ turn. Lacking c.args.pad.now turn c.args.seen)
     (world c.args.talk.now c.args.pads.now (g.L.Exchange.wire c.args.link.now)) c.loop-op.due c.loop.counter
     (c.loop-op.due - (c.loop.counter + 1)) c.loop.gained _ c.loop.talk _ _ _
-    (omega (arith, c.loop-test.true)) c.in-Err-hear_delivered.ensures.fault c.loop.invariant.goes
+    (omega (arith, c.loop-test.true)) c.in_err-gained.ensures.fault c.loop.invariant.goes)
 
-pub returns-in-Err-hear_delivered-clause-cell : goal.returns-in-Err-hear_delivered-clause-cell
-returns-in-Err-hear_delivered-clause-cell g c = (
+pub returns-in_err-gained-clause-cell : goal.returns-in_err-gained-clause-cell
+returns-in_err-gained-clause-cell g c = (
   c.hear_delivered.ensures.cell.0 ∙ c.loop.invariant.cell.0,
   c.hear_delivered.ensures.cell.1 ∙ c.loop.invariant.cell.1,
 )
@@ -108,13 +112,10 @@ pub loop-preserved : goal.loop-preserved
 loop-preserved g c = record {
   goes = hears_more g.P.Pads.calls g.P.Pads.names _ (λ turn. Lacking c.args.pad.now turn c.args.seen)
       (world c.args.talk.now c.args.pads.now (g.L.Exchange.wire c.args.link.now)) c.loop-op.due c.loop.counter
-      (c.loop-op.due - (c.loop.counter + 1)) c.loop.gained c.if-gained.gained _ c.hear_delivered.result
-      c.in-Ok-hear_delivered.delivered c.loop.talk _ _ _ _
-      (omega (arith, c.loop-test.true)) c.in-Ok-hear_delivered.is
-      (elim c.if-gained.branch [
-        | then-gained w ↦ or_so _ _ _ w.if-gained.true (w.gained-is ∙ w.if-gained.true)
-        | else-gained w ↦ or_else _ _ _ w.if-gained.false w.gained-is
-      ])
+      (c.loop-op.due - (c.loop.counter + 1)) c.loop.gained _ _ c.hear_delivered.result
+      c.in_ok-gained.field-0 c.loop.talk _ _ _ _
+      (omega (arith, c.loop-test.true)) c.in_ok-gained.was
+      refl
       c.hear_delivered.ensures.heard c.loop.invariant.goes;
   cell = (
     c.hear_delivered.ensures.cell.0 ∙ c.loop.invariant.cell.0,
@@ -127,13 +128,13 @@ pub returns-clause-goes : goal.returns-clause-goes
 returns-clause-goes g c =
     hears_end g.P.Pads.calls g.P.Pads.names _ (λ turn. Lacking c.args.pad.now turn c.args.seen)
     (world c.args.talk.now c.args.pads.now (g.L.Exchange.wire c.args.link.now))
-    (c.loop-op.due - c.loop.counter) c.loop.gained _ c.if-gained-2.result
+    (c.loop-op.due - c.loop.counter) c.loop.gained _ c.if-gained.result
     (world c.loop.talk c.own_ops.new.pads (g.L.Exchange.wire c.loop.link))
     (omega (arith, c.loop-test.false))
-    (elim c.if-gained-2.branch [
-      | then-gained-2 w ↦ and_so _ _ _ w.if-gained-2.true w.result-is
-      | else-gained-2 w ↦
-          and_else _ _ _ w.if-gained-2.false (w.result-is ∙ w.if-gained-2.false)
+    (elim c.if-gained.branch [
+      | then-gained w ↦ and_so _ _ _ w.if-gained.true w.result-is
+      | else-gained w ↦
+          and_else _ _ _ w.if-gained.false (w.result-is ∙ w.if-gained.false)
     ])
     c.loop.invariant.goes
 

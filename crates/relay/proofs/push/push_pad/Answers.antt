@@ -1,4 +1,5 @@
 use Rattle.std.proofs.Common.{Ok, ap, refl, rules, true, false, if◌then◌else◌, ◌+◌, ◌∙◌}
+use Rattle.pad_core.proofs.Exits.{fails_passed}
 use Rattle.relay.specs.Kept.{world}
 use Rattle.relay.specs.Round.Reaches.{here}
 use Rattle.relay.specs.Round.Stage.{Over, Pushing}
@@ -9,34 +10,35 @@ use Rattle.relay.proofs.push.push_pad.Goals as goal
 pub loop-turn-init : goal.loop-turn-init
 loop-turn-init g c = record { goes = here; cell = (refl, refl) }
 
-pub returns-in-Ok-false-clause-goes : goal.returns-in-Ok-false-clause-goes
-returns-in-Ok-false-clause-goes g c =
+pub returns-then-not-branch-clause-goes : goal.returns-then-not-branch-clause-goes
+returns-then-not-branch-clause-goes g c =
     join_at g.P.Pads.calls g.P.Pads.names c.push_turn.result false (λ more. if more
     then Pushing c.args.pad.now (c.loop-turn.turn + 1) else Over) _
     (world c.args.talk.now c.args.pads.now (g.L.Exchange.wire c.args.link.now)) _
     (world c.loop-turn.talk c.loop-turn.pads (g.L.Exchange.wire c.loop-turn.link))
     (world c.push_turn.new.talk c.push_turn.new.pads (g.L.Exchange.wire c.push_turn.new.link))
-    c.loop-turn.invariant.goes (c.in-Ok-false.is ∙ ap Ok c.in-Ok-false.field-0-test) c.push_turn.ensures.goes
+    c.loop-turn.invariant.goes (c.in_ok-push_turn.was ∙ ap Ok c.if-not-branch.true) c.push_turn.ensures.goes
 
-pub returns-in-Ok-false-clause-cell : goal.returns-in-Ok-false-clause-cell
-returns-in-Ok-false-clause-cell g c = (
+pub returns-then-not-branch-clause-cell : goal.returns-then-not-branch-clause-cell
+returns-then-not-branch-clause-cell g c = (
   c.push_turn.ensures.cell.0 ∙ c.loop-turn.invariant.cell.0,
   c.push_turn.ensures.cell.1 ∙ c.loop-turn.invariant.cell.1,
 )
 
-pub returns-in-Err-clause-cell : goal.returns-in-Err-clause-cell
-returns-in-Err-clause-cell g c = (
+pub returns-in_err-push_turn-clause-cell : goal.returns-in_err-push_turn-clause-cell
+returns-in_err-push_turn-clause-cell g c = (
   c.push_turn.ensures.cell.0 ∙ c.loop-turn.invariant.cell.0,
   c.push_turn.ensures.cell.1
       ∙ c.loop-turn.invariant.cell.1,
 )
 
-pub returns-in-Err-clause-breaks : goal.returns-in-Err-clause-breaks
-returns-in-Err-clause-breaks g c =
-    later g.P.Pads.calls g.P.Pads.names c.in-Err.fault _
+pub returns-in_err-push_turn-clause-breaks : goal.returns-in_err-push_turn-clause-breaks
+returns-in_err-push_turn-clause-breaks g c =
+    fails_passed _ c.from_residual.result c.from_residual.ensures.1
+    (later g.P.Pads.calls g.P.Pads.names c.in_err-push_turn.field-0.0 _
     (world c.args.talk.now c.args.pads.now (g.L.Exchange.wire c.args.link.now)) _
     (world c.loop-turn.talk c.loop-turn.pads (g.L.Exchange.wire c.loop-turn.link)) _ _ c.loop-turn.invariant.goes
-    c.in-Err.ensures.breaks
+    c.in_err-push_turn.ensures.breaks)
 
 pub loop-turn-preserved : goal.loop-turn-preserved
 loop-turn-preserved g c = record {
@@ -45,7 +47,7 @@ loop-turn-preserved g c = record {
       (world c.args.talk.now c.args.pads.now (g.L.Exchange.wire c.args.link.now)) _
       (world c.loop-turn.talk c.loop-turn.pads (g.L.Exchange.wire c.loop-turn.link))
       (world c.push_turn.new.talk c.push_turn.new.pads (g.L.Exchange.wire c.push_turn.new.link))
-      c.loop-turn.invariant.goes (c.in-Ok-true.is ∙ ap Ok c.in-Ok-true.field-0-test) c.push_turn.ensures.goes;
+      c.loop-turn.invariant.goes (c.in_ok-push_turn.was ∙ ap Ok c.if-not-branch.false) c.push_turn.ensures.goes;
   cell = (
     c.push_turn.ensures.cell.0 ∙ c.loop-turn.invariant.cell.0,
     c.push_turn.ensures.cell.1

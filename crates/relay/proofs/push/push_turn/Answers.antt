@@ -1,4 +1,5 @@
 use Rattle.std.proofs.Common.{Some, ap, ◌∙◌}
+use Rattle.pad_core.proofs.Exits.{fails_passed}
 use Rattle.relay.specs.Kept.{world}
 use Rattle.wire_lines.specs.declared.fault.Fault.TheVariants.{PeerReply}
 use Rattle.relay.proofs.Pushes.{counted_over, counted_then, counted_wrong, turn_broken, turn_pushed, vector_sent}
@@ -6,45 +7,47 @@ use Rattle.relay.proofs.Pushes.{vector_unsent}
 use Rattle.relay.proofs.Steps.{join, later, unheard}
 use Rattle.relay.proofs.push.push_turn.Goals as goal
 
-pub returns-in-Err-clause-breaks : goal.returns-in-Err-clause-breaks
-returns-in-Err-clause-breaks g c = vector_unsent g.P.Pads.calls g.P.Pads.names c.args.pad.now c.args.turn c.in-Err.fault
-    c.args.talk.now _ _ _ c.requires c.in-Err.ensures.unsent
+pub returns-in_err-send_vector-clause-breaks : goal.returns-in_err-send_vector-clause-breaks
+returns-in_err-send_vector-clause-breaks g c =
+    fails_passed _ c.from_residual.result c.from_residual.ensures.1
+    (vector_unsent g.P.Pads.calls g.P.Pads.names c.args.pad.now c.args.turn c.in_err-send_vector.field-0.0
+    c.args.talk.now _ _ _ c.requires c.in_err-send_vector.ensures.unsent)
 
-pub returns-in-Ok-Some-Refused-clause-goes : goal.returns-in-Ok-Some-Refused-clause-goes
-returns-in-Ok-Some-Refused-clause-goes g c =
-    let at = c.in-Ok-Some-Refused in
+pub returns-in-Some-Refused-clause-goes : goal.returns-in-Some-Refused-clause-goes
+returns-in-Some-Refused-clause-goes g c =
     join g.P.Pads.calls g.P.Pads.names _ (world c.args.talk.now c.args.pads.now (g.L.Exchange.wire c.args.link.now)) _
     (world c.args.talk.now c.args.pads.now (g.L.Exchange.wire c.send_vector.new.link)) _
     (world c.args.talk.now c.args.pads.now (g.L.Exchange.wire c.hear_vector.new.link))
     (vector_sent g.P.Pads.calls g.P.Pads.names c.args.pad.now c.args.turn c.args.talk.now _ _ _ c.requires
-    c.in-Ok.ensures.sent)
-    (counted_over g.P.Pads.calls g.P.Pads.names _ _ at.field-0 c.args.talk.now _ _ _ (at.field-0-is
-    ∙ ap Some at.field-0-0-is) at.ensures.heard)
+    c.in_ok-send_vector.ensures.sent)
+    (counted_over g.P.Pads.calls g.P.Pads.names _ _ c.in_ok-seen.field-0 c.args.talk.now _ _ _ (c.in-Some-Refused.is
+    ∙ ap Some c.in-Some-Refused.field-0-is) c.in_ok-seen.ensures.heard)
 
-pub returns-in-Ok-None-clause-breaks : goal.returns-in-Ok-None-clause-breaks
-returns-in-Ok-None-clause-breaks g c =
+pub returns-in-None-clause-breaks : goal.returns-in-None-clause-breaks
+returns-in-None-clause-breaks g c =
     later g.P.Pads.calls g.P.Pads.names PeerReply _
     (world c.args.talk.now c.args.pads.now (g.L.Exchange.wire c.args.link.now)) _
     (world c.args.talk.now c.args.pads.now (g.L.Exchange.wire c.send_vector.new.link)) _
     (g.L.Exchange.wire c.hear_vector.new.link)
     (vector_sent g.P.Pads.calls g.P.Pads.names c.args.pad.now c.args.turn c.args.talk.now _ _ _ c.requires
-    c.in-Ok.ensures.sent)
-    (counted_wrong g.P.Pads.calls g.P.Pads.names _ _ c.in-Ok-None.field-0 c.args.talk.now _ _
-    (g.L.Exchange.wire c.hear_vector.new.link) c.in-Ok-None.field-0-is c.in-Ok-None.ensures.heard)
+    c.in_ok-send_vector.ensures.sent)
+    (counted_wrong g.P.Pads.calls g.P.Pads.names _ _ c.in_ok-seen.field-0 c.args.talk.now _ _
+    (g.L.Exchange.wire c.hear_vector.new.link) c.in-None.is c.in_ok-seen.ensures.heard)
 
-pub returns-in-Err-hear_vector-clause-breaks : goal.returns-in-Err-hear_vector-clause-breaks
-returns-in-Err-hear_vector-clause-breaks g c =
-    later g.P.Pads.calls g.P.Pads.names _ _ (world c.args.talk.now c.args.pads.now (g.L.Exchange.wire c.args.link.now))
+pub returns-in_err-seen-clause-breaks : goal.returns-in_err-seen-clause-breaks
+returns-in_err-seen-clause-breaks g c =
+    fails_passed _ c.from_residual-in_err-seen.result c.from_residual-in_err-seen.ensures.1
+    (later g.P.Pads.calls g.P.Pads.names _ _ (world c.args.talk.now c.args.pads.now (g.L.Exchange.wire c.args.link.now))
     _ (world c.args.talk.now c.args.pads.now (g.L.Exchange.wire c.send_vector.new.link)) _ _
     (vector_sent g.P.Pads.calls g.P.Pads.names c.args.pad.now c.args.turn c.args.talk.now _ _ _ c.requires
-    c.in-Ok.ensures.sent)
-    (unheard g.P.Pads.calls g.P.Pads.names c.in-Err-hear_vector.fault _
+    c.in_ok-send_vector.ensures.sent)
+    (unheard g.P.Pads.calls g.P.Pads.names c.in_err-seen.field-0.0 _
     (world c.args.talk.now c.args.pads.now (g.L.Exchange.wire c.send_vector.new.link)) _
-    c.in-Err-hear_vector.ensures.fault)
+    c.in_err-seen.ensures.fault))
 
-pub returns-clause-goes : goal.returns-clause-goes
-returns-clause-goes g c =
-    let at = c.in-Ok-Some-Said in
+pub returns-in-Some-Said-clause-goes : goal.returns-in-Some-Said-clause-goes
+returns-in-Some-Said-clause-goes g c =
+    let at = c.in-Some-Said in
     turn_pushed g.P.Pads.calls g.P.Pads.names c.args.pad.now c.args.turn at.seen c.push_lacking.result
     (world c.args.talk.now c.args.pads.now (g.L.Exchange.wire c.args.link.now))
     (world c.args.talk.now c.args.pads.now (g.L.Exchange.wire c.hear_vector.new.link))
@@ -53,14 +56,14 @@ returns-clause-goes g c =
     (world c.args.talk.now c.args.pads.now (g.L.Exchange.wire c.send_vector.new.link)) _
     (world c.args.talk.now c.args.pads.now (g.L.Exchange.wire c.hear_vector.new.link))
     (vector_sent g.P.Pads.calls g.P.Pads.names c.args.pad.now c.args.turn c.args.talk.now _ _ _ c.requires
-    c.in-Ok.ensures.sent)
-    (counted_then g.P.Pads.calls g.P.Pads.names _ _ at.field-0 at.seen c.args.talk.now _ _ _ (at.field-0-is
-    ∙ ap Some at.field-0-0-is) at.ensures.heard))
+    c.in_ok-send_vector.ensures.sent)
+    (counted_then g.P.Pads.calls g.P.Pads.names _ _ c.in_ok-seen.field-0 at.seen c.args.talk.now _ _ _
+    (at.is ∙ ap Some at.field-0-is) c.in_ok-seen.ensures.heard))
     c.push_lacking.ensures.goes
 
-pub returns-clause-breaks : goal.returns-clause-breaks
-returns-clause-breaks g c =
-    let at = c.in-Ok-Some-Said in
+pub returns-in-Some-Said-clause-breaks : goal.returns-in-Some-Said-clause-breaks
+returns-in-Some-Said-clause-breaks g c =
+    let at = c.in-Some-Said in
     turn_broken g.P.Pads.calls g.P.Pads.names c.args.pad.now c.args.turn at.seen c.push_lacking.result
     (world c.args.talk.now c.args.pads.now (g.L.Exchange.wire c.args.link.now))
     (world c.args.talk.now c.args.pads.now (g.L.Exchange.wire c.hear_vector.new.link)) _ _
@@ -68,7 +71,7 @@ returns-clause-breaks g c =
     (world c.args.talk.now c.args.pads.now (g.L.Exchange.wire c.send_vector.new.link)) _
     (world c.args.talk.now c.args.pads.now (g.L.Exchange.wire c.hear_vector.new.link))
     (vector_sent g.P.Pads.calls g.P.Pads.names c.args.pad.now c.args.turn c.args.talk.now _ _ _ c.requires
-    c.in-Ok.ensures.sent)
-    (counted_then g.P.Pads.calls g.P.Pads.names _ _ at.field-0 at.seen c.args.talk.now _ _ _ (at.field-0-is
-    ∙ ap Some at.field-0-0-is) at.ensures.heard))
+    c.in_ok-send_vector.ensures.sent)
+    (counted_then g.P.Pads.calls g.P.Pads.names _ _ c.in_ok-seen.field-0 at.seen c.args.talk.now _ _ _
+    (at.is ∙ ap Some at.field-0-is) c.in_ok-seen.ensures.heard))
     c.push_lacking.ensures.breaks

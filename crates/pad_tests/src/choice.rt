@@ -38,22 +38,22 @@ impl Choice {
         match self {
             Choice::Type => {
                 format!(in alloc;
-                    "{{\"do\":\"insert\",\"pad\":\"p\",\"rev\":{rev},\"at\":{at},\"text\":\"{text}\"}}"
+                    r#"{{"do":"insert","pad":"p","rev":{rev},"at":{at},"text":"{text}"}}"#
                 )
             }
             Choice::Erase => {
                 format!(in alloc;
-                    "{{\"do\":\"delete\",\"pad\":\"p\",\"rev\":{rev},\"at\":{at},\"len\":{len}}}"
+                    r#"{{"do":"delete","pad":"p","rev":{rev},"at":{at},"len":{len}}}"#
                 )
             }
             Choice::Edit => edit_line(alloc, dice, rev, length),
             Choice::Note => {
                 format!(in alloc;
-                    "{{\"do\":\"comment\",\"pad\":\"p\",\"rev\":{rev},\"at\":{at},\"len\":{len},\"text\":\"{text}\"}}"
+                    r#"{{"do":"comment","pad":"p","rev":{rev},"at":{at},"len":{len},"text":"{text}"}}"#
                 )
             }
             Choice::Resolve => {
-                format!(in alloc; "{{\"do\":\"resolve\",\"pad\":\"p\",\"comment\":{noted}}}")
+                format!(in alloc; r#"{{"do":"resolve","pad":"p","comment":{noted}}}"#)
             }
         }
     }
@@ -79,6 +79,6 @@ fn edit_line(alloc: Global, dice: &mut Dice, rev: u64, length: u64) -> Result<St
     let third = dice.roll(sides);
     let other = some_text(dice);
     format!(in alloc;
-        "{{\"do\":\"edit\",\"pad\":\"p\",\"rev\":{rev},\"parts\":[{{\"at\":{first},\"text\":\"{text}\"}},{{\"at\":{second},\"len\":{len}}},{{\"at\":{third},\"text\":\"{other}\"}}]}}"
+        r#"{{"do":"edit","pad":"p","rev":{rev},"parts":[{{"at":{first},"text":"{text}"}},{{"at":{second},"len":{len}}},{{"at":{third},"text":"{other}"}}]}}"#
     )
 }

@@ -52,43 +52,52 @@ pub fn serve<R: Source, W: Sink>(
     Ok(serve_connection(alloc, &mut pads, reader, writer, 0, &Open))
 }
 
-const CREATE: &str = "{\"do\":\"create\",\"pad\":\"p\"}\n";
+const CREATE: &str = concat!(r#"{"do":"create","pad":"p"}"#, "\n");
 
-const CREATED: &str = "{\"now\":0,\"ok\":true,\"visit\":1}\n";
+const CREATED: &str = concat!(r#"{"now":0,"ok":true,"visit":1}"#, "\n");
 
-const NOBODY: &str = "{\"code\":200,\"error\":\"NoSession\",\"ok\":false}\n";
+const NOBODY: &str = concat!(r#"{"code":200,"error":"NoSession","ok":false}"#, "\n");
 
 // The lines of a first session, with what is answered.
 pub const SESSION: [(&str, &str); 9] = [
     (CREATE, CREATED),
     (
-        "{\"do\":\"text\",\"pad\":\"p\"}\n",
-        "{\"now\":0,\"ok\":true,\"rev\":0,\"text\":\"\"}\n",
+        concat!(r#"{"do":"text","pad":"p"}"#, "\n"),
+        concat!(r#"{"now":0,"ok":true,"rev":0,"text":""}"#, "\n"),
     ),
     (
-        "{\"do\":\"insert\",\"pad\":\"p\",\"rev\":0,\"at\":0,\"text\":\"hello\"}\n",
-        "{\"name\":[1,1],\"now\":1,\"ok\":true}\n",
+        concat!(
+            r#"{"do":"insert","pad":"p","rev":0,"at":0,"text":"hello"}"#,
+            "\n"
+        ),
+        concat!(r#"{"name":[1,1],"now":1,"ok":true}"#, "\n"),
     ),
     (
-        "{\"do\":\"revs\",\"pad\":\"p\"}\r\n",
-        "{\"cells\":5,\"length\":5,\"now\":1,\"ok\":true}\n",
+        concat!(r#"{"do":"revs","pad":"p"}"#, "\r\n"),
+        concat!(r#"{"cells":5,"length":5,"now":1,"ok":true}"#, "\n"),
     ),
     ("\n", ""),
     (
-        "{\"do\":\"insert\",\"pad\":\"p\",\"rev\":1,\"at\":1.0,\"text\":\"x\"}\n",
-        "{\"code\":102,\"error\":\"NotRequest\",\"ok\":false}\n",
+        concat!(
+            r#"{"do":"insert","pad":"p","rev":1,"at":1.0,"text":"x"}"#,
+            "\n"
+        ),
+        concat!(r#"{"code":102,"error":"NotRequest","ok":false}"#, "\n"),
     ),
     (
-        "{\"do\":\"text\"\n",
-        "{\"code\":101,\"error\":\"NotJson\",\"ok\":false}\n",
+        concat!(r#"{"do":"text""#, "\n"),
+        concat!(r#"{"code":101,"error":"NotJson","ok":false}"#, "\n"),
     ),
     (
-        "{\"do\":\"insert\",\"pad\":\"p\",\"rev\":1,\"at\":2,\"text\":\"XY\"}\n",
-        "{\"name\":[1,2],\"now\":2,\"ok\":true}\n",
+        concat!(
+            r#"{"do":"insert","pad":"p","rev":1,"at":2,"text":"XY"}"#,
+            "\n"
+        ),
+        concat!(r#"{"name":[1,2],"now":2,"ok":true}"#, "\n"),
     ),
     (
-        "{\"do\":\"text\",\"pad\":\"p\",\"x\":[]}",
-        "{\"now\":2,\"ok\":true,\"rev\":2,\"text\":\"heXYllo\"}\n",
+        r#"{"do":"text","pad":"p","x":[]}"#,
+        concat!(r#"{"now":2,"ok":true,"rev":2,"text":"heXYllo"}"#, "\n"),
     ),
 ];
 
@@ -145,7 +154,7 @@ fn is_cut(alloc: Global, taken: usize, written: &str) -> Result<bool, Fail> {
 // A writer that takes ten bytes and then fails, or takes none: what was written is a front.
 #[test]
 fn a_write_that_fails(rt: HostRuntime) -> Result<(), Fail> {
-    for (taken, written) in [(10, "{\"now\":0,\""), (0, "")] {
+    for (taken, written) in [(10, r#"{"now":0,""#), (0, "")] {
         assert!(rt; is_cut(rt.alloc(), taken, written)?, "after {taken} bytes");
     }
     Ok(())
@@ -303,7 +312,7 @@ fn the_session_is_ended(rt: HostRuntime) -> Result<(), Fail> {
     Ok(())
 }
 
-const REVS: &str = "{\"do\":\"revs\",\"pad\":\"p\"}";
+const REVS: &str = r#"{"do":"revs","pad":"p"}"#;
 
 // A pad's making, then a request for its length that so many spaces follow, and then that request alone.
 fn with_spaces(alloc: Global, spaces: usize) -> Result<Vec<u8>, Fail> {
@@ -331,11 +340,16 @@ fn a_line_that_is_too_long(rt: HostRuntime) -> Result<(), Fail> {
     for (spaces, answer) in [
         (
             8_388_608 - REVS.len(),
-            "{\"cells\":0,\"length\":0,\"now\":0,\"ok\":true}\n{\"cells\":0,\"length\":0,\"now\":0,\"ok\":true}\n",
+            concat!(
+                r#"{"cells":0,"length":0,"now":0,"ok":true}"#,
+                "\n",
+                r#"{"cells":0,"length":0,"now":0,"ok":true}"#,
+                "\n"
+            ),
         ),
         (
             8_388_609 - REVS.len(),
-            "{\"code\":100,\"error\":\"TooLong\",\"ok\":false}\n",
+            concat!(r#"{"code":100,"error":"TooLong","ok":false}"#, "\n"),
         ),
     ] {
         let lines = with_spaces(rt.alloc(), spaces)?;

@@ -4,7 +4,7 @@ use std::alloc::{AllocError, Global};
 
 /// The answer to `text`.
 pub fn text_line(alloc: Global, page: &Page, now: u64, rev: u64) -> Result<String, AllocError> {
-    let mut line = format!(in alloc; "{{\"now\":{now},\"ok\":true,\"rev\":{rev},\"text\":\"")?;
+    let mut line = format!(in alloc; r#"{{"now":{now},"ok":true,"rev":{rev},"text":""#)?;
     add_text(&mut line, page)?;
     Ok(line)
 }
@@ -20,7 +20,7 @@ fn add_text(line: &mut String, page: &Page) -> Result<(), AllocError> {
 
 /// The answer to `runs`. All letters of a server are ann's of that server.
 pub fn runs_line(alloc: Global, page: &Page, now: u64, rev: u64) -> Result<String, AllocError> {
-    let mut line = format!(in alloc; "{{\"now\":{now},\"ok\":true,\"rev\":{rev},\"runs\":[")?;
+    let mut line = format!(in alloc; r#"{{"now":{now},"ok":true,"rev":{rev},"runs":["#)?;
     add_runs(alloc, &mut line, page)?;
     Ok(line)
 }
@@ -50,13 +50,13 @@ fn end_run(alloc: Global, line: &mut String, replica: u16, len: u64) -> Result<(
     if !line.ends_with('[') {
         line.push(',')?;
     }
-    let run = format!(in alloc; "[\"ann@{replica}\",{len}]")?;
+    let run = format!(in alloc; r#"["ann@{replica}",{len}]"#)?;
     line.push_str(run.as_str())
 }
 
 /// The answer to `comments`.
 pub fn comments_line(alloc: Global, page: &Page, now: u64, rev: u64) -> Result<String, AllocError> {
-    let mut line = String::from_str(alloc, "{\"comments\":[")?;
+    let mut line = String::from_str(alloc, r#"{"comments":["#)?;
     add_remarks(alloc, &mut line, page)?;
     add_end(alloc, &mut line, now, rev)?;
     Ok(line)
@@ -95,7 +95,7 @@ fn remark_text(alloc: Global, page: &Page, remark: &Remark) -> Result<String, Al
     let text = remark.text.as_str();
     let is_resolved = remark.is_resolved;
     format!(in alloc;
-        "{{\"at\":{at},\"author\":\"ann@{origin}\",\"len\":{len},\"name\":[{origin},{number}],\"resolved\":{is_resolved},\"text\":\"{text}\"}}"
+        r#"{{"at":{at},"author":"ann@{origin}","len":{len},"name":[{origin},{number}],"resolved":{is_resolved},"text":"{text}"}}"#
     )
 }
 

@@ -17,7 +17,7 @@ const RESOLVE: &str = r#"{"do":"resolve","pad":"p","comment":[1,2]}"#;
 /// The number of the refusal of a request; 0 where it is not refused.
 fn code(rig: &mut Rig, session: u32, line: &str) -> Result<u64, Refusal> {
     let reply = rig.say(session, line)?;
-    Ok(number_behind(reply.as_str(), "{\"code\":").unwrap_or(0))
+    Ok(number_behind(reply.as_str(), r#"{"code":"#).unwrap_or(0))
 }
 
 /// How often a request is made until it is refused, at most so many times.
@@ -118,7 +118,10 @@ const COMMENTS_AND_OPERATIONS: &[LimitCase] = &[
     Asks(ANN, r#"{"do":"text","pad":"p","rev":200000}"#, 0),
     Says(
         r#"{"do":"text","pad":"p"}"#,
-        "{\"now\":200000,\"ok\":true,\"rev\":200000,\"text\":\"zabc\"}\n",
+        concat!(
+            r#"{"now":200000,"ok":true,"rev":200000,"text":"zabc"}"#,
+            "\n"
+        ),
     ),
 ];
 
@@ -175,7 +178,7 @@ fn limit_visits(rt: HostRuntime) -> Result<(), Fail> {
 /// The push of an operation of server 2 that types this many characters at the start.
 fn typing(alloc: Global, number: u64, first: u64, len: u64) -> Result<String, Refusal> {
     let mut line = format!(in alloc;
-        "{{\"do\":\"push\",\"pad\":\"p\",\"op\":{{\"name\":[2,{number}],\"seen\":[],\"author\":\"bob\",\"kind\":\"insert\",\"after\":null,\"first\":[{first},2],\"text\":\""
+        r#"{{"do":"push","pad":"p","op":{{"name":[2,{number}],"seen":[],"author":"bob","kind":"insert","after":null,"first":[{first},2],"text":""#
     )?;
     add_letters(&mut line, len)?;
     Ok(line)
@@ -185,7 +188,7 @@ fn add_letters(line: &mut String, len: u64) -> Result<(), Refusal> {
     for _ in 0..len {
         line.push('x')?;
     }
-    Ok(line.push_str("\"}}")?)
+    Ok(line.push_str(r#""}}"#)?)
 }
 
 /// Whether such an operation is taken.

@@ -19,7 +19,7 @@ pub fn number_behind(line: &str, key: &str) -> Option<u64> {
 
 /// How many characters the text of a reply has, in which none is escaped.
 pub fn text_len(line: &str) -> u64 {
-    match line.split_once("\"text\":\"") {
+    match line.split_once(r#""text":""#) {
         Some((_, rest)) => rest.chars().count().saturating_sub(3) as u64,
         None => 0,
     }
@@ -33,7 +33,7 @@ pub fn between<'a>(line: &'a str, front: &str, back: &str) -> Option<&'a str> {
 }
 
 pub fn is_refusal(line: &str) -> bool {
-    line.starts_with("{\"code\":")
+    line.starts_with(r#"{"code":"#)
 }
 
 fn value_of(alloc: Global, line: &str) -> Result<Value, Refusal> {

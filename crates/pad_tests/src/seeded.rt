@@ -34,14 +34,14 @@ impl Shares {
             Choice::Resolve => &mut self.resolved,
         };
         *share = share.saturating_add(1);
-        let hidden = number_behind(reply, "\"hidden\":").unwrap_or(0);
+        let hidden = number_behind(reply, r#""hidden":"#).unwrap_or(0);
         self.hidden = self.hidden.saturating_add(hidden);
     }
 }
 
 /// The reply of a reading of a revision.
 fn read(alloc: Global, rig: &mut Rig, what: &str, rev: u64) -> Result<String, Refusal> {
-    let line = format!(in alloc; "{{\"do\":\"{what}\",\"pad\":\"p\",\"rev\":{rev}}}")?;
+    let line = format!(in alloc; r#"{{"do":"{what}","pad":"p","rev":{rev}}}"#)?;
     rig.say(ANN, line.as_str())
 }
 
@@ -58,8 +58,8 @@ fn length_at(alloc: Global, rig: &mut Rig, rev: u64) -> Result<u64, Refusal> {
 }
 
 fn revision(rig: &mut Rig) -> Result<u64, Refusal> {
-    let reply = rig.say(ANN, "{\"do\":\"revs\",\"pad\":\"p\"}")?;
-    Ok(number_behind(reply.as_str(), "\"now\":").unwrap_or(0))
+    let reply = rig.say(ANN, r#"{"do":"revs","pad":"p"}"#)?;
+    Ok(number_behind(reply.as_str(), r#""now":"#).unwrap_or(0))
 }
 
 /// One event of a server, at any of its revisions.
@@ -105,7 +105,7 @@ fn one_of(noted: &[String], place: usize) -> &str {
 }
 
 fn keep_name(alloc: Global, reply: &str, noted: &mut Vec<String>) -> Result<(), Refusal> {
-    if let Some(name) = between(reply, "\"name\":", ",\"now\"") {
+    if let Some(name) = between(reply, r#""name":"#, r#","now""#) {
         noted.push(String::from_str(alloc, name)?)?;
     }
     Ok(())
@@ -113,15 +113,15 @@ fn keep_name(alloc: Global, reply: &str, noted: &mut Vec<String>) -> Result<(), 
 
 /// The next operations that a server with this vector lacks of another one, each as JSON.
 fn lacking(alloc: Global, from: &mut Rig, seen: &str) -> Result<Vec<String>, Refusal> {
-    let line = format!(in alloc; "{{\"do\":\"pull\",\"pad\":\"p\",\"seen\":{seen},\"max\":4}}")?;
+    let line = format!(in alloc; r#"{{"do":"pull","pad":"p","seen":{seen},"max":4}}"#)?;
     let reply = from.say(PEER, line.as_str())?;
     ops_in(alloc, reply.as_str())
 }
 
 /// The counts that were delivered to a server, as JSON.
 fn vector(alloc: Global, rig: &mut Rig) -> Result<String, Refusal> {
-    let reply = rig.say(PEER, "{\"do\":\"vector\",\"pad\":\"p\"}")?;
-    let seen = between(reply.as_str(), "\"seen\":", "}").unwrap_or("[]");
+    let reply = rig.say(PEER, r#"{"do":"vector","pad":"p"}"#)?;
+    let seen = between(reply.as_str(), r#""seen":"#, "}").unwrap_or("[]");
     Ok(String::from_str(alloc, seen)?)
 }
 
@@ -141,7 +141,7 @@ fn push_all(alloc: Global, rig: &mut Rig, ops: &[String]) -> Result<(), Refusal>
 }
 
 fn push(alloc: Global, rig: &mut Rig, op: &str) -> Result<(), Refusal> {
-    let line = format!(in alloc; "{{\"do\":\"push\",\"pad\":\"p\",\"op\":{op}}}")?;
+    let line = format!(in alloc; r#"{{"do":"push","pad":"p","op":{op}}}"#)?;
     rig.tell(PEER, line.as_str())
 }
 
@@ -189,7 +189,7 @@ fn add_next(
 
 /// Counts one operation more of its server.
 fn count(op: &str, counts: &mut [u64; 2]) {
-    match number_behind(op, "\"name\":[") {
+    match number_behind(op, r#""name":["#) {
         Some(1) => counts[0] = counts[0].saturating_add(1),
         _ => counts[1] = counts[1].saturating_add(1),
     }
@@ -306,10 +306,10 @@ fn happen_somewhere(
 
 /// Readings of the present revision.
 const READINGS: &[&str] = &[
-    "{\"do\":\"text\",\"pad\":\"p\"}",
-    "{\"do\":\"runs\",\"pad\":\"p\"}",
-    "{\"do\":\"comments\",\"pad\":\"p\"}",
-    "{\"do\":\"revs\",\"pad\":\"p\"}",
+    r#"{"do":"text","pad":"p"}"#,
+    r#"{"do":"runs","pad":"p"}"#,
+    r#"{"do":"comments","pad":"p"}"#,
+    r#"{"do":"revs","pad":"p"}"#,
 ];
 
 /// How many of them are the same on two servers.

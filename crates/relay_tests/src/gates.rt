@@ -9,12 +9,18 @@ use wire_lines::{Input, Output};
 use workers::{Alone, Gate, Served, serve_connection};
 
 const LINES: &str = concat!(
-    "{\"do\":\"hello\",\"name\":\"a1\",\"token\":\"t\"}\n",
-    "{\"do\":\"create\",\"pad\":\"p\"}\n",
-    "{\"at\":0,\"do\":\"insert\",\"pad\":\"p\",\"rev\":0,\"text\":\"hello\"}\n",
-    "{\"do\":\"text\",\"pad\":\"p\"}\n",
-    "{\"at\":9,\"do\":\"insert\",\"pad\":\"p\",\"rev\":1,\"text\":\"!\"}\n",
-    "{\"at\":1,\"do\":\"delete\",\"len\":3,\"pad\":\"p\",\"rev\":1}\n",
+    r#"{"do":"hello","name":"a1","token":"t"}"#,
+    "\n",
+    r#"{"do":"create","pad":"p"}"#,
+    "\n",
+    r#"{"at":0,"do":"insert","pad":"p","rev":0,"text":"hello"}"#,
+    "\n",
+    r#"{"do":"text","pad":"p"}"#,
+    "\n",
+    r#"{"at":9,"do":"insert","pad":"p","rev":1,"text":"!"}"#,
+    "\n",
+    r#"{"at":1,"do":"delete","len":3,"pad":"p","rev":1}"#,
+    "\n",
 );
 
 // Notes of which replies it was told that they tell of a delivered operation, and before how many long lines are read.

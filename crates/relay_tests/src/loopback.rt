@@ -43,10 +43,14 @@ const READINGS: [&str; 3] = [
 
 // What both show then: of two runs at one place with equal counters that of the greater replica stands first.
 const SHOWN: &str = concat!(
-    "{\"now\":3,\"ok\":true,\"rev\":3,\"text\":\"twoone\"}\n",
-    "{\"now\":3,\"ok\":true,\"rev\":3,\"runs\":[[\"ann@2\",3],[\"ann@1\",3]]}\n",
-    "{\"comments\":[{\"at\":3,\"author\":\"ann@1\",\"len\":3,\"name\":[1,2],\"resolved\":false,\"text\":\"why?\"}],\"now\":3,\"ok\":true,\"rev\":3}\n",
-    "{\"now\":3,\"ok\":true,\"seen\":[[1,2],[2,1]]}\n",
+    r#"{"now":3,"ok":true,"rev":3,"text":"twoone"}"#,
+    "\n",
+    r#"{"now":3,"ok":true,"rev":3,"runs":[["ann@2",3],["ann@1",3]]}"#,
+    "\n",
+    r#"{"comments":[{"at":3,"author":"ann@1","len":3,"name":[1,2],"resolved":false,"text":"why?"}],"now":3,"ok":true,"rev":3}"#,
+    "\n",
+    r#"{"now":3,"ok":true,"seen":[[1,2],[2,1]]}"#,
+    "\n",
 );
 
 pub type LoopbackRow<'a, R> = Row<'a, BlockSeq, R, Open>;

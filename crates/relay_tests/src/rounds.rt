@@ -4,40 +4,51 @@ use relay::Relayed;
 use std::alloc::Global;
 use std::test::Fail;
 
-const GREETING: &str = "{\"do\":\"peer\",\"number\":1,\"token\":\"p2\",\"version\":2}\n";
+const GREETING: &str = concat!(r#"{"do":"peer","number":1,"token":"p2","version":2}"#, "\n");
 
-const VECTOR: &str = "{\"do\":\"vector\",\"pad\":\"p\"}\n";
+const VECTOR: &str = concat!(r#"{"do":"vector","pad":"p"}"#, "\n");
 
-const PULL: &str = "{\"do\":\"pull\",\"max\":4,\"pad\":\"p\",\"seen\":[[1,1]]}\n";
+const PULL: &str = concat!(r#"{"do":"pull","max":4,"pad":"p","seen":[[1,1]]}"#, "\n");
 
-const PUSH: &str =
-    "{\"do\":\"push\",\"op\":{\"after\":null,\"author\":\"ann\",\"first\":[1,1],\"kind\":\"insert\",\"name\":[1,1],\"seen\":[],\"text\":\"one\"},\"pad\":\"p\"}\n";
+const PUSH: &str = concat!(
+    r#"{"do":"push","op":{"after":null,"author":"ann","first":[1,1],"kind":"insert","name":[1,1],"seen":[],"text":"one"},"pad":"p"}"#,
+    "\n"
+);
 
-const MET: &str = "{\"ok\":true,\"replica\":2,\"version\":2}\n";
+const MET: &str = concat!(r#"{"ok":true,"replica":2,"version":2}"#, "\n");
 
-const MET_OLD: &str = "{\"ok\":true,\"replica\":2}\n";
+const MET_OLD: &str = concat!(r#"{"ok":true,"replica":2}"#, "\n");
 
-const NO_OPS: &str = "{\"now\":0,\"ok\":true,\"ops\":[]}\n";
+const NO_OPS: &str = concat!(r#"{"now":0,"ok":true,"ops":[]}"#, "\n");
 
-const NO_COUNTS: &str = "{\"now\":0,\"ok\":true,\"seen\":[]}\n";
+const NO_COUNTS: &str = concat!(r#"{"now":0,"ok":true,"seen":[]}"#, "\n");
 
-const DELIVERED: &str =
-    "{\"dropped\":0,\"now\":1,\"ok\":true,\"released\":0,\"state\":\"delivered\"}\n";
+const DELIVERED: &str = concat!(
+    r#"{"dropped":0,"now":1,"ok":true,"released":0,"state":"delivered"}"#,
+    "\n"
+);
 
-const COUNTS: &str = "{\"now\":1,\"ok\":true,\"seen\":[[1,1]]}\n";
+const COUNTS: &str = concat!(r#"{"now":1,"ok":true,"seen":[[1,1]]}"#, "\n");
 
-const REFUSAL: &str = "{\"code\":300,\"error\":\"NoPad\",\"ok\":false}\n";
+const REFUSAL: &str = concat!(r#"{"code":300,"error":"NoPad","ok":false}"#, "\n");
 
 // What a peer gives: four operations of bob's, of one character each.
-const FOUR: &str =
-    "{\"now\":4,\"ok\":true,\"ops\":[{\"after\":null,\"author\":\"bob\",\"first\":[1,2],\"kind\":\"insert\",\"name\":[2,1],\"seen\":[],\"text\":\"t\"},{\"after\":[1,2],\"author\":\"bob\",\"first\":[2,2],\"kind\":\"insert\",\"name\":[2,2],\"seen\":[],\"text\":\"w\"},{\"after\":[2,2],\"author\":\"bob\",\"first\":[3,2],\"kind\":\"insert\",\"name\":[2,3],\"seen\":[],\"text\":\"o\"},{\"after\":[3,2],\"author\":\"bob\",\"first\":[4,2],\"kind\":\"insert\",\"name\":[2,4],\"seen\":[],\"text\":\"!\"}]}\n";
+const FOUR: &str = concat!(
+    r#"{"now":4,"ok":true,"ops":[{"after":null,"author":"bob","first":[1,2],"kind":"insert","name":[2,1],"seen":[],"text":"t"},{"after":[1,2],"author":"bob","first":[2,2],"kind":"insert","name":[2,2],"seen":[],"text":"w"},{"after":[2,2],"author":"bob","first":[3,2],"kind":"insert","name":[2,3],"seen":[],"text":"o"},{"after":[3,2],"author":"bob","first":[4,2],"kind":"insert","name":[2,4],"seen":[],"text":"!"}]}"#,
+    "\n"
+);
 
-const ALL_COUNTS: &str = "{\"now\":5,\"ok\":true,\"seen\":[[1,1],[2,4]]}\n";
+const ALL_COUNTS: &str = concat!(r#"{"now":5,"ok":true,"seen":[[1,1],[2,4]]}"#, "\n");
 
-const PULL_BEHIND_FOUR: &str = "{\"do\":\"pull\",\"max\":4,\"pad\":\"p\",\"seen\":[[1,1],[2,4]]}\n";
+const PULL_BEHIND_FOUR: &str = concat!(
+    r#"{"do":"pull","max":4,"pad":"p","seen":[[1,1],[2,4]]}"#,
+    "\n"
+);
 // The first stamp has another replica than the name, which no server takes.
-const FAULTY: &str =
-    "{\"now\":1,\"ok\":true,\"ops\":[{\"after\":null,\"author\":\"bob\",\"first\":[1,3],\"kind\":\"insert\",\"name\":[2,1],\"seen\":[],\"text\":\"t\"}]}\n";
+const FAULTY: &str = concat!(
+    r#"{"now":1,"ok":true,"ops":[{"after":null,"author":"bob","first":[1,3],"kind":"insert","name":[2,1],"seen":[],"text":"t"}]}"#,
+    "\n"
+);
 
 const NOTHING: Relayed = Relayed {
     pads: 0,
@@ -155,7 +166,7 @@ fn a_refused_push_is_counted(rt: HostRuntime) -> Result<(), Fail> {
 // An operation of two parts has no form of the first version.
 #[test]
 fn an_old_peer_gets_what_it_can_read(rt: HostRuntime) -> Result<(), Fail> {
-    let seen = "{\"do\":\"pull\",\"max\":4,\"pad\":\"p\",\"seen\":[[1,2]]}\n";
+    let seen = concat!(r#"{"do":"pull","max":4,"pad":"p","seen":[[1,2]]}"#, "\n");
     let peer = [MET_OLD, NO_OPS, NO_COUNTS, DELIVERED];
     let lines = [GREETING, seen, VECTOR, PUSH];
     let relayed = Relayed {

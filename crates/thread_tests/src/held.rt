@@ -196,7 +196,7 @@ impl Connection for Greeter {
         number: u64,
         gate: &G,
     ) -> Result<Served, Fault> {
-        let line = "{\"do\":\"hello\",\"name\":\"a1\",\"token\":\"t\"}\n";
+        let line = concat!(r#"{"do":"hello","name":"a1","token":"t"}"#, "\n");
         let mut reader = Input::new(line.as_bytes());
         let mut writer = Output::new(alloc);
         serve_client(alloc, pads, &mut reader, &mut writer, number, gate)

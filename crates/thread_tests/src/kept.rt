@@ -92,7 +92,7 @@ fn what_cannot_be_kept_is_refused(rt: HostRuntime) -> Result<(), Fail> {
     assert!(rt; are_refused(alloc, &mut pads, &REFUSED));
     ask_all(alloc, &mut pads, &ANSWERED)?;
     let text = r#"{"do":"text","pad":"p"}"#;
-    let shown = "{\"now\":1,\"ok\":true,\"rev\":1,\"text\":\"hello\"}\n";
+    let shown = concat!(r#"{"now":1,"ok":true,"rev":1,"text":"hello"}"#, "\n");
     assert!(rt; tells(alloc, &mut pads, text, shown));
     gate.has_room.store(true, Ordering::SeqCst);
     let insert = r#"{"do":"insert","pad":"p","rev":1,"at":5,"text":"!"}"#;
@@ -101,7 +101,7 @@ fn what_cannot_be_kept_is_refused(rt: HostRuntime) -> Result<(), Fail> {
             alloc,
             &mut pads,
             insert,
-            "{\"name\":[1,2],\"now\":2,\"ok\":true}\n"
+            concat!(r#"{"name":[1,2],"now":2,"ok":true}"#, "\n")
         )
     );
     Ok(())

@@ -65,7 +65,7 @@ fn line_forms(rt: HostRuntime) -> Result<(), Fail> {
 // Two lines of a session, and what comes of them where they are cut behind so many bytes.
 const SESSION: &[u8] = b"{\"do\":\"create\",\"pad\":\"p\"}\r\n{\"do\":\"text\",\"pad\":\"p\"}\n";
 
-const BOTH: &[u8] = b"{\"do\":\"create\",\"pad\":\"p\"}|{\"do\":\"text\",\"pad\":\"p\"}|";
+const BOTH: &[u8] = br#"{"do":"create","pad":"p"}|{"do":"text","pad":"p"}|"#;
 
 #[test]
 fn lines_cut_after_each_byte(rt: HostRuntime) -> Result<(), Fail> {

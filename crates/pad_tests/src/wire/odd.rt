@@ -84,7 +84,7 @@ fn code_of(alloc: Global, line: &[u8]) -> Option<u16> {
 
 /// The same of an object of the pad `p` with these fields.
 fn code_with(alloc: Global, fields: &str) -> Result<Option<u16>, AllocError> {
-    let line = format!(in alloc; "{{\"pad\":\"p\",{fields}}}")?;
+    let line = format!(in alloc; r#"{{"pad":"p",{fields}}}"#)?;
     Ok(code_of(alloc, line.as_bytes()))
 }
 
@@ -98,28 +98,28 @@ fn other_forms_are_no_requests(rt: HostRuntime) -> Result<(), Fail> {
 
 /// Lines with the number of their refusal.
 const REFUSED: &[(&[u8], u16)] = &[
-    (b"{\"do\":\"text\"", 101),
+    (br#"{"do":"text""#, 101),
     (b" ", 101),
     (b"\r", 101),
     (b"null", 102),
     (b"[]", 102),
     (b"7", 102),
-    (b"\"text\"", 102),
+    (br#""text""#, 102),
     (b"{}", 102),
-    (b"{\"do\":\"text\"}", 102),
-    (b"{\"do\":\"text\",\"pad\":7}", 102),
-    (b"{\"do\":\"text\",\"pad\":\"p\",}", 101),
-    (b"{\"do\":\"text\",\"pad\":\"p\"}{}", 101),
-    (b"{\"do\":\"text\",\"pad\":\"p\",\"x\":1e999}", 101),
-    (b"{\"do\":\"text\",\"pad\":\"p\",\"x\":01}", 101),
-    (b"{\"do\":\"text\",\"pad\":\"p\",\"x\":+1}", 101),
-    (b"{\"do\":\"text\",\"pad\":\"p\",\"x\":.5}", 101),
-    (b"{\"do\":\"text\",\"pad\":\"p\",\"x\":1.}", 101),
-    (b"{\"do\":\"text\",\"pad\":\"p\",\"x\":NaN}", 101),
-    (b"{\"do\":\"text\",\"pad\":\"p\",\"x\":tru}", 101),
+    (br#"{"do":"text"}"#, 102),
+    (br#"{"do":"text","pad":7}"#, 102),
+    (br#"{"do":"text","pad":"p",}"#, 101),
+    (br#"{"do":"text","pad":"p"}{}"#, 101),
+    (br#"{"do":"text","pad":"p","x":1e999}"#, 101),
+    (br#"{"do":"text","pad":"p","x":01}"#, 101),
+    (br#"{"do":"text","pad":"p","x":+1}"#, 101),
+    (br#"{"do":"text","pad":"p","x":.5}"#, 101),
+    (br#"{"do":"text","pad":"p","x":1.}"#, 101),
+    (br#"{"do":"text","pad":"p","x":NaN}"#, 101),
+    (br#"{"do":"text","pad":"p","x":tru}"#, 101),
     (b"{'do':'text','pad':'p'}", 101),
-    (b"{do:\"text\",\"pad\":\"p\"}", 101),
-    (b"{\"do\":\"text\",\"pad\":\"p\"} // x", 101),
+    (br#"{do:"text","pad":"p"}"#, 101),
+    (br#"{"do":"text","pad":"p"} // x"#, 101),
     (b"\xEF\xBB\xBF{\"do\":\"text\",\"pad\":\"p\"}", 101),
     (b"{\"do\":\"text\",\"pad\":\"\xFF\"}", 101),
     (b"{\"do\":\"text\",\"pad\":\"p\",\"x\":\"\xC0\x80\"}", 101),
@@ -136,7 +136,7 @@ const REFUSED: &[(&[u8], u16)] = &[
     (b"{\"do\":\"text\",\"pad\":\"p\",\"x\":\"\x00\"}", 101),
     (b"{\"do\":\"text\",\"pad\":\"p\",\"x\":\"\x1F\"}", 101),
     (b"{\"do\":\"text\",\"pad\":\"p\"}\x00", 101),
-    (b"{\"do\":\"create\",\"pad\":\"p\",\"pad\":null}", 102),
+    (br#"{"do":"create","pad":"p","pad":null}"#, 102),
 ];
 
 #[test]
@@ -148,16 +148,16 @@ fn odd_lines_are_refused(rt: HostRuntime) {
 
 /// Texts that are no JSON, or JSON that is no request, with the number of their refusal.
 const ODD: &[(&str, u16)] = &[
-    ("{\"do\":\"text\",\"pad\":\"p\"]", 101),
-    ("{\"do\":\"text\" \"pad\":\"p\"}", 101),
-    ("{\"do\" \"text\"}", 101),
-    ("{\"do\":}", 101),
+    (r#"{"do":"text","pad":"p"]"#, 101),
+    (r#"{"do":"text" "pad":"p"}"#, 101),
+    (r#"{"do" "text"}"#, 101),
+    (r#"{"do":}"#, 101),
     ("{,}", 101),
     ("[1,]", 101),
     ("[,1]", 101),
     ("[1 2]", 101),
-    ("{\"a\":1,,\"b\":2}", 101),
-    ("\"open", 101),
+    (r#"{"a":1,,"b":2}"#, 101),
+    (r#""open"#, 101),
     ("\"\\u12\"", 101),
     ("\"\\uZZZZ\"", 101),
     ("\"\\a\"", 101),
@@ -172,7 +172,7 @@ const ODD: &[(&str, u16)] = &[
     ("True", 101),
     ("nul", 101),
     ("falsey", 101),
-    ("{\"do\":\"text\",\"pad\":\"p\"} x", 101),
+    (r#"{"do":"text","pad":"p"} x"#, 101),
     ("\\u007b}", 101),
     (",", 101),
     (":", 101),
@@ -190,21 +190,21 @@ const ODD: &[(&str, u16)] = &[
     ("-0.0", 102),
     ("1e10", 102),
     ("[[]]", 102),
-    ("[{\"do\":\"text\",\"pad\":\"p\"}]", 102),
-    ("{\"do\":null,\"pad\":\"p\"}", 102),
-    ("{\"do\":[\"text\"],\"pad\":\"p\"}", 102),
-    ("{\"Do\":\"text\",\"pad\":\"p\"}", 102),
-    ("{\"do\":\"Text\",\"pad\":\"p\"}", 102),
-    ("{\"do\":\"text \",\"pad\":\"p\"}", 102),
-    ("{\"do\":\"\",\"pad\":\"p\"}", 102),
-    ("{\"\":\"text\",\"pad\":\"p\"}", 102),
-    ("{\"do\":\"text\",\"PAD\":\"p\"}", 102),
-    ("{\"do\":\"text\",\"pad\":null}", 102),
-    ("{\"do\":\"text\",\"pad\":[\"p\"]}", 102),
-    ("{\"do\":\"text\",\"pad\":\"p\",\"rev\":\"1\"}", 102),
-    ("{\"do\":\"text\",\"pad\":\"p\",\"rev\":[1]}", 102),
-    ("{\"do\":\"text\",\"pad\":\"p\",\"rev\":true}", 102),
-    ("{\"do\":\"text\",\"pad\":\"p\",\"rev\":-0}", 102),
+    (r#"[{"do":"text","pad":"p"}]"#, 102),
+    (r#"{"do":null,"pad":"p"}"#, 102),
+    (r#"{"do":["text"],"pad":"p"}"#, 102),
+    (r#"{"Do":"text","pad":"p"}"#, 102),
+    (r#"{"do":"Text","pad":"p"}"#, 102),
+    (r#"{"do":"text ","pad":"p"}"#, 102),
+    (r#"{"do":"","pad":"p"}"#, 102),
+    (r#"{"":"text","pad":"p"}"#, 102),
+    (r#"{"do":"text","PAD":"p"}"#, 102),
+    (r#"{"do":"text","pad":null}"#, 102),
+    (r#"{"do":"text","pad":["p"]}"#, 102),
+    (r#"{"do":"text","pad":"p","rev":"1"}"#, 102),
+    (r#"{"do":"text","pad":"p","rev":[1]}"#, 102),
+    (r#"{"do":"text","pad":"p","rev":true}"#, 102),
+    (r#"{"do":"text","pad":"p","rev":-0}"#, 102),
 ];
 
 #[test]

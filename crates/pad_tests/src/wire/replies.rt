@@ -223,27 +223,30 @@ fn pulled_told(alloc: Global) -> Result<PadReply, Refusal> {
 }
 
 const SESSIONS: &[(Sample, &str)] = &[
-    (Sample::Hello, "{\"author\":\"ann@1\",\"ok\":true}\n"),
+    (
+        Sample::Hello,
+        concat!(r#"{"author":"ann@1","ok":true}"#, "\n"),
+    ),
     (
         Sample::Peer(300, Version::Two),
-        "{\"ok\":true,\"replica\":300,\"version\":2}\n",
+        concat!(r#"{"ok":true,"replica":300,"version":2}"#, "\n"),
     ),
     (
         Sample::Peer(1, Version::One),
-        "{\"ok\":true,\"replica\":1}\n",
+        concat!(r#"{"ok":true,"replica":1}"#, "\n"),
     ),
-    (Sample::Ended, "{\"ok\":true}\n"),
+    (Sample::Ended, concat!(r#"{"ok":true}"#, "\n")),
     (
         Sample::Refused(Refusal::NotRequest),
-        "{\"code\":102,\"error\":\"NotRequest\",\"ok\":false}\n",
+        concat!(r#"{"code":102,"error":"NotRequest","ok":false}"#, "\n"),
     ),
     (
         Sample::Refused(Refusal::OldPeer),
-        "{\"code\":405,\"error\":\"OldPeer\",\"ok\":false}\n",
+        concat!(r#"{"code":405,"error":"OldPeer","ok":false}"#, "\n"),
     ),
     (
         Sample::Refused(Refusal::Memory),
-        "{\"code\":900,\"error\":\"Memory\",\"ok\":false}\n",
+        concat!(r#"{"code":900,"error":"Memory","ok":false}"#, "\n"),
     ),
 ];
 
@@ -256,29 +259,47 @@ fn sessions_and_refusals_are_written(rt: HostRuntime) -> Result<(), Fail> {
 }
 
 const ACTS: &[(Sample, &str)] = &[
-    (Sample::Elsewhere, "{\"ok\":true}\n"),
-    (Sample::Joined, "{\"now\":0,\"ok\":true,\"visit\":1}\n"),
-    (Sample::Done, "{\"now\":18446744073709551615,\"ok\":true}\n"),
-    (Sample::Made, "{\"name\":[1,2],\"now\":2,\"ok\":true}\n"),
+    (Sample::Elsewhere, concat!(r#"{"ok":true}"#, "\n")),
+    (
+        Sample::Joined,
+        concat!(r#"{"now":0,"ok":true,"visit":1}"#, "\n"),
+    ),
+    (
+        Sample::Done,
+        concat!(r#"{"now":18446744073709551615,"ok":true}"#, "\n"),
+    ),
+    (
+        Sample::Made,
+        concat!(r#"{"name":[1,2],"now":2,"ok":true}"#, "\n"),
+    ),
     (
         Sample::Changed,
-        "{\"hidden\":3,\"name\":[1,2],\"now\":2,\"ok\":true}\n",
+        concat!(r#"{"hidden":3,"name":[1,2],"now":2,"ok":true}"#, "\n"),
     ),
     (
         Sample::Revs,
-        "{\"cells\":5,\"length\":4,\"now\":1,\"ok\":true}\n",
+        concat!(r#"{"cells":5,"length":4,"now":1,"ok":true}"#, "\n"),
     ),
     (
         Sample::Pushed(Pushed::Held, 0, 0),
-        "{\"dropped\":0,\"now\":2,\"ok\":true,\"released\":0,\"state\":\"held\"}\n",
+        concat!(
+            r#"{"dropped":0,"now":2,"ok":true,"released":0,"state":"held"}"#,
+            "\n"
+        ),
     ),
     (
         Sample::Pushed(Pushed::Delivered, 1, 7),
-        "{\"dropped\":7,\"now\":2,\"ok\":true,\"released\":1,\"state\":\"delivered\"}\n",
+        concat!(
+            r#"{"dropped":7,"now":2,"ok":true,"released":1,"state":"delivered"}"#,
+            "\n"
+        ),
     ),
     (
         Sample::Pushed(Pushed::Repeat, 0, 0),
-        "{\"dropped\":0,\"now\":2,\"ok\":true,\"released\":0,\"state\":\"repeat\"}\n",
+        concat!(
+            r#"{"dropped":0,"now":2,"ok":true,"released":0,"state":"repeat"}"#,
+            "\n"
+        ),
     ),
 ];
 
@@ -302,15 +323,24 @@ fn texts_are_escaped(rt: HostRuntime) -> Result<(), Fail> {
 const WITH_AUTHORS: &[(Sample, &str)] = &[
     (
         Sample::Runs,
-        "{\"now\":2,\"ok\":true,\"rev\":2,\"runs\":[[\"bob@65535\",3],[\"ann@1\",2]]}\n",
+        concat!(
+            r#"{"now":2,"ok":true,"rev":2,"runs":[["bob@65535",3],["ann@1",2]]}"#,
+            "\n"
+        ),
     ),
     (
         Sample::Comments,
-        "{\"comments\":[{\"at\":0,\"author\":\"bob@65535\",\"len\":7,\"name\":[1,3],\"resolved\":false,\"text\":\"c\"}],\"now\":5,\"ok\":true,\"rev\":4}\n",
+        concat!(
+            r#"{"comments":[{"at":0,"author":"bob@65535","len":7,"name":[1,3],"resolved":false,"text":"c"}],"now":5,"ok":true,"rev":4}"#,
+            "\n"
+        ),
     ),
     (
         Sample::Who,
-        "{\"now\":1,\"ok\":true,\"who\":[{\"author\":\"ann@1\",\"caret\":2,\"visit\":1}]}\n",
+        concat!(
+            r#"{"now":1,"ok":true,"who":[{"author":"ann@1","caret":2,"visit":1}]}"#,
+            "\n"
+        ),
     ),
 ];
 
@@ -325,19 +355,28 @@ fn authors_are_shown_with_their_server(rt: HostRuntime) -> Result<(), Fail> {
 const LISTS: &[(Sample, &str)] = &[
     (
         Sample::Entries,
-        "{\"entries\":[{\"author\":\"ann@1\",\"kind\":\"insert\",\"name\":[1,1],\"rev\":1},{\"author\":\"bob@1\",\"kind\":\"edit\",\"name\":[1,2],\"rev\":2}],\"now\":2,\"ok\":true}\n",
+        concat!(
+            r#"{"entries":[{"author":"ann@1","kind":"insert","name":[1,1],"rev":1},{"author":"bob@1","kind":"edit","name":[1,2],"rev":2}],"now":2,"ok":true}"#,
+            "\n"
+        ),
     ),
     (
         Sample::Rights,
-        "{\"now\":2,\"ok\":true,\"rights\":[[\"ann\",\"own\"],[\"bob\",\"comment\"]]}\n",
+        concat!(
+            r#"{"now":2,"ok":true,"rights":[["ann","own"],["bob","comment"]]}"#,
+            "\n"
+        ),
     ),
     (
         Sample::Vector,
-        "{\"now\":2,\"ok\":true,\"seen\":[[1,2],[300,1]]}\n",
+        concat!(r#"{"now":2,"ok":true,"seen":[[1,2],[300,1]]}"#, "\n"),
     ),
     (
         Sample::Pulled,
-        "{\"now\":2,\"ok\":true,\"ops\":[{\"author\":\"ann\",\"kind\":\"delete\",\"name\":[1,2],\"seen\":[],\"spans\":[[2,1,2]]}]}\n",
+        concat!(
+            r#"{"now":2,"ok":true,"ops":[{"author":"ann","kind":"delete","name":[1,2],"seen":[],"spans":[[2,1,2]]}]}"#,
+            "\n"
+        ),
     ),
 ];
 

@@ -7,131 +7,131 @@ use wire_json::read_request;
 const REQUESTS: &[(&str, &str)] = &[
     (
         r#"{"do":"hello","name":"ann","token":"t1"}"#,
-        "Hello { name: Name { text: \"ann\" }, token: Word { text: \"t1\" } }",
+        r#"Hello { name: Name { text: "ann" }, token: Word { text: "t1" } }"#,
     ),
     (
         r#"{"do":"peer","number":2,"token":"p2"}"#,
-        "Peer { number: 2, token: Word { text: \"p2\" }, version: One }",
+        r#"Peer { number: 2, token: Word { text: "p2" }, version: One }"#,
     ),
     (
         r#"{"do":"peer","number":65536,"token":"","version":2}"#,
-        "Peer { number: 65536, token: Word { text: \"\" }, version: Two }",
+        r#"Peer { number: 65536, token: Word { text: "" }, version: Two }"#,
     ),
     (
         r#"{"do":"peer","number":1,"token":"p","version":null}"#,
-        "Peer { number: 1, token: Word { text: \"p\" }, version: One }",
+        r#"Peer { number: 1, token: Word { text: "p" }, version: One }"#,
     ),
     (
         r#"{"do":"create","pad":"p"}"#,
-        "Create { pad: Name { text: \"p\" } }",
+        r#"Create { pad: Name { text: "p" } }"#,
     ),
     (
         r#"{"do":"create","pad":"P"}"#,
-        "Create { pad: Name { text: \"P\" } }",
+        r#"Create { pad: Name { text: "P" } }"#,
     ),
     (
         r#"{"do":"join","pad":"p"}"#,
-        "On { pad: Name { text: \"p\" }, act: Join }",
+        r#"On { pad: Name { text: "p" }, act: Join }"#,
     ),
     (
         r#"{"do":"leave","pad":"p"}"#,
-        "On { pad: Name { text: \"p\" }, act: Leave }",
+        r#"On { pad: Name { text: "p" }, act: Leave }"#,
     ),
     (
         r#"{"do":"insert","pad":"p","rev":0,"at":1,"text":"a"}"#,
-        "On { pad: Name { text: \"p\" }, act: Insert { rev: 0, at: 1, text: Text { characters: ['a'] } } }",
+        r#"On { pad: Name { text: "p" }, act: Insert { rev: 0, at: 1, text: Text { characters: ['a'] } } }"#,
     ),
     (
         r#"{"do":"delete","pad":"p","rev":1,"at":2,"len":3}"#,
-        "On { pad: Name { text: \"p\" }, act: Delete { rev: 1, at: 2, len: 3 } }",
+        r#"On { pad: Name { text: "p" }, act: Delete { rev: 1, at: 2, len: 3 } }"#,
     ),
     (
         r#"{"do":"edit","pad":"p","rev":1,"parts":[{"at":1,"len":3},{"at":4,"text":"e"}]}"#,
-        "On { pad: Name { text: \"p\" }, act: Edit { rev: 1, changes: Row { items: [Delete { at: 1, len: 3 }, Insert { at: 4, text: Text { characters: ['e'] } }] } } }",
+        r#"On { pad: Name { text: "p" }, act: Edit { rev: 1, changes: Row { items: [Delete { at: 1, len: 3 }, Insert { at: 4, text: Text { characters: ['e'] } }] } } }"#,
     ),
     (
         r#"{"do":"edit","pad":"p","rev":1,"parts":[]}"#,
-        "On { pad: Name { text: \"p\" }, act: Edit { rev: 1, changes: Row { items: [] } } }",
+        r#"On { pad: Name { text: "p" }, act: Edit { rev: 1, changes: Row { items: [] } } }"#,
     ),
     (
         r#"{"do":"text","pad":"p"}"#,
-        "On { pad: Name { text: \"p\" }, act: Text { rev: None } }",
+        r#"On { pad: Name { text: "p" }, act: Text { rev: None } }"#,
     ),
     (
         r#"{"do":"text","pad":"p","x":[]}"#,
-        "On { pad: Name { text: \"p\" }, act: Text { rev: None } }",
+        r#"On { pad: Name { text: "p" }, act: Text { rev: None } }"#,
     ),
     (
         r#"{"do":"text","pad":"p","rev":null}"#,
-        "On { pad: Name { text: \"p\" }, act: Text { rev: None } }",
+        r#"On { pad: Name { text: "p" }, act: Text { rev: None } }"#,
     ),
     (
         r#"{"do":"text","pad":"p","rev":18446744073709551615}"#,
-        "On { pad: Name { text: \"p\" }, act: Text { rev: Some(18446744073709551615) } }",
+        r#"On { pad: Name { text: "p" }, act: Text { rev: Some(18446744073709551615) } }"#,
     ),
     (
         r#"{"do":"runs","pad":"p","rev":2}"#,
-        "On { pad: Name { text: \"p\" }, act: Runs { rev: Some(2) } }",
+        r#"On { pad: Name { text: "p" }, act: Runs { rev: Some(2) } }"#,
     ),
     (
         r#"{"do":"comment","pad":"p","rev":1,"at":0,"len":5,"text":"c"}"#,
-        "On { pad: Name { text: \"p\" }, act: Comment { rev: 1, at: 0, len: 5, text: Text { characters: ['c'] } } }",
+        r#"On { pad: Name { text: "p" }, act: Comment { rev: 1, at: 0, len: 5, text: Text { characters: ['c'] } } }"#,
     ),
     (
         r#"{"do":"resolve","pad":"p","comment":[1,3]}"#,
-        "On { pad: Name { text: \"p\" }, act: Resolve { comment: OpName { origin: 1, number: 3 } } }",
+        r#"On { pad: Name { text: "p" }, act: Resolve { comment: OpName { origin: 1, number: 3 } } }"#,
     ),
     (
         r#"{"do":"comments","pad":"p"}"#,
-        "On { pad: Name { text: \"p\" }, act: Comments { rev: None } }",
+        r#"On { pad: Name { text: "p" }, act: Comments { rev: None } }"#,
     ),
     (
         r#"{"do":"revs","pad":"p"}"#,
-        "On { pad: Name { text: \"p\" }, act: Revs }",
+        r#"On { pad: Name { text: "p" }, act: Revs }"#,
     ),
     (
         r#"{"do":"entries","pad":"p","from":1,"count":101}"#,
-        "On { pad: Name { text: \"p\" }, act: Entries { from: 1, count: 101 } }",
+        r#"On { pad: Name { text: "p" }, act: Entries { from: 1, count: 101 } }"#,
     ),
     (
         r#"{"do":"caret","pad":"p","rev":1,"at":2}"#,
-        "On { pad: Name { text: \"p\" }, act: Caret { rev: 1, at: 2 } }",
+        r#"On { pad: Name { text: "p" }, act: Caret { rev: 1, at: 2 } }"#,
     ),
     (
         r#"{"do":"who","pad":"p"}"#,
-        "On { pad: Name { text: \"p\" }, act: Who }",
+        r#"On { pad: Name { text: "p" }, act: Who }"#,
     ),
     (
         r#"{"do":"grant","pad":"p","author":"bob","right":"own"}"#,
-        "On { pad: Name { text: \"p\" }, act: Grant { author: Name { text: \"bob\" }, right: Some(Own) } }",
+        r#"On { pad: Name { text: "p" }, act: Grant { author: Name { text: "bob" }, right: Some(Own) } }"#,
     ),
     (
         r#"{"do":"grant","pad":"p","author":"","right":"none"}"#,
-        "On { pad: Name { text: \"p\" }, act: Grant { author: Name { text: \"\" }, right: None } }",
+        r#"On { pad: Name { text: "p" }, act: Grant { author: Name { text: "" }, right: None } }"#,
     ),
     (
         r#"{"do":"rights","pad":"p"}"#,
-        "On { pad: Name { text: \"p\" }, act: Rights }",
+        r#"On { pad: Name { text: "p" }, act: Rights }"#,
     ),
     (
         r#"{"do":"vector","pad":"p"}"#,
-        "On { pad: Name { text: \"p\" }, act: Vector }",
+        r#"On { pad: Name { text: "p" }, act: Vector }"#,
     ),
     (
         r#"{"do":"pull","pad":"p","seen":[],"max":4}"#,
-        "On { pad: Name { text: \"p\" }, act: Pull { seen: Seen { pairs: [] }, max: 4 } }",
+        r#"On { pad: Name { text: "p" }, act: Pull { seen: Seen { pairs: [] }, max: 4 } }"#,
     ),
     (
         r#"{"do":"pull","pad":"p","seen":[[1,1],[65535,18446744073709551615]],"max":0}"#,
-        "On { pad: Name { text: \"p\" }, act: Pull { seen: Seen { pairs: [Counted { origin: 1, count: 1 }, Counted { origin: 65535, count: 18446744073709551615 }] }, max: 0 } }",
+        r#"On { pad: Name { text: "p" }, act: Pull { seen: Seen { pairs: [Counted { origin: 1, count: 1 }, Counted { origin: 65535, count: 18446744073709551615 }] }, max: 0 } }"#,
     ),
     (
         r#"{"d\u006f":"text","pad":"\u0070","do":"revs"}"#,
-        "On { pad: Name { text: \"p\" }, act: Revs }",
+        r#"On { pad: Name { text: "p" }, act: Revs }"#,
     ),
     (
         " {\"do\" :\t\"create\", \"pad\":\"x\",\"pad\":\"p\"}\r",
-        "Create { pad: Name { text: \"p\" } }",
+        r#"Create { pad: Name { text: "p" } }"#,
     ),
 ];
 
@@ -172,9 +172,9 @@ fn text_of(alloc: Global, line: &[u8]) -> Result<String, AllocError> {
 /// The line that inserts a text.
 fn insertion(alloc: Global, written: &[u8]) -> Result<Vec<u8>, AllocError> {
     let mut line = Vec::new(alloc);
-    line.extend_from_slice(b"{\"do\":\"insert\",\"pad\":\"p\",\"rev\":0,\"at\":0,\"text\":\"")?;
+    line.extend_from_slice(br#"{"do":"insert","pad":"p","rev":0,"at":0,"text":""#)?;
     line.extend_from_slice(written)?;
-    line.extend_from_slice(b"\"}")?;
+    line.extend_from_slice(br#""}"#)?;
     Ok(line)
 }
 
@@ -218,7 +218,7 @@ fn nested(alloc: Global, depth: u32) -> Result<String, AllocError> {
     Ok(line)
 }
 
-const NESTED: &[(u32, &str)] = &[(126, "Create { pad: Name { text: \"p\" } }"), (127, "101")];
+const NESTED: &[(u32, &str)] = &[(126, r#"Create { pad: Name { text: "p" } }"#), (127, "101")];
 
 fn shows_nested(alloc: Global, depth: u32, want: &str) -> Result<bool, AllocError> {
     let line = nested(alloc, depth)?;

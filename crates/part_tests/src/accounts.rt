@@ -1,6 +1,7 @@
 //! Which files of accounts are read, and which tokens they take.
 use sessions::{Accounts, AccountsError, Peer};
 use std::alloc::Global;
+use std::process::Abort;
 use std::test::Fail;
 
 fn is_peer(peer: Option<&Peer>, number: u16, token: &str, address: &str) -> bool {
@@ -14,9 +15,19 @@ fn is_peer(peer: Option<&Peer>, number: u16, token: &str, address: &str) -> bool
     }
 }
 
-fn knows_nobody(alloc: Global, text: &[u8]) -> Result<bool, Fail> {
+fn peer_is(rt: &impl Abort, peer: Option<&Peer>, number: u16, token: &str, address: &str) {
+    assert!(rt;
+        is_peer(peer, number, token, address),
+        "wanted {number} {token} {address}, came {peer:?}"
+    );
+}
+
+fn knows_nobody(rt: &impl Abort, alloc: Global, text: &[u8]) -> Result<(), Fail> {
     let accounts = Accounts::read(alloc, text)?;
-    Ok(!accounts.author("ann", "t1") && accounts.peers().is_empty())
+    assert!(rt; !accounts.author("ann", "t1"), "ann is known");
+    let peers = accounts.peers();
+    assert!(rt; peers.is_empty(), "wanted no peers, came {peers:?}");
+    Ok(())
 }
 
 /// What is known of an author with a token.
@@ -31,33 +42,36 @@ const AUTHORS: &[(&str, &str, bool)] = &[
 /// What is known of a peer with a token.
 const PEERS: &[(u64, &str, bool)] = &[(2, "p2", true), (2, "p", false), (65_538, "p2", false)];
 
-fn authors_are(accounts: &Accounts, wanted: &[(&str, &str, bool)]) -> bool {
-    for (name, token, known) in wanted {
-        if accounts.author(name, token) != *known {
-            return false;
-        }
+fn authors_are(rt: &impl Abort, accounts: &Accounts, wanted: &[(&str, &str, bool)]) {
+    for (name, token, want) in wanted {
+        let came = accounts.author(name, token);
+        assert!(rt;
+            came == *want,
+            "author {name} {token}: wanted {want}, came {came}"
+        );
     }
-    true
 }
 
-fn peers_are(accounts: &Accounts, wanted: &[(u64, &str, bool)]) -> bool {
-    for (number, token, known) in wanted {
-        if accounts.peer(*number, token) != *known {
-            return false;
-        }
+fn peers_are(rt: &impl Abort, accounts: &Accounts, wanted: &[(u64, &str, bool)]) {
+    for (number, token, want) in wanted {
+        let came = accounts.peer(*number, token);
+        assert!(rt;
+            came == *want,
+            "peer {number} {token}: wanted {want}, came {came}"
+        );
     }
-    true
 }
 
 #[test]
 fn accounts_file(rt: HostRuntime) -> Result<(), Fail> {
-    assert!(rt; knows_nobody(rt.alloc(), b"")?);
+    knows_nobody(&rt, rt.alloc(), b"")?;
     let text = b"author ann t1\npeer 2 p2 127.0.0.1:7402\n";
     let accounts = Accounts::read(rt.alloc(), text)?;
-    assert!(rt; authors_are(&accounts, AUTHORS));
-    assert!(rt; peers_are(&accounts, PEERS));
-    assert!(rt; accounts.peers().len() == 1);
-    assert!(rt; is_peer(accounts.peers().first(), 2, "p2", "127.0.0.1:7402"));
+    authors_are(&rt, &accounts, AUTHORS);
+    peers_are(&rt, &accounts, PEERS);
+    let peers = accounts.peers();
+    assert!(rt; peers.len() == 1, "wanted 1 peer, came {peers:?}");
+    peer_is(&rt, peers.first(), 2, "p2", "127.0.0.1:7402");
     Ok(())
 }
 
@@ -65,10 +79,9 @@ fn accounts_file(rt: HostRuntime) -> Result<(), Fail> {
 fn accounts_forms(rt: HostRuntime) -> Result<(), Fail> {
     let text = b"\n\r\n#\n# \xFF\t\r\nauthor a-9 !~\r\n\npeer 65535 t :\npeer 1 t [::1]:80";
     let accounts = Accounts::read(rt.alloc(), text)?;
-    assert!(rt; accounts.author("a-9", "!~"));
-    assert!(rt; accounts.peer(65_535, "t"));
-    assert!(rt; accounts.peer(1, "t"));
-    assert!(rt; is_peer(accounts.peers().get(1), 1, "t", "[::1]:80"));
+    authors_are(&rt, &accounts, &[("a-9", "!~", true)]);
+    peers_are(&rt, &accounts, &[(65_535, "t", true), (1, "t", true)]);
+    peer_is(&rt, accounts.peers().get(1), 1, "t", "[::1]:80");
     Ok(())
 }
 
@@ -133,8 +146,13 @@ fn bad_line(alloc: Global, text: &[u8]) -> Option<u64> {
 
 #[test]
 fn first_bad_line(rt: HostRuntime) {
-    for (text, line) in BAD_FILES {
-        assert!(rt; bad_line(rt.alloc(), text) == Some(*line), "{text:?}");
+    for (text, want) in BAD_FILES {
+        let came = bad_line(rt.alloc(), text);
+        assert!(rt;
+            came == Some(*want),
+            "{}: wanted line {want}, came {came:?}",
+            text.escape_ascii()
+        );
     }
 }
 
@@ -165,8 +183,10 @@ fn count_peers(alloc: Global, text: &[u8]) -> Result<usize, Fail> {
 #[test]
 fn limit_accounts(rt: HostRuntime) -> Result<(), Fail> {
     let mut text = thousand_accounts(rt.alloc())?;
-    assert!(rt; count_peers(rt.alloc(), text.as_bytes())? == 999);
+    let count = count_peers(rt.alloc(), text.as_bytes())?;
+    assert!(rt; count == 999, "wanted 999 peers, came {count}");
     text.push_str("# x\npeer 1000 t h:1")?;
-    assert!(rt; bad_line(rt.alloc(), text.as_bytes()) == Some(1_002));
+    let came = bad_line(rt.alloc(), text.as_bytes());
+    assert!(rt; came == Some(1_002), "wanted line 1002, came {came:?}");
     Ok(())
 }

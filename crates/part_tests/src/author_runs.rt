@@ -3,6 +3,7 @@ use crate::author_runs::RunCase::{By, Len, Put, Runs, Take};
 use authorship::RunList;
 use pad_model::{Author, AuthorRun, Name, Refusal};
 use std::alloc::{AllocError, Global};
+use std::process::Abort;
 use std::test::Fail;
 
 pub fn author(alloc: Global, name: &str) -> Result<Author, AllocError> {
@@ -43,9 +44,21 @@ pub fn take(list: &mut RunList, pos: u64, n: u64) -> bool {
     true
 }
 
+/// The author of the character at a place, if one is there.
+pub fn author_at(list: &RunList, pos: u64) -> Option<&Author> {
+    if pos < list.len() {
+        Some(list.author_at(pos))
+    } else {
+        None
+    }
+}
+
 /// Whether the character at a place is there, and this author's.
 pub fn is_by(list: &RunList, pos: u64, name: &str) -> bool {
-    pos < list.len() && is_author(list.author_at(pos), name)
+    match author_at(list, pos) {
+        Some(author) => is_author(author, name),
+        None => false,
+    }
 }
 
 /// The name of a run's author, and its length.
@@ -64,13 +77,23 @@ fn are_same(runs: &[AuthorRun], want: &[Plain]) -> bool {
     runs.len() == want.len()
 }
 
-fn are_runs(alloc: Global, list: &RunList, want: &[Plain]) -> Result<bool, Refusal> {
+fn are_runs(
+    rt: &impl Abort,
+    alloc: Global,
+    list: &RunList,
+    place: usize,
+    want: &[Plain],
+) -> Result<(), Refusal> {
     let runs = list.runs(alloc)?;
-    Ok(are_same(runs.as_slice(), want))
+    assert!(rt;
+        are_same(runs.as_slice(), want),
+        "step {place}: wanted the runs {want:?}, came {runs:?}"
+    );
+    Ok(())
 }
 
 /// A change of a list, or what it shows.
-#[derive(Clone, Copy)]
+#[derive(Clone, Copy, Debug)]
 enum RunCase {
     Put(u64, &'static str, u64),
     Take(u64, u64),
@@ -79,26 +102,57 @@ enum RunCase {
     Len(u64),
 }
 
-fn is_so(alloc: Global, list: &mut RunList, step: RunCase) -> Result<bool, Refusal> {
+/// Does a step, or sees that the list shows what the step says.
+fn play(
+    rt: &impl Abort,
+    alloc: Global,
+    list: &mut RunList,
+    place: usize,
+    step: RunCase,
+) -> Result<(), Refusal> {
     match step {
-        Put(pos, name, n) => put(list, alloc, pos, name, n),
-        Take(pos, n) => Ok(take(list, pos, n)),
-        Runs(want) => are_runs(alloc, list, want),
-        By(pos, name) => Ok(is_by(list, pos, name)),
-        Len(want) => Ok(list.len() == want),
+        Put(pos, name, n) => {
+            let came = put(list, alloc, pos, name, n)?;
+            assert!(rt;
+                came,
+                "step {place}, {step:?}: no such place of {}",
+                list.len()
+            );
+        }
+        Take(pos, n) => {
+            assert!(rt;
+                take(list, pos, n),
+                "step {place}, {step:?}: no such place of {}",
+                list.len()
+            );
+        }
+        Runs(want) => are_runs(rt, alloc, list, place, want)?,
+        By(pos, name) => {
+            let came = author_at(list, pos);
+            assert!(rt;
+                is_by(list, pos, name),
+                "step {place}, {step:?}: came {came:?}"
+            );
+        }
+        Len(want) => assert!(rt;
+            list.len() == want,
+            "step {place}, {step:?}: came {}",
+            list.len()
+        ),
     }
+    Ok(())
 }
 
-/// How many steps are so, before the first that is not.
-fn count_so(alloc: Global, list: &mut RunList, steps: &[RunCase]) -> Result<usize, Refusal> {
-    let mut count = 0usize;
-    for step in steps {
-        if !is_so(alloc, list, *step)? {
-            break;
-        }
-        count = count.saturating_add(1);
+fn play_all(
+    rt: &impl Abort,
+    alloc: Global,
+    list: &mut RunList,
+    steps: &[RunCase],
+) -> Result<(), Refusal> {
+    for (place, step) in steps.iter().enumerate() {
+        play(rt, alloc, list, place, *step)?;
     }
-    Ok(count)
+    Ok(())
 }
 
 /// ann's five characters with one of bob's after the second, and without it again.
@@ -117,9 +171,7 @@ const BOB_COMES_AND_GOES: &[RunCase] = &[
 #[test]
 fn a_run_is_cut_and_joined(rt: HostRuntime) -> Result<(), Fail> {
     let mut list = RunList::new(rt.alloc());
-    let count = count_so(rt.alloc(), &mut list, BOB_COMES_AND_GOES)?;
-    assert!(rt; count == BOB_COMES_AND_GOES.len(), "not step {count}");
-    Ok(())
+    Ok(play_all(&rt, rt.alloc(), &mut list, BOB_COMES_AND_GOES)?)
 }
 
 fn reserve(alloc: Global, list: &mut RunList, n: u64) -> Result<(), Refusal> {
@@ -131,9 +183,7 @@ fn reserve(alloc: Global, list: &mut RunList, n: u64) -> Result<(), Refusal> {
 fn reserved_room_changes_no_author(rt: HostRuntime) -> Result<(), Fail> {
     let mut list = RunList::new(rt.alloc());
     reserve(rt.alloc(), &mut list, 1)?;
-    let count = count_so(rt.alloc(), &mut list, BOB_COMES_AND_GOES)?;
-    assert!(rt; count == BOB_COMES_AND_GOES.len(), "not step {count}");
-    Ok(())
+    Ok(play_all(&rt, rt.alloc(), &mut list, BOB_COMES_AND_GOES)?)
 }
 
 const NO_ROOM: &[u64] = &[1 << 62, 1 << 63, u64::MAX];
@@ -142,7 +192,10 @@ const NO_ROOM: &[u64] = &[1 << 62, 1 << 63, u64::MAX];
 fn room_that_no_vector_has_is_refused(rt: HostRuntime) {
     let mut list = RunList::new(rt.alloc());
     for n in NO_ROOM {
-        let answer = reserve(rt.alloc(), &mut list, *n);
-        assert!(rt; answer == Err(Refusal::Memory), "{n}");
+        let came = reserve(rt.alloc(), &mut list, *n);
+        assert!(rt;
+            came == Err(Refusal::Memory),
+            "room for {n}: wanted Memory, came {came:?}"
+        );
     }
 }

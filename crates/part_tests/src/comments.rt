@@ -2,6 +2,7 @@
 use anchors::{CommentBook, NewComment};
 use pad_model::{Author, Name, OpName, Refusal, Stamp, Text};
 use std::alloc::Global;
+use std::process::Abort;
 use std::test::Fail;
 
 fn named(origin: u16, number: u64) -> OpName {
@@ -31,9 +32,24 @@ fn add(book: &mut CommentBook, alloc: Global, name: OpName) -> Result<bool, Refu
     Ok(true)
 }
 
-/// Whether a comment is there, and is resolved as wanted.
-fn finds(book: &mut CommentBook, name: OpName, there: bool, want: Result<(), Refusal>) -> bool {
-    book.has(name) == there && book.resolve(name, 5) == want
+/// Sees whether a comment is there, and is resolved as wanted.
+fn find(
+    rt: &impl Abort,
+    book: &mut CommentBook,
+    name: OpName,
+    is_there: bool,
+    want: Result<(), Refusal>,
+) {
+    let has = book.has(name);
+    assert!(rt;
+        has == is_there,
+        "has {name:?}: wanted {is_there}, came {has}"
+    );
+    let came = book.resolve(name, 5);
+    assert!(rt;
+        came == want,
+        "resolve {name:?}: wanted {want:?}, came {came:?}"
+    );
 }
 
 const ENTERED: &[(u16, u64)] = &[(2, 1), (1, 10), (1, 9), (3, 9)];
@@ -46,26 +62,35 @@ const LOOKED_FOR: &[(u16, u64, bool, Result<(), Refusal>)] = &[
     (2, 9, false, Err(Refusal::NoComment)),
 ];
 
-/// Enters four comments, and says whether each was new.
-fn add_four(book: &mut CommentBook, alloc: Global) -> Result<bool, Refusal> {
+/// Enters four comments, each of which is new.
+fn add_four(rt: &impl Abort, book: &mut CommentBook, alloc: Global) -> Result<(), Refusal> {
     for (origin, number) in ENTERED {
-        if !add(book, alloc, named(*origin, *number))? {
-            return Ok(false);
-        }
+        let is_new = add(book, alloc, named(*origin, *number))?;
+        assert!(rt;
+            is_new,
+            "{number} of {origin}: wanted a new one, came one that is there"
+        );
     }
-    Ok(true)
+    Ok(())
+}
+
+fn has_len(rt: &impl Abort, book: &CommentBook, want: u64) {
+    let came = book.len();
+    assert!(rt; came == want, "wanted {want} comments, came {came}");
 }
 
 #[test]
 fn comments_are_found_by_origin_and_number(rt: HostRuntime) -> Result<(), Fail> {
     let mut book = CommentBook::new(rt.alloc());
-    assert!(rt; add_four(&mut book, rt.alloc())?);
-    for (origin, number, there, want) in LOOKED_FOR {
-        let name = named(*origin, *number);
-        assert!(rt; finds(&mut book, name, *there, *want), "{origin}, {number}");
+    add_four(&rt, &mut book, rt.alloc())?;
+    for (origin, number, is_there, want) in LOOKED_FOR {
+        find(&rt, &mut book, named(*origin, *number), *is_there, *want);
     }
-    assert!(rt; !add(&mut book, rt.alloc(), named(1, 10))?);
-    assert!(rt; book.len() == 4);
+    assert!(rt;
+        !add(&mut book, rt.alloc(), named(1, 10))?,
+        "10 of 1 was entered twice"
+    );
+    has_len(&rt, &book, 4);
     Ok(())
 }
 
@@ -74,10 +99,16 @@ fn the_ten_thousandth_comment_is_the_last(rt: HostRuntime) {
     let mut book = CommentBook::new(rt.alloc());
     for number in 1..10_001u64 {
         let added = add(&mut book, rt.alloc(), named(1, number));
-        assert!(rt; added == Ok(true), "{number}");
+        assert!(rt;
+            added == Ok(true),
+            "comment {number}: wanted Ok(true), came {added:?}"
+        );
     }
-    assert!(rt; book.len() == 10_000);
+    has_len(&rt, &book, 10_000);
     let one_more = add(&mut book, rt.alloc(), named(2, 1));
-    assert!(rt; one_more == Err(Refusal::CommentsFull));
-    assert!(rt; book.len() == 10_000);
+    assert!(rt;
+        one_more == Err(Refusal::CommentsFull),
+        "wanted CommentsFull, came {one_more:?}"
+    );
+    has_len(&rt, &book, 10_000);
 }

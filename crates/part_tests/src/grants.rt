@@ -4,6 +4,7 @@ use pad_model::{Name, Refusal};
 use rights::Right::{Comment, Own, Read, Write};
 use rights::{Grant, MAX_GRANTS, Right, RightsBook};
 use std::alloc::{AllocError, Global};
+use std::process::Abort;
 use std::test::Fail;
 
 fn book_of_ann(alloc: Global) -> Result<RightsBook, AllocError> {
@@ -14,7 +15,7 @@ fn book_of_ann(alloc: Global) -> Result<RightsBook, AllocError> {
 type Plain = (&'static str, Right);
 
 /// What a book does, and how it answers.
-#[derive(Clone, Copy)]
+#[derive(Clone, Copy, Debug)]
 enum GrantCase {
     Grants(&'static str, Option<Right>, Result<(), Refusal>),
     May(&'static str, Right, bool),
@@ -50,9 +51,19 @@ fn are_grants(rows: &[Grant], want: &[Plain]) -> bool {
     rows.len() == want.len()
 }
 
-fn lists(alloc: Global, book: &RightsBook, want: &[Plain]) -> Result<bool, Refusal> {
+fn lists(
+    rt: &impl Abort,
+    alloc: Global,
+    book: &RightsBook,
+    place: usize,
+    want: &[Plain],
+) -> Result<(), Refusal> {
     let rows = book.list(alloc)?;
-    Ok(are_grants(rows.as_slice(), want))
+    assert!(rt;
+        are_grants(rows.as_slice(), want),
+        "step {place}: wanted the grants {want:?}, came {rows:?}"
+    );
+    Ok(())
 }
 
 fn count(alloc: Global, book: &RightsBook) -> Result<u64, Refusal> {
@@ -60,25 +71,42 @@ fn count(alloc: Global, book: &RightsBook) -> Result<u64, Refusal> {
     Ok(rows.len() as u64)
 }
 
-fn is_so(alloc: Global, book: &mut RightsBook, step: GrantCase) -> Result<bool, Refusal> {
+/// Does a step, or sees that the book answers what the step says.
+fn play(
+    rt: &impl Abort,
+    alloc: Global,
+    book: &mut RightsBook,
+    place: usize,
+    step: GrantCase,
+) -> Result<(), Refusal> {
     match step {
-        Grants(name, right, want) => Ok(grant(alloc, book, name, right) == want),
-        May(name, right, want) => Ok(may(alloc, book, name, right)? == want),
-        Lists(want) => lists(alloc, book, want),
-        Counts(want) => Ok(count(alloc, book)? == want),
+        Grants(name, right, want) => {
+            let came = grant(alloc, book, name, right);
+            assert!(rt; came == want, "step {place}, {step:?}: came {came:?}");
+        }
+        May(name, right, want) => {
+            let came = may(alloc, book, name, right)?;
+            assert!(rt; came == want, "step {place}, {step:?}: came {came}");
+        }
+        Lists(want) => lists(rt, alloc, book, place, want)?,
+        Counts(want) => {
+            let came = count(alloc, book)?;
+            assert!(rt; came == want, "step {place}, {step:?}: came {came}");
+        }
     }
+    Ok(())
 }
 
-/// How many steps are so, before the first that is not.
-fn count_so(alloc: Global, book: &mut RightsBook, steps: &[GrantCase]) -> Result<usize, Refusal> {
-    let mut count = 0usize;
-    for step in steps {
-        if !is_so(alloc, book, *step)? {
-            break;
-        }
-        count = count.saturating_add(1);
+fn play_all(
+    rt: &impl Abort,
+    alloc: Global,
+    book: &mut RightsBook,
+    steps: &[GrantCase],
+) -> Result<(), Refusal> {
+    for (place, step) in steps.iter().enumerate() {
+        play(rt, alloc, book, place, *step)?;
     }
-    Ok(count)
+    Ok(())
 }
 
 /// bob is granted a right, and has those before it too.
@@ -113,17 +141,16 @@ const EACH_RIGHT: &[[GrantCase; 5]] = &[
     ],
 ];
 
-/// How many steps are so in a book of ann's alone.
-fn count_so_in_new(alloc: Global, steps: &[GrantCase]) -> Result<usize, Refusal> {
+/// Plays steps in a book of ann's alone.
+fn play_in_new(rt: &impl Abort, alloc: Global, steps: &[GrantCase]) -> Result<(), Refusal> {
     let mut book = book_of_ann(alloc)?;
-    count_so(alloc, &mut book, steps)
+    play_all(rt, alloc, &mut book, steps)
 }
 
 #[test]
 fn each_right_includes_those_before_it(rt: HostRuntime) -> Result<(), Fail> {
     for steps in EACH_RIGHT {
-        let count = count_so_in_new(rt.alloc(), steps)?;
-        assert!(rt; count == steps.len(), "not step {count}");
+        play_in_new(&rt, rt.alloc(), steps)?;
     }
     Ok(())
 }
@@ -146,9 +173,7 @@ const SHARED: &[GrantCase] = &[
 
 #[test]
 fn the_creator_keeps_own_and_others_have_their_grants(rt: HostRuntime) -> Result<(), Fail> {
-    let count = count_so_in_new(rt.alloc(), SHARED)?;
-    assert!(rt; count == SHARED.len(), "not step {count}");
-    Ok(())
+    Ok(play_in_new(&rt, rt.alloc(), SHARED)?)
 }
 
 /// A name of its own for each number below 26 * 26: `aa`, `ab`, ..
@@ -187,7 +212,5 @@ fn fill(alloc: Global, book: &mut RightsBook) -> Result<(), Fail> {
 fn with_the_creator_there_are_256_names(rt: HostRuntime) -> Result<(), Fail> {
     let mut book = book_of_ann(rt.alloc())?;
     fill(rt.alloc(), &mut book)?;
-    let count = count_so(rt.alloc(), &mut book, FULL)?;
-    assert!(rt; count == FULL.len(), "not step {count}");
-    Ok(())
+    Ok(play_all(&rt, rt.alloc(), &mut book, FULL)?)
 }

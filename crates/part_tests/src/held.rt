@@ -3,10 +3,11 @@ use crate::held::HoldCall::{Deliver, Fill, Get, Len, Next, Offer, Take};
 use holdback::Hold;
 use pad_model::{Name, Op, OpName, Refusal, Row, Seen};
 use std::alloc::Global;
+use std::process::Abort;
 use std::test::Fail;
 
 /// An operation, and the count of another origin that it waits for.
-#[derive(Clone, Copy)]
+#[derive(Clone, Copy, Debug)]
 pub struct Made {
     pub name: OpName,
     pub needs: OpName,
@@ -37,7 +38,7 @@ fn op(alloc: Global, made: Made) -> Result<Op, Refusal> {
 }
 
 /// What a hold is asked, or its caller does.
-#[derive(Clone, Copy)]
+#[derive(Clone, Copy, Debug)]
 enum HoldCall {
     /// Offers 256 operations that wait, and answers as all of them were answered, or as the first that is not held.
     Fill,
@@ -49,7 +50,7 @@ enum HoldCall {
     Len,
 }
 
-#[derive(Clone, Copy, PartialEq)]
+#[derive(Clone, Copy, Debug, PartialEq)]
 pub enum HoldAnswer {
     Ready,
     Held,
@@ -144,27 +145,32 @@ impl HoldRig {
         }
     }
 
-    /// How many calls are answered so, before the first that is not.
-    fn count_told(
+    /// Makes the calls, each of which is answered so.
+    fn tell_all(
         &mut self,
+        rt: &impl Abort,
         alloc: Global,
         calls: &[(HoldCall, HoldAnswer)],
-    ) -> Result<usize, Refusal> {
-        let mut count = 0usize;
-        for (call, told) in calls {
-            if self.tell(alloc, *call)? != *told {
-                break;
-            }
-            count = count.saturating_add(1);
+    ) -> Result<(), Refusal> {
+        for (place, (call, want)) in calls.iter().enumerate() {
+            let came = self.tell(alloc, *call)?;
+            assert!(rt;
+                came == *want,
+                "call {place}, {call:?}: wanted {want:?}, came {came:?}"
+            );
         }
-        Ok(count)
+        Ok(())
     }
 }
 
-/// How many calls a new hold answers so.
-fn count_told(alloc: Global, calls: &[(HoldCall, HoldAnswer)]) -> Result<usize, Refusal> {
+/// Makes the calls on a new hold.
+fn tell_new(
+    rt: &impl Abort,
+    alloc: Global,
+    calls: &[(HoldCall, HoldAnswer)],
+) -> Result<(), Refusal> {
     let mut rig = HoldRig::new(alloc);
-    rig.count_told(alloc, calls)
+    rig.tell_all(rt, alloc, calls)
 }
 
 const FIRST_NAME: OpName = OpName {
@@ -210,9 +216,7 @@ const IN_TURN: &[(HoldCall, HoldAnswer)] = &[
 
 #[test]
 fn a_later_operation_waits_for_the_one_before(rt: HostRuntime) -> Result<(), Fail> {
-    let count = count_told(rt.alloc(), IN_TURN)?;
-    assert!(rt; count == IN_TURN.len(), "not call {count}");
-    Ok(())
+    Ok(tell_new(&rt, rt.alloc(), IN_TURN)?)
 }
 
 const THIRD_NAME: OpName = OpName {
@@ -236,9 +240,7 @@ const OF_TWO_ORIGINS: &[(HoldCall, HoldAnswer)] = &[
 
 #[test]
 fn an_operation_waits_for_another_origin(rt: HostRuntime) -> Result<(), Fail> {
-    let count = count_told(rt.alloc(), OF_TWO_ORIGINS)?;
-    assert!(rt; count == OF_TWO_ORIGINS.len(), "not call {count}");
-    Ok(())
+    Ok(tell_new(&rt, rt.alloc(), OF_TWO_ORIGINS)?)
 }
 
 /// The first of the operations that fill a hold may go, and the last of them is held.
@@ -276,7 +278,5 @@ const FULL: &[(HoldCall, HoldAnswer)] = &[
 
 #[test]
 fn a_full_hold_refuses_what_must_wait(rt: HostRuntime) -> Result<(), Fail> {
-    let count = count_told(rt.alloc(), FULL)?;
-    assert!(rt; count == FULL.len(), "not call {count}");
-    Ok(())
+    Ok(tell_new(&rt, rt.alloc(), FULL)?)
 }

@@ -4,6 +4,7 @@ use dice::Dice;
 use holdback::MAX_HELD;
 use pad_model::{OpName, Refusal, Seen};
 use std::alloc::Global;
+use std::process::Abort;
 use std::test::Fail;
 
 fn roll_origin(dice: &mut Dice) -> u16 {
@@ -70,7 +71,7 @@ fn expected_next(held: &[Made], seen: &Seen) -> Option<OpName> {
 }
 
 /// In how many offers the case came up.
-#[derive(Clone, Copy)]
+#[derive(Clone, Copy, Debug)]
 struct Cases {
     ready: u64,
     held: u64,
@@ -121,24 +122,37 @@ impl Pair {
         Ok(pair)
     }
 
-    /// Offers an operation that came, which is delivered where it is ready, and says whether the answer was right.
-    fn offer(&mut self, alloc: Global, made: Made, want: HoldAnswer) -> Result<bool, Refusal> {
-        let told = self.rig.offer(alloc, made)?;
+    /// Offers an operation that came, which is delivered where it is ready, and sees that it is answered so.
+    fn offer(
+        &mut self,
+        rt: &impl Abort,
+        alloc: Global,
+        made: Made,
+        want: HoldAnswer,
+    ) -> Result<(), Refusal> {
+        let came = self.rig.offer(alloc, made)?;
+        assert!(rt;
+            came == want,
+            "offer {made:?}: wanted {want:?}, came {came:?}"
+        );
         if want == HoldAnswer::Ready {
             self.rig.deliver(made.name)?;
         }
         if want == HoldAnswer::Held {
             self.held.push(made)?;
         }
-        Ok(told == want)
+        Ok(())
     }
 
-    /// Delivers the held operation that is next, and says whether it was there.
-    fn release(&mut self, name: OpName) -> Result<bool, Refusal> {
-        let was_there = self.rig.hold.take(name).is_some();
+    /// Delivers the held operation that is next, and sees that it is there.
+    fn release(&mut self, rt: &impl Abort, name: OpName) -> Result<(), Refusal> {
+        assert!(rt;
+            self.rig.hold.take(name).is_some(),
+            "{name:?} is next, and not held"
+        );
         self.held.retain(|made| made.name != name);
         self.rig.deliver(name)?;
-        Ok(was_there)
+        Ok(())
     }
 
     fn some_operation(&self, dice: &mut Dice) -> (Made, HoldAnswer) {
@@ -150,37 +164,48 @@ impl Pair {
         expected_next(self.held.as_slice(), &self.rig.seen)
     }
 
-    fn is_as_long(&self) -> bool {
-        self.rig.hold.len() == self.held.len() as u64
+    /// Sees that the hold has the same operation next as the list, and releases it.
+    fn release_next(&mut self, rt: &impl Abort) -> Result<Option<OpName>, Refusal> {
+        let want = self.expected_next();
+        let came = self.rig.hold.next_ready(&self.rig.seen);
+        assert!(rt; came == want, "next: wanted {want:?}, came {came:?}");
+        if let Some(name) = want {
+            self.release(rt, name)?;
+        }
+        Ok(want)
     }
 
-    /// Offers some operation, delivers the one that is next, and says whether all went as in the list.
-    fn play(&mut self, alloc: Global, dice: &mut Dice, cases: &mut Cases) -> Result<bool, Refusal> {
+    fn is_as_long(&self, rt: &impl Abort) {
+        let (came, want) = (self.rig.hold.len(), self.held.len() as u64);
+        assert!(rt; came == want, "held: wanted {want}, came {came}");
+    }
+
+    /// Offers some operation, and delivers the one that is next: all goes as in the list.
+    fn play(
+        &mut self,
+        rt: &impl Abort,
+        alloc: Global,
+        dice: &mut Dice,
+        cases: &mut Cases,
+    ) -> Result<(), Refusal> {
         let (made, want) = self.some_operation(dice);
-        let was_told = self.offer(alloc, made, want)?;
-        let next = self.expected_next();
-        let is_next = self.rig.hold.next_ready(&self.rig.seen) == next;
-        let was_there = match next {
-            Some(name) => self.release(name)?,
-            None => true,
-        };
+        self.offer(rt, alloc, made, want)?;
+        let next = self.release_next(rt)?;
         cases.note(want, next);
-        Ok(was_told && is_next && was_there && self.is_as_long())
+        self.is_as_long(rt);
+        Ok(())
     }
 }
 
 const OFFERS: u64 = 500;
 
-/// How many offers go as in the list, before the first that does not.
-fn count_played(alloc: Global, cases: &mut Cases) -> Result<u64, Refusal> {
+fn play_all(rt: &impl Abort, alloc: Global, cases: &mut Cases) -> Result<(), Refusal> {
     let mut dice = Dice::new(1);
     let mut pair = Pair::new(alloc)?;
-    for offer in 0..OFFERS {
-        if !pair.play(alloc, &mut dice, cases)? {
-            return Ok(offer);
-        }
+    for _ in 0..OFFERS {
+        pair.play(rt, alloc, &mut dice, cases)?;
     }
-    Ok(OFFERS)
+    Ok(())
 }
 
 #[test]
@@ -192,11 +217,10 @@ fn a_hold_is_a_filter_of_a_list(rt: HostRuntime) -> Result<(), Fail> {
         refused: 0,
         released: 0,
     };
-    let count = count_played(rt.alloc(), &mut cases)?;
-    assert!(rt; count == OFFERS, "not offer {count}");
+    play_all(&rt, rt.alloc(), &mut cases)?;
     assert!(rt;
         cases.are_many(),
-        "some case came up in fewer than 30 offers"
+        "some case came up in fewer than 30 offers: {cases:?}"
     );
     Ok(())
 }

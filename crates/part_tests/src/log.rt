@@ -3,6 +3,7 @@ use dice::Dice;
 use pad_model::{Name, Op, OpName, Part, Row, Run, Seen, Span, Stamp, Text};
 use revisions::OpLog;
 use std::alloc::Global;
+use std::process::Abort;
 use std::test::Fail;
 
 fn op(alloc: Global, origin: u16, number: u64) -> Result<Op, Fail> {
@@ -38,10 +39,6 @@ fn names_of(alloc: Global, ops: &[Op]) -> Result<Names, Fail> {
     Ok(names)
 }
 
-fn are_named(alloc: Global, ops: &[Op], names: &[(u16, u64)]) -> Result<bool, Fail> {
-    Ok(names_of(alloc, ops)?.as_slice() == names)
-}
-
 const NAMES: [(u16, u64); 5] = [(1, 1), (2, 1), (1, 2), (2, 2), (1, 3)];
 
 /// From where on, how many operations, and their names.
@@ -62,26 +59,37 @@ const STRETCHES: &[Stretch] = &[
 fn stretches_of_a_log_end_where_it_ends(rt: HostRuntime) -> Result<(), Fail> {
     let log = log_of(rt.alloc(), &NAMES)?;
     for (from, count, want) in STRETCHES {
+        let came = names_of(rt.alloc(), log.entries(*from, *count))?;
         assert!(rt;
-            are_named(rt.alloc(), log.entries(*from, *count), want)?,
-            "from {from}, {count} of them"
+            came.as_slice() == *want,
+            "{count} from {from} on: wanted {want:?}, came {came:?}"
         );
     }
     Ok(())
 }
 
-fn is_same(alloc: Global, found: Option<&Op>, origin: u16, number: u64) -> Result<bool, Fail> {
-    Ok(found == Some(&op(alloc, origin, number)?))
+/// Sees that an operation is the one of this origin and number.
+fn is_same(
+    rt: &impl Abort,
+    alloc: Global,
+    came: Option<&Op>,
+    origin: u16,
+    number: u64,
+) -> Result<(), Fail> {
+    let want = op(alloc, origin, number)?;
+    assert!(rt; came == Some(&want), "wanted {want:?}, came {came:?}");
+    Ok(())
 }
 
-/// The first origin that has another count of operations, if any.
-fn other_count(log: &OpLog, counts: &[(u16, u64)]) -> Option<u16> {
-    for (origin, count) in counts {
-        if log.count(*origin) != *count {
-            return Some(*origin);
-        }
+/// Sees that so many operations are of each origin.
+fn are_counts(rt: &impl Abort, log: &OpLog, counts: &[(u16, u64)]) {
+    for (origin, want) in counts {
+        let came = log.count(*origin);
+        assert!(rt;
+            came == *want,
+            "of origin {origin}: wanted {want}, came {came}"
+        );
     }
-    None
 }
 
 /// The origin and number of an operation, and its place, if it is there.
@@ -96,18 +104,18 @@ const PLACES: [Placed; 6] = [
     (1, 0, None),
 ];
 
-/// The first name that is found at another place, if any.
-fn other_place(log: &OpLog, places: &[Placed]) -> Option<OpName> {
-    for (origin, number, place) in places {
-        let name = OpName {
+/// Sees that each name is found at its place.
+fn are_places(rt: &impl Abort, log: &OpLog, places: &[Placed]) {
+    for (origin, number, want) in places {
+        let came = log.find(OpName {
             origin: *origin,
             number: *number,
-        };
-        if log.find(name) != *place {
-            return Some(name);
-        }
+        });
+        assert!(rt;
+            came == *want,
+            "{number} of {origin}: wanted {want:?}, came {came:?}"
+        );
     }
-    None
 }
 
 const COUNTS: &[(u16, u64)] = &[(1, 3), (2, 2), (3, 0)];
@@ -115,11 +123,15 @@ const COUNTS: &[(u16, u64)] = &[(1, 3), (2, 2), (3, 0)];
 #[test]
 fn operations_by_place_origin_and_name(rt: HostRuntime) -> Result<(), Fail> {
     let log = log_of(rt.alloc(), &NAMES)?;
-    assert!(rt; is_same(rt.alloc(), log.get(3), 2, 2)?);
-    assert!(rt; log.len() == 5);
-    assert!(rt; log.get(5).is_none());
-    assert!(rt; other_count(&log, COUNTS).is_none());
-    assert!(rt; other_place(&log, &PLACES).is_none());
+    is_same(&rt, rt.alloc(), log.get(3), 2, 2)?;
+    assert!(rt; log.len() == 5, "wanted 5 operations, came {}", log.len());
+    assert!(rt;
+        log.get(5).is_none(),
+        "wanted none at 5, came {:?}",
+        log.get(5)
+    );
+    are_counts(&rt, &log, COUNTS);
+    are_places(&rt, &log, &PLACES);
     Ok(())
 }
 
@@ -197,22 +209,29 @@ fn pull_of_examples(alloc: Global) -> Result<Row<Op>, Fail> {
     Ok(log.missing(alloc, &seen, 4)?)
 }
 
-fn is_example(alloc: Global, found: Option<&Op>, example: Example) -> Result<bool, Fail> {
-    Ok(found == Some(&op_of(alloc, example)?))
+fn is_example(
+    rt: &impl Abort,
+    alloc: Global,
+    came: Option<&Op>,
+    example: Example,
+) -> Result<(), Fail> {
+    let want = op_of(alloc, example)?;
+    assert!(rt; came == Some(&want), "wanted {want:?}, came {came:?}");
+    Ok(())
 }
 
-/// Whether these are the second and the third of the examples.
-fn are_lacking(alloc: Global, pull: &Row<Op>) -> Result<bool, Fail> {
-    let is_second = is_example(alloc, pull.get(0), Example::Erased)?;
-    let is_third = is_example(alloc, pull.get(1), Example::Answered)?;
-    Ok(is_second && is_third && pull.len() == 2)
+/// Sees that these are the second and the third of the examples.
+fn are_lacking(rt: &impl Abort, alloc: Global, pull: &Row<Op>) -> Result<(), Fail> {
+    is_example(rt, alloc, pull.get(0), Example::Erased)?;
+    is_example(rt, alloc, pull.get(1), Example::Answered)?;
+    assert!(rt; pull.len() == 2, "wanted 2 operations, came {pull:?}");
+    Ok(())
 }
 
 #[test]
 fn a_peer_pulls_what_it_lacks(rt: HostRuntime) -> Result<(), Fail> {
     let pull = pull_of_examples(rt.alloc())?;
-    assert!(rt; are_lacking(rt.alloc(), &pull)?);
-    Ok(())
+    are_lacking(&rt, rt.alloc(), &pull)
 }
 
 /// Up to twelve names of three origins; some come twice, and numbers may fall.
@@ -258,16 +277,11 @@ fn lacking(alloc: Global, names: &[(u16, u64)], counts: Counts) -> Result<Names,
     Ok(lacking)
 }
 
-fn pulls(
-    alloc: Global,
-    log: &OpLog,
-    counts: Counts,
-    max: u64,
-    want: &[(u16, u64)],
-) -> Result<bool, Fail> {
+/// The first that are lacking, at most so many.
+fn pulled(alloc: Global, log: &OpLog, counts: Counts, max: u64) -> Result<Names, Fail> {
     let seen = seen_of(alloc, counts)?;
     let answer = log.missing(alloc, &seen, max)?;
-    are_named(alloc, answer.as_slice(), want)
+    names_of(alloc, answer.as_slice())
 }
 
 fn first_of(names: &[(u16, u64)], max: u64) -> &[(u16, u64)] {
@@ -276,24 +290,28 @@ fn first_of(names: &[(u16, u64)], max: u64) -> &[(u16, u64)] {
 
 const LENGTHS: &[u64] = &[0, 1, 4, u64::MAX];
 
-/// The first of some lengths in which a pull is another than the plain filter, if any.
-fn fault_of(
+/// Sees that a pull of each length is that of the plain filter.
+fn pulls(
+    rt: &impl Abort,
     alloc: Global,
     names: &[(u16, u64)],
     counts: Counts,
     lacking: &[(u16, u64)],
-) -> Result<Option<u64>, Fail> {
+) -> Result<(), Fail> {
     let log = log_of(alloc, names)?;
     for max in LENGTHS {
-        if !pulls(alloc, &log, counts, *max, first_of(lacking, *max))? {
-            return Ok(Some(*max));
-        }
+        let came = pulled(alloc, &log, counts, *max)?;
+        let want = first_of(lacking, *max);
+        assert!(rt;
+            came.as_slice() == want,
+            "{max} of {names:?} behind {counts:?}: wanted {want:?}, came {came:?}"
+        );
     }
-    Ok(None)
+    Ok(())
 }
 
 /// In how many logs some are lacking, some covered, some left over by a pull of four, and some numbers fall.
-#[derive(Clone, Copy)]
+#[derive(Clone, Copy, Debug)]
 struct Cases([u64; 4]);
 
 /// Whether a name comes right behind one of its origin with a greater number.
@@ -323,35 +341,39 @@ impl Cases {
     }
 }
 
-/// Pulls from one log, and tells the length in which the pull is another than the plain filter, if any.
 fn pull(
+    rt: &impl Abort,
     alloc: Global,
     names: &[(u16, u64)],
     counts: Counts,
     cases: &mut Cases,
-) -> Result<Option<u64>, Fail> {
+) -> Result<(), Fail> {
     let lacking = lacking(alloc, names, counts)?;
     cases.note(names, lacking.as_slice());
-    fault_of(alloc, names, counts, lacking.as_slice())
+    pulls(rt, alloc, names, counts, lacking.as_slice())
 }
 
 /// Pulls from some log.
-fn pull_some(alloc: Global, dice: &mut Dice, cases: &mut Cases) -> Result<Option<u64>, Fail> {
+fn pull_some(
+    rt: &impl Abort,
+    alloc: Global,
+    dice: &mut Dice,
+    cases: &mut Cases,
+) -> Result<(), Fail> {
     let names = some_names(alloc, dice)?;
     let counts = (dice.roll(7), dice.roll(7), dice.roll(7));
-    pull(alloc, names.as_slice(), counts, cases)
+    pull(rt, alloc, names.as_slice(), counts, cases)
 }
 
 #[test]
 fn a_pull_is_a_filter_of_the_log(rt: HostRuntime) -> Result<(), Fail> {
     let mut dice = Dice::new(1);
     let mut cases = Cases([0; 4]);
-    for log in 0..1_000u64 {
-        let fault = pull_some(rt.alloc(), &mut dice, &mut cases)?;
-        assert!(rt; fault.is_none(), "log {log}");
+    for _ in 0..1_000u64 {
+        pull_some(&rt, rt.alloc(), &mut dice, &mut cases)?;
     }
     for count in cases.0 {
-        assert!(rt; count >= 100, "{count} logs");
+        assert!(rt; count >= 100, "too few logs of some kind: {cases:?}");
     }
     Ok(())
 }

@@ -3,6 +3,7 @@ use crate::presence::VisitCase::{Caret, Holds, Join, Leave, Present};
 use pad_model::{Name, Refusal, Stamp, Version, Who};
 use sessions::{PresenceBook, Room, Session, Visit};
 use std::alloc::Global;
+use std::process::Abort;
 use std::test::Fail;
 
 /// The counter and the replica of a stamp.
@@ -12,7 +13,7 @@ type Place = (u64, u16);
 type Plain = (u64, &'static str, Option<Place>);
 
 /// What a book does, and how it answers; or what it shows.
-#[derive(Clone, Copy)]
+#[derive(Clone, Copy, Debug)]
 enum VisitCase {
     Join(&'static str, Result<u64, Refusal>),
     Caret(u64, Option<Place>, Result<(), Refusal>),
@@ -51,31 +52,61 @@ fn are_visits(visits: &[Visit], want: &[Plain]) -> bool {
     visits.len() == want.len()
 }
 
-fn are_present(alloc: Global, book: &PresenceBook, want: &[Plain]) -> Result<bool, Refusal> {
+fn are_present(
+    rt: &impl Abort,
+    alloc: Global,
+    book: &PresenceBook,
+    place: usize,
+    want: &[Plain],
+) -> Result<(), Refusal> {
     let visits = book.who(alloc)?;
-    Ok(are_visits(visits.as_slice(), want))
+    assert!(rt;
+        are_visits(visits.as_slice(), want),
+        "step {place}: wanted the visits {want:?}, came {visits:?}"
+    );
+    Ok(())
 }
 
-fn is_so(alloc: Global, book: &mut PresenceBook, step: VisitCase) -> Result<bool, Refusal> {
+/// Does a step, or sees that the book shows what the step says.
+fn play(
+    rt: &impl Abort,
+    alloc: Global,
+    book: &mut PresenceBook,
+    place: usize,
+    step: VisitCase,
+) -> Result<(), Refusal> {
     match step {
-        Join(author, want) => Ok(book.join(alloc, author) == want),
-        Caret(visit, place, want) => Ok(put_caret(book, visit, place) == want),
-        Leave(visit, want) => Ok(book.leave(visit) == want),
-        Holds(visit, author, want) => Ok(book.holds(visit, author) == want),
-        Present(want) => are_present(alloc, book, want),
+        Join(author, want) => {
+            let came = book.join(alloc, author);
+            assert!(rt; came == want, "step {place}, {step:?}: came {came:?}");
+        }
+        Caret(visit, at, want) => {
+            let came = put_caret(book, visit, at);
+            assert!(rt; came == want, "step {place}, {step:?}: came {came:?}");
+        }
+        Leave(visit, want) => {
+            let came = book.leave(visit);
+            assert!(rt; came == want, "step {place}, {step:?}: came {came:?}");
+        }
+        Holds(visit, author, want) => {
+            let came = book.holds(visit, author);
+            assert!(rt; came == want, "step {place}, {step:?}: came {came}");
+        }
+        Present(want) => are_present(rt, alloc, book, place, want)?,
     }
+    Ok(())
 }
 
-/// How many steps are so, before the first that is not.
-fn count_so(alloc: Global, book: &mut PresenceBook, steps: &[VisitCase]) -> Result<usize, Refusal> {
-    let mut count = 0usize;
-    for step in steps {
-        if !is_so(alloc, book, *step)? {
-            break;
-        }
-        count = count.saturating_add(1);
+fn play_all(
+    rt: &impl Abort,
+    alloc: Global,
+    book: &mut PresenceBook,
+    steps: &[VisitCase],
+) -> Result<(), Refusal> {
+    for (place, step) in steps.iter().enumerate() {
+        play(rt, alloc, book, place, *step)?;
     }
-    Ok(count)
+    Ok(())
 }
 
 const VISITS: &[VisitCase] = &[
@@ -100,9 +131,7 @@ const VISITS: &[VisitCase] = &[
 #[test]
 fn join_and_leave(rt: HostRuntime) -> Result<(), Fail> {
     let mut book = PresenceBook::new(rt.alloc());
-    let count = count_so(rt.alloc(), &mut book, VISITS)?;
-    assert!(rt; count == VISITS.len(), "not step {count}");
-    Ok(())
+    Ok(play_all(&rt, rt.alloc(), &mut book, VISITS)?)
 }
 
 /// Where 64 are present.
@@ -116,21 +145,26 @@ const CROWDED: &[VisitCase] = &[
 fn limit_presence(rt: HostRuntime) -> Result<(), Fail> {
     let mut book = PresenceBook::new(rt.alloc());
     for number in 1..65 {
-        assert!(rt; book.join(rt.alloc(), "ann") == Ok(number));
+        let came = book.join(rt.alloc(), "ann");
+        assert!(rt; came == Ok(number), "join {number}: came {came:?}");
     }
-    let count = count_so(rt.alloc(), &mut book, CROWDED)?;
-    assert!(rt; count == CROWDED.len(), "not step {count}");
-    Ok(())
+    Ok(play_all(&rt, rt.alloc(), &mut book, CROWDED)?)
 }
 
 #[test]
 fn limit_visits(rt: HostRuntime) {
     let mut book = PresenceBook::new(rt.alloc());
     for number in 1..1_000_001 {
-        assert!(rt; book.join(rt.alloc(), "ann") == Ok(number));
-        assert!(rt; book.leave(number) == Ok(()));
+        let came = book.join(rt.alloc(), "ann");
+        assert!(rt; came == Ok(number), "join {number}: came {came:?}");
+        let left = book.leave(number);
+        assert!(rt; left == Ok(()), "leave {number}: came {left:?}");
     }
-    assert!(rt; book.join(rt.alloc(), "ann") == Err(Refusal::VisitsSpent));
+    let came = book.join(rt.alloc(), "ann");
+    assert!(rt;
+        came == Err(Refusal::VisitsSpent),
+        "wanted VisitsSpent, came {came:?}"
+    );
 }
 
 const PEER: Who = Who::Peer {
@@ -174,8 +208,21 @@ fn is_room(room: Option<&Room>, want: Option<(&str, u32, u64)>) -> bool {
     }
 }
 
-fn takes_first(session: &mut Session, want: Option<(&str, u32, u64)>) -> bool {
-    is_room(session.take_first().as_ref(), want)
+fn takes_first(rt: &impl Abort, session: &mut Session, want: Option<(&str, u32, u64)>) {
+    let came = session.take_first();
+    assert!(rt;
+        is_room(came.as_ref(), want),
+        "first room: wanted {want:?}, came {came:?}"
+    );
+}
+
+/// Sees that this is the room of a pad that was entered.
+fn has_room(rt: &impl Abort, session: &Session, pad: &str, want: Option<(&str, u32, u64)>) {
+    let came = session.room(pad);
+    assert!(rt;
+        is_room(came, want),
+        "room of {pad}: wanted {want:?}, came {came:?}"
+    );
 }
 
 /// A pad, its cell and the visit.
@@ -193,25 +240,34 @@ fn enter_all(alloc: Global, session: &mut Session) -> Result<(), Refusal> {
     Ok(())
 }
 
-/// Whether the rooms are there that were entered, and one is not any more once it is left.
-fn are_entered_and_left(session: &mut Session) -> bool {
-    let is_there = is_room(session.room("q"), Some(("q", 5, 1))) && session.room("s").is_none();
+/// Sees that the rooms are there that were entered, and one is not any more once it is left.
+fn are_entered_and_left(rt: &impl Abort, session: &mut Session) {
+    has_room(rt, session, "q", Some(("q", 5, 1)));
+    has_room(rt, session, "s", None);
     session.leave("q");
     session.leave("s");
-    is_there && session.room("q").is_none()
+    has_room(rt, session, "q", None);
 }
 
 #[test]
 fn rooms_of_a_session(rt: HostRuntime) -> Result<(), Fail> {
     let mut session = Session::new(rt.alloc());
-    assert!(rt; session.who() == &Who::Nobody);
+    assert!(rt;
+        session.who() == &Who::Nobody,
+        "wanted Nobody, came {:?}",
+        session.who()
+    );
     session.set(PEER);
     be_ann(rt.alloc(), &mut session)?;
-    assert!(rt; is_ann(session.who()));
+    assert!(rt;
+        is_ann(session.who()),
+        "wanted ann, came {:?}",
+        session.who()
+    );
     enter_all(rt.alloc(), &mut session)?;
-    assert!(rt; are_entered_and_left(&mut session));
+    are_entered_and_left(&rt, &mut session);
     for want in TAKEN {
-        assert!(rt; takes_first(&mut session, *want));
+        takes_first(&rt, &mut session, *want);
     }
     Ok(())
 }

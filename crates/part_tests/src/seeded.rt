@@ -1,9 +1,10 @@
 //! Three hundred seeded changes, compared after each with a plain list of authors.
-use crate::author_runs::{is_author, is_by, put, take};
+use crate::author_runs::{author_at, is_author, is_by, put, take};
 use authorship::RunList;
 use dice::Dice;
 use pad_model::{AuthorRun, Refusal};
 use std::alloc::{AllocError, Global};
+use std::process::Abort;
 use std::test::Fail;
 
 const NAMES: [&str; 3] = ["ann", "bob", "cyd"];
@@ -84,23 +85,43 @@ fn are_runs_of(rows: &[AuthorRun], plain: &Plain) -> bool {
     pos == plain.places.len() && rows.len() == plain.count_starts()
 }
 
-/// Whether each character has the plain list's author.
-fn are_authors_of(list: &RunList, plain: &Plain) -> bool {
-    for pos in 0..plain.places.len() {
-        match plain.name_at(pos) {
-            Some(name) if is_by(list, pos as u64, name) => {}
-            _ => return false,
-        }
+/// Whether a character has the plain list's author.
+fn is_author_of(list: &RunList, plain: &Plain, pos: usize) -> bool {
+    match plain.name_at(pos) {
+        Some(name) => is_by(list, pos as u64, name),
+        None => false,
     }
-    list.len() == plain.places.len() as u64
+}
+
+/// Sees that each character has the plain list's author.
+fn are_authors_of(rt: &impl Abort, list: &RunList, plain: &Plain, change: u64) {
+    let (came, want) = (list.len(), plain.places.len());
+    assert!(rt;
+        came == want as u64,
+        "change {change}: wanted {want} characters, came {came}"
+    );
+    for pos in 0..want {
+        assert!(rt;
+            is_author_of(list, plain, pos),
+            "change {change}, character {pos}: wanted {:?}, came {:?}",
+            plain.name_at(pos),
+            author_at(list, pos as u64)
+        );
+    }
 }
 
 /// How many changes of each kind there were.
-#[derive(Clone, Copy)]
+#[derive(Clone, Copy, Debug)]
 struct Cases {
     inserts: u64,
     deletes: u64,
     joins: u64,
+}
+
+impl Cases {
+    fn are_many(&self) -> bool {
+        self.inserts >= 150 && self.deletes >= 90 && self.joins >= 10
+    }
 }
 
 /// A list of runs with the plain list beside it.
@@ -156,38 +177,42 @@ impl Pair {
         self.put(alloc, pos, place, dice.roll(5))
     }
 
-    fn is_same(&self, alloc: Global) -> Result<bool, Refusal> {
+    /// Sees that both have the same authors after a change.
+    fn is_same(&self, rt: &impl Abort, alloc: Global, change: u64) -> Result<(), Refusal> {
         let rows = self.list.runs(alloc)?;
-        Ok(are_runs_of(rows.as_slice(), &self.plain) && are_authors_of(&self.list, &self.plain))
+        assert!(rt;
+            are_runs_of(rows.as_slice(), &self.plain),
+            "change {change}: wanted the runs of {:?}, came {rows:?}",
+            self.plain.places
+        );
+        are_authors_of(rt, &self.list, &self.plain, change);
+        Ok(())
     }
 }
 
 const CHANGES: u64 = 300;
 
-/// How many changes leave the two the same, before the first that does not.
-fn count_same(alloc: Global, pair: &mut Pair) -> Result<u64, Refusal> {
+/// Each change leaves the two the same.
+fn change_all(rt: &impl Abort, alloc: Global, pair: &mut Pair) -> Result<(), Refusal> {
     let mut dice = Dice::new(27);
     for change in 0..CHANGES {
-        if !pair.change(alloc, &mut dice)? || !pair.is_same(alloc)? {
-            return Ok(change);
-        }
+        let made = pair.change(alloc, &mut dice)?;
+        assert!(rt;
+            made,
+            "change {change}: no such place of {}",
+            pair.list.len()
+        );
+        pair.is_same(rt, alloc, change)?;
     }
-    Ok(CHANGES)
+    Ok(())
 }
 
 #[test]
 fn three_authors_write_and_erase(rt: HostRuntime) -> Result<(), Fail> {
     let mut pair = Pair::new(rt.alloc());
-    let count = count_same(rt.alloc(), &mut pair)?;
-    assert!(rt; count == CHANGES, "not change {count}");
-    let Cases {
-        inserts,
-        deletes,
-        joins,
-    } = pair.cases;
-    assert!(rt; inserts >= 150, "{inserts}");
-    assert!(rt; deletes >= 90, "{deletes}");
-    assert!(rt; joins >= 10, "{joins}");
-    assert!(rt; pair.list.len() >= 50, "{}", pair.list.len());
+    change_all(&rt, rt.alloc(), &mut pair)?;
+    let cases = pair.cases;
+    assert!(rt; cases.are_many(), "too few of some kind: {cases:?}");
+    assert!(rt; pair.list.len() >= 50, "{} characters", pair.list.len());
     Ok(())
 }

@@ -15,7 +15,7 @@ fn any_stamp(dice: &mut Dice) -> Result<Stamp, Refusal> {
     Stamp::new(1 + dice.roll(500), 1 + dice.roll(3) as u16)
 }
 
-#[derive(Clone, Copy)]
+#[derive(Clone, Copy, Debug)]
 struct Block {
     first: Stamp,
     entry: Entry,
@@ -77,7 +77,11 @@ impl Both {
         let Block { first, entry } = block;
         assert!(rt; 1 <= entry.len && entry.len <= 8 && first.counter() <= 500);
         let is_new = add_if_new(&mut self.index, first, entry)?;
-        assert!(rt; is_new == !self.list.iter().any(|other| other.overlaps(&block)));
+        let want = !self.list.iter().any(|other| other.overlaps(&block));
+        assert!(rt;
+            is_new == want,
+            "add {block:?}: wanted {want}, came {is_new}"
+        );
         if is_new {
             self.list.push(block)?;
         }
@@ -85,15 +89,24 @@ impl Both {
     }
 
     fn locate(&self, rt: &impl Abort, stamp: Stamp) -> bool {
-        let place = self.list.iter().find_map(|block| block.place_of(stamp));
-        assert!(rt; self.index.locate(stamp) == place);
-        place.is_some()
+        let want = self.list.iter().find_map(|block| block.place_of(stamp));
+        let came = self.index.locate(stamp);
+        assert!(rt;
+            came == want,
+            "locate {stamp:?}: wanted {want:?}, came {came:?}"
+        );
+        want.is_some()
     }
 
     fn get(&self, rt: &impl Abort, first: Stamp) -> bool {
         let block = self.list.iter().find(|block| block.first == first);
-        assert!(rt; self.index.get(first) == block.map(|block| block.entry));
-        block.is_some()
+        let want = block.map(|block| block.entry);
+        let came = self.index.get(first);
+        assert!(rt;
+            came == want,
+            "get {first:?}: wanted {want:?}, came {came:?}"
+        );
+        want.is_some()
     }
 
     fn cut(
@@ -114,7 +127,7 @@ impl Both {
             Some(entry) if 0 < offset && offset < entry.len => self
                 .index
                 .cut(first, offset, label)?,
-            _ => panic!(rt; "no block to cut"),
+            came => panic!(rt; "cut {first:?} at {offset}: wanted {whole:?}, came {came:?}"),
         }
         self.list[at].entry.len = offset;
         self.list.push(Block {
@@ -132,14 +145,22 @@ impl Both {
             return false;
         };
         self.list[at].entry.label = label;
-        assert!(rt; self.index.get(first).is_some());
+        assert!(rt;
+            self.index.get(first).is_some(),
+            "relabel {first:?}: came no block"
+        );
         self.index.relabel(first, label);
         true
     }
 
     fn remove(&mut self, rt: &impl Abort, first: Stamp) -> bool {
         let at = self.at(first);
-        assert!(rt; self.index.remove(first) == at.is_some());
+        let want = at.is_some();
+        let came = self.index.remove(first);
+        assert!(rt;
+            came == want,
+            "remove {first:?}: wanted {want}, came {came}"
+        );
         if let Some(at) = at {
             self.list.swap_remove(at);
         }
@@ -147,8 +168,9 @@ impl Both {
     }
 
     fn len(&self, rt: &impl Abort) -> bool {
-        assert!(rt; self.index.len() == self.list.len());
-        self.index.len() > 0
+        let (came, want) = (self.index.len(), self.list.len());
+        assert!(rt; came == want, "len: wanted {want}, came {came}");
+        want > 0
     }
 
     // All stamps have the same places in both.
@@ -208,9 +230,9 @@ fn a_hundred_thousand_operations_as_on_a_list(rt: HostRuntime) -> Result<(), Fai
         }
     }
     both.same(&rt)?;
-    lie_within(&rt, &kinds, 9_500, 10_500);
+    lie_within(&rt, "operations of each kind", &kinds, 9_500, 10_500);
     // Everything both finds and misses, but for `len`, which looks for nothing.
     hits[4] = 5_000;
-    lie_within(&rt, &hits, 1_000, 9_000);
+    lie_within(&rt, "hits of each kind", &hits, 1_000, 9_000);
     Ok(())
 }

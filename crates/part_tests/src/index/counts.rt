@@ -2,8 +2,11 @@
 use std::process::Abort;
 
 /// Each count is at least `least`, and below `end`.
-pub fn lie_within(rt: &impl Abort, counts: &[u64], least: u64, end: u64) {
+pub fn lie_within(rt: &impl Abort, what: &str, counts: &[u64], least: u64, end: u64) {
     for count in counts {
-        assert!(rt; least <= *count && *count < end, "{count}");
+        assert!(rt;
+            least <= *count && *count < end,
+            "{what}: wanted each from {least} and below {end}, came {counts:?}"
+        );
     }
 }

@@ -5,6 +5,7 @@ ghost use Rattle.std.specs.FinMap as map;
 use ident_index::{Entry, IdentIndex, Place, between, spaced};
 use pad_model::Stamp;
 use std::alloc::Global;
+use std::process::Abort;
 use std::test::Fail;
 
 fn stamp(counter: u64, replica: u16) -> Result<Stamp, Fail>
@@ -31,17 +32,23 @@ fn at(first: Stamp, offset: u64, label: u64) -> Option<Place> {
     })
 }
 
+/// Sees that the index finds a stamp at this place.
+fn is_at(rt: &impl Abort, index: &IdentIndex, stamp: Stamp, want: Option<Place>) {
+    let came = index.locate(stamp);
+    assert!(rt; came == want, "{stamp:?}: wanted {want:?}, came {came:?}");
+}
+
 #[test]
 fn a_cut_gives_the_right_part_its_own_place(rt: HostRuntime) -> Result<(), Fail> {
     let first = stamp(1, 1)?;
     let (second, third, sixth) = (stamp(2, 1)?, stamp(3, 1)?, stamp(6, 1)?);
     let mut index = five_characters(rt.alloc())?;
-    assert!(rt; index.locate(third) == at(first, 2, 100));
+    is_at(&rt, &index, third, at(first, 2, 100));
     index.cut(first, 2, 150)?;
-    assert!(rt; index.locate(third) == at(third, 0, 150));
-    assert!(rt; index.locate(second) == at(first, 1, 100));
-    assert!(rt; index.locate(sixth).is_none());
-    assert!(rt; index.len() == 2);
+    is_at(&rt, &index, third, at(third, 0, 150));
+    is_at(&rt, &index, second, at(first, 1, 100));
+    is_at(&rt, &index, sixth, None);
+    assert!(rt; index.len() == 2, "wanted 2 blocks, came {}", index.len());
     Ok(())
 }
 
@@ -49,10 +56,13 @@ fn a_cut_gives_the_right_part_its_own_place(rt: HostRuntime) -> Result<(), Fail>
 fn a_block_is_taken_away_once(rt: HostRuntime) -> Result<(), Fail> {
     let (first, second) = (stamp(1, 1)?, stamp(2, 1)?);
     let mut index = five_characters(rt.alloc())?;
-    assert!(rt; !index.remove(second));
-    assert!(rt; index.remove(first));
-    assert!(rt; !index.remove(first));
-    assert!(rt; index.locate(first).is_none());
+    assert!(rt;
+        !index.remove(second),
+        "the second character was taken away as a block"
+    );
+    assert!(rt; index.remove(first), "the block was not taken away");
+    assert!(rt; !index.remove(first), "the block was taken away twice");
+    is_at(&rt, &index, first, None);
     Ok(())
 }
 
@@ -62,8 +72,9 @@ fn a_label_is_changed_and_the_length_is_not(rt: HostRuntime) -> Result<(), Fail>
     let fifth = stamp(5, 1)?;
     let mut index = five_characters(rt.alloc())?;
     index.relabel(first, 7);
-    assert!(rt; index.get(first) == Some(Entry { len: 5, label: 7 }));
-    assert!(rt; index.locate(fifth) == at(first, 4, 7));
+    let (want, came) = (Some(Entry { len: 5, label: 7 }), index.get(first));
+    assert!(rt; came == want, "wanted {want:?}, came {came:?}");
+    is_at(&rt, &index, fifth, at(first, 4, 7));
     Ok(())
 }
 
@@ -79,17 +90,21 @@ fn replicas_with_equal_counters_do_not_meet(rt: HostRuntime) -> Result<(), Fail>
     ];
     let mut index = five_characters(rt.alloc())?;
     index.add(other, 3, 200)?;
-    for (stamp, place) in cases {
-        assert!(rt; index.locate(stamp) == place);
+    for (stamp, want) in cases {
+        is_at(&rt, &index, stamp, want);
     }
     Ok(())
 }
 
+fn is_label(rt: &impl Abort, came: Option<u64>, want: Option<u64>) {
+    assert!(rt; came == want, "wanted {want:?}, came {came:?}");
+}
+
 #[test]
 fn labels_lie_halfway_and_evenly(rt: HostRuntime) {
-    assert!(rt; between(100, 150) == Some(125));
-    assert!(rt; between(100, 102) == Some(101));
-    assert!(rt; between(100, 101).is_none());
-    assert!(rt; spaced(1, 1) == 9_223_372_036_854_775_807);
-    assert!(rt; spaced(2, 3) == 9_223_372_036_854_775_806);
+    is_label(&rt, between(100, 150), Some(125));
+    is_label(&rt, between(100, 102), Some(101));
+    is_label(&rt, between(100, 101), None);
+    is_label(&rt, Some(spaced(1, 1)), Some(9_223_372_036_854_775_807));
+    is_label(&rt, Some(spaced(2, 3)), Some(9_223_372_036_854_775_806));
 }

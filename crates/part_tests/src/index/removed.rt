@@ -10,7 +10,7 @@ use std::test::Fail;
 const STONES: u64 = 1_000;
 
 // Which stone is taken out next.
-#[derive(Clone, Copy)]
+#[derive(Clone, Copy, Debug)]
 enum Way {
     First,
     Last,
@@ -80,7 +80,11 @@ fn stones_are_taken_out_as_of_a_list(rt: HostRuntime) -> Result<(), Fail> {
         let mut both = Both::new(rt.alloc());
         fill(&rt, rt.alloc(), &mut both)?;
         empty_out(&rt, &mut both, way);
-        assert!(rt; both.size() == (0, 0));
+        assert!(rt;
+            both.size() == (0, 0),
+            "by {way:?}: wanted (0, 0), came {:?}",
+            both.size()
+        );
         compare(&rt, &both);
     }
     Ok(())
@@ -91,11 +95,13 @@ fn stones_come_and_go_as_in_a_list(rt: HostRuntime) -> Result<(), Fail> {
     let mut dice = Dice::new(7);
     let mut both = Both::new(rt.alloc());
     fill(&rt, rt.alloc(), &mut both)?;
+    let mut removed = 0u64;
     for round in 0..4_000u64 {
         let (count, height) = both.size();
         assert!(rt; is_low(count, height), "{height} levels of {count}");
         if dice.roll(2) == 0 && count > 0 {
             both.remove(&rt, next_rank(&mut dice, Way::Any, count));
+            removed = removed.saturating_add(1);
         } else {
             let number = dice.roll(STONES);
             let weight = dice.roll(7);
@@ -106,5 +112,10 @@ fn stones_come_and_go_as_in_a_list(rt: HostRuntime) -> Result<(), Fail> {
         }
     }
     compare(&rt, &both);
+    // About half of them are taken out, and the others put in.
+    assert!(rt;
+        1_800 <= removed && removed < 2_200,
+        "{removed} of 4000 were taken out"
+    );
     Ok(())
 }

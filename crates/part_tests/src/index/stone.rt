@@ -4,7 +4,7 @@ use std::process::Abort;
 use std::test::Fail;
 use weight_tree::{Node, Weigh, WeightTree};
 
-#[derive(Clone, Copy, PartialEq)]
+#[derive(Clone, Copy, Debug, PartialEq)]
 pub struct Stone {
     pub number: u64,
     pub weight: u64,

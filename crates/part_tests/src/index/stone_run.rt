@@ -51,7 +51,11 @@ impl Both {
     fn rank_of(&self, rt: &impl Abort, number: u64) -> usize {
         let rank = self.list.partition_point(|stone| stone.number < number);
         let placed = self.tree.rank_by(|stone| stone.number.cmp(&number));
-        assert!(rt; placed.rank == rank);
+        let came = placed.rank;
+        assert!(rt;
+            came == rank,
+            "rank of {number}: wanted {rank}, came {came}"
+        );
         rank
     }
 
@@ -64,8 +68,12 @@ impl Both {
 
     pub fn remove(&mut self, rt: &impl Abort, rank: usize) {
         assert!(rt; rank < self.tree.len() && rank < self.list.len());
-        let stone = self.list.remove(rank);
-        assert!(rt; self.tree.remove(rank) == stone);
+        let want = self.list.remove(rank);
+        let came = self.tree.remove(rank);
+        assert!(rt;
+            came == want,
+            "remove {rank}: wanted {want:?}, came {came:?}"
+        );
     }
 
     #[tactic(auto, using(weight_tree::proofs::CallerLemmas::sum_replaced_le))]
@@ -78,43 +86,64 @@ impl Both {
             weight,
         };
         self.list[rank] = new;
-        assert!(rt; self.tree.replace(rank, new) == old);
+        let came = self.tree.replace(rank, new);
+        assert!(rt;
+            came == old,
+            "replace {rank}: wanted {old:?}, came {came:?}"
+        );
     }
 
     fn get(&self, rt: &impl Abort, rank: usize) {
         assert!(rt; rank < self.tree.len());
-        assert!(rt; Some(self.tree.get(rank)) == self.list.get(rank));
+        let (came, want) = (self.tree.get(rank), self.list.get(rank));
+        assert!(rt;
+            Some(came) == want,
+            "get {rank}: wanted {want:?}, came {came:?}"
+        );
     }
 
     pub fn before(&self, rt: &impl Abort, rank: usize) {
         assert!(rt; rank <= self.tree.len());
-        assert!(rt; self.tree.before(rank) == weight_of(self.list.as_slice(), rank));
+        let (came, want) = (
+            self.tree.before(rank),
+            weight_of(self.list.as_slice(), rank),
+        );
+        assert!(rt; came == want, "before {rank}: wanted {want}, came {came}");
     }
 
     // Whether the number falls in a stone.
     pub fn find(&self, rt: &impl Abort, number: u64) -> bool {
-        let walked = walk_to(self.list.as_slice(), number);
-        match self.tree.find(number) {
-            None => assert!(rt; walked.is_none()),
-            Some(Found { rank, offset, .. }) => assert!(rt; walked == Some((rank, offset))),
-        }
-        walked.is_some()
+        let want = walk_to(self.list.as_slice(), number);
+        let came = match self.tree.find(number) {
+            None => None,
+            Some(Found { rank, offset, .. }) => Some((rank, offset)),
+        };
+        assert!(rt;
+            came == want,
+            "find {number}: wanted {want:?}, came {came:?}"
+        );
+        want.is_some()
     }
 
     pub fn weight(&self, rt: &impl Abort) {
-        assert!(rt; self.tree.weight() == weight_of(self.list.as_slice(), self.list.len()));
+        let want = weight_of(self.list.as_slice(), self.list.len());
+        let came = self.tree.weight();
+        assert!(rt; came == want, "weight: wanted {want}, came {came}");
     }
 
     pub fn len(&self, rt: &impl Abort) {
-        assert!(rt; self.tree.len() == self.list.len());
+        let (came, want) = (self.tree.len(), self.list.len());
+        assert!(rt; came == want, "len: wanted {want}, came {came}");
     }
 
     pub fn items(&self, rt: &impl Abort) {
         let mut stones = self.tree.iter();
-        for other in self.list.iter() {
-            assert!(rt; stones.next() == Some(other));
+        for want in self.list.iter() {
+            let came = stones.next();
+            assert!(rt; came == Some(want), "items: wanted {want:?}, came {came:?}");
         }
-        assert!(rt; stones.next().is_none());
+        let came = stones.next();
+        assert!(rt; came.is_none(), "items: wanted the end, came {came:?}");
     }
 
     // Does an operation of a kind from 0 to 9, and says whether it found what it looked for, which a
@@ -162,10 +191,10 @@ fn a_hundred_thousand_operations_as_on_a_list(rt: HostRuntime) -> Result<(), Fai
         }
     }
     both.items(&rt);
-    lie_within(&rt, &kinds, 9_500, 10_500);
+    lie_within(&rt, "operations of each kind", &kinds, 9_500, 10_500);
     // About half of the numbers are found, and hardly anything else misses.
-    lie_within(&rt, &hits[4..5], 4_000, 6_000);
+    lie_within(&rt, "numbers found", &hits[4..5], 4_000, 6_000);
     hits[4] = kinds[4];
-    lie_within(&rt, &hits, 9_401, u64::MAX);
+    lie_within(&rt, "hits of each kind", &hits, 9_401, u64::MAX);
     Ok(())
 }

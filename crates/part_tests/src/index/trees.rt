@@ -20,13 +20,31 @@ fn place_of(tree: &WeightTree<Stone>, number: u64) -> Option<(usize, u64)> {
     Some((rank, offset))
 }
 
+// Sees that the tree finds a number at this rank and offset.
+fn is_at(rt: &impl Abort, tree: &WeightTree<Stone>, number: u64, want: Option<(usize, u64)>) {
+    let came = place_of(tree, number);
+    assert!(rt; came == want, "{number}: wanted {want:?}, came {came:?}");
+}
+
 fn sums_are_those_of_three(rt: &impl Abort, tree: &WeightTree<Stone>) {
-    assert!(rt; tree.len() == 3);
-    assert!(rt; tree.weight() == 10);
-    assert!(rt; tree.before(2) == 7);
-    assert!(rt; tree.get(1).number == 1);
-    for (number, place) in [(5, Some((1, 0))), (9, Some((2, 2))), (10, None)] {
-        assert!(rt; place_of(tree, number) == place);
+    assert!(rt; tree.len() == 3, "wanted 3 stones, came {}", tree.len());
+    assert!(rt;
+        tree.weight() == 10,
+        "wanted the weight 10, came {}",
+        tree.weight()
+    );
+    assert!(rt;
+        tree.before(2) == 7,
+        "wanted 7 before the last, came {}",
+        tree.before(2)
+    );
+    assert!(rt;
+        tree.get(1).number == 1,
+        "wanted the number 1, came {:?}",
+        tree.get(1)
+    );
+    for (number, want) in [(5, Some((1, 0))), (9, Some((2, 2))), (10, None)] {
+        is_at(rt, tree, number, want);
     }
 }
 
@@ -40,16 +58,24 @@ fn sums_of_three_stones(rt: HostRuntime) -> Result<(), Fail> {
 
 #[tactic(auto, using(weight_tree::proofs::CallerLemmas::sum_replaced_le))]
 fn loses_its_middle(rt: &impl Abort, tree: &mut WeightTree<Stone>) {
-    assert!(rt; tree.len() == 3);
-    assert!(rt; tree.weight() == 10);
+    assert!(rt; tree.len() == 3, "wanted 3 stones, came {}", tree.len());
+    assert!(rt;
+        tree.weight() == 10,
+        "wanted the weight 10, came {}",
+        tree.weight()
+    );
     let weightless = Stone {
         number: 7,
         weight: 0,
     };
     let old = tree.replace(1, weightless);
-    assert!(rt; old.number == 1);
-    assert!(rt; tree.weight() == 8);
-    assert!(rt; place_of(tree, 5) == Some((2, 0)));
+    assert!(rt; old.number == 1, "wanted the number 1, came {old:?}");
+    assert!(rt;
+        tree.weight() == 8,
+        "wanted the weight 8, came {}",
+        tree.weight()
+    );
+    is_at(rt, tree, 5, Some((2, 0)));
 }
 
 #[test]
@@ -63,10 +89,11 @@ fn weightless_stone_is_not_found(rt: HostRuntime) -> Result<(), Fail> {
 #[test]
 fn empty_tree_is_flat(rt: HostRuntime) {
     let tree: WeightTree<Stone> = WeightTree::default();
-    assert!(rt; tree.is_empty());
-    assert!(rt; tree.height() == 0);
-    assert!(rt; tree.find(0).is_none());
-    assert!(rt; tree.iter().count() == 0);
+    assert!(rt; tree.is_empty(), "{} stones", tree.len());
+    assert!(rt; tree.height() == 0, "{} levels", tree.height());
+    is_at(&rt, &tree, 0, None);
+    let count = tree.iter().count();
+    assert!(rt; count == 0, "{count} stones come by");
 }
 
 // Stones of weight 1, each put at the end, at the front or in the middle of those before it.
@@ -103,7 +130,11 @@ fn finds_each(rt: &impl Abort, tree: &WeightTree<Stone>) {
         let Some(found) = tree.find(number) else {
             panic!(rt; "{number} is not found");
         };
-        assert!(rt; found.rank as u64 == number);
+        assert!(rt;
+            found.rank as u64 == number,
+            "{number} is found at {}",
+            found.rank
+        );
         assert!(rt; found.visits <= height, "{} visits", found.visits);
     }
 }
@@ -126,8 +157,14 @@ fn goes_down_one_side(rt: &impl Abort, tree: &WeightTree<Stone>) {
         (Ordering::Greater, 0),
     ] {
         let (placed, calls) = place_and_calls(tree, answer);
-        assert!(rt; placed.rank == rank);
-        assert!(rt; placed.visits == calls);
+        assert!(rt;
+            placed.rank == rank,
+            "{answer:?}: wanted {rank}, came {placed:?}"
+        );
+        assert!(rt;
+            placed.visits == calls,
+            "{answer:?}: {calls} calls, came {placed:?}"
+        );
         assert!(rt; calls <= tree.height(), "{calls} calls");
     }
 }
@@ -154,9 +191,16 @@ fn walks_to(rt: &impl Abort, tree: &WeightTree<Stone>, number: u64) {
         calls = calls.wrapping_add(1);
         stone.number.cmp(&number)
     });
-    assert!(rt; placed.rank as u64 == number);
-    assert!(rt; placed.visits == calls);
-    assert!(rt; calls <= tree.height());
+    assert!(rt; placed.rank as u64 == number, "{number}: came {placed:?}");
+    assert!(rt;
+        placed.visits == calls,
+        "{number}: {calls} calls, came {placed:?}"
+    );
+    assert!(rt;
+        calls <= tree.height(),
+        "{calls} calls in {} levels",
+        tree.height()
+    );
 }
 
 #[test]
@@ -173,8 +217,12 @@ fn rank_walks_one_path(rt: HostRuntime) -> Result<(), Fail> {
 fn count_by_rank(rt: &impl Abort, tree: &WeightTree<Stone>) -> usize {
     let mut rank: usize = 0;
     for stone in tree.iter() {
-        assert!(rt; rank < tree.len());
-        assert!(rt; stone.number == tree.get(rank).number);
+        assert!(rt; rank < tree.len(), "more than {rank} stones come by");
+        let want = tree.get(rank);
+        assert!(rt;
+            stone.number == want.number,
+            "{rank}: wanted {want:?}, came {stone:?}"
+        );
         rank += 1;
     }
     rank
@@ -184,6 +232,7 @@ fn count_by_rank(rt: &impl Abort, tree: &WeightTree<Stone>) -> usize {
 fn iter_goes_by_rank(rt: HostRuntime) -> Result<(), Fail> {
     let mut tree = WeightTree::new();
     put_many(&rt, rt.alloc(), &mut tree, 3000, Way::Middle)?;
-    assert!(rt; count_by_rank(&rt, &tree) == 3000);
+    let count = count_by_rank(&rt, &tree);
+    assert!(rt; count == 3000, "{count} stones come by");
     Ok(())
 }

@@ -9,7 +9,7 @@ use weight_tree::WeightTree;
 const MOST: u32 = 16;
 
 // A search for the place of a number among stones that are numbered by rank.
-#[derive(Clone, Copy)]
+#[derive(Clone, Copy, Debug)]
 struct Way {
     rank: usize,
     visits: usize,
@@ -57,7 +57,10 @@ fn walk_to_each(rt: &impl Abort, tree: &WeightTree<Stone>, count: u64) {
     let mut sum: u64 = 0;
     for number in 0..=count {
         let way = walk(tree, number);
-        assert!(rt; is_straight(tree, number, way), "{number} among {count}");
+        assert!(rt;
+            is_straight(tree, number, way),
+            "{number} among {count}: came {way:?}"
+        );
         assert!(rt; way.visits <= MOST as usize, "{} visits", way.visits);
         let share = MOST.wrapping_sub(way.visits as u32);
         sum = sum.wrapping_add(1u64.wrapping_shl(share));

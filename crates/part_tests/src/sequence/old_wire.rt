@@ -39,8 +39,12 @@ fn says_small_stamps(rt: HostRuntime) -> Result<(), Fail> {
         (1_099_511_627_776, 255, false),
         (1, 256, false),
     ];
-    for (counter, replica, said) in cases {
-        assert!(rt; is_said(rt.alloc(), counter, replica)? == said, "{counter}");
+    for (counter, replica, want) in cases {
+        let came = is_said(rt.alloc(), counter, replica)?;
+        assert!(rt;
+            came == want,
+            "{counter} of {replica}: wanted {want}, came {came}"
+        );
     }
     Ok(())
 }

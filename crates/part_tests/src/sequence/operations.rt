@@ -170,17 +170,18 @@ fn are_edits(sketches: &[Sketch]) -> bool {
     true
 }
 
-/// Whether the check answers so of an operation of these parts.
-fn is_judged(alloc: Global, sketches: &[Sketch], fits: bool) -> Result<bool, Refusal> {
-    let (answer, is_edit) = judged(alloc, BY_ADA, sketches)?;
-    let want = if fits { Ok(()) } else { Err(Refusal::BadOp) };
-    Ok(answer == want && is_edit == are_edits(sketches))
+/// What the check is to answer of an operation of these parts.
+fn wanted(sketches: &[Sketch], fits: bool) -> Judged {
+    let answer = if fits { Ok(()) } else { Err(Refusal::BadOp) };
+    (answer, are_edits(sketches))
 }
 
 #[test]
 fn checks_the_parts(rt: HostRuntime) -> Result<(), Fail> {
     for (what, sketches, fits) in PARTS {
-        assert!(rt; is_judged(rt.alloc(), sketches, *fits)?, "{what}");
+        let came = judged(rt.alloc(), BY_ADA, sketches)?;
+        let want = wanted(sketches, *fits);
+        assert!(rt; came == want, "{what}: wanted {want:?}, came {came:?}");
     }
     Ok(())
 }
@@ -209,10 +210,13 @@ fn is_by(alloc: Global, head: Head<'_>, author: &str) -> Result<bool, Refusal> {
 
 #[test]
 fn a_copy_is_the_same(rt: HostRuntime) -> Result<(), Fail> {
-    assert!(rt; copies(rt.alloc(), BY_ADA)?);
-    assert!(rt; !are_same(rt.alloc(), BY_ADA, BY_BOB)?);
-    assert!(rt; is_by(rt.alloc(), BY_ADA, "ada")?);
-    assert!(rt; !is_by(rt.alloc(), BY_BOB, "ada")?);
+    assert!(rt; copies(rt.alloc(), BY_ADA)?, "a copy is another operation");
+    assert!(rt;
+        !are_same(rt.alloc(), BY_ADA, BY_BOB)?,
+        "ada's and bob's are the same"
+    );
+    assert!(rt; is_by(rt.alloc(), BY_ADA, "ada")?, "ada's is not hers");
+    assert!(rt; !is_by(rt.alloc(), BY_BOB, "ada")?, "bob's is ada's");
     Ok(())
 }
 
@@ -243,9 +247,10 @@ fn checks_the_head(rt: HostRuntime) -> Result<(), Fail> {
     for (origin, number, author, other, count, want) in HEADS {
         let (origin, number) = (*origin, *number);
         let name = OpName { origin, number };
+        let came = fits(rt.alloc(), name, author, (*other, *count))?;
         assert!(rt;
-            fits(rt.alloc(), name, author, (*other, *count))? == *want,
-            "{author} {origin} {number} {other} {count}"
+            came == *want,
+            "{author} {origin} {number} {other} {count}: wanted {want}, came {came}"
         );
     }
     Ok(())

@@ -6,12 +6,13 @@ use std::test::Fail;
 #[test]
 fn gives_its_items(rt: HostRuntime) -> Result<(), Fail> {
     let mut row: Row<u16> = Row::new(rt.alloc());
-    assert!(rt; row.is_empty());
+    assert!(rt; row.is_empty(), "{row:?}");
     row.push(7)?;
     row.push(9)?;
-    assert!(rt; row.get(1) == Some(&9));
-    assert!(rt; row.get(2).is_none());
-    assert!(rt; row.clone()? == row);
+    assert!(rt; row.get(1) == Some(&9), "{row:?}");
+    assert!(rt; row.get(2).is_none(), "{row:?}");
+    let copy = row.clone()?;
+    assert!(rt; copy == row, "wanted {row:?}, came {copy:?}");
     Ok(())
 }
 
@@ -19,8 +20,9 @@ fn gives_its_items(rt: HostRuntime) -> Result<(), Fail> {
 fn writes_what_it_read(rt: HostRuntime) -> Result<(), Fail> {
     let mut text = Text::from_str(rt.alloc(), "añ")?;
     text.push('☺')?;
-    assert!(rt; text.len() == 3 && !text.is_empty());
-    assert!(rt; text.to_string(rt.alloc())?.as_str() == "añ☺");
+    assert!(rt; text.len() == 3 && !text.is_empty(), "{text:?}");
+    let came = text.to_string(rt.alloc())?;
+    assert!(rt; came.as_str() == "añ☺", "wanted añ☺, came {came}");
     Ok(())
 }
 
@@ -47,12 +49,20 @@ fn counts_by_origin(rt: HostRuntime) -> Result<(), Fail> {
             count: 4,
         },
     ];
-    assert!(rt; seen.pairs() == pairs.as_slice());
-    assert!(rt; seen.count(5) == 0);
+    assert!(rt;
+        seen.pairs() == pairs.as_slice(),
+        "wanted {pairs:?}, came {seen:?}"
+    );
+    assert!(rt; seen.count(5) == 0, "wanted none of 5, came {seen:?}");
     let covered = [(7, 4, true), (7, 5, false), (5, 1, false), (5, 0, true)];
-    for (origin, number, covers) in covered {
-        assert!(rt; seen.covers(OpName { origin, number }) == covers);
+    for (origin, number, want) in covered {
+        let came = seen.covers(OpName { origin, number });
+        assert!(rt;
+            came == want,
+            "{number} of {origin}: wanted {want}, came {came}"
+        );
     }
-    assert!(rt; seen.clone()? == seen);
+    let copy = seen.clone()?;
+    assert!(rt; copy == seen, "wanted {seen:?}, came {copy:?}");
     Ok(())
 }

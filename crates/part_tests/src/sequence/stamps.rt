@@ -10,8 +10,10 @@ fn the_least_and_the_greatest_stamps_are_taken(rt: HostRuntime) -> Result<(), Fa
         (281_474_976_710_656, 65_535),
     ] {
         let stamp = Stamp::new(counter, replica)?;
-        assert!(rt; stamp.counter() == counter);
-        assert!(rt; stamp.replica() == replica);
+        assert!(rt;
+            stamp.counter() == counter && stamp.replica() == replica,
+            "wanted {counter} of {replica}, came {stamp:?}"
+        );
     }
     Ok(())
 }
@@ -19,9 +21,10 @@ fn the_least_and_the_greatest_stamps_are_taken(rt: HostRuntime) -> Result<(), Fa
 #[test]
 fn what_is_outside_the_limits_is_refused(rt: HostRuntime) {
     for (counter, replica) in [(0, 1), (281_474_976_710_657, 1), (1, 0)] {
+        let came = Stamp::new(counter, replica);
         assert!(rt;
-            Stamp::new(counter, replica) == Err(Refusal::BadStamp),
-            "({counter}, {replica})"
+            came == Err(Refusal::BadStamp),
+            "{counter} of {replica}: wanted BadStamp, came {came:?}"
         );
     }
 }
@@ -29,18 +32,26 @@ fn what_is_outside_the_limits_is_refused(rt: HostRuntime) {
 /// Each is newer than the one before it.
 const RISING: &[(u64, u16)] = &[(1, 1), (1, 2), (2, 1), (2, 65_535), (3, 2)];
 
-/// Whether two stamps stand to each other as their places do.
-fn are_ordered(a: (u64, u16), b: (u64, u16), i: usize, j: usize) -> Result<bool, Refusal> {
+/// Whether the second of two stamps is newer, whether the first is less, and whether they are the same.
+type Order = (bool, bool, bool);
+
+fn order_of(a: (u64, u16), b: (u64, u16)) -> Result<Order, Refusal> {
     let a = Stamp::new(a.0, a.1)?;
     let b = Stamp::new(b.0, b.1)?;
-    Ok(b.is_newer(a) == (i < j) && (a < b) == (i < j) && a.is_same(b) == (i == j))
+    Ok((b.is_newer(a), a < b, a.is_same(b)))
 }
 
+/// Two stamps stand to each other as their places do.
 #[test]
 fn newer_by_counter_and_then_by_replica(rt: HostRuntime) -> Result<(), Fail> {
     for (i, a) in RISING.iter().enumerate() {
         for (j, b) in RISING.iter().enumerate() {
-            assert!(rt; are_ordered(*a, *b, i, j)?, "{i} and {j}");
+            let came = order_of(*a, *b)?;
+            let want = (i < j, i < j, i == j);
+            assert!(rt;
+                came == want,
+                "{a:?} and {b:?}: wanted {want:?}, came {came:?}"
+            );
         }
     }
     Ok(())
@@ -48,8 +59,17 @@ fn newer_by_counter_and_then_by_replica(rt: HostRuntime) -> Result<(), Fail> {
 
 #[test]
 fn the_stamp_of_a_later_character(rt: HostRuntime) -> Result<(), Fail> {
-    assert!(rt; Stamp::new(7, 3)?.plus(0) == Stamp::new(7, 3)?);
-    assert!(rt; Stamp::new(7, 3)?.plus(5) == Stamp::new(12, 3)?);
+    let (first, sixth) = (Stamp::new(7, 3)?, Stamp::new(12, 3)?);
+    assert!(rt;
+        first.plus(0) == first,
+        "wanted {first:?}, came {:?}",
+        first.plus(0)
+    );
+    assert!(rt;
+        first.plus(5) == sixth,
+        "wanted {sixth:?}, came {:?}",
+        first.plus(5)
+    );
     Ok(())
 }
 
@@ -60,7 +80,11 @@ fn refusals_have_a_number_and_a_name(rt: HostRuntime) {
         (Refusal::PadFull, 324, "PadFull"),
         (Refusal::Memory, 900, "Memory"),
     ] {
-        assert!(rt; refusal.code() == code, "{name}");
-        assert!(rt; refusal.name() == name);
+        assert!(rt;
+            refusal.code() == code && refusal.name() == name,
+            "wanted {code} {name}, came {} {}",
+            refusal.code(),
+            refusal.name()
+        );
     }
 }

@@ -1,4 +1,4 @@
-//! Tests of running servers: their lines, requests and replies, connections that fail, scans, two servers, and their limits.
+//! Tests of running servers: their lines, requests and replies, connections that fail, scans, and two servers.
 #![tactic(auto)]
 
 #[cfg(test)]
@@ -8,19 +8,15 @@ mod connection;
 #[cfg(test)]
 mod expected;
 #[cfg(test)]
-mod limits;
-#[cfg(test)]
 mod page;
-#[cfg(test)]
-mod replies;
-#[cfg(test)]
-mod rig;
 #[cfg(test)]
 mod runs;
 #[cfg(test)]
 mod scan;
 #[cfg(test)]
 mod seeded;
+#[cfg(test)]
+mod shown;
 #[cfg(test)]
 mod waiting_client;
 #[cfg(test)]

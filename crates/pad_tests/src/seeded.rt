@@ -2,17 +2,17 @@
 use crate::choice::Choice;
 use crate::expected::{comments_line, runs_line, text_line};
 use crate::page::Page;
-use crate::replies::{between, is_refusal, number_behind, op_of, ops_in, text_len};
-use crate::rig::{ANN, PEER, Rig};
 use dice::Dice;
 use pad_model::Refusal;
+use rig::{ANN, PEER, Rig, between, is_refusal, number_behind, op_of, ops_in, text_len};
 use std::alloc::Global;
+use std::process::Abort;
 use std::test::Fail;
 
 const EVENTS: u64 = 2_000;
 
 /// How many events of each kind made an operation, how many were refused, and how many characters were hidden.
-#[derive(Clone, Copy, Default)]
+#[derive(Clone, Copy, Debug, Default)]
 struct Shares {
     typed: u64,
     erased: u64,
@@ -37,6 +37,16 @@ impl Shares {
         let hidden = number_behind(reply, r#""hidden":"#).unwrap_or(0);
         self.hidden = self.hidden.saturating_add(hidden);
     }
+
+    fn are_many(&self) -> bool {
+        self.typed >= 500
+            && self.erased >= 300
+            && self.edited >= 150
+            && self.noted >= 200
+            && self.resolved >= 200
+            && self.refused >= 20
+            && self.hidden >= 400
+    }
 }
 
 /// The reply of a reading of a revision.
@@ -45,10 +55,21 @@ fn read(alloc: Global, rig: &mut Rig, what: &str, rev: u64) -> Result<String, Re
     rig.say(ANN, line.as_str())
 }
 
-/// Whether a reading of a revision is answered so.
-fn reads(alloc: Global, rig: &mut Rig, what: &str, rev: u64, want: &str) -> Result<bool, Refusal> {
-    let reply = read(alloc, rig, what, rev)?;
-    Ok(reply.as_str() == want)
+/// A reading of a revision is answered so.
+fn reads(
+    rt: &impl Abort,
+    alloc: Global,
+    rig: &mut Rig,
+    what: &str,
+    rev: u64,
+    want: &str,
+) -> Result<(), Refusal> {
+    let came = read(alloc, rig, what, rev)?;
+    assert!(rt;
+        came.as_str() == want,
+        "{what} of {rev}: wanted {want}, came {came}"
+    );
+    Ok(())
 }
 
 /// How many characters a revision has.
@@ -206,65 +227,78 @@ fn seen_text(alloc: Global, counts: [u64; 2]) -> Result<String, Refusal> {
     })
 }
 
-/// Whether a revision reads as a page does that took its operations: text, runs and, at each hundredth, comments.
-fn agrees(alloc: Global, rig: &mut Rig, page: &Page, now: u64, rev: u64) -> Result<bool, Refusal> {
-    Ok(
-        text_agrees(alloc, rig, page, now, rev)?
-            && runs_agree(alloc, rig, page, now, rev)?
-            && (rev != now && rev % 100 != 0 || comments_agree(alloc, rig, page, now, rev)?),
-    )
+/// A revision reads as a page does that took its operations: text, runs and, at each hundredth, comments.
+fn agrees(
+    rt: &impl Abort,
+    alloc: Global,
+    rig: &mut Rig,
+    page: &Page,
+    now: u64,
+    rev: u64,
+) -> Result<(), Refusal> {
+    text_agrees(rt, alloc, rig, page, now, rev)?;
+    runs_agree(rt, alloc, rig, page, now, rev)?;
+    if rev == now || rev % 100 == 0 {
+        comments_agree(rt, alloc, rig, page, now, rev)?;
+    }
+    Ok(())
 }
 
 fn text_agrees(
+    rt: &impl Abort,
     alloc: Global,
     rig: &mut Rig,
     page: &Page,
     now: u64,
     rev: u64,
-) -> Result<bool, Refusal> {
+) -> Result<(), Refusal> {
     let want = text_line(alloc, page, now, rev)?;
-    reads(alloc, rig, "text", rev, want.as_str())
+    reads(rt, alloc, rig, "text", rev, want.as_str())
 }
 
 fn runs_agree(
+    rt: &impl Abort,
     alloc: Global,
     rig: &mut Rig,
     page: &Page,
     now: u64,
     rev: u64,
-) -> Result<bool, Refusal> {
+) -> Result<(), Refusal> {
     let want = runs_line(alloc, page, now, rev)?;
-    reads(alloc, rig, "runs", rev, want.as_str())
+    reads(rt, alloc, rig, "runs", rev, want.as_str())
 }
 
 fn comments_agree(
+    rt: &impl Abort,
     alloc: Global,
     rig: &mut Rig,
     page: &Page,
     now: u64,
     rev: u64,
-) -> Result<bool, Refusal> {
+) -> Result<(), Refusal> {
     let want = comments_line(alloc, page, now, rev)?;
-    reads(alloc, rig, "comments", rev, want.as_str())
+    reads(rt, alloc, rig, "comments", rev, want.as_str())
 }
 
-/// How many revisions of a server, from 1 on, read as a page does that took the log up to there.
-fn count_agreeing(alloc: Global, rig: &mut Rig) -> Result<u64, Refusal> {
+/// Each revision of a server, from 1 on, reads as a page does that took the log up to there. How many there are.
+fn count_agreeing(rt: &impl Abort, alloc: Global, rig: &mut Rig) -> Result<u64, Refusal> {
     let log = log_of(alloc, rig)?;
-    count_agreeing_with(alloc, rig, log.as_slice())
+    count_agreeing_with(rt, alloc, rig, log.as_slice())
 }
 
-fn count_agreeing_with(alloc: Global, rig: &mut Rig, log: &[String]) -> Result<u64, Refusal> {
+fn count_agreeing_with(
+    rt: &impl Abort,
+    alloc: Global,
+    rig: &mut Rig,
+    log: &[String],
+) -> Result<u64, Refusal> {
     let now = revision(rig)?;
     let mut page = Page::new(alloc);
     let mut rev = 0_u64;
     for op in log {
         take(alloc, &mut page, op.as_str())?;
-        let next = rev.saturating_add(1);
-        if !agrees(alloc, rig, &page, now, next)? {
-            break;
-        }
-        rev = next;
+        rev = rev.saturating_add(1);
+        agrees(rt, alloc, rig, &page, now, rev)?;
     }
     Ok(rev)
 }
@@ -312,64 +346,63 @@ const READINGS: &[&str] = &[
     r#"{"do":"revs","pad":"p"}"#,
 ];
 
-/// How many of them are the same on two servers.
-fn count_same(one: &mut Rig, two: &mut Rig) -> Result<u64, Refusal> {
-    let mut same = 0_u64;
+/// They are the same on two servers.
+fn are_all_same(rt: &impl Abort, one: &mut Rig, two: &mut Rig) -> Result<(), Refusal> {
     for line in READINGS {
-        if are_same(one, two, line)? {
-            same = same.saturating_add(1);
-        }
+        are_same(rt, one, two, line)?;
     }
-    Ok(same)
+    Ok(())
 }
 
-fn are_same(one: &mut Rig, two: &mut Rig, line: &str) -> Result<bool, Refusal> {
-    let reply = one.say(ANN, line)?;
-    two.says(ANN, line, reply.as_str())
+fn are_same(rt: &impl Abort, one: &mut Rig, two: &mut Rig, line: &str) -> Result<(), Refusal> {
+    let first = one.say(ANN, line)?;
+    let second = two.say(ANN, line)?;
+    assert!(rt;
+        first.as_str() == second.as_str(),
+        "{line}: came {first} and {second}"
+    );
+    Ok(())
 }
 
-/// What came of a run: the shares of its events, how many readings are the same on both servers, and how many revisions
-/// of each read as they should.
+/// What came of a run: the shares of its events, and how many revisions each server has, all of which read as they should.
 #[derive(Clone, Copy)]
 struct Played {
     shares: Shares,
-    same: u64,
-    agreeing: [u64; 2],
+    revisions: [u64; 2],
 }
 
-fn play_to_the_end(alloc: Global, one: &mut Rig, two: &mut Rig) -> Result<Played, Refusal> {
+fn play_to_the_end(
+    rt: &impl Abort,
+    alloc: Global,
+    one: &mut Rig,
+    two: &mut Rig,
+) -> Result<Played, Refusal> {
     let shares = play(alloc, one, two)?;
     exchange(alloc, one, two)?;
+    are_all_same(rt, one, two)?;
     Ok(Played {
         shares,
-        same: count_same(one, two)?,
-        agreeing: [count_agreeing(alloc, one)?, count_agreeing(alloc, two)?],
+        revisions: [
+            count_agreeing(rt, alloc, one)?,
+            count_agreeing(rt, alloc, two)?,
+        ],
     })
 }
 
-fn play_both(alloc: Global) -> Result<Played, Refusal> {
+fn play_both(rt: &impl Abort, alloc: Global) -> Result<Played, Refusal> {
     let mut one = Rig::new(alloc, 1)?;
     let mut two = Rig::new(alloc, 2)?;
-    play_to_the_end(alloc, &mut one, &mut two)
+    play_to_the_end(rt, alloc, &mut one, &mut two)
 }
 
 #[test]
 fn seeded_servers_agree(rt: HostRuntime) -> Result<(), Fail> {
-    let Played {
-        shares,
-        same,
-        agreeing,
-    } = play_both(rt.alloc())?;
+    let Played { shares, revisions } = play_both(&rt, rt.alloc())?;
     let made = EVENTS.saturating_sub(shares.refused);
-    assert!(rt; same == 4, "{same}");
-    assert!(rt; agreeing[0] == made, "{} of {made}", agreeing[0]);
-    assert!(rt; agreeing[1] == made, "{} of {made}", agreeing[1]);
-    assert!(rt; shares.typed >= 500, "{}", shares.typed);
-    assert!(rt; shares.erased >= 300, "{}", shares.erased);
-    assert!(rt; shares.edited >= 150, "{}", shares.edited);
-    assert!(rt; shares.noted >= 200, "{}", shares.noted);
-    assert!(rt; shares.resolved >= 200, "{}", shares.resolved);
-    assert!(rt; shares.refused >= 20, "{}", shares.refused);
-    assert!(rt; shares.hidden >= 400, "{}", shares.hidden);
+    assert!(rt;
+        revisions[0] == made && revisions[1] == made,
+        "wanted {made} revisions of each, came {revisions:?}"
+    );
+    assert!(rt; shares.are_many(), "too few of some kind: {shares:?}");
     Ok(())
 }

@@ -96,10 +96,4 @@ impl Rig {
         let reply = self.say(session, line)?;
         Ok(is_refusal(reply.as_str()))
     }
-
-    /// Whether a request is answered with this line.
-    pub fn says(&mut self, session: u32, line: &str, want: &str) -> Result<bool, Refusal> {
-        let reply = self.say(session, line)?;
-        Ok(reply.as_str() == want)
-    }
 }

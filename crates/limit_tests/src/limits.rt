@@ -1,9 +1,9 @@
 //! The limits of a pad that take many requests to reach: what one more is answered.
 use crate::limits::LimitCase::{Asks, ComeAndGo, Fill, JoinMore, Opens, Says, Taken, Types};
-use crate::replies::number_behind;
-use crate::rig::{ANN, PEER, Rig};
 use pad_model::Refusal;
+use rig::{ANN, PEER, Rig, number_behind};
 use std::alloc::Global;
+use std::process::Abort;
 use std::test::Fail;
 
 const JOIN: &str = r#"{"do":"join","pad":"p"}"#;
@@ -50,7 +50,7 @@ const Z: &str =
     r#"{"do":"push","pad":"p","op":{"name":[2,1],"seen":[],"author":"bob","kind":"insert","after":null,"first":[281474976710656,2],"text":"z"}}"#;
 
 /// What is done with a server, and what is wanted of it.
-#[derive(Clone, Copy)]
+#[derive(Clone, Copy, Debug)]
 enum LimitCase {
     /// A session's request, and the number of its refusal; 0 where it is not refused.
     Asks(u32, &'static str, u64),
@@ -128,9 +128,7 @@ const COMMENTS_AND_OPERATIONS: &[LimitCase] = &[
 #[test]
 fn limits_of_comments_and_operations(rt: HostRuntime) -> Result<(), Fail> {
     let mut rig = with_last_counter(rt.alloc())?;
-    let count = count_so(rt.alloc(), &mut rig, COMMENTS_AND_OPERATIONS)?;
-    assert!(rt; count == COMMENTS_AND_OPERATIONS.len(), "not step {count}");
-    Ok(())
+    Ok(play_all(&rt, rt.alloc(), &mut rig, COMMENTS_AND_OPERATIONS)?)
 }
 
 /// Leaves and joins, and answers how many joins were taken.
@@ -170,9 +168,7 @@ const VISITS: &[LimitCase] = &[
 #[test]
 fn limit_visits(rt: HostRuntime) -> Result<(), Fail> {
     let mut rig = Rig::new(rt.alloc(), 1)?;
-    let count = count_so(rt.alloc(), &mut rig, VISITS)?;
-    assert!(rt; count == VISITS.len(), "not step {count}");
-    Ok(())
+    Ok(play_all(&rt, rt.alloc(), &mut rig, VISITS)?)
 }
 
 /// The push of an operation of server 2 that types this many characters at the start.
@@ -238,32 +234,57 @@ const CHARACTERS: &[LimitCase] = &[
 #[test]
 fn limit_characters(rt: HostRuntime) -> Result<(), Fail> {
     let mut rig = Rig::new(rt.alloc(), 1)?;
-    let count = count_so(rt.alloc(), &mut rig, CHARACTERS)?;
-    assert!(rt; count == CHARACTERS.len(), "not step {count}");
+    Ok(play_all(&rt, rt.alloc(), &mut rig, CHARACTERS)?)
+}
+
+fn says(
+    rt: &impl Abort,
+    rig: &mut Rig,
+    place: usize,
+    line: &str,
+    want: &str,
+) -> Result<(), Refusal> {
+    let came = rig.say(ANN, line)?;
+    assert!(rt;
+        came.as_str() == want,
+        "step {place}, {line}: wanted {want}, came {came}"
+    );
     Ok(())
 }
 
-fn is_so(alloc: Global, rig: &mut Rig, step: LimitCase) -> Result<bool, Refusal> {
-    match step {
-        Asks(session, line, want) => Ok(code(rig, session, line)? == want),
-        Taken(line, times, want) => Ok(count_taken(rig, line, times)? == want),
-        Says(line, want) => rig.says(ANN, line, want),
-        ComeAndGo(times) => Ok(come_and_go(rig, times)? == times),
-        JoinMore(times) => Ok(join_more(rig, times)? == times),
-        Opens(want) => Ok(rig.open_ann()? == want),
-        Fill(times) => Ok(fill(alloc, rig, times)? == times),
-        Types(number, first, len) => types(alloc, rig, number, first, len),
-    }
+/// Does a step, and sees that it comes to what is wanted.
+fn play(
+    rt: &impl Abort,
+    alloc: Global,
+    rig: &mut Rig,
+    place: usize,
+    step: LimitCase,
+) -> Result<(), Refusal> {
+    let (came, want) = match step {
+        Asks(session, line, want) => (code(rig, session, line)?, want),
+        Taken(line, times, want) => (count_taken(rig, line, times)?, want),
+        Says(line, want) => return says(rt, rig, place, line, want),
+        ComeAndGo(times) => (come_and_go(rig, times)?, times),
+        JoinMore(times) => (join_more(rig, times)?, times),
+        Opens(want) => (u64::from(rig.open_ann()?), u64::from(want)),
+        Fill(times) => (fill(alloc, rig, times)?, times),
+        Types(number, first, len) => (u64::from(types(alloc, rig, number, first, len)?), 1),
+    };
+    assert!(rt;
+        came == want,
+        "step {place}, {step:?}: wanted {want}, came {came}"
+    );
+    Ok(())
 }
 
-/// How many steps are so, before the first that is not.
-fn count_so(alloc: Global, rig: &mut Rig, steps: &[LimitCase]) -> Result<usize, Refusal> {
-    let mut count = 0usize;
-    for step in steps {
-        if !is_so(alloc, rig, *step)? {
-            break;
-        }
-        count = count.saturating_add(1);
+fn play_all(
+    rt: &impl Abort,
+    alloc: Global,
+    rig: &mut Rig,
+    steps: &[LimitCase],
+) -> Result<(), Refusal> {
+    for (place, step) in steps.iter().enumerate() {
+        play(rt, alloc, rig, place, *step)?;
     }
-    Ok(count)
+    Ok(())
 }

@@ -1,12 +1,14 @@
 //! What no clause says: worked lines as a client sees them, and devices that cut and fail.
 ghost use Rattle.std.specs.Prelude.{◌≤◌};
 
+use crate::shown::text_of;
 use block_seq::BlockSeq;
 use pad_core::Request;
 use pad_model::{Name, Refusal};
 use server_core::Server;
 use sessions::{Accounts, Word};
 use std::alloc::Global;
+use std::process::Abort;
 use std::test::Fail;
 use wire_lines::{Fault, Input, Output, Sink, Source};
 use workers::{Alone, Open, Pads, Served, serve_connection};
@@ -42,12 +44,15 @@ fn solo(alloc: Global) -> Result<Alone<BlockSeq>, Fail> {
     Ok(pads)
 }
 
+// How a connection ends.
+type Ended = Result<Served, Fault>;
+
 // How a connection to a fresh server ends.
 pub fn serve<R: Source, W: Sink>(
     alloc: Global,
     reader: &mut R,
     writer: &mut W,
-) -> Result<Result<Served, Fault>, Fail> {
+) -> Result<Ended, Fail> {
     let mut pads = solo(alloc)?;
     Ok(serve_connection(alloc, &mut pads, reader, writer, 0, &Open))
 }
@@ -110,13 +115,36 @@ fn joined(alloc: Global, answers: bool) -> Result<String, Fail> {
     Ok(text)
 }
 
-// Whether a session whose bytes come and go in pieces is answered so, by eight lines of which two were delivered.
+// What a connection is tried with: where it is cut, or in what pieces it comes.
+type Try = (&'static str, usize);
+
+// Sees that a connection ended so, and wrote just this.
+fn has_ended(
+    rt: &impl Abort,
+    tried: Try,
+    (came, output): (Ended, &Output),
+    (want, written): (Ended, &str),
+) {
+    let (what, number) = tried;
+    assert!(rt;
+        came == want,
+        "{what} {number}: wanted {want:?}, came {came:?}"
+    );
+    assert!(rt;
+        output.bytes() == written.as_bytes(),
+        "{what} {number}: wanted {written}, came {}",
+        text_of(output.bytes())
+    );
+}
+
+// A session whose bytes come and go in pieces is answered so, by eight lines of which two were delivered.
 fn is_served_in_pieces(
+    rt: &impl Abort,
     alloc: Global,
     piece: usize,
     lines: &str,
     answers: &str,
-) -> Result<bool, Fail>
+) -> Result<(), Fail>
     requires { 1 ≤ piece }
 {
     let mut reader = Input::new(lines.as_bytes()).in_pieces(piece).interrupted();
@@ -126,7 +154,13 @@ fn is_served_in_pieces(
         lines: 8,
         delivered: 2,
     };
-    Ok(served == Ok(all) && writer.bytes() == answers.as_bytes())
+    has_ended(
+        rt,
+        ("in pieces of", piece),
+        (served, &writer),
+        (Ok(all), answers),
+    );
+    Ok(())
 }
 
 #[test]
@@ -135,49 +169,60 @@ fn a_session_in_pieces(rt: HostRuntime) -> Result<(), Fail> {
     let lines = joined(alloc, false)?;
     let answers = joined(alloc, true)?;
     for piece in [1, 2, 30, 1000] {
-        assert!(rt;
-            is_served_in_pieces(alloc, piece, lines.as_str(), answers.as_str())?,
-            "in pieces of {piece}"
-        );
+        is_served_in_pieces(&rt, alloc, piece, lines.as_str(), answers.as_str())?;
     }
     Ok(())
 }
 
-// Whether the writer fails at its second call, with just this written.
-fn is_cut(alloc: Global, taken: usize, written: &str) -> Result<bool, Fail> {
+// The writer fails at its second call, with just this written.
+fn is_cut(rt: &impl Abort, alloc: Global, taken: usize, written: &str) -> Result<(), Fail> {
     let mut reader = Input::new(CREATE.as_bytes());
     let mut writer = Output::new(alloc).in_pieces(taken).failing_at(2);
     let served = serve(alloc, &mut reader, &mut writer)?;
-    Ok(served == Err(Fault::WriteFault) && writer.bytes() == written.as_bytes())
+    has_ended(
+        rt,
+        ("after bytes", taken),
+        (served, &writer),
+        (Err(Fault::WriteFault), written),
+    );
+    Ok(())
 }
 
 // A writer that takes ten bytes and then fails, or takes none: what was written is a front.
 #[test]
 fn a_write_that_fails(rt: HostRuntime) -> Result<(), Fail> {
     for (taken, written) in [(10, r#"{"now":0,""#), (0, "")] {
-        assert!(rt; is_cut(rt.alloc(), taken, written)?, "after {taken} bytes");
+        is_cut(&rt, rt.alloc(), taken, written)?;
     }
     Ok(())
 }
 
-// How many lines the session answers to `create` after a writer that failed.
-fn lines_after_a_fault(alloc: Global, taken: usize) -> Result<u64, Fail> {
+// How a second connection of a session ends with `create` after a writer that failed, and what it writes.
+fn after_a_fault(alloc: Global, taken: usize) -> Result<(Ended, Output), Fail> {
     let mut pads = solo(alloc)?;
     let mut reader = Input::new(CREATE.as_bytes());
     let mut writer = Output::new(alloc).in_pieces(taken).failing_at(2);
     let _fault = serve_connection(alloc, &mut pads, &mut reader, &mut writer, 0, &Open);
     let mut reader = Input::new(CREATE.as_bytes());
     let mut writer = Output::new(alloc);
-    match serve_connection(alloc, &mut pads, &mut reader, &mut writer, 0, &Open) {
-        Ok(served) if writer.bytes() == NOBODY.as_bytes() => Ok(served.lines),
-        _ => Ok(0),
-    }
+    let ended = serve_connection(alloc, &mut pads, &mut reader, &mut writer, 0, &Open);
+    Ok((ended, writer))
 }
 
 #[test]
 fn after_a_fault_the_session_is_unauthenticated(rt: HostRuntime) -> Result<(), Fail> {
     for taken in [10, 0] {
-        assert!(rt; lines_after_a_fault(rt.alloc(), taken)? == 1);
+        let (came, output) = after_a_fault(rt.alloc(), taken)?;
+        let one = Served {
+            lines: 1,
+            delivered: 0,
+        };
+        has_ended(
+            &rt,
+            ("after bytes", taken),
+            (came, &output),
+            (Ok(one), NOBODY),
+        );
     }
     Ok(())
 }
@@ -208,29 +253,18 @@ fn answers_within(alloc: Global, bytes: usize) -> Result<String, Fail> {
     Ok(text)
 }
 
-// Whether the connection ends with this fault, and has written just the answers.
-fn ends_so(
-    alloc: Global,
-    reader: &mut Input<'_>,
-    writer: &mut Output,
-    fault: Fault,
-    answers: &str,
-) -> Result<bool, Fail> {
-    let served = serve(alloc, reader, writer)?;
-    Ok(served == Err(fault) && writer.bytes() == answers.as_bytes())
-}
-
-fn is_cut_at_write(alloc: Global, lines: &str, call: u64) -> Result<bool, Fail> {
+fn is_cut_at_write(rt: &impl Abort, alloc: Global, lines: &str, call: u64) -> Result<(), Fail> {
     let answers = first_answers(alloc, call.wrapping_sub(1))?;
     let mut reader = Input::new(lines.as_bytes());
     let mut writer = Output::new(alloc).failing_at(call);
-    ends_so(
-        alloc,
-        &mut reader,
-        &mut writer,
-        Fault::WriteFault,
-        answers.as_str(),
-    )
+    let served = serve(alloc, &mut reader, &mut writer)?;
+    has_ended(
+        rt,
+        ("write", call as usize),
+        (served, &writer),
+        (Err(Fault::WriteFault), answers.as_str()),
+    );
+    Ok(())
 }
 
 // Whichever write fails, the answers before it were written, and nothing of its own.
@@ -238,26 +272,24 @@ fn is_cut_at_write(alloc: Global, lines: &str, call: u64) -> Result<bool, Fail> 
 fn each_write_fails_once(rt: HostRuntime) -> Result<(), Fail> {
     let lines = joined(rt.alloc(), false)?;
     for call in 1..=8 {
-        assert!(rt;
-            is_cut_at_write(rt.alloc(), lines.as_str(), call)?,
-            "write {call}"
-        );
+        is_cut_at_write(&rt, rt.alloc(), lines.as_str(), call)?;
     }
     Ok(())
 }
 
-fn is_cut_at_read(alloc: Global, lines: &str, read: usize) -> Result<bool, Fail> {
+fn is_cut_at_read(rt: &impl Abort, alloc: Global, lines: &str, read: usize) -> Result<(), Fail> {
     let answers = answers_within(alloc, read)?;
     let call = (read as u64).wrapping_add(1);
     let mut reader = Input::new(lines.as_bytes()).in_pieces(1).failing_at(call);
     let mut writer = Output::new(alloc);
-    ends_so(
-        alloc,
-        &mut reader,
-        &mut writer,
-        Fault::ReadFault,
-        answers.as_str(),
-    )
+    let served = serve(alloc, &mut reader, &mut writer)?;
+    has_ended(
+        rt,
+        ("read", read),
+        (served, &writer),
+        (Err(Fault::ReadFault), answers.as_str()),
+    );
+    Ok(())
 }
 
 // Whichever read of a byte fails, the lines whose line feed was read were answered.
@@ -265,10 +297,7 @@ fn is_cut_at_read(alloc: Global, lines: &str, read: usize) -> Result<bool, Fail>
 fn each_read_fails_once(rt: HostRuntime) -> Result<(), Fail> {
     let lines = joined(rt.alloc(), false)?;
     for read in 0..=lines.len() {
-        assert!(rt;
-            is_cut_at_read(rt.alloc(), lines.as_str(), read)?,
-            "read {read}"
-        );
+        is_cut_at_read(&rt, rt.alloc(), lines.as_str(), read)?;
     }
     Ok(())
 }
@@ -289,15 +318,19 @@ fn are_both(written: &[u8], first: &str, second: &str) -> bool {
 }
 
 fn is_named(
+    rt: &impl Abort,
     alloc: Global,
     pads: &mut Alone<BlockSeq>,
     cell: u32,
-    want: Option<&str>,
-) -> Result<bool, Fail> {
-    match pads.name_of(alloc, cell)? {
-        Some(name) => Ok(want == Some(name.as_str())),
-        None => Ok(want.is_none()),
-    }
+    want: &str,
+) -> Result<(), Fail> {
+    let came = pads.name_of(alloc, cell)?;
+    let name = match &came {
+        Some(name) => name.as_str(),
+        None => "no name",
+    };
+    assert!(rt; name == want, "cell {cell}: wanted {want}, came {name}");
+    Ok(())
 }
 
 // After the end the session is unauthenticated, and its pads stay.
@@ -305,11 +338,14 @@ fn is_named(
 fn the_session_is_ended(rt: HostRuntime) -> Result<(), Fail> {
     let mut pads = solo(rt.alloc())?;
     let written = written_by_two(rt.alloc(), &mut pads)?;
-    assert!(rt; are_both(written.bytes(), CREATED, NOBODY));
-    assert!(rt; pads.cells() == 64);
-    assert!(rt; is_named(rt.alloc(), &mut pads, 0, Some("p"))?);
-    assert!(rt; is_named(rt.alloc(), &mut pads, 1, None)?);
-    Ok(())
+    assert!(rt;
+        are_both(written.bytes(), CREATED, NOBODY),
+        "wanted {CREATED}{NOBODY}, came {}",
+        text_of(written.bytes())
+    );
+    assert!(rt; pads.cells() == 64, "{} cells", pads.cells());
+    is_named(&rt, rt.alloc(), &mut pads, 0, "p")?;
+    is_named(&rt, rt.alloc(), &mut pads, 1, "no name")
 }
 
 const REVS: &str = r#"{"do":"revs","pad":"p"}"#;
@@ -325,13 +361,18 @@ fn with_spaces(alloc: Global, spaces: usize) -> Result<Vec<u8>, Fail> {
     Ok(lines)
 }
 
-// Whether these bytes are answered by a new pad's visit, and then so.
-fn is_answered(alloc: Global, lines: &[u8], answer: &str) -> Result<bool, Fail> {
+// These bytes are answered by a new pad's visit, and then so.
+fn is_answered(rt: &impl Abort, alloc: Global, lines: &[u8], answer: &str) -> Result<(), Fail> {
     let mut reader = Input::new(lines);
     let mut writer = Output::new(alloc);
     let served = serve(alloc, &mut reader, &mut writer)?;
-    let rest = writer.bytes().strip_prefix(CREATED.as_bytes());
-    Ok(served.is_ok() && rest == Some(answer.as_bytes()))
+    assert!(rt; served.is_ok(), "came {served:?}");
+    assert!(rt;
+        are_both(writer.bytes(), CREATED, answer),
+        "wanted {CREATED}{answer}, came {}",
+        text_of(writer.bytes())
+    );
+    Ok(())
 }
 
 // A line that is too long is told, and nothing behind it is served.
@@ -353,10 +394,7 @@ fn a_line_that_is_too_long(rt: HostRuntime) -> Result<(), Fail> {
         ),
     ] {
         let lines = with_spaces(rt.alloc(), spaces)?;
-        assert!(rt;
-            is_answered(rt.alloc(), lines.as_slice(), answer)?,
-            "{spaces} spaces"
-        );
+        is_answered(&rt, rt.alloc(), lines.as_slice(), answer)?;
     }
     Ok(())
 }

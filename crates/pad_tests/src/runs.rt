@@ -63,10 +63,26 @@ fn a_run_answers_each_event(rt: HostRuntime) -> Result<(), Fail> {
         event("p", None, &read),
     ];
     let replies = pad.run(alloc, &events)?;
-    assert!(rt; replies.len() == 4);
-    assert!(rt; is_made(&replies[0]));
-    assert!(rt; has_length(&replies[1], 5));
-    assert!(rt; is_elsewhere(&replies[2]));
-    assert!(rt; is_denied(&replies[3]));
+    assert!(rt; replies.len() == 4, "wanted 4 replies, came {replies:?}");
+    assert!(rt;
+        is_made(&replies[0]),
+        "wanted 1 of 1, came {:?}",
+        replies[0]
+    );
+    assert!(rt;
+        has_length(&replies[1], 5),
+        "wanted 5 characters, came {:?}",
+        replies[1]
+    );
+    assert!(rt;
+        is_elsewhere(&replies[2]),
+        "wanted Elsewhere, came {:?}",
+        replies[2]
+    );
+    assert!(rt;
+        is_denied(&replies[3]),
+        "wanted NotJoined, came {:?}",
+        replies[3]
+    );
     Ok(())
 }

@@ -85,6 +85,6 @@ fn a_client_that_waits(rt: HostRuntime) -> Result<(), Fail> {
         lines: 3,
         delivered: 1,
     };
-    assert!(rt; served == Ok(all));
+    assert!(rt; served == Ok(all), "wanted {all:?}, came {served:?}");
     Ok(())
 }

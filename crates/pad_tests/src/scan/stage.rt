@@ -4,6 +4,7 @@ use pad_model::Refusal;
 use server_core::{MAX_CELLS, Moved, Server, Step};
 use sessions::Accounts;
 use std::alloc::Global;
+use std::process::Abort;
 use std::test::Fail;
 use wire_json::{read_request, reply_line};
 
@@ -29,46 +30,51 @@ pub fn open_more(alloc: Global, server: &mut Server<BlockSeq>, count: u32) -> Re
     Ok(())
 }
 
-/// How many steps are told so, before the first whose answer is another.
-pub fn count_told(
+/// Each step is told so.
+pub fn are_told(
+    rt: &impl Abort,
     alloc: Global,
     server: &mut Server<BlockSeq>,
     turns: &[Turn<'_>],
-) -> Result<usize, Fail> {
-    let mut count = 0usize;
-    for turn in turns {
-        if !is_told(alloc, server, *turn)? {
-            break;
-        }
-        count = count.saturating_add(1);
+) -> Result<(), Fail> {
+    for (place, turn) in turns.iter().enumerate() {
+        let (actor, words, want) = *turn;
+        let came = answer(alloc, server, actor, words)?;
+        is_told(rt, place, words, want, came.as_str());
     }
-    Ok(count)
+    Ok(())
 }
 
-/// Whether a run of the steps tells just this.
+fn is_told(rt: &impl Abort, place: usize, words: &str, want: &str, came: &str) {
+    assert!(rt;
+        came == want,
+        "turn {place}, {words}: wanted {want}, came {came}"
+    );
+}
+
+/// A run of the steps tells just this.
 pub fn runs_so(
+    rt: &impl Abort,
     alloc: Global,
     server: &mut Server<BlockSeq>,
     turns: &[Turn<'_>],
-) -> Result<bool, Fail> {
+) -> Result<(), Fail> {
     let mut steps = Vec::new(alloc);
     for turn in turns {
         steps.push((turn.0, step_of(alloc, turn.1)?))?;
     }
     let answers = server.run(alloc, steps.as_slice())?;
-    let mut count = 0usize;
-    for (answer, turn) in answers.into_iter().zip(turns) {
-        if show(alloc, answer)?.as_str() == turn.2 {
-            count = count.saturating_add(1);
-        }
+    let count = answers.len();
+    assert!(rt;
+        count == turns.len(),
+        "wanted {} answers, came {count}",
+        turns.len()
+    );
+    for (place, (answer, turn)) in answers.into_iter().zip(turns).enumerate() {
+        let came = show(alloc, answer)?;
+        is_told(rt, place, turn.1, turn.2, came.as_str());
     }
-    Ok(count == turns.len())
-}
-
-fn is_told(alloc: Global, server: &mut Server<BlockSeq>, turn: Turn<'_>) -> Result<bool, Fail> {
-    let (actor, words, want) = turn;
-    let told = answer(alloc, server, actor, words)?;
-    Ok(told.as_str() == want)
+    Ok(())
 }
 
 fn answer(

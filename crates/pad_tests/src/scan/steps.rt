@@ -1,7 +1,8 @@
 //! Actors in turn.
-use crate::scan::stage::{Turn, count_told, open, open_more, runs_so};
+use crate::scan::stage::{Turn, are_told, open, open_more, runs_so};
 use pad_model::Refusal;
 use std::alloc::Global;
+use std::process::Abort;
 use std::test::Fail;
 
 const HELLO_ANN: Turn<'static> = (
@@ -154,19 +155,20 @@ const STORY: &[Turn<'static>] = &[
 /// How many pads a server has room for, and what its actors are told.
 const TABLES: &[(u32, &[Turn<'static>])] = &[(1, RACE), (3, STEPS), (2, STORY)];
 
-fn count_told_by_new(alloc: Global, cells: u32, turns: &[Turn<'_>]) -> Result<usize, Fail> {
+fn are_told_by_new(
+    rt: &impl Abort,
+    alloc: Global,
+    cells: u32,
+    turns: &[Turn<'_>],
+) -> Result<(), Fail> {
     let mut server = open(alloc, cells)?;
-    count_told(alloc, &mut server, turns)
+    are_told(rt, alloc, &mut server, turns)
 }
 
 #[test]
 fn actors_in_turn(rt: HostRuntime) -> Result<(), Fail> {
     for (cells, turns) in TABLES {
-        let count = count_told_by_new(rt.alloc(), *cells, turns)?;
-        assert!(rt;
-            count == turns.len(),
-            "not turn {count} with room for {cells}"
-        );
+        are_told_by_new(&rt, rt.alloc(), *cells, turns)?;
     }
     Ok(())
 }
@@ -176,13 +178,16 @@ fn limit_actors(rt: HostRuntime) -> Result<(), Fail> {
     let alloc = rt.alloc();
     let mut server = open(alloc, 1)?;
     open_more(alloc, &mut server, 1_021)?;
-    assert!(rt; server.open(alloc) == Err(Refusal::ActorsFull));
+    let came = server.open(alloc);
+    assert!(rt;
+        came == Err(Refusal::ActorsFull),
+        "wanted ActorsFull, came {came:?}"
+    );
     Ok(())
 }
 
 #[test]
 fn a_run_tells_what_its_steps_do(rt: HostRuntime) -> Result<(), Fail> {
     let mut server = open(rt.alloc(), 1)?;
-    assert!(rt; runs_so(rt.alloc(), &mut server, RACE)?);
-    Ok(())
+    runs_so(&rt, rt.alloc(), &mut server, RACE)
 }

@@ -1,5 +1,7 @@
 //! Bytes as lines, however they are cut, and lines that are written.
+use crate::shown::text_of;
 use std::alloc::Global;
+use std::process::Abort;
 use std::test::Fail;
 use wire_lines::{Fault, Input, Line, Lines, MAX_LINE, Output, Source, write_all};
 
@@ -38,10 +40,22 @@ const FORMS: &[(&str, &str)] = &[
     ("a\n\r", "a|\r|"),
 ];
 
-// Whether the lines of a source are these.
-fn shows<R: Source>(alloc: Global, source: &mut R, lines: &[u8]) -> Result<bool, Fault> {
-    let found = shown(alloc, source)?;
-    Ok(found.as_slice() == lines)
+// Sees that the lines of a source are these. The number says which source: how long its pieces are, or which read fails.
+fn shows<R: Source>(
+    rt: &impl Abort,
+    alloc: Global,
+    source: &mut R,
+    number: u64,
+    want: &[u8],
+) -> Result<(), Fault> {
+    let came = shown(alloc, source)?;
+    assert!(rt;
+        came.as_slice() == want,
+        "source {number}: wanted {:?}, came {:?}",
+        text_of(want),
+        text_of(came.as_slice())
+    );
+    Ok(())
 }
 
 // How long what is shown of a source is.
@@ -55,8 +69,7 @@ fn line_forms(rt: HostRuntime) -> Result<(), Fail> {
     for (input, lines) in FORMS {
         for piece in 1..4 {
             let mut source = Input::new(input.as_bytes()).in_pieces(piece);
-            let is_so = shows(rt.alloc(), &mut source, lines.as_bytes())?;
-            assert!(rt; is_so, "{input} by {piece}");
+            shows(&rt, rt.alloc(), &mut source, piece as u64, lines.as_bytes())?;
         }
     }
     Ok(())
@@ -78,7 +91,10 @@ fn lines_cut_after_each_byte(rt: HostRuntime) -> Result<(), Fail> {
             28..51 => cut,
             _ => 50,
         };
-        assert!(rt; found == length, "cut behind {cut}");
+        assert!(rt;
+            found == length,
+            "cut behind {cut}: wanted {length}, came {found}"
+        );
     }
     Ok(())
 }
@@ -87,7 +103,7 @@ fn lines_cut_after_each_byte(rt: HostRuntime) -> Result<(), Fail> {
 fn lines_by_bytes_and_with_interrupts(rt: HostRuntime) -> Result<(), Fail> {
     for piece in 1..60 {
         let mut source = Input::new(SESSION).in_pieces(piece).interrupted();
-        assert!(rt; shows(rt.alloc(), &mut source, BOTH)?, "by {piece}");
+        shows(&rt, rt.alloc(), &mut source, piece as u64, BOTH)?;
     }
     Ok(())
 }
@@ -99,10 +115,7 @@ const FAILED_READS: &[(u64, &str)] = &[(1, "???"), (2, "ab|???"), (3, "ab|???"),
 fn a_read_that_fails(rt: HostRuntime) -> Result<(), Fail> {
     for (call, lines) in FAILED_READS {
         let mut source = Input::new(b"ab\nc").in_pieces(3).failing_at(*call);
-        assert!(rt;
-            shows(rt.alloc(), &mut source, lines.as_bytes())?,
-            "at {call}"
-        );
+        shows(&rt, rt.alloc(), &mut source, *call, lines.as_bytes())?;
     }
     Ok(())
 }
@@ -126,10 +139,11 @@ fn count_of_long(alloc: Global, length: usize, end: &[u8]) -> Result<usize, Fail
 
 #[test]
 fn the_longest_line(rt: HostRuntime) -> Result<(), Fail> {
-    for (length, end, lines) in LONG {
+    for (length, end, want) in LONG {
+        let came = count_of_long(rt.alloc(), *length, end)?;
         assert!(rt;
-            count_of_long(rt.alloc(), *length, end)? == *lines,
-            "{length} letters, wanted {lines}"
+            came == *want,
+            "{length} letters: wanted {want}, came {came}"
         );
     }
     Ok(())
@@ -155,15 +169,20 @@ fn output_of(alloc: Global, piece: Option<usize>, call: Option<u64>) -> Output {
     }
 }
 
-fn writes(output: &mut Output, fault: Result<(), Fault>, written: &str) -> bool {
-    let answer = write_all(output, b"0123456789abc\n");
-    answer == fault && output.bytes() == written.as_bytes()
+fn writes(rt: &impl Abort, output: &mut Output, want: Result<(), Fault>, written: &str) {
+    let came = write_all(output, b"0123456789abc\n");
+    assert!(rt; came == want, "{written:?}: wanted {want:?}, came {came:?}");
+    assert!(rt;
+        output.bytes() == written.as_bytes(),
+        "wanted {written:?}, came {:?}",
+        text_of(output.bytes())
+    );
 }
 
 #[test]
 fn what_is_written(rt: HostRuntime) {
     for (piece, call, fault, written) in WRITTEN {
         let mut output = output_of(rt.alloc(), *piece, *call);
-        assert!(rt; writes(&mut output, *fault, written), "{written}");
+        writes(&rt, &mut output, *fault, written);
     }
 }

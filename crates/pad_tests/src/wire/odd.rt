@@ -91,7 +91,8 @@ fn code_with(alloc: Global, fields: &str) -> Result<Option<u16>, AllocError> {
 #[test]
 fn other_forms_are_no_requests(rt: HostRuntime) -> Result<(), Fail> {
     for fields in UNASKED {
-        assert!(rt; code_with(rt.alloc(), fields)? == Some(102), "{fields}");
+        let came = code_with(rt.alloc(), fields)?;
+        assert!(rt; came == Some(102), "{fields}: wanted 102, came {came:?}");
     }
     Ok(())
 }
@@ -141,8 +142,13 @@ const REFUSED: &[(&[u8], u16)] = &[
 
 #[test]
 fn odd_lines_are_refused(rt: HostRuntime) {
-    for (line, code) in REFUSED {
-        assert!(rt; code_of(rt.alloc(), line) == Some(*code), "{line:?}");
+    for (line, want) in REFUSED {
+        let came = code_of(rt.alloc(), line);
+        assert!(rt;
+            came == Some(*want),
+            "{}: wanted {want}, came {came:?}",
+            line.escape_ascii()
+        );
     }
 }
 
@@ -209,10 +215,11 @@ const ODD: &[(&str, u16)] = &[
 
 #[test]
 fn odd_texts_are_refused(rt: HostRuntime) {
-    for (line, code) in ODD {
+    for (line, want) in ODD {
+        let came = code_of(rt.alloc(), line.as_bytes());
         assert!(rt;
-            code_of(rt.alloc(), line.as_bytes()) == Some(*code),
-            "{line}"
+            came == Some(*want),
+            "{line:?}: wanted {want}, came {came:?}"
         );
     }
 }

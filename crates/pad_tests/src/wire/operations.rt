@@ -2,6 +2,7 @@
 use pad_model::{Op, Refusal};
 use serde_json::Value;
 use std::alloc::Global;
+use std::process::Abort;
 use std::test::Fail;
 use wire_json::{op_value, read_op};
 
@@ -33,24 +34,36 @@ fn written(alloc: Global, op: &Op) -> Result<String, Refusal> {
     Ok(op_value(alloc, op)?.to_string(alloc)?)
 }
 
-/// Whether an operation is written as the text, and whether it is in its limits.
-fn judged(alloc: Global, op: &Op, text: &str) -> Result<(bool, bool), Refusal> {
-    let again = written(alloc, op)?;
-    Ok((again.as_str() == text, op.check().is_ok()))
+/// An operation is written as the text, and is in its limits or is not.
+fn is_written(
+    rt: &impl Abort,
+    alloc: Global,
+    op: &Op,
+    text: &str,
+    fits: bool,
+) -> Result<(), Refusal> {
+    let came = written(alloc, op)?;
+    assert!(rt; came.as_str() == text, "wanted {text}, came {came}");
+    let answer = op.check();
+    assert!(rt;
+        answer.is_ok() == fits,
+        "{text}: wanted {fits}, came {answer:?}"
+    );
+    Ok(())
 }
 
 /// The same of the operation that the text says.
-fn again(alloc: Global, text: &str) -> Result<(bool, bool), Refusal> {
-    judged(alloc, &read(alloc, text)?, text)
+fn is_again(rt: &impl Abort, alloc: Global, text: &str, fits: bool) -> Result<(), Refusal> {
+    is_written(rt, alloc, &read(alloc, text)?, text, fits)
 }
 
 #[test]
 fn operations_are_read_as_written(rt: HostRuntime) -> Result<(), Fail> {
     for text in OPERATIONS {
-        assert!(rt; again(rt.alloc(), text)? == (true, true), "{text}");
+        is_again(&rt, rt.alloc(), text, true)?;
     }
     for text in BEYOND_LIMITS {
-        assert!(rt; again(rt.alloc(), text)? == (true, false), "{text}");
+        is_again(&rt, rt.alloc(), text, false)?;
     }
     Ok(())
 }

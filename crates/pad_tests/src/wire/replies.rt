@@ -5,11 +5,12 @@ use pad_model::{Author, AuthorRun, Name, OpName, Refusal, Row, Seen, Text, Versi
 use rights::{Grant, Right};
 use serde_json::Value;
 use std::alloc::Global;
+use std::process::Abort;
 use std::test::Fail;
 use wire_json::{read_op, reply_line};
 
 /// A reply that a test writes, in a word.
-#[derive(Clone, Copy)]
+#[derive(Clone, Copy, Debug)]
 enum Sample {
     Hello,
     Peer(u16, Version),
@@ -36,9 +37,20 @@ fn line_of(alloc: Global, sample: Sample) -> Result<String, Refusal> {
     reply_line(alloc, &reply_of(alloc, sample))
 }
 
-fn is_line(alloc: Global, sample: Sample, want: &str) -> Result<bool, Refusal> {
-    let line = line_of(alloc, sample)?;
-    Ok(line.as_str() == want)
+fn is_line(rt: &impl Abort, alloc: Global, sample: Sample, want: &str) -> Result<(), Refusal> {
+    let came = line_of(alloc, sample)?;
+    assert!(rt;
+        came.as_str() == want,
+        "{sample:?}: wanted {want}, came {came}"
+    );
+    Ok(())
+}
+
+fn are_lines(rt: &impl Abort, alloc: Global, lines: &[(Sample, &str)]) -> Result<(), Refusal> {
+    for (sample, want) in lines {
+        is_line(rt, alloc, *sample, want)?;
+    }
+    Ok(())
 }
 
 fn reply_of(alloc: Global, sample: Sample) -> Result<Reply, Refusal> {
@@ -252,10 +264,7 @@ const SESSIONS: &[(Sample, &str)] = &[
 
 #[test]
 fn sessions_and_refusals_are_written(rt: HostRuntime) -> Result<(), Fail> {
-    for (sample, line) in SESSIONS {
-        assert!(rt; is_line(rt.alloc(), *sample, line)?, "{line}");
-    }
-    Ok(())
+    Ok(are_lines(&rt, rt.alloc(), SESSIONS)?)
 }
 
 const ACTS: &[(Sample, &str)] = &[
@@ -305,10 +314,7 @@ const ACTS: &[(Sample, &str)] = &[
 
 #[test]
 fn acts_are_answered(rt: HostRuntime) -> Result<(), Fail> {
-    for (sample, line) in ACTS {
-        assert!(rt; is_line(rt.alloc(), *sample, line)?, "{line}");
-    }
-    Ok(())
+    Ok(are_lines(&rt, rt.alloc(), ACTS)?)
 }
 
 const ESCAPED: &str =
@@ -316,8 +322,7 @@ const ESCAPED: &str =
 
 #[test]
 fn texts_are_escaped(rt: HostRuntime) -> Result<(), Fail> {
-    assert!(rt; is_line(rt.alloc(), Sample::Text, ESCAPED)?);
-    Ok(())
+    Ok(is_line(&rt, rt.alloc(), Sample::Text, ESCAPED)?)
 }
 
 const WITH_AUTHORS: &[(Sample, &str)] = &[
@@ -346,10 +351,7 @@ const WITH_AUTHORS: &[(Sample, &str)] = &[
 
 #[test]
 fn authors_are_shown_with_their_server(rt: HostRuntime) -> Result<(), Fail> {
-    for (sample, line) in WITH_AUTHORS {
-        assert!(rt; is_line(rt.alloc(), *sample, line)?, "{line}");
-    }
-    Ok(())
+    Ok(are_lines(&rt, rt.alloc(), WITH_AUTHORS)?)
 }
 
 const LISTS: &[(Sample, &str)] = &[
@@ -382,8 +384,5 @@ const LISTS: &[(Sample, &str)] = &[
 
 #[test]
 fn lists_are_written(rt: HostRuntime) -> Result<(), Fail> {
-    for (sample, line) in LISTS {
-        assert!(rt; is_line(rt.alloc(), *sample, line)?, "{line}");
-    }
-    Ok(())
+    Ok(are_lines(&rt, rt.alloc(), LISTS)?)
 }

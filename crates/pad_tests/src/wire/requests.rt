@@ -1,6 +1,7 @@
 //! A line for each request, and texts and lists in them.
 use pad_core::{Act, Request};
 use std::alloc::{AllocError, Global};
+use std::process::Abort;
 use std::test::Fail;
 use wire_json::read_request;
 
@@ -143,15 +144,16 @@ fn shown(alloc: Global, line: &[u8]) -> Result<String, AllocError> {
     }
 }
 
-fn shows(alloc: Global, line: &str, want: &str) -> Result<bool, AllocError> {
-    let found = shown(alloc, line.as_bytes())?;
-    Ok(found.as_str() == want)
+fn shows(rt: &impl Abort, alloc: Global, line: &str, want: &str) -> Result<(), AllocError> {
+    let came = shown(alloc, line.as_bytes())?;
+    assert!(rt; came.as_str() == want, "{line}: wanted {want}, came {came}");
+    Ok(())
 }
 
 #[test]
 fn requests_are_read(rt: HostRuntime) -> Result<(), Fail> {
-    for (line, request) in REQUESTS {
-        assert!(rt; shows(rt.alloc(), line, request)?, "{line}");
+    for (line, want) in REQUESTS {
+        shows(&rt, rt.alloc(), line, want)?;
     }
     Ok(())
 }
@@ -186,22 +188,32 @@ const TEXTS: &[(&[u8], &str)] = &[
     (b"\\\"\\\\\\b\\f\\r\\t", "\"\\\u{8}\u{c}\r\t"),
 ];
 
-/// Whether a line inserts a text.
-fn inserts(alloc: Global, line: &[u8], characters: &str) -> Result<bool, AllocError> {
-    let text = text_of(alloc, line)?;
-    Ok(text.as_str() == characters)
+/// Sees that a line inserts these characters.
+fn inserts(rt: &impl Abort, alloc: Global, line: &[u8], want: &str) -> Result<(), AllocError> {
+    let came = text_of(alloc, line)?;
+    assert!(rt;
+        came.as_str() == want,
+        "{}: wanted {want:?}, came {came:?}",
+        line.escape_ascii()
+    );
+    Ok(())
 }
 
-/// Whether these characters are inserted where they are written so.
-fn is_written(alloc: Global, written: &[u8], characters: &str) -> Result<bool, AllocError> {
+/// These characters are inserted where they are written so.
+fn is_written(
+    rt: &impl Abort,
+    alloc: Global,
+    written: &[u8],
+    want: &str,
+) -> Result<(), AllocError> {
     let line = insertion(alloc, written)?;
-    inserts(alloc, line.as_slice(), characters)
+    inserts(rt, alloc, line.as_slice(), want)
 }
 
 #[test]
 fn texts_hold_any_character(rt: HostRuntime) -> Result<(), Fail> {
-    for (written, characters) in TEXTS {
-        assert!(rt; is_written(rt.alloc(), written, characters)?, "{written:?}");
+    for (written, want) in TEXTS {
+        is_written(&rt, rt.alloc(), written, want)?;
     }
     Ok(())
 }
@@ -220,15 +232,15 @@ fn nested(alloc: Global, depth: u32) -> Result<String, AllocError> {
 
 const NESTED: &[(u32, &str)] = &[(126, r#"Create { pad: Name { text: "p" } }"#), (127, "101")];
 
-fn shows_nested(alloc: Global, depth: u32, want: &str) -> Result<bool, AllocError> {
+fn shows_nested(rt: &impl Abort, alloc: Global, depth: u32, want: &str) -> Result<(), AllocError> {
     let line = nested(alloc, depth)?;
-    shows(alloc, line.as_str(), want)
+    shows(rt, alloc, line.as_str(), want)
 }
 
 #[test]
 fn lists_nest_127_deep(rt: HostRuntime) -> Result<(), Fail> {
-    for (depth, answer) in NESTED {
-        assert!(rt; shows_nested(rt.alloc(), *depth, answer)?, "{depth} deep");
+    for (depth, want) in NESTED {
+        shows_nested(&rt, rt.alloc(), *depth, want)?;
     }
     Ok(())
 }

@@ -8,6 +8,7 @@ use crate::site::{Named, Site, stamp_of};
 use anchors::{CommentBook, NewComment, Shown};
 use pad_model::{Author, Name, OpName, Refusal, Sequence, Stamp, Text};
 use std::alloc::Global;
+use std::process::Abort;
 use std::test::Fail;
 
 const COMMENT: OpName = OpName {
@@ -72,35 +73,46 @@ fn are_seen(comments: &[Shown], want: &[Seen]) -> bool {
     comments.len() == want.len()
 }
 
-/// Whether a list of comments at a revision shows these.
+/// A list of comments at a revision shows these.
 fn lists(
+    rt: &impl Abort,
     alloc: Global,
     site: &Site,
     draft: Draft,
     rev: u64,
     want: &[Seen],
-) -> Result<bool, Refusal> {
+) -> Result<(), Refusal> {
     let seq = site.sequence();
     if !seq.has(draft.first) || !seq.has(draft.last) {
         return Err(Refusal::PeerFault);
     }
     let book = book_of(alloc, draft)?;
     let comments = book.list_at(alloc, seq, rev)?;
-    Ok(are_seen(comments.as_slice(), want))
+    assert!(rt;
+        are_seen(comments.as_slice(), want),
+        "revision {rev}: wanted {want:?}, came {comments:?}"
+    );
+    Ok(())
 }
 
 /// The same by the range of its name alone.
-fn range_of(
+fn has_range(
+    rt: &impl Abort,
     alloc: Global,
     site: &Site,
     draft: Draft,
-    rev: u64,
-) -> Result<Option<(u64, u64)>, Refusal> {
+    (rev, want): (u64, Option<(u64, u64)>),
+) -> Result<(), Refusal> {
     let book = book_of(alloc, draft)?;
-    match book.range(site.sequence(), COMMENT, rev) {
-        Some(range) => Ok(Some((range.at, range.len))),
-        None => Ok(None),
-    }
+    let came = match book.range(site.sequence(), COMMENT, rev) {
+        Some(range) => Some((range.at, range.len)),
+        None => None,
+    };
+    assert!(rt;
+        came == want,
+        "revision {rev}: wanted {want:?}, came {came:?}"
+    );
+    Ok(())
 }
 
 /// `hello` in the first revision, `heXYllo` in the second, and `XY` in the third.
@@ -131,22 +143,25 @@ const LISTED: &[(u64, &[Seen])] = &[
     (4, &[(0, 2, true)]),
 ];
 
-fn resolves_another(alloc: Global, draft: Draft) -> Result<bool, Refusal> {
+fn resolve_another(alloc: Global, draft: Draft) -> Result<Result<(), Refusal>, Refusal> {
     let mut book = book_of(alloc, draft)?;
-    Ok(book.resolve(ANOTHER, 5) != Err(Refusal::NoComment))
+    Ok(book.resolve(ANOTHER, 5))
 }
 
 #[test]
 fn comment_keeps_its_words(rt: HostRuntime) -> Result<(), Fail> {
     let alloc = rt.alloc();
     let draft = on_hello()?;
-    assert!(rt; !resolves_another(alloc, draft)?);
+    let came = resolve_another(alloc, draft)?;
+    assert!(rt;
+        came == Err(Refusal::NoComment),
+        "wanted NoComment, came {came:?}"
+    );
     let site = keeping_xy(alloc)?;
     for (rev, want) in LISTED {
-        assert!(rt; lists(alloc, &site, draft, *rev, want)?, "{rev}");
+        lists(&rt, alloc, &site, draft, *rev, want)?;
     }
-    assert!(rt; range_of(alloc, &site, draft, 2)? == Some((0, 7)));
-    Ok(())
+    Ok(has_range(&rt, alloc, &site, draft, (2, Some((0, 7))))?)
 }
 
 /// `abc` in the first revision, without its `b` in the second.
@@ -163,9 +178,8 @@ fn comment_on_deleted_word(rt: HostRuntime) -> Result<(), Fail> {
     let draft = on((2, 1), (2, 1))?;
     let beyond = on((2, 1), (9, 1))?;
     let site = without_b(alloc)?;
-    assert!(rt; range_of(alloc, &site, draft, 1)? == Some((1, 1)));
-    assert!(rt; range_of(alloc, &site, draft, 2)? == Some((1, 0)));
-    assert!(rt; lists(alloc, &site, draft, 2, &[(1, 0, false)])?);
-    assert!(rt; range_of(alloc, &site, beyond, 2)?.is_none());
-    Ok(())
+    has_range(&rt, alloc, &site, draft, (1, Some((1, 1))))?;
+    has_range(&rt, alloc, &site, draft, (2, Some((1, 0))))?;
+    lists(&rt, alloc, &site, draft, 2, &[(1, 0, false)])?;
+    Ok(has_range(&rt, alloc, &site, beyond, (2, None))?)
 }

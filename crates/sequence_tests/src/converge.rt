@@ -69,10 +69,10 @@ pub fn made(alloc: Global, site: &Site, name: OpName, dice: &mut Dice) -> Result
 }
 
 /// How many operations type, erase, and were refused, and how many characters they hid.
-#[derive(Clone, Copy, Default)]
-struct Shares {
-    typed: u64,
-    erased: u64,
+#[derive(Clone, Copy, Debug, Default)]
+pub struct Shares {
+    pub typed: u64,
+    pub erased: u64,
     refused: u64,
     hidden: u64,
 }
@@ -84,7 +84,7 @@ impl Shares {
         }
     }
 
-    fn count_parts(&mut self, parts: &[Part]) {
+    pub fn count_parts(&mut self, parts: &[Part]) {
         for part in parts {
             match part {
                 Part::Insert(_) => self.typed = self.typed.saturating_add(1),
@@ -194,9 +194,15 @@ fn play(alloc: Global, sites: &mut [Site]) -> Result<Shares, Refusal> {
 /// Two replicas keep the same characters.
 fn keep_the_same(rt: &impl Abort, one: &Site, other: &Site) {
     let cells = one.sequence().cell_count();
-    assert!(rt; other.sequence().cell_count() == cells);
+    let came = other.sequence().cell_count();
+    assert!(rt; came == cells, "{cells} characters and {came}");
     for place in 0..cells {
-        assert!(rt; agree(one, other, place), "at {place}");
+        assert!(rt;
+            agree(one, other, place),
+            "at {place}: came {:?} and {:?}",
+            one.sequence().cell_at(place),
+            other.sequence().cell_at(place)
+        );
     }
 }
 
@@ -205,7 +211,8 @@ fn all_agree(rt: &impl Abort, sites: &[Site], erased: u64) {
     assert!(rt; sites.len() == 3);
     for site in sites {
         keep_the_same(rt, &sites[0], site);
-        assert!(rt; count_dead(site) == erased);
+        let came = count_dead(site);
+        assert!(rt; came == erased, "wanted {erased} erased, came {came}");
     }
 }
 
@@ -213,10 +220,18 @@ fn all_agree(rt: &impl Abort, sites: &[Site], erased: u64) {
 fn replicas_agree_in_every_order(rt: HostRuntime) -> Result<(), Fail> {
     let mut sites = three_sites(rt.alloc())?;
     let shares = play(rt.alloc(), &mut sites)?;
-    assert!(rt; shares.typed >= 250, "{}", shares.typed);
-    assert!(rt; shares.erased >= 200, "{}", shares.erased);
-    assert!(rt; shares.refused == shares.typed);
-    assert!(rt; shares.hidden % 3 == 0);
+    assert!(rt;
+        shares.typed >= 250 && shares.erased >= 200,
+        "too few of some kind: {shares:?}"
+    );
+    assert!(rt;
+        shares.refused == shares.typed,
+        "each that types is refused once: {shares:?}"
+    );
+    assert!(rt;
+        shares.hidden % 3 == 0,
+        "each hides three times as much: {shares:?}"
+    );
     all_agree(&rt, &sites, shares.hidden / 3);
     Ok(())
 }

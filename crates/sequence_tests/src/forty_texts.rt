@@ -1,6 +1,6 @@
 //! Twenty thousand operations of three replicas on the sequence of blocks beside the plain one, in forty texts.
 use crate::compared::show_the_same;
-use crate::converge::made;
+use crate::converge::{Shares, made};
 use crate::several::op_of;
 use crate::site::Site;
 use dice::Dice;
@@ -28,23 +28,35 @@ fn next_op(alloc: Global, site: &Site, number: u64, dice: &mut Dice) -> Result<O
     made(alloc, site, OpName { origin, number }, dice)
 }
 
-/// The first operation that is not taken, or 0.
-fn take_many(alloc: Global, site: &mut Site, seed: u64) -> Result<u64, Refusal> {
+/// All operations of a text are taken.
+fn take_many(
+    rt: &impl Abort,
+    alloc: Global,
+    site: &mut Site,
+    seed: u64,
+) -> Result<Shares, Refusal> {
     let mut dice = Dice::new(seed);
+    let mut shares = Shares::default();
     for number in 1..=OPERATIONS {
         let op = next_op(alloc, site, number, &mut dice)?;
-        if site.deliver(alloc, &op).is_err() {
-            return Ok(number);
-        }
+        shares.count_parts(op.parts.as_slice());
+        let came = site.deliver(alloc, &op);
+        assert!(rt;
+            came.is_ok(),
+            "operation {number} of text {seed}: came {came:?}"
+        );
     }
-    Ok(0)
+    Ok(shares)
 }
 
 /// Both tell the same of a text, now and at older revisions.
 fn keeps_a_text(rt: &impl Abort, alloc: Global, seed: u64) -> Result<(), Fail> {
     let mut site = Site::compared_every(alloc, COMPARED)?;
-    let stopped = take_many(alloc, &mut site, seed)?;
-    assert!(rt; stopped == 0, "at {stopped} of {seed}");
+    let shares = take_many(rt, alloc, &mut site, seed)?;
+    assert!(rt;
+        shares.typed >= 200 && shares.erased >= 200,
+        "too few of some kind in text {seed}: {shares:?}"
+    );
     let (cells, shown) = (site.plain().cell_count(), site.plain().len_at(OPERATIONS));
     assert!(rt; cells >= 500, "{cells}");
     assert!(rt; cells.saturating_sub(shown) >= 200, "{shown} of {cells}");

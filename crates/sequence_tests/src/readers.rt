@@ -55,7 +55,8 @@ fn order_is_told(rt: &impl Abort, site: &Site, (x, l, none): Three) {
 fn readers(rt: HostRuntime) -> Result<(), Fail> {
     let three = (stamp_of((6, 2))?, stamp_of((3, 1))?, stamp_of((6, 1))?);
     let site = of_two(rt.alloc())?;
-    assert!(rt; numbers_of(&site) == [7, 5, 7, 0, 7, 0, 5, 7]);
+    let (came, want) = (numbers_of(&site), [7, 5, 7, 0, 7, 0, 5, 7]);
+    assert!(rt; came == want, "wanted {want:?}, came {came:?}");
     stamps_are_found(&rt, &site, three);
     characters_are_counted(&rt, &site, three);
     order_is_told(&rt, &site, three);
@@ -72,10 +73,20 @@ fn are_runs(runs: &[AuthorRun], want: &[(u16, u64)]) -> bool {
     runs.len() == want.len()
 }
 
-/// Whether those of a site at a revision are such.
-fn has_runs(alloc: Global, site: &Site, rev: u64, want: &[(u16, u64)]) -> Result<bool, Refusal> {
-    let runs = site.sequence().authors_at(alloc, rev)?;
-    Ok(are_runs(runs.as_slice(), want))
+/// Those of a site at a revision are such.
+fn has_runs(
+    rt: &impl Abort,
+    alloc: Global,
+    site: &Site,
+    rev: u64,
+    want: &[(u16, u64)],
+) -> Result<(), Refusal> {
+    let came = site.sequence().authors_at(alloc, rev)?;
+    assert!(rt;
+        are_runs(came.as_slice(), want),
+        "revision {rev}: wanted {want:?}, came {came:?}"
+    );
+    Ok(())
 }
 
 /// Whether spans have these first stamps and lengths.
@@ -88,22 +99,24 @@ fn are_spans(spans: &[Span], want: &[(Named, u64)]) -> bool {
     spans.len() == want.len()
 }
 
-/// Whether those of some characters of a site are such.
+/// Those of some characters of a site are such.
 fn has_spans(
+    rt: &impl Abort,
     alloc: Global,
     site: &Site,
-    rev: u64,
-    at: u64,
-    len: u64,
-    want: &[(Named, u64)],
-) -> Result<bool, Refusal> {
+    (rev, at, len, want): Spans,
+) -> Result<(), Refusal> {
     let seq = site.sequence();
     let length = seq.len_at(rev);
     if at > length || len > length - at {
         return Err(Refusal::OutOfRange);
     }
-    let spans = seq.spans_at(alloc, rev, at, len)?;
-    Ok(are_spans(spans.as_slice(), want))
+    let came = seq.spans_at(alloc, rev, at, len)?;
+    assert!(rt;
+        are_spans(came.as_slice(), want),
+        "{len} from {at} on in revision {rev}: wanted {want:?}, came {came:?}"
+    );
+    Ok(())
 }
 
 /// The runs of `heXYllo` at its revisions.
@@ -123,13 +136,10 @@ const SPANS: &[Spans] = &[
 fn runs_and_spans_are_the_longest(rt: HostRuntime) -> Result<(), Fail> {
     let site = of_two(rt.alloc())?;
     for (rev, want) in RUNS {
-        assert!(rt; has_runs(rt.alloc(), &site, *rev, want)?, "revision {rev}");
+        has_runs(&rt, rt.alloc(), &site, *rev, want)?;
     }
-    for (rev, at, len, want) in SPANS {
-        assert!(rt;
-            has_spans(rt.alloc(), &site, *rev, *at, *len, want)?,
-            "{len} from {at} on in revision {rev}"
-        );
+    for spans in SPANS {
+        has_spans(&rt, rt.alloc(), &site, *spans)?;
     }
     Ok(())
 }
@@ -141,9 +151,12 @@ fn cells(rt: HostRuntime) -> Result<(), Fail> {
     let Some(cell) = site.sequence().cell_at(2) else {
         panic!(rt; "no cell");
     };
-    assert!(rt; named(cell.stamp) == (6, 2));
-    assert!(rt; cell.parent.map(named) == Some((2, 1)));
-    assert!(rt; cell.character == 'X' && cell.author.origin == 2);
-    assert!(rt; cell.born == 2 && cell.died.is_none());
+    assert!(rt; named(cell.stamp) == (6, 2), "{cell:?}");
+    assert!(rt; cell.parent.map(named) == Some((2, 1)), "{cell:?}");
+    assert!(rt;
+        cell.character == 'X' && cell.author.origin == 2,
+        "{cell:?}"
+    );
+    assert!(rt; cell.born == 2 && cell.died.is_none(), "{cell:?}");
     Ok(())
 }

@@ -3,6 +3,7 @@ use crate::site::Sketch::{Erased, Typed};
 use crate::site::{Named, Site, Sketch};
 use pad_model::{Refusal, Sequence, Stamp};
 use std::alloc::Global;
+use std::process::Abort;
 use std::test::Fail;
 
 pub const HELLO: Sketch = Typed((1, 1), None, "hello");
@@ -26,31 +27,60 @@ pub fn site_of(alloc: Global, taken: Taken<'_>) -> Result<Site, Refusal> {
     Ok(site)
 }
 
-/// Whether such a site shows this text.
-fn shows(alloc: Global, taken: Taken<'_>, want: &str) -> Result<bool, Refusal> {
+/// What such a site shows.
+fn text_after(alloc: Global, taken: Taken<'_>) -> Result<String, Refusal> {
     let site = site_of(alloc, taken)?;
-    site.shows(alloc, site.rev(), want)
+    site.text(alloc, site.rev())
+}
+
+/// Such a site shows this text.
+fn shows(rt: &impl Abort, alloc: Global, taken: Taken<'_>, want: &str) -> Result<(), Refusal> {
+    let came = text_after(alloc, taken)?;
+    assert!(rt;
+        came.as_str() == want,
+        "{taken:?}: wanted {want}, came {came}"
+    );
+    Ok(())
 }
 
 pub fn named(stamp: Stamp) -> Named {
     (stamp.counter(), stamp.replica())
 }
 
-/// Whether all characters have these counters and replicas, in their order.
-fn has_stamps(site: &Site, want: &[Named]) -> bool {
+/// All characters have these counters and replicas, in their order.
+fn has_stamps(rt: &impl Abort, site: &Site, want: &[Named]) {
     let seq = site.sequence();
     for (want, place) in want.iter().zip(0..) {
-        match seq.cell_at(place) {
-            Some(cell) if named(cell.stamp) == *want => {}
-            _ => return false,
-        }
+        let came = match seq.cell_at(place) {
+            Some(cell) => Some(named(cell.stamp)),
+            None => None,
+        };
+        assert!(rt;
+            came == Some(*want),
+            "at {place}: wanted {want:?}, came {came:?}"
+        );
     }
-    seq.cell_count() == want.len() as u64
+    has_count(rt, site, want.len());
 }
 
-fn has_stamps_after(alloc: Global, taken: Taken<'_>, want: &[Named]) -> Result<bool, Refusal> {
+/// A site has so many characters, the erased ones too.
+fn has_count(rt: &impl Abort, site: &Site, want: usize) {
+    let came = site.sequence().cell_count();
+    assert!(rt;
+        came == want as u64,
+        "wanted {want} characters, came {came}"
+    );
+}
+
+fn has_stamps_after(
+    rt: &impl Abort,
+    alloc: Global,
+    taken: Taken<'_>,
+    want: &[Named],
+) -> Result<(), Refusal> {
     let site = site_of(alloc, taken)?;
-    Ok(has_stamps(&site, want))
+    has_stamps(rt, &site, want);
+    Ok(())
 }
 
 const A: (u16, Sketch) = (1, Typed((1, 1), None, "a"));
@@ -71,7 +101,7 @@ const SIBLINGS: &[(Taken<'static>, &str)] = &[
 #[test]
 fn newer_siblings_come_first(rt: HostRuntime) -> Result<(), Fail> {
     for (taken, want) in SIBLINGS {
-        assert!(rt; shows(rt.alloc(), taken, want)?, "{want}");
+        shows(&rt, rt.alloc(), taken, want)?;
     }
     Ok(())
 }
@@ -82,13 +112,12 @@ const STAMPS_BETWEEN: &[Named] = &[(1, 1), (2, 1), (3, 2), (4, 2), (3, 1), (4, 1
 
 #[test]
 fn a_run_between_the_characters_of_another(rt: HostRuntime) -> Result<(), Fail> {
-    assert!(rt; shows(rt.alloc(), BETWEEN, "heQRllo")?);
-    assert!(rt; has_stamps_after(rt.alloc(), BETWEEN, STAMPS_BETWEEN)?);
-    Ok(())
+    shows(&rt, rt.alloc(), BETWEEN, "heQRllo")?;
+    Ok(has_stamps_after(&rt, rt.alloc(), BETWEEN, STAMPS_BETWEEN)?)
 }
 
 /// What a site of `hello` answers to an operation, and its revision and its characters then, the erased ones too.
-#[derive(Clone, Copy)]
+#[derive(Clone, Copy, Debug)]
 struct After {
     answer: Result<u64, Refusal>,
     rev: u64,
@@ -102,17 +131,33 @@ fn after_hello(alloc: Global, origin: u16, parts: &[Sketch]) -> Result<After, Re
     Ok(After { answer, rev, cells })
 }
 
-/// Whether such a site shows this text at a revision, whatever it answered.
+/// What such a site shows at a revision, whatever it answered.
+fn text_after_hello(
+    alloc: Global,
+    origin: u16,
+    parts: &[Sketch],
+    rev: u64,
+) -> Result<String, Refusal> {
+    let mut site = site_of(alloc, &[(1, HELLO)])?;
+    let _answer = site.take(alloc, origin, parts);
+    site.text(alloc, rev)
+}
+
+/// Such a site shows this text at a revision.
 fn shows_after_hello(
+    rt: &impl Abort,
     alloc: Global,
     origin: u16,
     parts: &[Sketch],
     rev: u64,
     want: &str,
-) -> Result<bool, Refusal> {
-    let mut site = site_of(alloc, &[(1, HELLO)])?;
-    let _answer = site.take(alloc, origin, parts);
-    site.shows(alloc, rev, want)
+) -> Result<(), Refusal> {
+    let came = text_after_hello(alloc, origin, parts, rev)?;
+    assert!(rt;
+        came.as_str() == want,
+        "revision {rev} after {parts:?}: wanted {want}, came {came}"
+    );
+    Ok(())
 }
 
 /// An operation that a site of `hello` refuses, and why.
@@ -164,19 +209,26 @@ const MISFITS: &[Misfit] = &[
     ),
 ];
 
-fn is_refused(alloc: Global, origin: u16, parts: &[Sketch]) -> Result<bool, Refusal> {
-    let after = after_hello(alloc, origin, parts)?;
-    Ok(after.answer == Err(Refusal::PeerFault) && after.cells == 5)
+fn is_refused(
+    rt: &impl Abort,
+    alloc: Global,
+    origin: u16,
+    parts: &[Sketch],
+    why: &str,
+) -> Result<(), Refusal> {
+    let came = after_hello(alloc, origin, parts)?;
+    assert!(rt;
+        came.answer == Err(Refusal::PeerFault) && came.cells == 5,
+        "{why}: wanted PeerFault and 5 cells, came {came:?}"
+    );
+    Ok(())
 }
 
 #[test]
 fn what_does_not_fit_is_refused(rt: HostRuntime) -> Result<(), Fail> {
     for (origin, parts, why) in MISFITS {
-        assert!(rt; is_refused(rt.alloc(), *origin, parts)?, "{why}");
-        assert!(rt;
-            shows_after_hello(rt.alloc(), *origin, parts, u64::MAX, "hello")?,
-            "{why}"
-        );
+        is_refused(&rt, rt.alloc(), *origin, parts, why)?;
+        shows_after_hello(&rt, rt.alloc(), *origin, parts, u64::MAX, "hello")?;
     }
     Ok(())
 }
@@ -209,61 +261,77 @@ const SEVERAL: &[Several] = &[
 ];
 
 fn is_one_revision(
+    rt: &impl Abort,
     alloc: Global,
     origin: u16,
     parts: &[Sketch],
     hidden: u64,
-) -> Result<bool, Refusal> {
-    let after = after_hello(alloc, origin, parts)?;
-    Ok(after.answer == Ok(hidden) && after.rev == 2)
+) -> Result<(), Refusal> {
+    let came = after_hello(alloc, origin, parts)?;
+    assert!(rt;
+        came.answer == Ok(hidden) && came.rev == 2,
+        "{parts:?}: wanted {hidden} hidden in revision 2, came {came:?}"
+    );
+    Ok(())
 }
 
 #[test]
 fn several_parts_are_one_revision(rt: HostRuntime) -> Result<(), Fail> {
     for (origin, parts, hidden, text) in SEVERAL {
         let origin = *origin;
+        is_one_revision(&rt, rt.alloc(), origin, parts, *hidden)?;
+        shows_after_hello(&rt, rt.alloc(), origin, parts, 2, text)?;
+        shows_after_hello(&rt, rt.alloc(), origin, parts, 1, "hello")?;
+    }
+    Ok(())
+}
+
+/// The operations hide so many characters each.
+fn hide(
+    rt: &impl Abort,
+    alloc: Global,
+    site: &mut Site,
+    taken: Taken<'_>,
+    want: &[u64],
+) -> Result<(), Refusal> {
+    assert!(rt; taken.len() == want.len(), "{taken:?} and {want:?}");
+    for ((origin, part), want) in taken.iter().zip(want) {
+        let came = site.take(alloc, *origin, &[*part])?;
         assert!(rt;
-            is_one_revision(rt.alloc(), origin, parts, *hidden)?,
-            "{text}"
-        );
-        assert!(rt;
-            shows_after_hello(rt.alloc(), origin, parts, 2, text)?,
-            "{text}"
-        );
-        assert!(rt;
-            shows_after_hello(rt.alloc(), origin, parts, 1, "hello")?,
-            "{text}"
+            came == *want,
+            "{part:?} of {origin}: wanted {want} hidden, came {came}"
         );
     }
     Ok(())
 }
 
-/// Whether the operations hide so many characters each.
-fn hide(alloc: Global, site: &mut Site, taken: Taken<'_>, want: &[u64]) -> Result<bool, Refusal> {
-    for ((origin, part), want) in taken.iter().zip(want) {
-        if site.take(alloc, *origin, &[*part])? != *want {
-            return Ok(false);
-        }
-    }
-    Ok(taken.len() == want.len())
-}
-
 /// The same at a new site.
-fn hide_so(alloc: Global, taken: Taken<'_>, want: &[u64]) -> Result<bool, Refusal> {
+fn hide_so(rt: &impl Abort, alloc: Global, taken: Taken<'_>, want: &[u64]) -> Result<(), Refusal> {
     let mut site = Site::new(alloc)?;
-    hide(alloc, &mut site, taken, want)
+    hide(rt, alloc, &mut site, taken, want)
 }
 
-/// Whether a site that took the first of some operations shows this text at a revision.
+/// What a site that took the first of some operations shows at a revision.
+fn text_at(alloc: Global, taken: Taken<'_>, count: usize, rev: u64) -> Result<String, Refusal> {
+    let site = site_of(alloc, &taken[..count.min(taken.len())])?;
+    site.text(alloc, rev)
+}
+
+/// It shows this text.
 fn shows_at(
+    rt: &impl Abort,
     alloc: Global,
     taken: Taken<'_>,
     count: usize,
     rev: u64,
     want: &str,
-) -> Result<bool, Refusal> {
-    let site = site_of(alloc, &taken[..count.min(taken.len())])?;
-    site.shows(alloc, rev, want)
+) -> Result<(), Refusal> {
+    let came = text_at(alloc, taken, count, rev)?;
+    assert!(rt;
+        came.as_str() == want,
+        "revision {rev} after {count} of {taken:?}: wanted {want}, came {came}"
+    );
+    Ok(())
 }
 
 fn length_at(alloc: Global, taken: Taken<'_>, rev: u64) -> Result<u64, Refusal> {
@@ -303,41 +371,53 @@ const REVISIONS: &[(usize, u64, &str)] = &[
     (5, 3, "aXd"),
 ];
 
-fn shows_revisions(alloc: Global, taken: Taken<'_>) -> Result<bool, Refusal> {
+fn shows_revisions(rt: &impl Abort, alloc: Global, taken: Taken<'_>) -> Result<(), Refusal> {
     for (count, rev, text) in REVISIONS {
-        if !shows_at(alloc, taken, *count, *rev, text)? {
-            return Ok(false);
-        }
+        shows_at(rt, alloc, taken, *count, *rev, text)?;
     }
-    Ok(true)
+    Ok(())
 }
 
 #[test]
 fn delete_and_insert_concurrently(rt: HostRuntime) -> Result<(), Fail> {
     for (taken, hidden, between) in CONCURRENT {
-        assert!(rt; hide_so(rt.alloc(), taken, hidden)?, "{between}");
-        assert!(rt; shows_at(rt.alloc(), taken, 3, 2, between)?, "{between}");
-        assert!(rt; shows_revisions(rt.alloc(), taken)?, "{between}");
-        assert!(rt; length_at(rt.alloc(), taken, 4)? == 2, "{between}");
+        hide_so(&rt, rt.alloc(), taken, hidden)?;
+        shows_at(&rt, rt.alloc(), taken, 3, 2, between)?;
+        shows_revisions(&rt, rt.alloc(), taken)?;
+        let length = length_at(rt.alloc(), taken, 4)?;
+        assert!(rt;
+            length == 2,
+            "{between}: wanted 2 characters, came {length}"
+        );
     }
     Ok(())
 }
 
-/// Whether the characters were erased at these revisions, or are not.
-fn died_at(site: &Site, want: &[Option<u64>]) -> bool {
+/// The characters were erased at these revisions, or are not.
+fn died_at(rt: &impl Abort, site: &Site, want: &[Option<u64>]) {
     let seq = site.sequence();
     for (want, place) in want.iter().zip(0..) {
-        match seq.cell_at(place) {
-            Some(cell) if cell.died == *want => {}
-            _ => return false,
-        }
+        let came = match seq.cell_at(place) {
+            Some(cell) => Some(cell.died),
+            None => None,
+        };
+        assert!(rt;
+            came == Some(*want),
+            "at {place}: wanted {want:?}, came {came:?}"
+        );
     }
-    seq.cell_count() == want.len() as u64
+    has_count(rt, site, want.len());
 }
 
-fn died_after(alloc: Global, taken: Taken<'_>, want: &[Option<u64>]) -> Result<bool, Refusal> {
+fn died_after(
+    rt: &impl Abort,
+    alloc: Global,
+    taken: Taken<'_>,
+    want: &[Option<u64>],
+) -> Result<(), Refusal> {
     let site = site_of(alloc, taken)?;
-    Ok(died_at(&site, want))
+    died_at(rt, &site, want);
+    Ok(())
 }
 
 const ERASED_AGAIN: Taken<'static> = &[
@@ -354,13 +434,9 @@ const DEATHS: &[Option<u64>] = &[Some(3), Some(2), Some(2), Some(3), None];
 
 #[test]
 fn a_deletion_may_name_what_is_dead(rt: HostRuntime) -> Result<(), Fail> {
-    assert!(rt; hide_so(rt.alloc(), ERASED_AGAIN, &[0, 2, 2, 0])?);
+    hide_so(&rt, rt.alloc(), ERASED_AGAIN, &[0, 2, 2, 0])?;
     for (count, rev, text) in LEFT {
-        assert!(rt;
-            shows_at(rt.alloc(), ERASED_AGAIN, *count, *rev, text)?,
-            "after {count}"
-        );
+        shows_at(&rt, rt.alloc(), ERASED_AGAIN, *count, *rev, text)?;
     }
-    assert!(rt; died_after(rt.alloc(), ERASED_AGAIN, DEATHS)?);
-    Ok(())
+    Ok(died_after(&rt, rt.alloc(), ERASED_AGAIN, DEATHS)?)
 }

@@ -1,10 +1,11 @@
 //! Operations of several parts on the sequence of blocks beside the plain one, and what both tell of older revisions.
 use crate::compared::tell_the_same;
-use crate::converge::{erased, typed};
+use crate::converge::{Shares, erased, typed};
 use crate::site::Site;
 use dice::Dice;
 use pad_model::{Name, Op, OpName, Part, Refusal, Row, Seen, Sequence};
 use std::alloc::Global;
+use std::process::Abort;
 use std::test::Fail;
 
 const OPERATIONS: u64 = 120;
@@ -43,24 +44,29 @@ pub fn op_of(alloc: Global, site: &Site, number: u64, dice: &mut Dice) -> Result
     })
 }
 
-/// How many operations are taken before the first that is not.
-fn take_many(alloc: Global, site: &mut Site) -> Result<u64, Refusal> {
+/// All operations are taken.
+fn take_many(rt: &impl Abort, alloc: Global, site: &mut Site) -> Result<Shares, Refusal> {
     let mut dice = Dice::new(5);
+    let mut shares = Shares::default();
     for number in 1..=OPERATIONS {
         let op = op_of(alloc, site, number, &mut dice)?;
-        if site.deliver(alloc, &op).is_err() {
-            return Ok(number);
-        }
+        shares.count_parts(op.parts.as_slice());
+        let came = site.deliver(alloc, &op);
+        assert!(rt; came.is_ok(), "operation {number}: came {came:?}");
     }
-    Ok(0)
+    Ok(shares)
 }
 
 #[test]
 fn several_parts_at_once(rt: HostRuntime) -> Result<(), Fail> {
     let mut site = Site::new(rt.alloc())?;
-    let stopped = take_many(rt.alloc(), &mut site)?;
-    assert!(rt; stopped == 0, "at {stopped}");
-    assert!(rt; site.rev() == OPERATIONS);
+    let shares = take_many(&rt, rt.alloc(), &mut site)?;
+    // Each has two or three insertions, and three of four have a deletion.
+    assert!(rt;
+        shares.typed >= 200 && shares.erased >= 60,
+        "too few of some kind: {shares:?}"
+    );
+    assert!(rt; site.rev() == OPERATIONS, "{} revisions", site.rev());
     for rev in [0, 1, 2, 3, 10, 30, 60, 90, 119, 120] {
         assert!(rt;
             tell_the_same(rt.alloc(), site.sequence(), site.plain(), rev)?,

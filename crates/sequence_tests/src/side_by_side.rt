@@ -3,9 +3,10 @@ ghost use Rattle.std.specs.Prelude.{◌≡◌, IsTrue};
 ghost use Rattle.std.specs.List.{list_all};
 ghost use Rattle.pad_model.specs.Checked.{fits_clock, is_run, is_span};
 
+use crate::converge::Shares;
 use crate::sequences::HELLO;
 use crate::site::Sketch::{Erased, Typed};
-use crate::site::{Sketch, is_text, part_of, stamp_of};
+use crate::site::{Sketch, part_of, stamp_of};
 use block_seq::{BlockSeq, PlainSeq};
 use dice::Dice;
 use pad_model::{
@@ -13,6 +14,7 @@ use pad_model::{
 };
 use std::alloc::Global;
 use std::marker::Model;
+use std::process::Abort;
 use std::test::Fail;
 
 /// Both sequences, and how many changes they took.
@@ -87,53 +89,86 @@ impl Pair {
         }
     }
 
-    /// Whether both have the same sizes and counters.
-    fn counts_agree(&self) -> bool {
-        self.rows.cell_count() == self.plain.cell_count()
-            && self.rows.clock() == self.plain.clock()
-            && (0..=4).all(|replica| self.rows.last_of(replica) == self.plain.last_of(replica))
-    }
-
-    /// Whether both show the same text at a revision.
-    fn texts_agree(&self, alloc: Global, rev: u64) -> Result<bool, Refusal> {
-        let want = self.plain.text_at(alloc, rev)?;
-        let text = self.rows.text_at(alloc, rev)?;
-        Ok(text == want && self.rows.len_at(rev) == self.plain.len_at(rev))
-    }
-
-    /// Whether both say the same of a place and of a stamp at a revision.
-    fn readers_agree(&self, rev: u64, place: u64, stamp: Stamp) -> bool {
-        self.rows.stamp_at(rev, place) == self.plain.stamp_at(rev, place)
-            && self.rows.has(stamp) == self.plain.has(stamp)
-            && self.rows.before(stamp, rev) == self.plain.before(stamp, rev)
-            && self.rows.through(stamp, rev) == self.plain.through(stamp, rev)
-    }
-
-    /// Whether both say the same of each place and of each character at a revision.
-    fn all_agree(&self, rev: u64) -> bool {
-        for place in 0..self.plain.cell_count() {
-            match self.plain.cell_at(place) {
-                Some(cell) if self.readers_agree(rev, place, cell.stamp) => {}
-                _ => return false,
-            }
+    /// Both have the same sizes and counters.
+    fn counts_agree(&self, rt: &impl Abort) {
+        let (came, want) = (self.rows.cell_count(), self.plain.cell_count());
+        assert!(rt; came == want, "wanted {want} characters, came {came}");
+        let (came, want) = (self.rows.clock(), self.plain.clock());
+        assert!(rt; came == want, "wanted the clock {want}, came {came}");
+        for replica in 0..=4 {
+            let (came, want) = (self.rows.last_of(replica), self.plain.last_of(replica));
+            assert!(rt;
+                came == want,
+                "last of {replica}: wanted {want}, came {came}"
+            );
         }
-        true
     }
 
-    /// Whether both say the same now and at an older revision: of counts, texts, a place and a stamp that may be missing.
-    fn agree(&self, alloc: Global, dice: &mut Dice) -> Result<bool, Refusal> {
+    /// Both show the same text at a revision.
+    fn texts_agree(&self, rt: &impl Abort, alloc: Global, rev: u64) -> Result<(), Refusal> {
+        let want = self.plain.text_at(alloc, rev)?;
+        let came = self.rows.text_at(alloc, rev)?;
+        assert!(rt;
+            came == want,
+            "revision {rev}: wanted {want:?}, came {came:?}"
+        );
+        let (came, want) = (self.rows.len_at(rev), self.plain.len_at(rev));
+        assert!(rt;
+            came == want,
+            "revision {rev}: wanted {want} characters, came {came}"
+        );
+        Ok(())
+    }
+
+    /// Both say the same of a place and of a stamp at a revision.
+    fn readers_agree(&self, rt: &impl Abort, rev: u64, place: u64, stamp: Stamp) {
+        let (came, want) = (
+            self.rows.stamp_at(rev, place),
+            self.plain.stamp_at(rev, place),
+        );
+        assert!(rt;
+            came == want,
+            "stamp at {place} of {rev}: wanted {want:?}, came {came:?}"
+        );
+        let (came, want) = (self.rows.has(stamp), self.plain.has(stamp));
+        assert!(rt; came == want, "has {stamp:?}: wanted {want}, came {came}");
+        let (came, want) = (self.rows.before(stamp, rev), self.plain.before(stamp, rev));
+        assert!(rt;
+            came == want,
+            "before {stamp:?} at {rev}: wanted {want:?}, came {came:?}"
+        );
+        let (came, want) = (
+            self.rows.through(stamp, rev),
+            self.plain.through(stamp, rev),
+        );
+        assert!(rt;
+            came == want,
+            "through {stamp:?} at {rev}: wanted {want:?}, came {came:?}"
+        );
+    }
+
+    /// Both say the same of each place and of each character at a revision.
+    fn all_agree(&self, rt: &impl Abort, rev: u64) {
+        for place in 0..self.plain.cell_count() {
+            let Some(cell) = self.plain.cell_at(place) else {
+                panic!(rt; "no character at {place}");
+            };
+            self.readers_agree(rt, rev, place, cell.stamp);
+        }
+    }
+
+    /// Both say the same now and at an older revision: of counts, texts, a place and a stamp that may be missing.
+    fn agree(&self, rt: &impl Abort, alloc: Global, dice: &mut Dice) -> Result<(), Refusal> {
         let old = dice.roll(self.rev.saturating_add(1));
         let replica = dice.roll(3).saturating_add(1) as u16;
         let counter = dice.roll(self.plain.clock().saturating_add(1));
         let stamp = stamp_of((counter.saturating_add(1), replica))?;
         let place = dice.roll(self.plain.len_at(self.rev).saturating_add(2));
-        Ok(
-            self.counts_agree()
-                && self.readers_agree(self.rev, place, stamp)
-                && self.readers_agree(old, place, stamp)
-                && self.texts_agree(alloc, self.rev)?
-                && self.texts_agree(alloc, old)?,
-        )
+        self.counts_agree(rt);
+        self.readers_agree(rt, self.rev, place, stamp);
+        self.readers_agree(rt, old, place, stamp);
+        self.texts_agree(rt, alloc, self.rev)?;
+        self.texts_agree(rt, alloc, old)
     }
 }
 
@@ -210,31 +245,48 @@ const WORKED: &[Worked] = &[
     ),
 ];
 
-fn take_all(alloc: Global, pair: &mut Pair, changes: &[(u16, Sketch)]) -> Result<bool, Refusal> {
+fn take_all(
+    rt: &impl Abort,
+    alloc: Global,
+    pair: &mut Pair,
+    changes: &[(u16, Sketch)],
+) -> Result<(), Refusal> {
     for (origin, sketch) in changes {
         let part = part_of(alloc, sketch)?;
         let author = author_of(alloc, *origin)?;
-        if !pair.take(alloc, &part, &author) {
-            return Ok(false);
-        }
+        assert!(rt;
+            pair.take(alloc, &part, &author),
+            "{part:?} of {origin}: answered otherwise"
+        );
     }
-    Ok(true)
+    Ok(())
 }
 
-/// Whether the blocks show this text after the changes, and both sequences agree at each revision.
-fn is_worked(alloc: Global, changes: &[(u16, Sketch)], want: &str) -> Result<bool, Refusal> {
+fn shows(rt: &impl Abort, alloc: Global, text: &Text, want: &str) -> Result<(), Refusal> {
+    let came = text.to_string(alloc)?;
+    assert!(rt; came.as_str() == want, "wanted {want}, came {came}");
+    Ok(())
+}
+
+/// The blocks show this text after the changes, and both sequences agree at each revision.
+fn is_worked(
+    rt: &impl Abort,
+    alloc: Global,
+    changes: &[(u16, Sketch)],
+    want: &str,
+) -> Result<(), Refusal> {
     let mut pair = Pair::new(alloc)?;
-    if !take_all(alloc, &mut pair, changes)? {
-        return Ok(false);
-    }
-    let text = pair.rows.text_at(alloc, pair.rev)?;
-    Ok(is_text(alloc, &text, want)? && pair.counts_agree() && pair.all_agree(pair.rev))
+    take_all(rt, alloc, &mut pair, changes)?;
+    shows(rt, alloc, &pair.rows.text_at(alloc, pair.rev)?, want)?;
+    pair.counts_agree(rt);
+    pair.all_agree(rt, pair.rev);
+    Ok(())
 }
 
 #[test]
 fn runs_stand_where_the_examples_say(rt: HostRuntime) -> Result<(), Fail> {
     for (changes, want) in WORKED {
-        assert!(rt; is_worked(rt.alloc(), changes, want)?, "{want}");
+        is_worked(&rt, rt.alloc(), changes, want)?;
     }
     Ok(())
 }
@@ -256,10 +308,11 @@ fn numbers_of(rows: &BlockSeq) -> [u64; 8] {
 #[test]
 fn blocks_tell_of_their_characters(rt: HostRuntime) -> Result<(), Fail> {
     let mut pair = Pair::new(rt.alloc())?;
-    assert!(rt; take_all(rt.alloc(), &mut pair, &[(1, HELLO), XY])?);
+    take_all(&rt, rt.alloc(), &mut pair, &[(1, HELLO), XY])?;
     let (x, l, none) = (stamp_of((6, 2))?, stamp_of((3, 1))?, stamp_of((6, 1))?);
     let rows = &pair.rows;
-    assert!(rt; numbers_of(rows) == [7, 5, 7, 0, 7, 0, 5, 7]);
+    let (came, want) = (numbers_of(rows), [7, 5, 7, 0, 7, 0, 5, 7]);
+    assert!(rt; came == want, "wanted {want:?}, came {came:?}");
     assert!(rt; rows.has(x) && rows.has(l) && !rows.has(none));
     assert!(rt; rows.stamp_at(2, 2) == Some(x) && rows.stamp_at(1, 2) == Some(l));
     assert!(rt; rows.before(l, 1) == Some(2) && rows.through(x, 1) == Some(2));
@@ -321,47 +374,53 @@ fn round(alloc: Global, pair: &Pair, dice: &mut Dice) -> Result<Vec<Part>, Refus
     Ok(parts)
 }
 
-/// How many rounds leave both the same, before the first that does not.
-fn count_same(alloc: Global, pair: &mut Pair) -> Result<u64, Refusal> {
+/// Each round leaves both the same.
+fn play_all(rt: &impl Abort, alloc: Global, pair: &mut Pair) -> Result<Shares, Refusal> {
     let mut dice = Dice::new(11);
-    for round_number in 0..ROUNDS {
+    let mut shares = Shares::default();
+    for _ in 0..ROUNDS {
         let parts = round(alloc, pair, &mut dice)?;
-        if !are_taken(alloc, pair, &parts, &mut dice)? {
-            return Ok(round_number);
-        }
+        shares.count_parts(&parts);
+        are_taken(rt, alloc, pair, &parts, &mut dice)?;
     }
-    Ok(ROUNDS)
+    Ok(shares)
 }
 
-/// Makes the parts of a round, by replica. Whether both sequences agree after each.
+/// Makes the parts of a round, by replica. Both sequences agree after each.
 fn are_taken(
+    rt: &impl Abort,
     alloc: Global,
     pair: &mut Pair,
     parts: &[Part],
     dice: &mut Dice,
-) -> Result<bool, Refusal> {
+) -> Result<(), Refusal> {
     let mut origin: u16 = 1;
     for part in parts {
         let author = author_of(alloc, origin)?;
-        if !pair.take(alloc, part, &author) || !pair.agree(alloc, dice)? {
-            return Ok(false);
-        }
+        assert!(rt;
+            pair.take(alloc, part, &author),
+            "{part:?} of {origin}: answered otherwise"
+        );
+        pair.agree(rt, alloc, dice)?;
         origin = origin.saturating_add(1);
     }
-    Ok(true)
+    Ok(())
 }
 
 #[test]
 fn three_replicas_type_and_erase(rt: HostRuntime) -> Result<(), Fail> {
     let mut pair = Pair::new(rt.alloc())?;
-    let count = count_same(rt.alloc(), &mut pair)?;
-    assert!(rt; count == ROUNDS, "not round {count}");
-    assert!(rt; pair.rev == 300);
+    let shares = play_all(&rt, rt.alloc(), &mut pair)?;
+    assert!(rt;
+        shares.typed >= 150 && shares.erased >= 90,
+        "too few of some kind: {shares:?}"
+    );
+    assert!(rt; pair.rev == 300, "{} revisions", pair.rev);
     let (cells, shown) = (pair.plain.cell_count(), pair.plain.len_at(pair.rev));
     assert!(rt; cells >= 250, "{cells}");
     assert!(rt; cells.saturating_sub(shown) >= 100, "{shown} of {cells}");
     for rev in [0, 1, 100, 200, 300] {
-        assert!(rt; pair.all_agree(rev), "revision {rev}");
+        pair.all_agree(&rt, rev);
     }
     Ok(())
 }

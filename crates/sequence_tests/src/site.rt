@@ -12,6 +12,7 @@ use pad_model::{
 };
 use std::alloc::Global;
 use std::marker::Model;
+use std::process::Abort;
 
 /// A sequence of blocks and a plain one beside it, how many operations they took, and after how many their cells are
 /// compared.
@@ -109,10 +110,10 @@ impl Site {
         self.deliver(alloc, &op)
     }
 
-    /// Whether a revision shows this text.
-    pub fn shows(&self, alloc: Global, rev: u64, want: &str) -> Result<bool, Refusal> {
+    /// What a revision shows.
+    pub fn text(&self, alloc: Global, rev: u64) -> Result<String, Refusal> {
         let text = self.sequence.text_at(alloc, rev)?;
-        is_text(alloc, &text, want)
+        Ok(text.to_string(alloc)?)
     }
 }
 
@@ -122,11 +123,6 @@ fn are_alike(rows: &BlockSeq, plain: &PlainSeq, rev: u64, every: u64) -> bool {
         Some(0) | None => have_same_cells(rows, plain),
         Some(_) => true,
     }
-}
-
-pub fn is_text(alloc: Global, text: &Text, want: &str) -> Result<bool, Refusal> {
-    let text = text.to_string(alloc)?;
-    Ok(text.as_str() == want)
 }
 
 fn author_of(op: &Op) -> Result<Author, Refusal>
@@ -142,7 +138,7 @@ fn author_of(op: &Op) -> Result<Author, Refusal>
 pub type Named = (u64, u16);
 
 /// A part by its numbers.
-#[derive(Clone, Copy)]
+#[derive(Clone, Copy, Debug)]
 pub enum Sketch {
     /// The first stamp, the character in front, and the text.
     Typed(Named, Option<Named>, &'static str),

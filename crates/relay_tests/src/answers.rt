@@ -1,12 +1,23 @@
 //! Answers of a peer that end a round.
-use crate::stage::{TYPES, Talked, talk};
+use crate::stage::{TYPES, Talked, talk, text_of};
 use std::alloc::Global;
+use std::process::Abort;
 use std::test::Fail;
 use wire_lines::Fault;
 
 // A whole talk of a peer that takes the one operation of server 1.
-const TALK: &[u8] =
-    b"{\"ok\":true,\"replica\":2,\"version\":2}\n{\"now\":0,\"ok\":true,\"ops\":[]}\n{\"now\":0,\"ok\":true,\"seen\":[]}\n{\"dropped\":0,\"now\":1,\"ok\":true,\"released\":0,\"state\":\"delivered\"}\n{\"now\":1,\"ok\":true,\"seen\":[[1,1]]}\n";
+const TALK: &str = concat!(
+    r#"{"ok":true,"replica":2,"version":2}"#,
+    "\n",
+    r#"{"now":0,"ok":true,"ops":[]}"#,
+    "\n",
+    r#"{"now":0,"ok":true,"seen":[]}"#,
+    "\n",
+    r#"{"dropped":0,"now":1,"ok":true,"released":0,"state":"delivered"}"#,
+    "\n",
+    r#"{"now":1,"ok":true,"seen":[[1,1]]}"#,
+    "\n",
+);
 
 // How a round ends with a peer that writes these bytes.
 fn ends(alloc: Global, peer: &[u8]) -> Result<Option<Fault>, Fail> {
@@ -17,39 +28,51 @@ fn ends(alloc: Global, peer: &[u8]) -> Result<Option<Fault>, Fail> {
     })
 }
 
+// A round with a peer that writes these bytes ends so.
+fn ends_so(rt: &impl Abort, alloc: Global, peer: &[u8], want: Option<Fault>) -> Result<(), Fail> {
+    let came = ends(alloc, peer)?;
+    assert!(rt;
+        came == want,
+        "{}: wanted {want:?}, came {came:?}",
+        text_of(peer)
+    );
+    Ok(())
+}
+
 // The last line may lack its line feed.
 #[test]
 fn an_answer_that_is_cut_is_none(rt: HostRuntime) -> Result<(), Fail> {
-    let whole = TALK.len() - 1;
+    let talk = TALK.as_bytes();
+    let whole = talk.len().saturating_sub(1);
     for count in 0..whole {
-        assert!(rt; ends(rt.alloc(), &TALK[..count])? == Some(Fault::PeerReply));
+        ends_so(&rt, rt.alloc(), &talk[..count], Some(Fault::PeerReply))?;
     }
-    assert!(rt; ends(rt.alloc(), &TALK[..whole])?.is_none());
-    assert!(rt; ends(rt.alloc(), TALK)?.is_none());
-    Ok(())
+    ends_so(&rt, rt.alloc(), &talk[..whole], None)?;
+    ends_so(&rt, rt.alloc(), talk, None)
 }
 
 #[test]
 fn an_answer_of_another_form_is_none(rt: HostRuntime) -> Result<(), Fail> {
-    let greetings: [&[u8]; 8] = [
-        b"\n",
-        b"[]\n",
-        b"{\"ok\":true}\n",
-        b"{\"ok\":1,\"replica\":2}\n",
-        b"{\"ok\":true,\"replica\":0}\n",
-        b"{\"ok\":true,\"replica\":2,\"version\":3}\n",
-        b"{\"ok\":true,\"replica\":2,\"version\":null}\n",
-        b"{\"code\":201,\"ok\":false}\n",
+    let greetings = [
+        "",
+        "[]",
+        r#"{"ok":true}"#,
+        r#"{"ok":1,"replica":2}"#,
+        r#"{"ok":true,"replica":0}"#,
+        r#"{"ok":true,"replica":2,"version":3}"#,
+        r#"{"ok":true,"replica":2,"version":null}"#,
+        r#"{"code":201,"ok":false}"#,
     ];
+    let alloc = rt.alloc();
     for greeting in greetings {
-        assert!(rt; ends(rt.alloc(), greeting)? == Some(Fault::PeerReply));
+        let line = format!(in alloc; "{greeting}\n")?;
+        ends_so(&rt, alloc, line.as_bytes(), Some(Fault::PeerReply))?;
     }
     Ok(())
 }
 
 #[test]
 fn a_peer_that_refuses_the_greeting_ends_the_round(rt: HostRuntime) -> Result<(), Fail> {
-    let refusal = b"{\"code\":201,\"error\":\"BadToken\",\"ok\":false}\n";
-    assert!(rt; ends(rt.alloc(), refusal)? == Some(Fault::PeerReply));
-    Ok(())
+    let refusal = concat!(r#"{"code":201,"error":"BadToken","ok":false}"#, "\n");
+    ends_so(&rt, rt.alloc(), refusal.as_bytes(), Some(Fault::PeerReply))
 }

@@ -1,7 +1,8 @@
 //! Rounds that come to their end.
-use crate::stage::{EDITS, TYPES, Talked, talk};
+use crate::stage::{EDITS, TYPES, Talked, talk, text_of};
 use relay::Relayed;
 use std::alloc::Global;
+use std::process::Abort;
 use std::test::Fail;
 
 const GREETING: &str = concat!(r#"{"do":"peer","number":1,"token":"p2","version":2}"#, "\n");
@@ -67,18 +68,25 @@ fn joined(alloc: Global, lines: &[&str]) -> Result<String, Fail> {
     Ok(text)
 }
 
-// Whether a round wrote just these lines, and counted this.
+// A round wrote just these lines, and counted this.
 fn wrote(
+    rt: &impl Abort,
     alloc: Global,
     typed: &[&str],
     peer: &[&str],
     lines: &[&str],
     relayed: Relayed,
-) -> Result<bool, Fail> {
+) -> Result<(), Fail> {
     let peer = joined(alloc, peer)?;
     let wanted = joined(alloc, lines)?;
     let Talked { output, ended } = talk(alloc, typed, peer.as_bytes())?;
-    Ok(output.bytes() == wanted.as_bytes() && ended == Ok(relayed))
+    assert!(rt;
+        output.bytes() == wanted.as_bytes(),
+        "wanted {wanted}, came {}",
+        text_of(output.bytes())
+    );
+    assert!(rt; ended == Ok(relayed), "wanted {relayed:?}, came {ended:?}");
+    Ok(())
 }
 
 #[test]
@@ -90,8 +98,7 @@ fn what_the_peer_lacks_is_pushed(rt: HostRuntime) -> Result<(), Fail> {
         pushed: 1,
         ..NOTHING
     };
-    assert!(rt; wrote(rt.alloc(), &[TYPES], &peer, &lines, relayed)?);
-    Ok(())
+    wrote(&rt, rt.alloc(), &[TYPES], &peer, &lines, relayed)
 }
 
 #[test]
@@ -103,8 +110,7 @@ fn a_turn_without_a_delivery_is_the_last(rt: HostRuntime) -> Result<(), Fail> {
         pulled: 4,
         ..NOTHING
     };
-    assert!(rt; wrote(rt.alloc(), &[TYPES], &peer, &lines, relayed)?);
-    Ok(())
+    wrote(&rt, rt.alloc(), &[TYPES], &peer, &lines, relayed)
 }
 
 #[test]
@@ -116,38 +122,33 @@ fn a_faulty_operation_is_counted_and_passed(rt: HostRuntime) -> Result<(), Fail>
         refused: 1,
         ..NOTHING
     };
-    assert!(rt; wrote(rt.alloc(), &[TYPES], &peer, &lines, relayed)?);
-    Ok(())
+    wrote(&rt, rt.alloc(), &[TYPES], &peer, &lines, relayed)
 }
 
 #[test]
 fn a_refused_pull_ends_the_part_of_the_pad(rt: HostRuntime) -> Result<(), Fail> {
-    assert!(rt;
-        wrote(
-            rt.alloc(),
-            &[TYPES],
-            &[MET, REFUSAL],
-            &[GREETING, PULL],
-            NOTHING
-        )?
-    );
-    Ok(())
+    wrote(
+        &rt,
+        rt.alloc(),
+        &[TYPES],
+        &[MET, REFUSAL],
+        &[GREETING, PULL],
+        NOTHING,
+    )
 }
 
 #[test]
 fn a_refused_vector_ends_the_part_of_the_pad(rt: HostRuntime) -> Result<(), Fail> {
     let relayed = Relayed { pads: 1, ..NOTHING };
     let peer = [MET, NO_OPS, REFUSAL];
-    assert!(rt;
-        wrote(
-            rt.alloc(),
-            &[TYPES],
-            &peer,
-            &[GREETING, PULL, VECTOR],
-            relayed
-        )?
-    );
-    Ok(())
+    wrote(
+        &rt,
+        rt.alloc(),
+        &[TYPES],
+        &peer,
+        &[GREETING, PULL, VECTOR],
+        relayed,
+    )
 }
 
 #[test]
@@ -159,8 +160,7 @@ fn a_refused_push_is_counted(rt: HostRuntime) -> Result<(), Fail> {
     };
     let peer = [MET, NO_OPS, NO_COUNTS, REFUSAL];
     let lines = [GREETING, PULL, VECTOR, PUSH];
-    assert!(rt; wrote(rt.alloc(), &[TYPES], &peer, &lines, relayed)?);
-    Ok(())
+    wrote(&rt, rt.alloc(), &[TYPES], &peer, &lines, relayed)
 }
 
 // An operation of two parts has no form of the first version.
@@ -175,6 +175,5 @@ fn an_old_peer_gets_what_it_can_read(rt: HostRuntime) -> Result<(), Fail> {
         unsaid: 1,
         ..NOTHING
     };
-    assert!(rt; wrote(rt.alloc(), &[TYPES, EDITS], &peer, &lines, relayed)?);
-    Ok(())
+    wrote(&rt, rt.alloc(), &[TYPES, EDITS], &peer, &lines, relayed)
 }

@@ -20,6 +20,14 @@ pub const TYPES: &str = r#"{"at":0,"do":"insert","pad":"p","rev":0,"text":"one"}
 pub const EDITS: &str =
     r#"{"do":"edit","pad":"p","parts":[{"at":0,"len":1},{"at":3,"text":"ly"}],"rev":1}"#;
 
+/// What was written, to be shown.
+pub fn text_of(bytes: &[u8]) -> &str {
+    match str::from_utf8(bytes) {
+        Ok(text) => text,
+        Err(_) => "bytes that are no UTF-8",
+    }
+}
+
 /// What a round wrote, and how it ended.
 #[derive(Drop)]
 pub struct Talked {

@@ -344,26 +344,38 @@ fn end_alike<R: Threads + Wait + Sync + Net<Stream = TcpStream, Listener = TcpLi
     Ok(here.as_str() == there.as_str())
 }
 
-// Plays it on two rows of pads, and says whether all is as it should be.
+// Whether both servers show the same, how many edits were answered by each, how many it took of the other, and whether it
+// closes with its seats and records.
+#[derive(Clone, Copy, Debug)]
+struct Played {
+    alike: Result<bool, Refusal>,
+    edits: [u64; 2],
+    taken: [u64; 2],
+    closed: [bool; 2],
+}
+
+// Plays it on two rows of pads.
 fn play<R: Threads + Wait + Sync + Net<Stream = TcpStream, Listener = TcpListener>>(
     rt: &R,
     alloc: Global,
     accounts: &Accounts,
     first_cells: Vec<SharedPad<BlockSeq>>,
     second_cells: Vec<SharedPad<BlockSeq>>,
-) -> [bool; 5] {
+) -> Played {
     let first = row_of(rt, first_cells.as_slice(), 1, accounts);
     let second = row_of(rt, second_cells.as_slice(), 2, accounts);
     let mut ours = Side::new(alloc);
     let mut theirs = Side::new(alloc);
     let alike = end_alike(alloc, &first, &second, &mut ours, &mut theirs);
-    [
-        alike == Ok(true),
-        ours.edits == 400 && theirs.edits == 400,
-        ours.taken == 400 && theirs.taken == 400,
-        is_closed(alloc, first_cells, ours),
-        is_closed(alloc, second_cells, theirs),
-    ]
+    Played {
+        alike,
+        edits: [ours.edits, theirs.edits],
+        taken: [ours.taken, theirs.taken],
+        closed: [
+            is_closed(alloc, first_cells, ours),
+            is_closed(alloc, second_cells, theirs),
+        ],
+    }
 }
 
 #[test]
@@ -372,17 +384,12 @@ fn two_servers_under_stress(rt: HostRuntime) -> Result<(), Fail> {
     let accounts = Accounts::read(alloc, ACCOUNTS)?;
     let first_cells = open_row(alloc, 1, 1)?;
     let second_cells = open_row(alloc, 2, 1)?;
-    let [alike, edited, taken, first, second] = play(
-        &rt,
-        alloc,
-        &accounts,
-        first_cells,
-        second_cells,
+    let came = play(&rt, alloc, &accounts, first_cells, second_cells);
+    assert!(rt; came.alike == Ok(true), "{came:?}");
+    assert!(rt;
+        came.edits == [400, 400] && came.taken == [400, 400],
+        "{came:?}"
     );
-    assert!(rt; alike, "both servers show the same");
-    assert!(rt; edited, "400 edits were answered by each");
-    assert!(rt; taken, "each took 400 of the other");
-    assert!(rt; first, "the first closes with its seats and records");
-    assert!(rt; second, "the second does");
+    assert!(rt; came.closed == [true, true], "{came:?}");
     Ok(())
 }

@@ -55,12 +55,23 @@ fn first_fault(alloc: Global, text: &str, revs: &[u64]) -> Result<usize, Refusal
     Ok(fault_of(alloc, &pad, records.as_slice()))
 }
 
+// The text that was read, the revisions of the edit, and the place of the first fault.
+const AUDITS: &[(&str, &[u64], usize)] = &[
+    ("hello", &[1], NONE),
+    ("hellO", &[1], 1),
+    ("hello", &[1, 1], 3),
+    ("hello", &[2], 2),
+];
+
 #[test]
 fn audit_of_records(rt: HostRuntime) -> Result<(), Fail> {
     let alloc = rt.alloc();
-    assert!(rt; first_fault(alloc, "hello", &[1])? == NONE);
-    assert!(rt; first_fault(alloc, "hellO", &[1])? == 1);
-    assert!(rt; first_fault(alloc, "hello", &[1, 1])? == 3);
-    assert!(rt; first_fault(alloc, "hello", &[2])? == 2);
+    for (text, revs, want) in AUDITS {
+        let came = first_fault(alloc, text, revs)?;
+        assert!(rt;
+            came == *want,
+            "{text} at 1, edited at {revs:?}: wanted {want}, came {came}"
+        );
+    }
     Ok(())
 }

@@ -153,8 +153,22 @@ fn cells_do_not_block_each_other(rt: HostRuntime) -> Result<(), Fail> {
     );
     first?;
     second?;
-    assert!(rt; gate.first_made.was_met() && gate.both_made.was_met());
-    assert!(rt; gate.entered.was_met() && gate.answered.was_met());
+    assert!(rt;
+        gate.first_made.was_met(),
+        "the first pad was not made in time"
+    );
+    assert!(rt;
+        gate.both_made.was_met(),
+        "the second pad was not made in time"
+    );
+    assert!(rt;
+        gate.entered.was_met(),
+        "the first pad's lock was not taken in time"
+    );
+    assert!(rt;
+        gate.answered.was_met(),
+        "the second pad did not answer in time"
+    );
     Ok(())
 }
 
@@ -246,7 +260,17 @@ fn connections_do_not_block_each_other(rt: HostRuntime) -> Result<(), Fail> {
     assert!(rt; to.send(&rt, (1, Greeter)).is_ok() && to.send(&rt, (2, Greeter)).is_ok());
     drop(to);
     pool(alloc, &row, &from, crew.as_mut_slice());
-    assert!(rt; gate.second_done.was_met() && gate.first_done.has_come());
-    assert!(rt; is_closed(alloc, cells, crew)?);
+    assert!(rt;
+        gate.second_done.was_met(),
+        "the second connection did not end in time"
+    );
+    assert!(rt;
+        gate.first_done.has_come(),
+        "the first connection did not end"
+    );
+    assert!(rt;
+        is_closed(alloc, cells, crew)?,
+        "the pad does not close with two seats"
+    );
     Ok(())
 }

@@ -5,6 +5,7 @@ use pad_model::Refusal;
 use sessions::Session;
 use shared_pads::{Gate, SharedPad};
 use std::alloc::Global;
+use std::process::Abort;
 use std::sync::atomic::{AtomicBool, Ordering};
 use std::test::Fail;
 use wire_json::reply_line;
@@ -55,18 +56,29 @@ const ANSWERED: [&str; 7] = [
     r#"{"do":"rights","pad":"p"}"#,
 ];
 
-// Whether each of these lines is refused as 901.
-fn are_refused<P: Pads>(alloc: Global, pads: &mut P, lines: &[&str]) -> bool {
-    lines.iter().all(|line| matches!(ask(alloc, pads, line), Err(Refusal::StoreFull)))
+// Each of these lines is refused as 901.
+fn are_refused<P: Pads>(rt: &impl Abort, alloc: Global, pads: &mut P, lines: &[&str]) {
+    for line in lines {
+        let came = ask(alloc, pads, line);
+        assert!(rt;
+            matches!(&came, Err(Refusal::StoreFull)),
+            "{line}: wanted StoreFull, came {came:?}"
+        );
+    }
 }
 
-// Whether a line is answered by just this one.
-fn tells<P: Pads>(alloc: Global, pads: &mut P, line: &str, reply: &str) -> bool {
+// A line is answered by just this one.
+fn tells<P: Pads>(
+    rt: &impl Abort,
+    alloc: Global,
+    pads: &mut P,
+    line: &str,
+    want: &str,
+) -> Result<(), Refusal> {
     let answer = ask(alloc, pads, line);
-    match reply_line(alloc, &answer) {
-        Ok(told) => told.as_bytes() == reply.as_bytes(),
-        Err(_) => false,
-    }
+    let came = reply_line(alloc, &answer)?;
+    assert!(rt; came.as_str() == want, "{line}: wanted {want}, came {came}");
+    Ok(())
 }
 
 #[test]
@@ -89,20 +101,13 @@ fn what_cannot_be_kept_is_refused(rt: HostRuntime) -> Result<(), Fail> {
     let mut pads = Shared::new(&row, seats, Session::new(alloc));
     ask_all(alloc, &mut pads, &BEFORE)?;
     gate.has_room.store(false, Ordering::SeqCst);
-    assert!(rt; are_refused(alloc, &mut pads, &REFUSED));
+    are_refused(&rt, alloc, &mut pads, &REFUSED);
     ask_all(alloc, &mut pads, &ANSWERED)?;
     let text = r#"{"do":"text","pad":"p"}"#;
     let shown = concat!(r#"{"now":1,"ok":true,"rev":1,"text":"hello"}"#, "\n");
-    assert!(rt; tells(alloc, &mut pads, text, shown));
+    tells(&rt, alloc, &mut pads, text, shown)?;
     gate.has_room.store(true, Ordering::SeqCst);
     let insert = r#"{"do":"insert","pad":"p","rev":1,"at":5,"text":"!"}"#;
-    assert!(rt;
-        tells(
-            alloc,
-            &mut pads,
-            insert,
-            concat!(r#"{"name":[1,2],"now":2,"ok":true}"#, "\n")
-        )
-    );
-    Ok(())
+    let made = concat!(r#"{"name":[1,2],"now":2,"ok":true}"#, "\n");
+    Ok(tells(&rt, alloc, &mut pads, insert, made)?)
 }

@@ -114,19 +114,23 @@ fn without_seat(alloc: Global, shared: SharedPad<BlockSeq>) -> Option<SharedPad<
     }
 }
 
-// Joins as the second visit, departs, and joins as the third.
+// What comes of a join, a departure and a join: their visits, whether there was a departure, and whether the first and the
+// third visit are present then.
+type Comes = (u64, bool, u64, bool);
+
+// Joins, departs, and joins again.
 fn comes_again<R: Wait>(
     rt: &R,
     alloc: Global,
     shared: &SharedPad<BlockSeq>,
     seat: &mut Seat,
-) -> Result<bool, Refusal> {
+) -> Result<Comes, Refusal> {
     let mut session = ann(alloc)?;
     let second = join(rt, alloc, shared, seat, &mut session)?;
     let left = leave(rt, shared, seat, &mut session);
     let third = join(rt, alloc, shared, seat, &mut session)?;
     let present = has_visits(rt, alloc, shared, seat, &mut session, [1, 3])?;
-    Ok(second == 2 && left && third == 3 && present)
+    Ok((second, left, third, present))
 }
 
 #[test]
@@ -134,12 +138,20 @@ fn one_seat(rt: HostRuntime) -> Result<(), Fail> {
     let alloc = rt.alloc();
     let shared = SharedPad::new(alloc, typed(alloc)?, 0);
     let mut seat = shared.seat(&rt)?;
-    assert!(rt; is_named(&rt, alloc, &shared, "p"));
-    assert!(rt; comes_again(&rt, alloc, &shared, &mut seat)?);
+    assert!(rt;
+        is_named(&rt, alloc, &shared, "p"),
+        "the pad is not named p"
+    );
+    let came = comes_again(&rt, alloc, &shared, &mut seat)?;
+    assert!(rt;
+        came == (2, true, 3, true),
+        "wanted (2, true, 3, true), came {came:?}"
+    );
     let Some(shared) = without_seat(alloc, shared) else {
         panic!(rt; "it is closed without its seat");
     };
-    assert!(rt; closed_calls(alloc, shared, seat)? == Some(4));
+    let came = closed_calls(alloc, shared, seat)?;
+    assert!(rt; came == Some(4), "wanted 4 calls, came {came:?}");
     Ok(())
 }
 
@@ -159,6 +171,7 @@ fn count_seats<R: Wait>(rt: &R, shared: &SharedPad<BlockSeq>) -> u64 {
 fn limit_seats(rt: HostRuntime) -> Result<(), Fail> {
     let alloc = rt.alloc();
     let shared = SharedPad::new(alloc, typed(alloc)?, 0);
-    assert!(rt; count_seats(&rt, &shared) == 64);
+    let came = count_seats(&rt, &shared);
+    assert!(rt; came == 64, "wanted 64 seats, came {came}");
     Ok(())
 }

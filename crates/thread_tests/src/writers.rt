@@ -290,7 +290,14 @@ fn four_writers(rt: HostRuntime) -> Result<(), Fail> {
     };
     let mut seats = Vec::new(alloc);
     let records = write_all(alloc, &row, &mut seats)?;
-    assert!(rt; records.len() == 2000);
-    assert!(rt; is_closed(alloc, cells, seats, records.as_slice()));
+    assert!(rt;
+        records.len() == 2000,
+        "wanted 2000 records, came {}",
+        records.len()
+    );
+    assert!(rt;
+        is_closed(alloc, cells, seats, records.as_slice()),
+        "the pad does not close with the seats and the records"
+    );
     Ok(())
 }

@@ -88,19 +88,15 @@ pub fn load<S: Sequence>(
     let Some(end) = find_feed(bytes) else {
         return Err(damage_of_front(bytes));
     };
-    match load_named(alloc, replica, name, bytes, end) {
-        Ok((pad, last, cut)) => {
-            let Tail { header, sum } = last;
-            Ok(Loaded {
-                pad,
-                header,
-                sum,
-                whole: (bytes.len() - cut) as u64,
-                cut: cut as u64,
-            })
-        }
-        Err(damage) => Err(damage),
-    }
+    let (pad, last, cut) = load_named(alloc, replica, name, bytes, end)?;
+    let Tail { header, sum } = last;
+    Ok(Loaded {
+        pad,
+        header,
+        sum,
+        whole: (bytes.len() - cut) as u64,
+        cut: cut as u64,
+    })
 }
 
 // The pad with this name of the whole lines of a file, of which the first ends here, with the last line, and how many bytes
@@ -146,10 +142,7 @@ fn load_lines<S: Sequence>(
     ensures read { MatchResult result (λ done. file_read replica name.now (whole_lines bytes.now) ≡ Ok (so_far done.0 done.1)) (λ e. (e ≡ Damage.Memory) ⊎ (file_read replica name.now (whole_lines bytes.now) ≡ Err e)) }
     ensures cut { IfOk result (λ done. length (bytes_of (whole_lines bytes.now)) + done.2 ≡ length bytes.now) }
 {
-    let first = match first_line(alloc, name, &bytes[..end]) {
-        Ok(first) => first,
-        Err(damage) => return Err(damage),
-    };
+    let first = first_line(alloc, name, &bytes[..end])?;
     load_behind(alloc, replica, name, first, &bytes[end + 1..])
 }
 
@@ -169,10 +162,8 @@ fn load_behind<S: Sequence>(
         Ok(pad) => pad,
         Err(_) => return Err(Damage::Memory),
     };
-    match replay_lines(alloc, &mut pad, name, first, bytes) {
-        Ok((last, cut)) => Ok((pad, last, cut)),
-        Err(damage) => Err(damage),
-    }
+    let (last, cut) = replay_lines(alloc, &mut pad, name, first, bytes)?;
+    Ok((pad, last, cut))
 }
 
 // The place of the first line feed.
@@ -199,10 +190,7 @@ fn replay_lines<S: Sequence>(
     let mut number: u64 = 1;
     while let Some(end) = find_feed(rest) {
         number += 1;
-        last = match next_line(alloc, pad, name, last, &rest[..end], number) {
-            Ok(next) => next,
-            Err(damage) => return Err(damage),
-        };
+        last = next_line(alloc, pad, name, last, &rest[..end], number)?;
         rest = &rest[end + 1..];
     }
     Ok((last, rest.len()))

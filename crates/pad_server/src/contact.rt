@@ -13,7 +13,7 @@ use std::io::ErrorKind;
 use std::net::{Net, TcpListener, TcpStream, ToSocketAddrs};
 use std::sync::Wait;
 use std::time::{Clock, Duration, Instant};
-use wire_lines::{Fault, Std};
+use wire_lines::{Fault, Sink, Source, Std};
 use workers::Pads;
 
 /// For how many seconds a peer may keep this server waiting: to connect, for each reply, and for each line to be taken.
@@ -162,10 +162,7 @@ fn make_round<'s, P: Pads, R>(
 where
     R: Net<Listener = TcpListener, Stream = TcpStream> + Wait + Log,
 {
-    let stream = match connect(rt, peer.address.as_str()) {
-        Ok(stream) => stream,
-        Err(error) => return Err(Broken::Apart(error)),
-    };
+    let stream = connect(rt, peer.address.as_str()).map_err(Broken::Apart)?;
     let Some(guard) = guard else {
         return exchange_over(rt, &stream, None, alloc, pads, own, peer);
     };
@@ -187,23 +184,28 @@ fn exchange_over<'s, P: Pads, R: Wait + Log>(
 ) -> Result<Relayed, Broken> {
     let mut input = Watched::new(stream);
     let mut output = Watched::new(Settled::new(rt, stream, keeper));
-    let relayed = match Link::new(alloc, Std::new(&mut input), Std::new(&mut output)) {
-        Ok(mut link) => {
-            let _session = pads.relay(alloc, peer.number);
-            relay_round(alloc, pads, &mut link, own, peer.token.as_str())
-        }
-        Err(fault) => Err(fault),
-    };
-    match relayed {
-        Ok(relayed) => Ok(relayed),
-        Err(fault) => Err(Broken::Off {
-            fault,
-            cause: match fault {
-                Fault::WriteFault => output.cause(),
-                _ => input.cause(),
-            },
-        }),
-    }
+    let (reader, writer) = (Std::new(&mut input), Std::new(&mut output));
+    exchange_by(alloc, pads, reader, writer, own, peer).map_err(|fault| Broken::Off {
+        fault,
+        cause: match fault {
+            Fault::WriteFault => output.cause(),
+            _ => input.cause(),
+        },
+    })
+}
+
+// Makes a round by a reader and a writer.
+fn exchange_by<P: Pads, R: Source + Drop, W: Sink + Drop>(
+    alloc: Global,
+    pads: &mut P,
+    reader: R,
+    writer: W,
+    own: u16,
+    peer: &Peer,
+) -> Result<Relayed, Fault> {
+    let mut link = Link::new(alloc, reader, writer)?;
+    let _session = pads.relay(alloc, peer.number);
+    relay_round(alloc, pads, &mut link, own, peer.token.as_str())
 }
 
 // A connection to the first address that answers, with time limits for reading and writing.

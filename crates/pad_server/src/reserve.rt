@@ -38,9 +38,8 @@ impl Reserve {
             tried: 0,
         };
         match state.fill(files.alloc()) {
-            Ok(()) => {}
             Err(cause) if is_full(&cause) => state.empty()?,
-            Err(cause) => return Err(cause),
+            filled => filled?,
         }
         Ok(Reserve {
             state: Mutex::new(state),

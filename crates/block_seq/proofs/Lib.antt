@@ -1,9 +1,14 @@
 -- The lemmas, by topic.
 pub mod Applied
+pub mod AuthorTable
 pub mod BlockCells
 pub mod ByRevision
 pub mod BlockScan
 pub mod RowChange
+pub mod RowTouched
+pub mod RowGaps
+pub mod RowRanks
+pub mod RowPieces
 pub mod RowCell
 pub mod RowCounts
 pub mod RowErase
@@ -17,6 +22,7 @@ pub mod RowReads
 pub mod RowSlides
 pub mod RowSteps
 pub mod Fronts
+pub mod PieceLists
 pub mod Kept
 pub mod PartSteps
 pub mod Spans

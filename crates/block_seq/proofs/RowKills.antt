@@ -6,7 +6,7 @@ use Rattle.std.specs.List.{list_any}
 use Rattle.std.proofs.lemmas.Bool.{cases_lt}
 use Rattle.std.proofs.lemmas.List.{take_more}
 use Rattle.std.proofs.lemmas.List.Folds.{list_any-append}
-use Rattle.std.proofs.lemmas.List.Sums.{sum_by-cons}
+use Rattle.std.proofs.lemmas.List.Sums.{sum_by-cons, sum_by_more}
 use Rattle.pad_model.specs.Stamp.{Stamp}
 use Rattle.pad_model.specs.Operation.{span_stamps}
 use Rattle.pad_model.specs.Visible.{is_erased}
@@ -19,6 +19,7 @@ use Rattle.blocks.specs.declared.block.Block.{Block}
 use Rattle.blocks.specs.Blocks.{IsEdge, IsListed, IsSized}
 use Rattle.blocks.proofs.Entries.{each_get}
 use Rattle.blocks.proofs.Parts.{holds_here, what_holds}
+use Rattle.block_seq.specs.RowSlides.{named_len}
 use Rattle.block_seq.specs.Rows.{is_killed, killed, hidden_len, span_from}
 use Rattle.block_seq.proofs.BlockCells.{covers-in_span, in_span-covers}
 use Rattle.block_seq.proofs.BlockScan.{one_rank}
@@ -384,3 +385,10 @@ spans_step_hidden rev spans i j span bs now hid more h is next so_far hidden her
     let all = hidden_then rev (take i spans) (span_from span.first span.len) (take j spans) bs
     (span_joins spans i j span h is next) in
     omega (arith, there, all, hidden)
+
+-- how many stamps one span more names
+pub next_len : (spans : List Span) (i : ℕ) (span : Span) → i < length spans → span ≡ get_or spans i span →
+    named_len (take (i + 1) spans) ≡ named_len (take i spans) + span.len
+next_len spans i span low is =
+    sum_by_more (λ (s : Span). s.len) spans i span low
+    ∙ ap (λ (s : Span). named_len (take i spans) + s.len) (sym is)

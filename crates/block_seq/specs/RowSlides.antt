@@ -1,9 +1,11 @@
 -- The slides of a row of blocks: what came and went at each revision.
-use Rattle.std.specs.Prelude.{ℕ, ◌≤◌, true, List, [], length, flat_map, count_by, is_none, if◌then◌else◌}
-use Rattle.std.specs.List.{AllByRecursion}
+use Rattle.std.specs.Prelude.{ℕ, ◌≤◌, true, List, [], length, flat_map, count_by, sum_by, is_none, if◌then◌else◌}
+use Rattle.std.specs.List.{AllByRecursion, IsDistinct}
 use Rattle.pad_model.specs.Operation.{stamps_from}
 use Rattle.pad_model.specs.Stamp.{Stamp}
+use Rattle.pad_model.specs.Visible.{same_author}
 use Rattle.pad_model.specs.declared.op.Run.{Run}
+use Rattle.pad_model.specs.declared.op.Span.{Span}
 use Rattle.pad_model.specs.declared.who.Author.{Author}
 use Rattle.ident_index.specs.Index.{Index}
 use Rattle.blocks.specs.declared.block.Block.{Block}
@@ -20,6 +22,10 @@ live_stamps b = if is_none b.died then stamps_from b.first b.len else []
 abbrev pub live_blocks : List Block → ℕ
 live_blocks bs = count_by (λ b. is_none b.died) bs
 
+-- how many stamps some spans name, those that two of them name twice
+abbrev pub named_len : List Span → ℕ
+named_len spans = sum_by (λ span. span.len) spans
+
 -- the slide of a run that comes behind so many visible characters
 abbrev pub slide_of : ℕ → ℕ → Run → Slide
 slide_of rev at run = record { rev = rev; at = at; first = run.first; len = length run.text; shows = true }
@@ -35,3 +41,10 @@ pub record IsSlidRow (latest clock : ℕ) (authors : List Author) (text : List �
     (bs : List Block) : Type 0 where
   pub row : IsBlockSeq latest clock authors text m bs
   pub slid : IsSlid slides bs
+
+-- the same, and the table of authors has none twice
+pub record IsAuthoredRow (latest clock : ℕ) (authors : List Author) (text : List ℕ) (slides : List Slide) (m : Index)
+    (bs : List Block) : Type 0 where
+  pub row : IsBlockSeq latest clock authors text m bs
+  pub slid : IsSlid slides bs
+  pub once : IsDistinct same_author authors

@@ -38,11 +38,13 @@ pub record CellsInBlocks : Type 0 where
 abbrev pub cells_in : List Author → List ℕ → List Block → ℕ → CellsInBlocks
 cells_in authors text bs n = record { cells = cells_of authors text bs; tree = bs; blocks = length bs; respaced = n }
 
--- the cells are those of these blocks, over some text and some authors, and the index has just these blocks
+-- the cells are those of these blocks, each a stretch of some text by one of some authors, and the index has just these
+-- blocks
 pub record IsRowOf (cells : List Cell) (m : Index) (bs : List Block) : Type 0 where
   pub authors : List Author
   pub text : List ℕ
   pub kept : IsKept m bs
+  pub within : AllByRecursion (IsWithin (length authors) (length text)) bs
   pub same : cells_of authors text bs ≡ cells
 
 -- no birth and no death of a block is later than a revision

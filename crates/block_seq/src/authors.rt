@@ -1,5 +1,7 @@
 //! The authors of a sequence, each once.
-ghost use Rattle.std.specs.Prelude.{◌≡◌, ◌<◌, ◌⊎◌, [], ◌∷◌, ◌++◌, length, IfOk, IfSome, IfNone, OnErr};
+ghost use Rattle.std.specs.Prelude.{◌≡◌, ◌<◌, ◌⊎◌, [], ◌∷◌, ◌++◌, false, length, IfOk, IfSome, IsNone};
+ghost use Rattle.std.specs.List.{AllByRecursion, IsDistinct};
+ghost use Rattle.pad_model.specs.Visible.{same_author};
 ghost use Rattle.block_seq.specs.Plain.{author_at};
 
 use pad_model::Author;
@@ -8,9 +10,10 @@ use std::alloc::AllocError;
 /// Where an author stands in the list, if it does.
 fn find_author(authors: &[Author], author: &Author) -> Option<usize>
     ensures found { IfSome result (λ i. (i < length authors.now) × (author_at authors.now i ≡ author.now)) }
+    ensures missing { IsNone result → AllByRecursion (λ known. same_author known author.now ≡ false) authors.now }
 {
-    for (place, known) in authors.iter().enumerate() {
-        if known == author {
+    for place in 0..authors.len() {
+        if authors[place] == *author {
             return Some(place);
         }
     }
@@ -21,6 +24,7 @@ fn find_author(authors: &[Author], author: &Author) -> Option<usize>
 pub fn place_author(authors: &mut Vec<Author>, author: &Author) -> Result<usize, AllocError>
     ensures place { IfOk result (λ i. (i < length authors.new.items) × (author_at authors.new.items i ≡ author.now)) }
     ensures more { (authors.new.items ≡ authors.old.items) ⊎ (authors.new.items ≡ authors.old.items ++ author.now ∷ []) }
+    ensures once { IsDistinct same_author authors.old.items → IsDistinct same_author authors.new.items }
 {
     if let Some(place) = find_author(authors.as_slice(), author) {
         return Ok(place);

@@ -5,6 +5,7 @@ use crate::authors::place_author;
 use crate::erase::{count_hidden, erase, has_spans};
 use crate::measure::{count_before, count_through, stands_before};
 use crate::parts::{count_inserted, each_fits, erase_parts, put_runs};
+use crate::pieces::plain_pieces;
 use crate::place::{PlainCell, has, may_join};
 use crate::put::put_run;
 use crate::readers::{
@@ -13,8 +14,8 @@ use crate::readers::{
 };
 use crate::stretches::{runs_of, spans_of};
 use pad_model::{
-    Author, AuthorRun, CellView, MAX_CHARACTERS, Part, Refusal, Row, Run, Sequence, Span, Stamp,
-    Text,
+    Author, AuthorRun, CellView, MAX_CHARACTERS, Part, Piece, Refusal, Row, Run, Sequence, Span,
+    Stamp, Text,
 };
 use std::alloc::{AllocError, Global};
 use std::marker::Model;
@@ -118,6 +119,12 @@ impl Sequence for PlainSeq {
         let cells = self.cells.as_slice();
         let authors = shown_authors(alloc, cells, self.authors.as_slice(), rev)?;
         Ok(Row::from_vec(runs_of(alloc, authors.as_slice())?))
+    }
+
+    fn changes(&self, alloc: Global, rev: u64, to: u64) -> Result<Row<Piece>, Refusal> {
+        let cells = self.cells.as_slice();
+        let authors = self.authors.as_slice();
+        Ok(Row::from_vec(plain_pieces(alloc, cells, authors, rev, to)?))
     }
 
     fn spans_at(&self, alloc: Global, rev: u64, at: u64, len: u64) -> Result<Row<Span>, Refusal> {

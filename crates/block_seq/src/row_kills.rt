@@ -1,10 +1,10 @@
 //! Deaths of the blocks that spans name.
-ghost use Rattle.std.specs.Prelude.{◌≡◌, ℕ, ◌+◌, ◌≤◌, ◌<◌, IsTrue, length, map, sum_by, vec_len, vec_capacity};
+ghost use Rattle.std.specs.Prelude.{◌≡◌, ℕ, ◌+◌, ◌≤◌, ◌<◌, IsTrue, length, map, min, sum_by, vec_len, vec_capacity};
 ghost use Rattle.std.specs.List.{AllByRecursion, list_all};
 ghost use Rattle.pad_model.specs.Checked.{is_span};
 ghost use Rattle.ident_index.specs.Index.{stamp_behind};
 ghost use Rattle.blocks.specs.Blocks.{IsKept, IsEdge};
-ghost use Rattle.block_seq.specs.RowSlides.{IsSlid, live_blocks};
+ghost use Rattle.block_seq.specs.RowSlides.{IsSlid, live_blocks, named_len};
 ghost use Rattle.block_seq.specs.Rows.{IsCutOut, IsDated, killed, hidden_len, span_from};
 
 use blocks::{Block, find_block, kill};
@@ -33,11 +33,13 @@ fn kill_from(
     requires begins { IsEdge index.now stamp }
     requires slid { IsSlid slides.old.items tree.old.items }
     requires dated { AllByRecursion (IsDated rev) tree.old.items }
-    requires room { vec_len slides.old + live_blocks tree.old.items ≤ vec_capacity slides.old }
+    requires room { 0 < live_blocks tree.old.items → vec_len slides.old < vec_capacity slides.old }
     ensures kept { IsKept index.now tree.new.items }
     ensures slid { IsSlid slides.new.items tree.new.items }
     ensures dated { AllByRecursion (IsDated rev) tree.new.items }
-    ensures room { vec_len slides.new + live_blocks tree.new.items ≤ vec_capacity slides.new }
+    ensures spent { vec_len slides.new + live_blocks tree.new.items ≡ vec_len slides.old + live_blocks tree.old.items }
+    ensures one { vec_len slides.new ≤ vec_len slides.old + 1 }
+    ensures capacity { vec_capacity slides.new ≡ vec_capacity slides.old }
     ensures some { 0 < result.len }
     ensures items { tree.new.items ≡ map (killed rev (span_from stamp result.len)) tree.old.items }
     ensures hidden { result.hidden ≡ sum_by (hidden_len (span_from stamp result.len)) tree.old.items }
@@ -77,11 +79,13 @@ fn kill_span(
     requires cut { IsCutOut index.now span.now }
     requires slid { IsSlid slides.old.items tree.old.items }
     requires dated { AllByRecursion (IsDated rev) tree.old.items }
-    requires room { vec_len slides.old + live_blocks tree.old.items ≤ vec_capacity slides.old }
+    requires room { vec_len slides.old + min (live_blocks tree.old.items) span.now.len ≤ vec_capacity slides.old }
     ensures kept { IsKept index.now tree.new.items }
     ensures slid { IsSlid slides.new.items tree.new.items }
     ensures dated { AllByRecursion (IsDated rev) tree.new.items }
-    ensures room { vec_len slides.new + live_blocks tree.new.items ≤ vec_capacity slides.new }
+    ensures spent { vec_len slides.new + live_blocks tree.new.items ≡ vec_len slides.old + live_blocks tree.old.items }
+    ensures few { vec_len slides.new ≤ vec_len slides.old + span.now.len }
+    ensures capacity { vec_capacity slides.new ≡ vec_capacity slides.old }
     ensures items { tree.new.items ≡ map (killed rev (span_from span.now.first span.now.len)) tree.old.items }
     ensures hidden { result ≡ sum_by (hidden_len (span_from span.now.first span.now.len)) tree.old.items }
 {
@@ -109,7 +113,7 @@ pub fn kill_named(
     requires cut { AllByRecursion (IsCutOut index.now) spans.now }
     requires slid { IsSlid slides.old.items tree.old.items }
     requires dated { AllByRecursion (IsDated rev) tree.old.items }
-    requires room { 0 < length spans.now → vec_len slides.old + live_blocks tree.old.items ≤ vec_capacity slides.old }
+    requires room { 0 < length spans.now → vec_len slides.old + min (live_blocks tree.old.items) (named_len spans.now) ≤ vec_capacity slides.old }
     ensures kept { IsKept index.now tree.new.items }
     ensures slid { IsSlid slides.new.items tree.new.items }
     ensures items { tree.new.items ≡ map (killed rev spans.now) tree.old.items }

@@ -1,19 +1,30 @@
 //! Slides of a row of blocks: how many may come, and the one of a run.
-ghost use Rattle.std.specs.Prelude.{◌≡◌, ◌+◌, ◌≤◌, ◌<◌, ◌++◌, ◌∷◌, [], true, length, vec_len, vec_capacity};
+ghost use Rattle.std.specs.Prelude.{◌≡◌, ◌+◌, ◌≤◌, ◌<◌, ◌++◌, ◌∷◌, [], length, min, vec_len, vec_capacity};
 ghost use Rattle.slides.specs.declared.slide.Slide.{Slide as SlideValue};
-ghost use Rattle.block_seq.specs.RowSlides.{live_blocks, slide_of};
+ghost use Rattle.block_seq.specs.RowSlides.{live_blocks, named_len, slide_of};
 
 use blocks::Block;
 use pad_model::{Run, Span};
 use slides::Slide;
 use weight_tree::WeightTree;
 
-/// How many slides a deletion by these spans adds at most.
+/// How many stamps the spans name together, at most `u64::MAX`.
+fn total_len(spans: &[Span]) -> u64
+    ensures { result ≡ min (named_len spans.now) u64.MAX }
+{
+    let mut total: u64 = 0;
+    for span in spans {
+        total = total.saturating_add(span.len);
+    }
+    total
+}
+
+/// How many slides a deletion by these spans adds at most: one for each stamp, and none for a block that is not there.
 pub fn count_kills(tree: &WeightTree<Block>, spans: &[Span]) -> usize
-    ensures enough { 0 < length spans.now → live_blocks tree.now.items ≤ result }
+    ensures enough { min (live_blocks tree.now.items) (named_len spans.now) ≤ result }
     ensures few { result ≤ length tree.now.items }
 {
-    if spans.is_empty() { 0 } else { tree.len() }
+    tree.len().min(total_len(spans) as usize)
 }
 
 /// Keeps the slide of a run, in room that was made before. It stands behind `at` visible characters.

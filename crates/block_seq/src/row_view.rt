@@ -1,8 +1,10 @@
 //! What a sequence of blocks lends of itself.
 ghost use Rattle.std.specs.Prelude.{◌≡◌, List, length, sum_by};
+ghost use Rattle.std.specs.List.{AllByRecursion, IsDistinct};
+ghost use Rattle.pad_model.specs.Visible.{same_author};
 ghost use Rattle.ident_index.specs.Index.{Index};
 ghost use Rattle.blocks.specs.Blocks.{IsKept};
-ghost use Rattle.blocks.specs.Cells.{cells_of};
+ghost use Rattle.blocks.specs.Cells.{cells_of, IsWithin};
 ghost use Rattle.blocks.specs.declared.block.Block.{Block as BlockValue};
 ghost use Rattle.block_seq.specs.Rows.{IsRowOf};
 
@@ -30,6 +32,8 @@ impl BlockSeq {
         ensures items { result.tree.now.items ≡ self.now.tree }
         ensures blocks { length result.tree.now.items ≡ self.now.blocks }
         ensures cells { cells_of result.authors.now result.text.now result.tree.now.items ≡ self.now.cells }
+        ensures within { AllByRecursion (IsWithin (length result.authors.now) (length result.text.now)) result.tree.now.items }
+        ensures once { IsDistinct same_author result.authors.now }
     {
         KeptRow {
             tree: &self.tree,
@@ -50,7 +54,7 @@ impl BlockSeq {
 
     /// Where the blocks are found by the stamps of their characters.
     pub fn index(&self) -> &IdentIndex
-        ensures { (bs : List BlockValue) × IsRowOf self.now.cells result.now bs }
+        ensures { IsRowOf self.now.cells result.now self.now.tree }
     {
         &self.index
     }

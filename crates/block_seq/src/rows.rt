@@ -17,15 +17,17 @@ use crate::row_kills::kill_named;
 use crate::row_lists::{find_cell, read_authors};
 use crate::row_parts::{count_text, list_runs, list_spans, parts_fit};
 use crate::row_past::{PastRow, count_front, count_visible, find_visible, read_spans};
+use crate::row_pieces::list_pieces;
 use crate::row_readers::{is_at_most, read_text};
 use crate::row_slides::count_kills;
+use crate::row_view::KeptRow;
 use crate::run_place::{cut_parents, has_character, run_fits};
 use crate::run_put::{Batch, put_runs};
 use blocks::{Block, Spot, find_block};
 use ident_index::IdentIndex;
 use pad_model::{
-    Author, AuthorRun, CellView, MAX_CHARACTERS, Part, Refusal, Row, Run, Sequence, Span, Stamp,
-    Text,
+    Author, AuthorRun, CellView, MAX_CHARACTERS, Part, Piece, Refusal, Row, Run, Sequence, Span,
+    Stamp, Text,
 };
 use slides::Slide;
 use std::alloc::Global;
@@ -54,11 +56,11 @@ impl Model for BlockSeq {
 
     ghost Value = { CellsInBlocks };
 
-    ghost use Rattle.block_seq.specs.RowSlides.{IsSlidRow};
+    ghost use Rattle.block_seq.specs.RowSlides.{IsAuthoredRow};
 
     ghost view = { λ s. cells_in s.authors.items s.text.items s.tree.items s.respaced };
 
-    ghost invariant = { λ s. IsSlidRow s.latest s.clock s.authors.items s.text.items s.slides.items s.index s.tree.items };
+    ghost invariant = { λ s. IsAuthoredRow s.latest s.clock s.authors.items s.text.items s.slides.items s.index s.tree.items };
 }
 
 impl BlockSeq {
@@ -269,6 +271,16 @@ impl Sequence for BlockSeq {
     fn authors_at(&self, alloc: Global, rev: u64) -> Result<Row<AuthorRun>, Refusal> {
         let authors = self.authors.as_slice();
         Ok(Row::from_vec(read_authors(alloc, &self.tree, authors, self.text.len(), rev)?))
+    }
+
+    fn changes(&self, alloc: Global, rev: u64, to: u64) -> Result<Row<Piece>, Refusal> {
+        let row = KeptRow {
+            tree: &self.tree,
+            index: &self.index,
+            text: self.text.as_slice(),
+            authors: self.authors.as_slice(),
+        };
+        Ok(Row::from_vec(list_pieces(alloc, row, self.slides.as_slice(), rev, to)?))
     }
 
     fn spans_at(&self, alloc: Global, rev: u64, at: u64, len: u64) -> Result<Row<Span>, Refusal> {

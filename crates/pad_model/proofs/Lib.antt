@@ -12,11 +12,13 @@ pub mod Growth
 pub mod History
 pub mod InTurn
 pub mod Local
+pub mod LogPieces
 pub mod Maps
 pub mod Members
 pub mod Names
 pub mod Newer
 pub mod Parts
+pub mod Pieces
 pub mod Places
 pub mod Pushed
 pub mod Rising

@@ -12,6 +12,8 @@ pub mod OldWire
 pub mod Operation
 pub mod Order
 pub mod Parts
+pub mod PieceLaws
+pub mod Pieces
 pub mod Refusals
 pub mod Scan
 pub mod Seen

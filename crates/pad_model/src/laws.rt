@@ -1,5 +1,6 @@
 //! Laws of the definitions, each the contract of a function that does nothing.
 ghost use Rattle.pad_model.specs.CellLaws.{BirthLaw, CellOrderLaw, GrowthLaw, LegalLaw, PartsLaw, PlaceLaw, SliderLaw};
+ghost use Rattle.pad_model.specs.PieceLaws.{ChangesLaw, ComposedLaw, FewestLaw, FirstLaw, LogChangesLaw, LogFirstLaw};
 ghost use Rattle.pad_model.specs.Laws.{TreeLaw, UniquenessLaw, MembersLaw, SetLaw, SubsetLaw, RevisionLaw, ScanLaw, RunLaw, NewestLaw};
 
 /// The walk is the textbook's preorder (Attiya and others 2016).
@@ -80,4 +81,34 @@ pub fn cell_order_law()
 /// Each revision of a log can be read from its cells by birth, what was erased included.
 pub fn birth_law()
     ensures { BirthLaw }
+{}
+
+/// The changes between two revisions lead from what the first shows to what the second shows.
+pub fn changes_law()
+    ensures { ChangesLaw }
+{}
+
+/// Changes are the fewest.
+pub fn fewest_law()
+    ensures { FewestLaw }
+{}
+
+/// Since a time when nothing was there, the changes are the author runs with their texts.
+pub fn first_changes_law()
+    ensures { FirstLaw }
+{}
+
+/// Who follows a text by one answer after the other gets where a single answer leads.
+pub fn composed_law()
+    ensures { ComposedLaw }
+{}
+
+/// The changes between two revisions of a log lead from what its first operations show to what more of them show.
+pub fn log_changes_law()
+    ensures { LogChangesLaw }
+{}
+
+/// Since the empty pad, the changes are the author runs of the text.
+pub fn log_first_law()
+    ensures { LogFirstLaw }
 {}

@@ -7,6 +7,7 @@ mod limits;
 mod name;
 mod old_wire;
 mod op;
+mod piece;
 mod refusal;
 mod row;
 mod seen;
@@ -23,6 +24,7 @@ pub use limits::{
 pub use name::{Name, is_well_formed_name};
 pub use old_wire::{op_in_v1, seen_in_v1};
 pub use op::{Op, OpName, Part, Run, Span};
+pub use piece::Piece;
 pub use refusal::Refusal;
 pub use row::Row;
 pub use seen::{Counted, Seen};

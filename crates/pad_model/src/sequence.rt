@@ -6,9 +6,11 @@ ghost use Rattle.pad_model.specs.Cell.{Cell, IsBy, IsInOrder, cells_at, cell_sta
 ghost use Rattle.pad_model.specs.Checked.{is_run, is_span, is_edit, are_parts};
 ghost use Rattle.pad_model.specs.Legal.{has_stamp};
 ghost use Rattle.pad_model.specs.Parts.{apply as apply_parts, part_fits};
+ghost use Rattle.pad_model.specs.Pieces.{changes as cells_changes};
 ghost use Rattle.pad_model.specs.Views.{IsViewOf};
 
 use crate::op::{Part, Run, Span};
+use crate::piece::Piece;
 use crate::refusal::Refusal;
 use crate::row::Row;
 use crate::stamp::Stamp;
@@ -94,6 +96,10 @@ pub trait Sequence: Drop {
     /// The authors of the visible characters, in the longest runs.
     fn authors_at(&self, alloc: Global, rev: u64) -> Result<Row<AuthorRun>, Refusal>
         ensures { MatchResult result (λ runs. runs ≡ runs_at rev (cells self.now)) (λ e. e ≡ Refusal.Memory) };
+
+    /// What leads from the text of one revision to that of another, in the fewest pieces.
+    fn changes(&self, alloc: Global, rev: u64, to: u64) -> Result<Row<Piece>, Refusal>
+        ensures { MatchResult result (λ pieces. pieces ≡ cells_changes rev to (cells self.now)) (λ e. e ≡ Refusal.Memory) };
 
     /// The stamps of `len` visible characters from a place on, in the longest spans.
     fn spans_at(&self, alloc: Global, rev: u64, at: u64, len: u64) -> Result<Row<Span>, Refusal>

@@ -65,7 +65,8 @@ impl RightsBook {
         }
     }
 
-    fn right_of(&self, name: &Name) -> Option<Right>
+    /// The right that somebody has, which includes those before it. Each includes that to read.
+    pub fn right_of(&self, name: &Name) -> Option<Right>
         ensures { result ≡ right_of self.now name.now }
     {
         if *name == self.owner {

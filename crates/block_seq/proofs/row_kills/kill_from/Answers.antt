@@ -129,7 +129,7 @@ pub push_reserved-requires : goal.push_reserved-requires
 push_reserved-requires c =
     let fewer = fewer_alive c.args.tree.now.items c.in-Some.spot.rank c.args.rev c.get-block.result.now
     c.get-block.ensures.item (none_of c.get-block.result.now.died (sym c.is_some.ensures ∙ c.if-is_some.false)) in
-    omega (arith, fewer, c.requires.room)
+    c.requires.room (omega (arith, fewer))
 
 killed : (c : After-kill) → IsSlid c.push_reserved.new.self.items c.kill.new.tree.items
     × AllByRecursion (IsDated c.args.rev) c.kill.new.tree.items
@@ -155,14 +155,14 @@ returns-clause-slid c = (killed (goal.at.returns-clause-slid c).After-kill).0
 pub returns-clause-dated : goal.returns-clause-dated
 returns-clause-dated c = (killed (goal.at.returns-clause-dated c).After-kill).1
 
-pub returns-clause-room : goal.returns-clause-room
-returns-clause-room c =
+pub returns-clause-spent : goal.returns-clause-spent
+returns-clause-spent c =
     let bs = c.args.tree.now.items in
     let rank = c.in-Some.spot.rank in
     let b = c.get-block.result.now in
     let fewer = fewer_alive bs rank c.args.rev b c.get-block.ensures.item
-    (died (goal.at.returns-clause-room c).After-kill) in
+    (died (goal.at.returns-clause-spent c).After-kill) in
     let same : live_blocks c.kill.new.tree.items
     ≡ live_blocks (slice_set bs rank (record b { died = Some c.args.rev })) =
     ap live_blocks (c.kill.ensures.dead b c.get-block.ensures.item) in
-    omega (arith, fewer, same, c.requires.room, c.push_reserved.ensures.len, c.push_reserved.ensures.capacity)
+    omega (arith, fewer, same, c.push_reserved.ensures.len)

@@ -2,8 +2,8 @@
 use Rattle.std.proofs.Common.{◌≡◌, take, map, sum_by}
 use Rattle.blocks.specs.Blocks.{IsKept}
 use Rattle.std.specs.List.{AllByRecursion}
-use Rattle.std.specs.Prelude.{◌+◌, ◌≤◌, ◌<◌, length, vec_len, vec_capacity}
-use Rattle.block_seq.specs.RowSlides.{IsSlid, live_blocks}
+use Rattle.std.specs.Prelude.{◌+◌, ◌≤◌, vec_len, vec_capacity}
+use Rattle.block_seq.specs.RowSlides.{IsSlid, live_blocks, named_len}
 use Rattle.block_seq.specs.Rows.{IsDated, killed, hidden_len}
 use Rattle.block_seq.proofs.row_kills.kill_named.Given as goal
 
@@ -13,7 +13,9 @@ invariant-loop-span l = record {
   kept : IsKept l.index l.tree.items;
   slid : IsSlid l.slides.items l.tree.items;
   dated : AllByRecursion (IsDated l.rev) l.tree.items;
-  room : 0 < length l.spans → vec_len l.slides + live_blocks l.tree.items ≤ vec_capacity l.slides;
+  spent : vec_len l.slides + live_blocks l.tree.items ≡ vec_len l.initial.slides + live_blocks l.initial.tree.items;
+  few : vec_len l.slides ≤ vec_len l.initial.slides + named_len (take l.span-index l.spans);
+  capacity : vec_capacity l.slides ≡ vec_capacity l.initial.slides;
   items : l.tree.items ≡ map (killed l.rev (take l.span-index l.spans)) l.initial.tree.items;
   hidden : l.hidden ≡ sum_by (hidden_len (take l.span-index l.spans)) l.initial.tree.items;
 }

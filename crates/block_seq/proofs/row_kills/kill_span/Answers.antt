@@ -1,4 +1,4 @@
-use Rattle.std.proofs.Common.{◌≡◌, ◌+◌, ◌≤◌, map, sum_by, sym, ap, ◌∙◌, subst, arith, leb, leb-true}
+use Rattle.std.proofs.Common.{◌≡◌, ◌+◌, ◌≤◌, map, sum_by, refl, sym, ap, ◌∙◌, subst, arith, leb, leb-true}
 use Rattle.std.proofs.lemmas.Bool.{and_parts}
 use Rattle.pad_model.specs.declared.limits.TheConstants.{MAX_COUNTER}
 use Rattle.blocks.specs.Blocks.{IsEdge}
@@ -19,10 +19,17 @@ loop-done-init c =
       begins = subst (IsEdge c.args.index.now) (sym (behind_none first)) c.requires.cut.0;
       slid = c.requires.slid;
       dated = c.requires.dated;
-      room = c.requires.room;
+      spent = refl;
+      few = omega arith;
+      capacity = refl;
       items = none_killed c.args.rev (span_from first 0) bs (λ i b e. nothing_named first b.first);
       hidden = none_hidden (span_from first 0) bs (λ i b e. nothing_named first b.first);
     }
+
+pub kill_from-passed-requires-clause-room : goal.kill_from-passed-requires-clause-room
+kill_from-passed-requires-clause-room c = λ alive.
+    let inv = c.loop-done.invariant in
+    omega (arith, alive, c.loop-done-test.true, c.requires.room, inv.spent, inv.few, inv.capacity)
 
 pub kill_from-passed-requires-clause-begins : goal.kill_from-passed-requires-clause-begins
 kill_from-passed-requires-clause-begins c = subst (IsEdge c.args.index.now)
@@ -67,7 +74,9 @@ loop-done-preserved c =
           c.kill_from-passed.ensures.ends;
       slid = c.kill_from-passed.ensures.slid;
       dated = c.kill_from-passed.ensures.dated;
-      room = c.kill_from-passed.ensures.room;
+      spent = c.kill_from-passed.ensures.spent ∙ c.loop-done.invariant.spent;
+      few = omega (arith, c.loop-done.invariant.few, c.kill_from-passed.ensures.one, c.kill_from-passed.ensures.some);
+      capacity = c.kill_from-passed.ensures.capacity ∙ c.loop-done.invariant.capacity;
       items = span_step c.args.rev c.args.span.now.first c.plus.result c.loop-done.done c.kill_from-passed.result.len
           c.args.tree.now.items c.loop-done.tree.items c.kill_from-passed.new.tree.items
           c.plus.ensures c.loop-done.invariant.items c.kill_from-passed.ensures.items;
@@ -87,3 +96,6 @@ returns-clause-hidden c =
     omega (arith, c.loop-done.invariant.within, c.loop-done-test.false) in
     c.loop-done.invariant.hidden ∙ ap (λ n. sum_by (hidden_len (span_from c.args.span.now.first n))
     c.args.tree.now.items) all
+
+pub returns-clause-few : goal.returns-clause-few
+returns-clause-few c = omega (arith, c.loop-done.invariant.few, c.loop-done.invariant.within)

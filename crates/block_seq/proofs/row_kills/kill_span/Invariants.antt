@@ -16,7 +16,9 @@ invariant-loop-done l = record {
   begins : IsEdge l.index (stamp_behind l.span.first l.done);
   slid : IsSlid l.slides.items l.tree.items;
   dated : AllByRecursion (IsDated l.rev) l.tree.items;
-  room : vec_len l.slides + live_blocks l.tree.items ≤ vec_capacity l.slides;
+  spent : vec_len l.slides + live_blocks l.tree.items ≡ vec_len l.initial.slides + live_blocks l.initial.tree.items;
+  few : vec_len l.slides ≤ vec_len l.initial.slides + l.done;
+  capacity : vec_capacity l.slides ≡ vec_capacity l.initial.slides;
   items : l.tree.items ≡ map (killed l.rev (span_from l.span.first l.done)) l.initial.tree.items;
   hidden : l.hidden ≡ sum_by (hidden_len (span_from l.span.first l.done)) l.initial.tree.items;
 }

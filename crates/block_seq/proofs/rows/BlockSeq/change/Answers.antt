@@ -14,7 +14,7 @@ use Rattle.blocks.proofs.Cells.{same_unlabelled, same_then}
 use Rattle.blocks.proofs.Counts.{keeps_listed, labelled_then}
 use Rattle.block_seq.specs.RowParts.{IsCutBehind, MayPut, with_all}
 use Rattle.block_seq.specs.Rows.{IsBlockSeq, IsCutOut}
-use Rattle.block_seq.specs.RowSlides.{IsSlid, IsSlidRow}
+use Rattle.block_seq.specs.RowSlides.{IsAuthoredRow, IsSlid, IsSlidRow}
 use Rattle.block_seq.proofs.RowNow.{dated_blocks}
 use Rattle.block_seq.proofs.RowSlides.{slid_cut, blocks_small}
 use Rattle.block_seq.proofs.RowChange.{cut_out_kept, lent_checked, lent_sizes}
@@ -52,6 +52,13 @@ whole c text slides n after text_is slides_is kept same = record {
       c.self.inside.tree.items after c.self.invariant.row kept same c.self.invariant.slid);
 }
 
+-- and of the table of authors
+authored : (c : After-place_author) (text : _) (slides : _) (n : Index) (after : _)
+    → IsSlidRow c.self.inside.latest c.self.inside.clock c.place_author.new.authors.items text slides n after
+    → IsAuthoredRow c.self.inside.latest c.self.inside.clock c.place_author.new.authors.items text slides n after
+authored c text slides n after w =
+    record { row = w.row; slid = w.slid; once = c.place_author.ensures.once c.self.invariant.once }
+
 -- the row that is cut
 cut : (c : After-cut_parents) → SameCells c.self.inside.tree.items c.cut_parents.new.tree.items
 cut c = same_then c.self.inside.tree.items c.cut_spans.new.tree.items c.cut_parents.new.tree.items
@@ -69,6 +76,7 @@ invariant_of-self c = record {
       c.cut_spans.new.index c.self.inside.tree.items c.cut_spans.new.tree.items c.self.invariant.row
       c.cut_spans.ensures.kept c.cut_spans.ensures.cells
       c.self.invariant.slid;
+  once = c.self.invariant.once;
 }
 
 pub invariant_of-self-in_err-cut_parents : goal.invariant_of-self-in_err-cut_parents
@@ -80,13 +88,16 @@ invariant_of-self-in_err-cut_parents c =
       slid = slid_cut c.self.inside.slides.items c.self.inside.authors.items c.self.inside.text.items
           c.self.inside.index c.cut_parents.new.index c.self.inside.tree.items c.cut_parents.new.tree.items
           c.self.invariant.row c.cut_parents.ensures.kept same c.self.invariant.slid;
+      once = c.self.invariant.once;
     }
 
 pub invariant_of-self-in_err-author : goal.invariant_of-self-in_err-author
 invariant_of-self-in_err-author c =
     let g = goal.at.invariant_of-self-in_err-author c in
-    whole g.After-place_author c.self.inside.text.items c.self.inside.slides.items c.cut_parents.new.index
-    c.cut_parents.new.tree.items refl refl c.cut_parents.ensures.kept (cut g.After-cut_parents)
+    authored g.After-place_author c.self.inside.text.items c.self.inside.slides.items c.cut_parents.new.index
+    c.cut_parents.new.tree.items
+    (whole g.After-place_author c.self.inside.text.items c.self.inside.slides.items c.cut_parents.new.index
+    c.cut_parents.new.tree.items refl refl c.cut_parents.ensures.kept (cut g.After-cut_parents))
 
 pub returns-in_err-author-clause-answers : goal.returns-in_err-author-clause-answers
 returns-in_err-author-clause-answers c =
@@ -98,8 +109,10 @@ returns-in_err-author-clause-answers c =
 pub invariant_of-self-in_err-reserve : goal.invariant_of-self-in_err-reserve
 invariant_of-self-in_err-reserve c =
     let g = goal.at.invariant_of-self-in_err-reserve c in
-    whole g.After-place_author c.reserve.new.self.items c.self.inside.slides.items c.cut_parents.new.index
-    c.cut_parents.new.tree.items c.reserve.ensures.items refl c.cut_parents.ensures.kept (cut g.After-cut_parents)
+    authored g.After-place_author c.reserve.new.self.items c.self.inside.slides.items c.cut_parents.new.index
+    c.cut_parents.new.tree.items
+    (whole g.After-place_author c.reserve.new.self.items c.self.inside.slides.items c.cut_parents.new.index
+    c.cut_parents.new.tree.items c.reserve.ensures.items refl c.cut_parents.ensures.kept (cut g.After-cut_parents))
 
 pub returns-in_err-reserve-clause-answers : goal.returns-in_err-reserve-clause-answers
 returns-in_err-reserve-clause-answers c =
@@ -111,9 +124,11 @@ returns-in_err-reserve-clause-answers c =
 pub invariant_of-self-in_err-reserve-2 : goal.invariant_of-self-in_err-reserve-2
 invariant_of-self-in_err-reserve-2 c =
     let g = goal.at.invariant_of-self-in_err-reserve-2 c in
-    whole g.After-place_author c.reserve.new.self.items c.reserve-2.new.self.items c.cut_parents.new.index
+    authored g.After-place_author c.reserve.new.self.items c.reserve-2.new.self.items c.cut_parents.new.index
+    c.cut_parents.new.tree.items
+    (whole g.After-place_author c.reserve.new.self.items c.reserve-2.new.self.items c.cut_parents.new.index
     c.cut_parents.new.tree.items c.reserve.ensures.items c.reserve-2.ensures.items c.cut_parents.ensures.kept
-    (cut g.After-cut_parents)
+    (cut g.After-cut_parents))
 
 pub returns-in_err-reserve-2-clause-answers : goal.returns-in_err-reserve-2-clause-answers
 returns-in_err-reserve-2-clause-answers c =
@@ -196,11 +211,13 @@ put_runs-requires-clause-runs c =
 pub invariant_of-self-in_err-clock : goal.invariant_of-self-in_err-clock
 invariant_of-self-in_err-clock c =
     let g = goal.at.invariant_of-self-in_err-clock c in
-    whole g.After-place_author c.put_runs.new.text.items c.put_runs.new.slides.items c.put_runs.new.index
+    authored g.After-place_author c.put_runs.new.text.items c.put_runs.new.slides.items c.put_runs.new.index
+    c.put_runs.new.tree.items
+    (whole g.After-place_author c.put_runs.new.text.items c.put_runs.new.slides.items c.put_runs.new.index
     c.put_runs.new.tree.items (c.in_err-clock.ensures.same_text ∙ c.reserve.ensures.items)
     (c.in_err-clock.ensures.same_slides ∙ c.reserve-2.ensures.items) c.put_runs.ensures.kept
     (same_then c.self.inside.tree.items c.cut_parents.new.tree.items c.put_runs.new.tree.items (cut g.After-cut_parents)
-    (same_unlabelled c.cut_parents.new.tree.items c.put_runs.new.tree.items c.in_err-clock.ensures.same_blocks))
+    (same_unlabelled c.cut_parents.new.tree.items c.put_runs.new.tree.items c.in_err-clock.ensures.same_blocks)))
 
 pub returns-in_err-clock-clause-answers : goal.returns-in_err-clock-clause-answers
 returns-in_err-clock-clause-answers c =
@@ -286,6 +303,7 @@ invariant_of-self-2 c =
       row = subst (λ n. IsBlockSeq n c.in_ok-clock.clock c.place_author.new.authors.items c.put_runs.new.text.items
           c.put_runs.new.index c.kill_named-hidden.new.tree.items) (sym c.max-self-inside.ensures) left;
       slid = c.kill_named-hidden.ensures.slid;
+      once = c.place_author.ensures.once c.self.invariant.once;
     }
 
 pub returns-clause-answers : goal.returns-clause-answers

@@ -30,12 +30,12 @@ slid c =
 
 pub invariant_of-self : goal.invariant_of-self
 invariant_of-self c = let g = goal.at.invariant_of-self c in
-    record { row = row g.After-cut_spans; slid = slid g.After-cut_spans }
+    record { row = row g.After-cut_spans; slid = slid g.After-cut_spans; once = c.self.invariant.once }
 
 pub invariant_of-self-in_err-reserve : goal.invariant_of-self-in_err-reserve
 invariant_of-self-in_err-reserve c =
     let g = goal.at.invariant_of-self-in_err-reserve c in
-    record { row = row g.After-cut_spans; slid = subst (λ l. IsSlid l c.cut_spans.new.tree.items) (sym c.reserve.ensures.items) (slid g.After-cut_spans) }
+    record { row = row g.After-cut_spans; slid = subst (λ l. IsSlid l c.cut_spans.new.tree.items) (sym c.reserve.ensures.items) (slid g.After-cut_spans); once = c.self.invariant.once }
 
 pub kill_named-hidden-requires-clause-slid : goal.kill_named-hidden-requires-clause-slid
 kill_named-hidden-requires-clause-slid c =
@@ -78,6 +78,7 @@ invariant_of-self-2 c = record {
       c.cut_spans.new.index c.kill_named-hidden.new.tree.items) (sym c.max-self-inside.ensures)
       (done (goal.at.invariant_of-self-2 c).After-kill_named-hidden).0.0;
   slid = c.kill_named-hidden.ensures.slid;
+  once = c.self.invariant.once;
 }
 
 pub returns-clause-answers : goal.returns-clause-answers

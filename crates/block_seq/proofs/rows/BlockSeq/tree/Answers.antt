@@ -4,5 +4,5 @@ use Rattle.block_seq.proofs.rows.BlockSeq.tree.Goals as goal
 pub returns-clause-row : goal.returns-clause-row
 returns-clause-row c = (
   c.self.inside.index,
-  record { authors = c.self.inside.authors.items; text = c.self.inside.text.items; kept = c.self.invariant.row.kept; same = (cells_seen c.self.view_is) },
+  record { authors = c.self.inside.authors.items; text = c.self.inside.text.items; kept = c.self.invariant.row.kept; within = c.self.invariant.row.within; same = (cells_seen c.self.view_is) },
 )

@@ -82,8 +82,10 @@ pub IsPad-granted : (o : Option Owned) (replica : ℕ) (held : List Op) (p : Pre
     Answers owned.rights (grant now name given owned.rights) result new →
     IsPad (Some (record owned { rights = new })) replica held p
 IsPad-granted o replica held p owned now name given new result kept is one done = record {
-  named = granted_names now name given owned.rights new result done one
-      (subst (λ (x : Option Owned). IsOwned x p) is kept.named);
+  named =
+      let was = subst (λ (x : Option Owned). IsOwned x p) is kept.named in
+      let names = granted_names now name given owned.rights new result done one (was.0, was.1) in
+      (names.0, names.1, was.2);
   replica_low = kept.replica_low;
   replica_high = kept.replica_high;
   waiting = kept.waiting;

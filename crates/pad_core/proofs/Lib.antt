@@ -12,7 +12,8 @@ pub mod Entered
 pub mod Exits
 pub mod Histories
 pub mod Judged
-pub mod Listed
+pub mod ListedComments
+pub mod Listings
 pub mod Made
 pub mod Noted
 pub mod Others

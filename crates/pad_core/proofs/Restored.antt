@@ -17,7 +17,9 @@ use Rattle.pad_core.specs.declared.owned.Owned.{Owned}
 names_stay : (author : List ℕ) (right : Option Right) (o : Option Owned) (p : Presence) → IsTrue (is_name author) →
     IsOwned o p → IsOwned (granted_again author right o).1 p
 names_stay author right None p one kept = kept
-names_stay author right (Some owned) p one kept = grant_has (λ n. IsTrue (is_name n)) owned.rights author right one kept
+names_stay author right (Some owned) p one kept =
+    let names = grant_has (λ n. IsTrue (is_name n)) owned.rights author right one (kept.0, kept.1) in
+    (names.0, names.1, kept.2)
 
 -- whoever has a right has a name, also after a grant to a name
 pub owned_again : (author : List ℕ) (right : Option Right) (o new : Option Owned) (p : Presence)

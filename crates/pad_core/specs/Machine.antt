@@ -19,7 +19,7 @@ use Rattle.pad_core.specs.Exchange.{read_vector, pull, push}
 use Rattle.pad_core.specs.Grants.{grant, read_rights}
 use Rattle.pad_core.specs.Notes.{comment, resolve}
 use Rattle.pad_core.specs.Presence.{join, leave, put_caret, read_who}
-use Rattle.pad_core.specs.Reads.{read_text, read_runs, read_comments, read_revs, read_entries}
+use Rattle.pad_core.specs.Reads.{read_changes, read_comments, read_entries, read_revs, read_runs, read_text}
 use Rattle.pad_core.specs.declared.admit.Need.{Need}
 use Rattle.pad_core.specs.declared.admit.Need.TheVariants.{NewVisit, AnyVisit, Visit, PeerSession}
 use Rattle.pad_core.specs.declared.owned.Owned.{Owned}
@@ -55,6 +55,7 @@ need_of (act.Resolve resolved) = Visit right.Comment
 need_of (act.Text rev) = Visit right.Read
 need_of (act.Runs rev) = Visit right.Read
 need_of (act.Comments rev) = Visit right.Read
+need_of (act.Changes rev to wait) = Visit right.Read
 need_of act.Revs = Visit right.Read
 need_of (act.Entries from count) = Visit right.Read
 need_of (act.Caret rev at) = Visit right.Read
@@ -170,6 +171,7 @@ author_outcome owned name visit (act.Resolve resolved) m = writes (resolve m.rep
 author_outcome owned name visit (act.Text rev) m = reads (read_text rev m.log)
 author_outcome owned name visit (act.Runs rev) m = reads (read_runs rev m.log)
 author_outcome owned name visit (act.Comments rev) m = reads (read_comments rev m.log)
+author_outcome owned name visit (act.Changes rev to wait) m = reads (read_changes rev to wait m.log)
 author_outcome owned name visit act.Revs m = reads (read_revs m.log)
 author_outcome owned name visit (act.Entries from count) m = reads (read_entries from count m.log)
 author_outcome owned name visit (act.Caret rev at) m = visits (put_caret rev at visit m.log m.presence)
@@ -242,11 +244,11 @@ abbrev pub IsAdmitted : Option Owned → Presence → List ℕ → Option ℕ �
 IsAdmitted None p name visit act = ⊥
 IsAdmitted (Some owned) p name visit act = author_refusal owned.rights p name visit act ≡ None
 
--- a pad without a name was never joined; on one with a name, whoever has a right has a name that an author can have
+-- a pad without a name was never joined; one with a name has a well-formed one, and so has whoever has a right on it
 abbrev pub IsOwned : Option Owned → Presence → Type 0
 IsOwned None presence = presence ≡ nobody_present
 IsOwned (Some owned) presence = IsTrue (is_name owned.rights.owner)
-    × AllByRecursion (λ e. IsTrue (is_name e.0)) owned.rights.grants
+    × AllByRecursion (λ e. IsTrue (is_name e.0)) owned.rights.grants × IsTrue (is_name owned.name)
 
 -- what a pad keeps beside its log: a replica number in the limits, and held operations in theirs
 pub record IsPad (owned : Option Owned) (replica : ℕ) (held : List Op) (presence : Presence) : Type 0 where

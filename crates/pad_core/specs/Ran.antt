@@ -1,5 +1,5 @@
 -- A list of events on a pad.
-use Rattle.std.specs.Prelude.{◌≡◌, ◌⊎◌, ℕ, Some, List, [], ◌∷◌, Result, Err, IsOk, ◌≢◌}
+use Rattle.std.specs.Prelude.{◌≡◌, ◌⊎◌, ℕ, Bool, true, false, Some, List, [], ◌∷◌, Result, Err, IsOk, ◌≢◌}
 use Rattle.std.specs.List.{AllByRecursion}
 use Rattle.pad_model.specs.declared.op.Op.{Op}
 use Rattle.pad_model.specs.declared.refusal.Refusal.{Refusal}
@@ -27,15 +27,23 @@ IsCutShort pad who this old new =
     × Stopped old.replica op (old.log, old.held) (new.log, new.held)
     × (new ≡ record old { log = new.log; held = new.held })
 
+-- whether an act may take memory: the end of a visit, a caret and the length of a pad take none
+abbrev pub takes_memory : Act → Bool
+takes_memory act.Leave = false
+takes_memory (act.Caret rev at) = false
+takes_memory act.Revs = false
+takes_memory other = true
+
 -- the machine's step at an event
 abbrev pub event_step : PadEvent → Machine → Result PadReply Refusal × Machine
 event_step event m = step event.pad.now event.who.now event.visit event.act.now m
 
--- the event was answered as the machine answers it; or it was out of memory, on a pad of its name where the answer is
--- no refusal, and changed nothing; or it stopped in a release
+-- the event was answered as the machine answers it; or its act takes memory and was out of it, on a pad of its name
+-- where the answer is no refusal, and changed nothing; or it stopped in a release
 abbrev pub Stepped : Machine → PadEvent → Result PadReply Refusal → Machine → Type 0
 Stepped old event reply new =
-    (((reply ≡ Err Memory) × (new ≡ old) × IsOk (event_step event old).0 × (name_of old.owned ≡ Some event.pad.now))
+    (((reply ≡ Err Memory) × (new ≡ old) × IsOk (event_step event old).0 × (name_of old.owned ≡ Some event.pad.now)
+    × (takes_memory event.act.now ≡ true))
     ⊎ (event_step event old ≡ (reply, new)))
     ⊎ ((reply ≡ Err Memory) × IsCutShort event.pad.now event.who.now event.act.now old new)
 

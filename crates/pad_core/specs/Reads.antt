@@ -1,7 +1,11 @@
 -- What a log answers to who reads it.
-use Rattle.std.specs.Prelude.{ℕ, suc, ◌+◌, ◌==◌, ◌||◌, nat_lt, if◌then◌else◌, List, [], ◌∷◌, length, take, Option, Some}
-use Rattle.std.specs.Prelude.{None, Result, Ok, Err}
+use Rattle.std.specs.Prelude.{ℕ, suc, ◌+◌, ◌-◌, ◌==◌, ◌||◌, Bool, not, nat_lt, if◌then◌else◌, List, [], ◌∷◌, length, take}
+use Rattle.std.specs.Prelude.{count_by, drop, Option, Some, None, Result, Ok, Err}
+use Rattle.std.specs.List.{list_all}
+use Rattle.pad_model.specs.Checked.{is_edit}
+use Rattle.pad_model.specs.History.{cells_of}
 use Rattle.pad_model.specs.Operation.{author_of, characters_in}
+use Rattle.pad_model.specs.Pieces.{changes}
 use Rattle.pad_model.specs.Visible.{visible, text_of, runs_of}
 use Rattle.pad_model.specs.declared.op.Op.{Op}
 use Rattle.pad_model.specs.declared.op.Part.{Part}
@@ -11,12 +15,12 @@ use Rattle.pad_model.specs.declared.refusal.Refusal.TheVariants.{NoRevision, Emp
 use Rattle.revisions.specs.Log.{entries}
 use Rattle.pad_core.specs.Comments.{comments_of}
 use Rattle.pad_core.specs.Counts.{characters_at}
-use Rattle.pad_core.specs.declared.reads.TheConstants.{MAX_ENTRIES}
+use Rattle.pad_core.specs.declared.reads.TheConstants.{MAX_ENTRIES, MAX_WAIT}
 use Rattle.pad_core.specs.declared.reply.Entry.{Entry}
 use Rattle.pad_core.specs.declared.reply.Kind.{Kind}
 use Rattle.pad_core.specs.declared.reply.Kind.TheVariants as kind
 use Rattle.pad_core.specs.declared.reply.PadReply.{PadReply}
-use Rattle.pad_core.specs.declared.reply.PadReply.TheVariants.{Text, Runs, Comments, Revs, Entries}
+use Rattle.pad_core.specs.declared.reply.PadReply.TheVariants.{Text, Runs, Comments, Changes, Revs, Entries}
 
 -- the revision that is asked for, or the present one
 abbrev pub revision_of : Option ℕ → List Op → ℕ
@@ -41,6 +45,21 @@ read_runs asked log = let rev = revision_of asked log in
 abbrev pub read_comments : Option ℕ → List Op → Result PadReply Refusal
 read_comments asked log = let rev = revision_of asked log in
     at_revision rev log (Comments (length log) rev (comments_of (take rev log)))
+
+-- whether an operation comments or resolves
+abbrev pub is_note : Op → Bool
+is_note op = not (list_all is_edit op.parts)
+
+-- how many operations after one revision and up to another comment or resolve
+abbrev pub notes_between : ℕ → ℕ → List Op → ℕ
+notes_between rev to log = count_by is_note (take (to - rev) (drop rev log))
+
+-- what leads from the text of one revision to that of another, and how many notes there are between
+abbrev pub read_changes : ℕ → Option ℕ → ℕ → List Op → Result PadReply Refusal
+read_changes rev asked wait log = let to = revision_of asked log in
+    if nat_lt (length log) to || nat_lt to rev then Err NoRevision
+    else if nat_lt MAX_WAIT wait then Err TooMuch
+    else Ok (Changes (length log) rev to (changes rev to (cells_of log)) (notes_between rev to log))
 
 -- how long the pad is, with and without what was erased
 abbrev pub read_revs : List Op → Result PadReply Refusal

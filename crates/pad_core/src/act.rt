@@ -61,6 +61,13 @@ pub enum Act {
     Comments {
         rev: Option<u64>,
     },
+    /// Reads what leads from the text of one revision to that of a later one; None is the present one. `wait` is how many
+    /// seconds the answer may be held back while there is no later revision than `rev`.
+    Changes {
+        rev: u64,
+        to: Option<u64>,
+        wait: u64,
+    },
     /// Reads how long the pad is.
     Revs,
     /// Reads what made up to `count` revisions from one on.
@@ -140,6 +147,11 @@ impl Clone for Act {
             Act::Text { rev } => Act::Text { rev: *rev },
             Act::Runs { rev } => Act::Runs { rev: *rev },
             Act::Comments { rev } => Act::Comments { rev: *rev },
+            Act::Changes { rev, to, wait } => Act::Changes {
+                rev: *rev,
+                to: *to,
+                wait: *wait,
+            },
             Act::Revs => Act::Revs,
             Act::Entries { from, count } => Act::Entries {
                 from: *from,

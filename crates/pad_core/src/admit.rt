@@ -33,6 +33,7 @@ pub fn need_of(act: &Act) -> Need
         Act::Text { .. }
         | Act::Runs { .. }
         | Act::Comments { .. }
+        | Act::Changes { .. }
         | Act::Revs
         | Act::Entries { .. }
         | Act::Caret { .. }

@@ -2,9 +2,10 @@
 ghost use Rattle.std.specs.Prelude.{◌≡◌, ℕ, ◌+◌, ◌≤◌, [], ◌∷◌, ◌++◌, length, take, drop, filter, slice_get, option_copied, count_by, Option, None, Ok, IsTrue, IfErr, MatchResult};
 ghost use Rattle.pad_model.specs.Answers.{Answers};
 ghost use Rattle.pad_model.specs.Checked.{is_checked};
-ghost use Rattle.pad_model.specs.History.{clock_of_characters};
+ghost use Rattle.pad_model.specs.History.{cells_of, clock_of_characters};
 ghost use Rattle.pad_model.specs.Log.{is_comment};
 ghost use Rattle.pad_model.specs.Operation.{characters_in, erased_by};
+ghost use Rattle.pad_model.specs.Pieces.{changes as pieces_between};
 ghost use Rattle.pad_model.specs.Seen.{count_in};
 ghost use Rattle.pad_model.specs.Visible.{caret_of, hidden_by, runs_of, spans_of, stamp_at, text_of, visible};
 ghost use Rattle.revisions.specs.Log.{entries as entries_of, is_missing, missing as missing_of};
@@ -17,7 +18,7 @@ use crate::enter::count_and_enter;
 use crate::judge::{count_inserted, is_comment, is_valid};
 use anchors::{CommentBook, Shown};
 use pad_model::{
-    AuthorRun, MAX_CHARACTERS, MAX_COMMENTS, MAX_OPERATIONS, Op, OpName, Refusal, Row, Seen,
+    AuthorRun, MAX_CHARACTERS, MAX_COMMENTS, MAX_OPERATIONS, Op, OpName, Piece, Refusal, Row, Seen,
     Sequence, Span, Stamp, Text,
 };
 use revisions::OpLog;
@@ -122,6 +123,13 @@ impl<S: Sequence> Ledger<S> {
         ensures { MatchResult result (λ runs. runs ≡ runs_of (characters_at rev self.now)) (λ e. e ≡ Refusal.Memory) }
     {
         self.sequence.authors_at(alloc, rev)
+    }
+
+    /// What leads from the text of one revision to that of another, in the fewest pieces.
+    pub fn changes(&self, alloc: Global, rev: u64, to: u64) -> Result<Row<Piece>, Refusal>
+        ensures { MatchResult result (λ pieces. pieces ≡ pieces_between rev to (cells_of self.now)) (λ e. e ≡ Refusal.Memory) }
+    {
+        self.sequence.changes(alloc, rev, to)
     }
 
     /// How many visible characters stand before a caret behind this character.

@@ -1,5 +1,5 @@
 //! One pad.
-ghost use Rattle.std.specs.Prelude.{◌≡◌, ◌⊎◌, ℕ, ◌+◌, ◌≤◌, List, [], length, drop, IsTrue, IfOk, OnOk, Some, None, Err, MatchResult, option_map, unwrap_or};
+ghost use Rattle.std.specs.Prelude.{◌≡◌, ◌⊎◌, ℕ, ◌+◌, ◌≤◌, List, [], length, drop, IsTrue, IfOk, IfSome, OnOk, Some, None, Err, MatchResult, false, is_some, option_map, unwrap_or};
 ghost use Rattle.pad_model.specs.Answers.{Answers};
 ghost use Rattle.pad_model.specs.Checked.{is_name};
 ghost use Rattle.pad_model.specs.declared.limits.TheConstants.{MAX_REPLICA};
@@ -7,9 +7,10 @@ ghost use Rattle.pad_core.specs.Delivered.{IsDelivered};
 ghost use Rattle.pad_core.specs.Laws.{LastReadsAlike};
 ghost use Rattle.pad_model.specs.declared.who.Who.TheVariants as Who;
 ghost use Rattle.pad_core.specs.declared.act.Act.{Act};
-ghost use Rattle.pad_core.specs.Machine.{IsAdmitted, author_act as author_acted, author_step as author_stepped, claim as claimed, name_of, nobody_present, peer_act as peer_acted, step as machine_step};
+ghost use Rattle.pad_core.specs.Listing.{listing};
+ghost use Rattle.pad_core.specs.Machine.{IsAdmitted, IsPad, author_act as author_acted, author_step as author_stepped, claim as claimed, name_of, nobody_present, peer_act as peer_acted, step as machine_step};
 ghost use Rattle.pad_core.specs.Restart.{restore_claim as claim_restored, restore_grant as grant_restored, restore_operation as operation_restored, restore_visit as visit_restored};
-ghost use Rattle.pad_core.specs.Ran.{IsCutShort, Stepped, run as machine_run, Ran, FoundMemory};
+ghost use Rattle.pad_core.specs.Ran.{IsCutShort, Stepped, run as machine_run, Ran, FoundMemory, takes_memory};
 
 use crate::act::Act;
 use crate::admit::{author_refusal, need_of, nobody_refusal};
@@ -22,8 +23,8 @@ use crate::note::{comment, resolve};
 use crate::owned::{Owned, own};
 use crate::presence::{depart, join, leave, put_caret, read_who};
 use crate::push::push;
-use crate::reads::{read_comments, read_entries, read_revs, read_runs, read_text};
-use crate::reply::PadReply;
+use crate::reads::{read_changes, read_comments, read_entries, read_revs, read_runs, read_text};
+use crate::reply::{Listed, PadReply};
 use crate::restart::{deliver_again, grant_again, own_again, visit_again};
 use crate::writer::{Passage, Writer};
 use holdback::Hold;
@@ -71,7 +72,8 @@ impl<S: Sequence> Pad<S> {
 
     /// The name, once the pad is claimed.
     pub fn name(&self) -> Option<&str>
-        ensures { option_map (λ name. name.now) result ≡ name_of self.now.owned }
+        ensures value { option_map (λ name. name.now) result ≡ name_of self.now.owned }
+        ensures formed { IfSome result (λ name. IsTrue (is_name name.now)) }
     {
         match &self.owned {
             None => None,
@@ -83,6 +85,7 @@ impl<S: Sequence> Pad<S> {
     pub fn revision(&self) -> u64
         ensures value { result ≡ length self.now.log }
         ensures delivered { IsDelivered self.now.log }
+        ensures kept { IsPad self.now.owned self.now.replica self.now.held self.now.presence }
     {
         self.ledger.len()
     }
@@ -110,8 +113,28 @@ impl<S: Sequence> Pad<S> {
         own(alloc, &mut self.owned, &mut self.presence, name, owner)
     }
 
+    /// What the pad tells somebody in a list of pads. None: it is not listed for them.
+    pub fn listing(&self, alloc: Global, who: &Who) -> Result<Option<Listed>, Refusal>
+        ensures { MatchResult result (λ told. told ≡ listing who.now self.now) (λ e. (e ≡ Refusal.Memory) × IsTrue (is_some (listing who.now self.now))) }
+    {
+        let Who::Author(reader) = who else {
+            return Ok(None);
+        };
+        let Some(owned) = &self.owned else {
+            return Ok(None);
+        };
+        let Some(right) = owned.rights.right_of(reader) else {
+            return Ok(None);
+        };
+        Ok(Some(Listed {
+            name: owned.name.clone()?,
+            right,
+            now: self.ledger.len(),
+        }))
+    }
+
     /// Answers an event and makes its changes, or finds no memory and changes nothing. A push that found no memory in
-    /// its release has made the steps before.
+    /// its release has made the steps before. `leave`, `caret` and `revs` take no memory.
     pub fn step(&mut self, alloc: Global, event: &PadEvent<'_>) -> Result<PadReply, Refusal>
         ensures { Stepped self.old event.now result self.new }
     {
@@ -237,7 +260,8 @@ impl<S: Sequence> Pad<S> {
         visit: Option<u64>,
         act: &Act,
     ) -> Result<PadReply, Refusal>
-        ensures { (owned : _) → self.old.owned ≡ Some owned → Answers self.old (author_stepped owned name.now visit act.now self.old) result self.new }
+        ensures answers { (owned : _) → self.old.owned ≡ Some owned → Answers self.old (author_stepped owned name.now visit act.now self.old) result self.new }
+        ensures exact { takes_memory act.now ≡ false → (owned : _) → self.old.owned ≡ Some owned → author_stepped owned name.now visit act.now self.old ≡ (result, self.new) }
     {
         let Some(owned) = &self.owned else {
             return Err(Refusal::NoPad);
@@ -264,7 +288,8 @@ impl<S: Sequence> Pad<S> {
         act: &Act,
     ) -> Result<PadReply, Refusal>
         requires { IsAdmitted self.old.owned self.old.presence name.now visit act.now }
-        ensures { (owned : _) → self.old.owned ≡ Some owned → Answers self.old (author_acted owned name.now (unwrap_or visit 0) act.now self.old) result self.new }
+        ensures answers { (owned : _) → self.old.owned ≡ Some owned → Answers self.old (author_acted owned name.now (unwrap_or visit 0) act.now self.old) result self.new }
+        ensures exact { takes_memory act.now ≡ false → (owned : _) → self.old.owned ≡ Some owned → author_acted owned name.now (unwrap_or visit 0) act.now self.old ≡ (result, self.new) }
     {
         let visit = visit.unwrap_or(0);
         let ledger = &mut self.ledger;
@@ -289,6 +314,7 @@ impl<S: Sequence> Pad<S> {
             Act::Text { rev } => read_text(alloc, ledger, *rev),
             Act::Runs { rev } => read_runs(alloc, ledger, *rev),
             Act::Comments { rev } => read_comments(alloc, ledger, *rev),
+            Act::Changes { rev, to, wait } => read_changes(alloc, ledger, *rev, *to, *wait),
             Act::Revs => read_revs(ledger),
             Act::Entries { from, count } => read_entries(alloc, ledger, *from, *count),
             Act::Grant { author, right } => match &mut self.owned {

@@ -1,7 +1,7 @@
 //! What authors read of a pad's log.
-ghost use Rattle.std.specs.Prelude.{◌≡◌, ℕ, ◌+◌, ◌≤◌, IfOk, length, MatchResult};
+ghost use Rattle.std.specs.Prelude.{◌≡◌, ℕ, ◌+◌, ◌≤◌, IfOk, count_by, length, MatchResult};
 ghost use Rattle.pad_model.specs.Answers.{Tells};
-ghost use Rattle.pad_core.specs.Reads.{entries_from, entry_of, kind_of as kind, read_comments as comments_read, read_entries as entries_read, read_revs as revs_read, read_runs as runs_read, read_text as text_read};
+ghost use Rattle.pad_core.specs.Reads.{entries_from, entry_of, is_note as notes, kind_of as kind, read_changes as changes_read, read_comments as comments_read, read_entries as entries_read, read_revs as revs_read, read_runs as runs_read, read_text as text_read};
 
 use crate::ledger::Ledger;
 use crate::reply::{Entry, Kind, PadReply};
@@ -10,6 +10,9 @@ use std::alloc::{AllocError, Global};
 
 /// How many revisions one request may list.
 pub const MAX_ENTRIES: u64 = 100;
+
+/// The most seconds that an answer may be asked to wait.
+pub const MAX_WAIT: u64 = 60;
 
 /// The text of a revision.
 pub fn read_text<S: Sequence>(
@@ -60,6 +63,49 @@ pub fn read_comments<S: Sequence>(
     }
     let comments = ledger.comments_at(alloc, rev)?;
     Ok(PadReply::Comments { now, rev, comments })
+}
+
+/// What leads from the text of one revision to that of another.
+pub fn read_changes<S: Sequence>(
+    alloc: Global,
+    ledger: &Ledger<S>,
+    rev: u64,
+    asked: Option<u64>,
+    wait: u64,
+) -> Result<PadReply, Refusal>
+    ensures { Tells (changes_read rev asked wait ledger.now) result }
+{
+    let now = ledger.len();
+    let to = asked.unwrap_or(now);
+    if now < to || to < rev {
+        return Err(Refusal::NoRevision);
+    }
+    if MAX_WAIT < wait {
+        return Err(Refusal::TooMuch);
+    }
+    let pieces = ledger.changes(alloc, rev, to)?;
+    let notes = count_notes(ledger.entries(rev + 1, to - rev));
+    Ok(PadReply::Changes {
+        now,
+        rev,
+        to,
+        pieces,
+        notes,
+    })
+}
+
+/// How many operations comment or resolve.
+fn count_notes(ops: &[Op]) -> u64
+    ensures { result ≡ count_by notes ops.now }
+{
+    ops.iter().filter(|op| is_note(op)).count() as u64
+}
+
+/// Whether an operation comments or resolves.
+fn is_note(op: &Op) -> bool
+    ensures { result ≡ notes op.now }
+{
+    !op.is_edit()
 }
 
 /// How long the pad is, with and without what was erased.

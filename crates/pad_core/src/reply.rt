@@ -1,7 +1,7 @@
 //! What a pad answers, and what a server answers.
 use anchors::Shown;
-use pad_model::{Author, AuthorRun, Op, OpName, Row, Seen, Text, Version};
-use rights::Grant;
+use pad_model::{Author, AuthorRun, Name, Op, OpName, Piece, Row, Seen, Text, Version};
+use rights::{Grant, Right};
 
 /// What an operation does, in a word.
 #[derive(Clone, Copy, Debug, PartialEq, Eq)]
@@ -30,6 +30,16 @@ pub struct Present {
     pub author: Author,
     /// How many visible characters stand before the caret.
     pub caret: u64,
+}
+
+/// A pad in a list of pads.
+#[derive(Debug, PartialEq, Drop)]
+pub struct Listed {
+    pub name: Name,
+    /// The right that the reader of the list has on it.
+    pub right: Right,
+    /// Its present revision.
+    pub now: u64,
 }
 
 /// What became of a pushed operation.
@@ -86,6 +96,15 @@ pub enum PadReply {
         rev: u64,
         comments: Row<Shown>,
     },
+    /// What leads from the text of one revision to that of another, and how many comments and resolutions made the
+    /// revisions between.
+    Changes {
+        now: u64,
+        rev: u64,
+        to: u64,
+        pieces: Row<Piece>,
+        notes: u64,
+    },
     /// How many characters there are with those that are erased, and how many are visible.
     Revs {
         now: u64,
@@ -135,6 +154,8 @@ pub enum Reply {
     Peer { replica: u16, version: Version },
     /// What the pad answers. A pad that was created answers that its creator joined.
     Pad(PadReply),
+    /// The pads that the author may read, in the order of their cells.
+    Pads { pads: Row<Listed> },
     /// The session has left its pads, and is unauthenticated again.
     Ended,
 }

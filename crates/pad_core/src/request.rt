@@ -24,6 +24,8 @@ pub enum Request {
     Create {
         pad: Name,
     },
+    /// Lists the pads that the author may read.
+    Pads,
     /// Does an act on a pad.
     On {
         pad: Name,
@@ -50,6 +52,7 @@ impl Clone for Request {
                 version: *version,
             },
             Request::Create { pad } => Request::Create { pad: pad.clone()? },
+            Request::Pads => Request::Pads,
             Request::On { pad, act } => Request::On {
                 pad: pad.clone()?,
                 act: act.clone()?,

@@ -1,6 +1,6 @@
 -- A step leaves as many cells as there were.
 use Rattle.std.proofs.Common.{◌≡◌, inl, inr, ℕ, ◌+◌, Bool, true, false, List, [], ◌∷◌, length, Option, Some, None}
-use Rattle.std.proofs.Common.{Result, Ok, Err, refl, sym, ap, ◌∙◌, subst}
+use Rattle.std.proofs.Common.{nat_lt, Result, Ok, Err, refl, sym, ap, ◌∙◌, subst}
 use Rattle.std.specs.List.{slice_get, slice_set}
 use Rattle.std.proofs.lemmas.List.{length-set}
 use Rattle.pad_model.proofs.Newer.{split}
@@ -17,7 +17,7 @@ use Rattle.server_core.specs.declared.step.Moved.{Moved}
 use Rattle.server_core.specs.declared.step.Step.{Step}
 use Rattle.server_core.specs.declared.step.Step.TheVariants.{Ask, Move, Look, Relay, End}
 use Rattle.server_core.specs.declared.task.Task.{Task}
-use Rattle.server_core.specs.declared.task.Task.TheVariants.{Resting, Scanning, Leaving}
+use Rattle.server_core.specs.declared.task.Task.TheVariants.{Resting, Scanning, Listing, Leaving}
 
 by_cell : (who : Who) (request : Request) (cell : ℕ) (rooms : List Room) (cells : List Machine) (o : Option Machine) →
     slice_get cells cell ≡ o → length (row_answer who request cell rooms cells).2 ≡ length cells
@@ -42,6 +42,7 @@ move-cells Resting a cells = refl
 move-cells (Scanning request cell) a cells =
     ap length (scanned-cells request cell a (row_answer a.who request cell a.rooms cells))
     ∙ by_cell a.who request cell a.rooms cells (slice_get cells cell) refl
+move-cells (Listing cell found) a cells = split (nat_lt (cell + 1) (length cells)) (λ e. rw e refl) (λ e. rw e refl)
 move-cells Leaving a cells = leave-cells a a.rooms cells
 
 -- a step leaves as many cells
@@ -67,13 +68,16 @@ none-cells : (step : Step) (task : Task) (a : Actor) (cells : List Machine) (exp
     (after : List Machine) → FoundNone step task a cells expected answer new after → length after ≡ length cells
 none-cells (Ask request) Resting a cells expected answer new after h = ap length h.2
 none-cells (Ask request) (Scanning asked cell) a cells expected answer new after h = absurd h
+none-cells (Ask request) (Listing at found) a cells expected answer new after h = absurd h
 none-cells (Ask request) Leaving a cells expected answer new after h = absurd h
 none-cells Move Resting a cells expected answer new after h = absurd h
 none-cells Move (Scanning request cell) a cells expected answer new after h =
     scan-cells request cell a cells answer new after h
+none-cells Move (Listing cell found) a cells expected answer new after h = ap length h.2
 none-cells Move Leaving a cells expected answer new after h = absurd h
 none-cells (Look cell) Resting a cells expected answer new after h = ap length h.2
 none-cells (Look cell) (Scanning asked at) a cells expected answer new after h = absurd h
+none-cells (Look cell) (Listing at found) a cells expected answer new after h = absurd h
 none-cells (Look cell) Leaving a cells expected answer new after h = absurd h
 none-cells (Relay number) task a cells expected answer new after h = absurd h
 none-cells End task a cells expected answer new after h = absurd h

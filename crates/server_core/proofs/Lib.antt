@@ -1,5 +1,6 @@
 -- The lemmas, by topic.
 pub mod Lengths
+pub mod Listings
 pub mod NameRuns
 pub mod NameSteps
 pub mod Named

@@ -1,6 +1,6 @@
 -- The names of a row over any steps of any actors.
 use Rattle.std.proofs.Common.{◌≡◌, ◌⊎◌, inl, inr, ℕ, ◌+◌, Bool, true, false, List, [], ◌∷◌, length, map, Option, Some}
-use Rattle.std.proofs.Common.{None, refl, sym, ap, ◌∙◌, subst}
+use Rattle.std.proofs.Common.{nat_lt, None, refl, sym, ap, ◌∙◌, subst}
 use Rattle.std.specs.List.{AllByRecursion, slice_get, slice_set, find, repeat}
 use Rattle.std.specs.Prelude.{bytes_eq}
 use Rattle.std.proofs.lemmas.Slice.Eq.{bytes_eq-Decides}
@@ -18,14 +18,14 @@ use Rattle.server_core.specs.Actor.{Actor, first_cell, is_busy, nobody}
 use Rattle.server_core.specs.AtCell.{RowAnswer, row_answer}
 use Rattle.server_core.specs.Machine.{Server, new_server, run, server_step, unnamed}
 use Rattle.server_core.specs.Names.{AreNamedInTurn, NamesLaw, NamesStay, names_of, opened_server}
-use Rattle.server_core.specs.Opening.{act_refusal, create_refusal}
-use Rattle.server_core.specs.Steps.{actor_step, ask, begun, end, ended, goes_on, leave_first, left_room, move, scanned}
+use Rattle.server_core.specs.Opening.{act_refusal, create_refusal, pads_refusal}
+use Rattle.server_core.specs.Steps.{actor_step, ask, begun, end, ended, goes_on, leave_first, left_room, list_begun, move, scanned}
 use Rattle.server_core.specs.Steps.{unless_busy}
 use Rattle.server_core.specs.declared.step.Moved.{Moved}
 use Rattle.server_core.specs.declared.step.Step.{Step}
 use Rattle.server_core.specs.declared.step.Step.TheVariants.{Ask, Move, Look, Relay, End}
 use Rattle.server_core.specs.declared.task.Task.{Task}
-use Rattle.server_core.specs.declared.task.Task.TheVariants.{Resting, Scanning, Leaving}
+use Rattle.server_core.specs.declared.task.Task.TheVariants.{Resting, Scanning, Listing, Leaving}
 use Rattle.server_core.proofs.Named.{Grows, grows-stay, grows-turn, each-get, each-repeat, each-set, each-weaken}
 use Rattle.server_core.proofs.Named.{none-turn}
 use Rattle.server_core.proofs.NameSteps.{ActorStands, IsBehind, Leaves, RequestStands, RoomStands, actor-stays}
@@ -56,11 +56,17 @@ begun-on : (names : List (Option (List ℕ))) (name : List ℕ) (act : Rattle.pa
 begun-on names name act a (Some refusal) h = h
 begun-on names name act a None h = (h.0, tt)
 
+begun-list : (names : List (Option (List ℕ))) (a : Actor) (o : Option Refusal) → ActorStands names a →
+    ActorStands names (list_begun a o).1
+begun-list names a (Some refusal) h = h
+begun-list names a None h = (h.0, tt)
+
 ask-stands : (names : List (Option (List ℕ))) (replica : ℕ) (accounts : Accounts) (r : Request) (a : Actor) →
     ActorStands names a → ActorStands names (ask replica accounts r a).1
 ask-stands names replica accounts (request.Hello name token) a h = h
 ask-stands names replica accounts (request.Peer number token version) a h = h
 ask-stands names replica accounts (request.Create name) a h = begun-create names name a (create_refusal a.who name) h
+ask-stands names replica accounts request.Pads a h = begun-list names a (pads_refusal a.who) h
 ask-stands names replica accounts (request.On name act) a h = begun-on names name act a (act_refusal a.who name act) h
 
 busy-stands : (names : List (Option (List ℕ))) (a : Actor) (done : Moved × Actor) → ActorStands names a →
@@ -76,6 +82,7 @@ end-stands : (names : List (Option (List ℕ))) (task : Task) (a : Actor) → Ac
     ActorStands names (end task a).1
 end-stands names Leaving a h = h
 end-stands names Resting a h = ended-stands names a a.rooms h.0
+end-stands names (Listing cell found) a h = ended-stands names a a.rooms h.0
 end-stands names (Scanning r cell) a h = ended-stands names a a.rooms h.0
 
 left-names : (who : Who) (room : Room) (cells : List Machine) (o : Option Machine) → slice_get cells room.cell ≡ o →
@@ -109,6 +116,9 @@ move-leaves (Scanning r cell) a cells e h =
     scanned-leaves cells r cell a a.rooms (row_answer a.who r cell a.rooms cells)
     (row-leaves cells a.who r cell a.rooms h.0
     (subst (λ t. Rattle.server_core.proofs.NameSteps.TaskStands (names_of cells) t) e h.1))
+move-leaves (Listing cell found) a cells e h = split (nat_lt (cell + 1) (length cells))
+    (λ goes. rw goes (inl refl, (h.0, tt)))
+    (λ stops. rw stops (inl refl, (h.0, tt)))
 move-leaves Leaving a cells e h = leave-leaves a a.rooms cells h.0
 
 step-leaves : (replica : ℕ) (accounts : Accounts) (s : Step) (a : Actor) (cells : List Machine) →

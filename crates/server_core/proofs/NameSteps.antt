@@ -35,7 +35,7 @@ use Rattle.server_core.specs.AtCell.{act_at, created, past_row, request_at, room
 use Rattle.server_core.specs.Names.{NamesStay, names_of}
 use Rattle.server_core.specs.Steps.{goes_on}
 use Rattle.server_core.specs.declared.task.Task.{Task}
-use Rattle.server_core.specs.declared.task.Task.TheVariants.{Resting, Scanning, Leaving}
+use Rattle.server_core.specs.declared.task.Task.TheVariants.{Resting, Scanning, Listing, Leaving}
 use Rattle.server_core.proofs.Named.{ArePassed, Grows, grows-stay, get-set_same, passed-stay, passed-more, each-filter}
 use Rattle.server_core.proofs.Named.{each-append, each-weaken, some-same}
 use Rattle.server_core.proofs.Own.{IsOwn, Kept, rooms-kept, step-name, step-own}
@@ -51,12 +51,14 @@ IsBehind names name cell = ArePassed names name cell ⊎ (slice_get names cell �
 abbrev pub RequestStands : List (Option (List ℕ)) → Request → ℕ → Type 0
 RequestStands names (request.Create name) cell = IsBehind names name cell
 RequestStands names (request.On name act) cell = Unit {0}
+RequestStands names request.Pads cell = Unit {0}
 RequestStands names (request.Hello name token) cell = Unit {0}
 RequestStands names (request.Peer number token version) cell = Unit {0}
 
 abbrev pub TaskStands : List (Option (List ℕ)) → Task → Type 0
 TaskStands names Resting = Unit {0}
 TaskStands names (Scanning request cell) = RequestStands names request cell
+TaskStands names (Listing cell found) = Unit {0}
 TaskStands names Leaving = Unit {0}
 
 -- what an actor knows of the row
@@ -73,6 +75,7 @@ request-stays : (old new : List (Option (List ℕ))) (r : Request) (cell : ℕ) 
 request-stays old new (request.Create name) cell stay (inl passed) = inl (passed-stay old new name cell stay passed)
 request-stays old new (request.Create name) cell stay (inr here) = inr (stay cell name here)
 request-stays old new (request.On name act) cell stay h = h
+request-stays old new request.Pads cell stay h = h
 request-stays old new (request.Hello name token) cell stay h = h
 request-stays old new (request.Peer number token version) cell stay h = h
 
@@ -80,6 +83,7 @@ task-stays : (old new : List (Option (List ℕ))) (task : Task) → NamesStay ol
     TaskStands new task
 task-stays old new Resting stay h = h
 task-stays old new (Scanning request cell) stay h = request-stays old new request cell stay h
+task-stays old new (Listing cell found) stay h = h
 task-stays old new Leaving stay h = h
 
 pub actor-stays : (old new : List (Option (List ℕ))) (a : Actor) → NamesStay old new → ActorStands old a →
@@ -291,6 +295,8 @@ visit-leaves cells Nobody (request.Create name) cell rooms m e h stands =
 visit-leaves cells (Peer number version) (request.Create name) cell rooms m e h stands =
     back-leaves cells (request.Create name) cell rooms m (Err NoSession) e h
     (λ goes. absurd (refused-stops NoSession cell (length (slice_set cells cell m)) goes))
+visit-leaves cells who request.Pads cell rooms m e h stands =
+    back-leaves cells request.Pads cell rooms m (Err NoSession) e h (λ goes. tt)
 visit-leaves cells who (request.Hello name token) cell rooms m e h stands =
     back-leaves cells (request.Hello name token) cell rooms m (Err NoSession) e h (λ goes. tt)
 visit-leaves cells who (request.Peer number token version) cell rooms m e h stands =

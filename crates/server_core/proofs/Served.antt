@@ -15,7 +15,7 @@ use Rattle.server_core.specs.declared.step.Moved.TheVariants.{Idle, Refused}
 use Rattle.server_core.specs.declared.step.Step.{Step}
 use Rattle.server_core.specs.declared.step.Step.TheVariants.{Ask, Move, Look, Relay, End}
 use Rattle.server_core.specs.declared.task.Task.{Task}
-use Rattle.server_core.specs.declared.task.Task.TheVariants.{Resting, Scanning, Leaving}
+use Rattle.server_core.specs.declared.task.Task.TheVariants.{Resting, Scanning, Listing, Leaving}
 
 -- what an actor does is what the server does
 pub served : (old s : Server) (at : ℕ) (step : Step) (a d : Actor) (row : List Machine) (answer : Moved) (actor : Actor)
@@ -54,12 +54,15 @@ none_told : (step : Step) (task : Task) (a : Actor) (cells : List Machine) (expe
     (after : List Machine) → FoundNone step task a cells expected answer new after → answer ≡ Refused Memory
 none_told (Ask request) Resting a cells expected answer new after h = h.0
 none_told (Ask request) (Scanning asked cell) a cells expected answer new after h = absurd h
+none_told (Ask request) (Listing at found) a cells expected answer new after h = absurd h
 none_told (Ask request) Leaving a cells expected answer new after h = absurd h
 none_told Move Resting a cells expected answer new after h = absurd h
 none_told Move (Scanning request cell) a cells expected answer new after h = h.0
+none_told Move (Listing cell found) a cells expected answer new after h = h.0
 none_told Move Leaving a cells expected answer new after h = absurd h
 none_told (Look cell) Resting a cells expected answer new after h = h.0
 none_told (Look cell) (Scanning asked at) a cells expected answer new after h = absurd h
+none_told (Look cell) (Listing at found) a cells expected answer new after h = absurd h
 none_told (Look cell) Leaving a cells expected answer new after h = absurd h
 none_told (Relay number) task a cells expected answer new after h = absurd h
 none_told End task a cells expected answer new after h = absurd h

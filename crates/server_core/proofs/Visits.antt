@@ -6,7 +6,7 @@ use Rattle.pad_model.specs.declared.refusal.Refusal.TheVariants.{Memory}
 use Rattle.pad_model.specs.declared.who.Who.{Who}
 use Rattle.sessions.specs.declared.session.Room.{Room}
 use Rattle.pad_core.specs.Machine.{Machine, step}
-use Rattle.pad_core.specs.Ran.{IsCutShort, Stepped, event_step}
+use Rattle.pad_core.specs.Ran.{IsCutShort, Stepped, event_step, takes_memory}
 use Rattle.pad_core.specs.declared.act.Act.{Act}
 use Rattle.pad_core.specs.declared.act.Act.TheVariants as act
 use Rattle.pad_core.specs.declared.event.PadEvent.{PadEvent}
@@ -69,7 +69,7 @@ act_visited who name a cell rooms event m new answer padded by at does done = vi
 
     visit : Stepped m event answer new → Visited who (On name a) rooms m (act_at who name a cell rooms m)
         (passed_on answer) (rooms_after name cell a answer rooms) new
-    visit (inl (inl (memory, kept, ok, named))) =
+    visit (inl (inl (memory, kept, ok, named, takes))) =
         inr (
           refused memory,
           stay memory,
@@ -79,6 +79,7 @@ act_visited who name a cell rooms event m new answer padded by at does done = vi
               named ∙ ap Some padded,
               passed_ok (step name who (visit_on name rooms) a m).0
                   (subst (λ (x : Result PadReply Refusal × Machine). IsOk x.0) same ok),
+              ap takes_memory (sym does) ∙ takes,
             ),
           ),
         )

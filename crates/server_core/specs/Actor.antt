@@ -7,7 +7,7 @@ use Rattle.pad_model.specs.declared.who.Who.TheVariants.{Nobody}
 use Rattle.sessions.specs.Session.{Session, is_of}
 use Rattle.sessions.specs.declared.session.Room.{Room}
 use Rattle.server_core.specs.declared.task.Task.{Task}
-use Rattle.server_core.specs.declared.task.Task.TheVariants.{Resting, Scanning, Leaving}
+use Rattle.server_core.specs.declared.task.Task.TheVariants.{Resting, Scanning, Listing, Leaving}
 
 -- whose session it is, the pads that it has joined in order of joining, and what it is doing
 pub record Actor : Type 0 where
@@ -27,6 +27,7 @@ nobody = record { who = Nobody; rooms = []; task = Resting }
 abbrev pub is_busy : Task → Bool
 is_busy Resting = false
 is_busy (Scanning request cell) = true
+is_busy (Listing cell found) = true
 is_busy Leaving = true
 
 -- the actor, with nothing under way

@@ -1,6 +1,7 @@
 -- The definitions that the contracts cite, by topic.
 pub mod Actor
 pub mod AtCell
+pub mod Listing
 pub mod Machine
 pub mod Names
 pub mod Opening

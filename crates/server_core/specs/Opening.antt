@@ -55,6 +55,10 @@ abbrev pub create_refusal : Who → List ℕ → Option Refusal
 create_refusal who pad = if not (is_of_author who) then Some NoSession else if not (is_name pad) then Some BadName
     else None
 
+-- why a list of pads is refused, if so
+abbrev pub pads_refusal : Who → Option Refusal
+pads_refusal who = if is_of_author who then None else Some NoSession
+
 -- why an act is refused before it comes to a cell, if so: by its session, or by the name of the pad
 abbrev pub act_refusal : Who → List ℕ → Act → Option Refusal
 act_refusal who pad act = or_by_name (session_refusal who act)

@@ -1,13 +1,14 @@
 -- What a step leaves that may be out of memory.
-use Rattle.std.specs.Prelude.{◌≡◌, ◌⊎◌, ◌≢◌, ℕ, List, [], ◌∷◌, slice_get, slice_set, Option, Some, None, Result, Err}
-use Rattle.std.specs.Prelude.{IsOk}
+use Rattle.std.specs.Prelude.{◌≡◌, ◌⊎◌, ◌≢◌, ℕ, true, List, [], ◌∷◌, slice_get, slice_set, Option, Some, None, Result}
+use Rattle.std.specs.Prelude.{Err, IsOk, IsTrue}
 use Rattle.std.specs.List.{AllByRecursion}
+use Rattle.pad_model.specs.Checked.{is_name}
 use Rattle.pad_model.specs.declared.refusal.Refusal.{Refusal}
 use Rattle.pad_model.specs.declared.refusal.Refusal.TheVariants.{Memory}
 use Rattle.pad_model.specs.declared.who.Who.{Who}
 use Rattle.sessions.specs.declared.session.Room.{Room}
 use Rattle.pad_core.specs.Machine.{Machine, name_of}
-use Rattle.pad_core.specs.Ran.{IsCutShort}
+use Rattle.pad_core.specs.Ran.{IsCutShort, takes_memory}
 use Rattle.pad_core.specs.declared.act.Act.{Act}
 use Rattle.pad_core.specs.declared.act.Act.TheVariants as act
 use Rattle.pad_core.specs.declared.reply.Reply.{Reply}
@@ -15,14 +16,15 @@ use Rattle.pad_core.specs.declared.request.Request.{Request}
 use Rattle.pad_core.specs.declared.request.Request.TheVariants.{Create, On}
 use Rattle.server_core.specs.Actor.{Actor, rested}
 use Rattle.server_core.specs.AtCell.{CellAnswer, RowAnswer, row_answer}
+use Rattle.server_core.specs.Listing.{listed_at}
 use Rattle.server_core.specs.Machine.{Server, server_step, with_actor}
 use Rattle.server_core.specs.Steps.{actor_step}
 use Rattle.server_core.specs.declared.step.Moved.{Moved}
-use Rattle.server_core.specs.declared.step.Moved.TheVariants.{Refused}
+use Rattle.server_core.specs.declared.step.Moved.TheVariants.{Named, Refused}
 use Rattle.server_core.specs.declared.step.Step.{Step}
 use Rattle.server_core.specs.declared.task.Task.{Task}
 use Rattle.server_core.specs.declared.step.Step.TheVariants as step
-use Rattle.server_core.specs.declared.task.Task.TheVariants.{Resting, Scanning}
+use Rattle.server_core.specs.declared.task.Task.TheVariants.{Resting, Scanning, Listing}
 
 -- the memory for a room is taken before any pad is asked, so that running out of it may come before the pad's refusal
 abbrev pub TakesRoom : Request → Type 0
@@ -30,9 +32,9 @@ TakesRoom (Create name) = Unit {0}
 TakesRoom (On name act.Join) = Unit {0}
 TakesRoom other = ⊥
 
--- the pad has the name that a request asks for, and its answer is no refusal
+-- the act that a request asks for takes memory, the pad has the name, and its answer is no refusal
 abbrev pub IsGranted : Request → Machine → Result (Option Reply) Refusal → Type 0
-IsGranted (On name act) m expected = (name_of m.owned ≡ Some name) × IsOk expected
+IsGranted (On name act) m expected = (name_of m.owned ≡ Some name) × IsOk expected × (takes_memory act ≡ true)
 IsGranted other m expected = ⊥
 
 -- a request at a cell was out of memory: all is as before, but for a push that stopped in its release
@@ -87,6 +89,11 @@ ScanFoundNone request cell a cells answer new after =
     ⊎ IsGrantedAt request cell cells (row_answer a.who request cell a.rooms cells).0))
     ⊎ IsCutAt a.who request cell cells after)
 
+-- a list of pads was out of memory at a cell that has something to tell: it has ended, and the cells are as before
+abbrev pub ListFoundNone : ℕ → Actor → List Machine → Moved → Actor → List Machine → Type 0
+ListFoundNone cell a cells answer new after =
+    (answer ≡ Refused Memory) × (new ≡ rested a) × (after ≡ cells) × (listed_at a.who cell cells ≢ [])
+
 -- an actor's step was out of memory: a question or a look while nothing is under way, or a move of a scan. No other
 -- step takes memory
 abbrev pub FoundNone : Step → Task → Actor → List Machine → Moved → Moved → Actor → List Machine → Type 0
@@ -94,12 +101,18 @@ FoundNone (step.Ask request) Resting a cells expected answer new after = AskFoun
 FoundNone (step.Look cell) Resting a cells expected answer new after = AskFoundNone a cells expected answer new after
 FoundNone step.Move (Scanning request cell) a cells expected answer new after =
     ScanFoundNone request cell a cells answer new after
+FoundNone step.Move (Listing cell found) a cells expected answer new after = ListFoundNone cell a cells answer new after
 FoundNone other task a cells expected answer new after = ⊥
 
 -- an actor's step is the machine's, or was out of memory
 abbrev pub Acted : Step → List Machine → Actor → Moved × Actor × List Machine → Moved → Actor → List Machine → Type 0
 Acted step cells a expected answer new after = (expected ≡ (answer, new, after))
     ⊎ FoundNone step a.task a cells expected.0 answer new after
+
+-- a name that is told is well formed
+abbrev pub IsFormed : Moved → Type 0
+IsFormed (Named (Some name)) = IsTrue (is_name name)
+IsFormed other = Unit {0}
 
 -- what was asked is answered as the machine answers it, or was out of memory and changed nothing
 abbrev pub Tried : Actor → Moved × Actor → Moved → Actor → Type 0

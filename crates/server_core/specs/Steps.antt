@@ -15,13 +15,14 @@ use Rattle.pad_core.specs.declared.request.Request.{Request}
 use Rattle.pad_core.specs.declared.request.Request.TheVariants as request
 use Rattle.server_core.specs.Actor.{Actor, first_cell, is_busy}
 use Rattle.server_core.specs.AtCell.{RowAnswer, row_answer, past_row}
-use Rattle.server_core.specs.Opening.{hello, peer, relay, create_refusal, act_refusal}
+use Rattle.server_core.specs.Listing.{list_on}
+use Rattle.server_core.specs.Opening.{hello, peer, relay, create_refusal, pads_refusal, act_refusal}
 use Rattle.server_core.specs.declared.step.Moved.{Moved}
 use Rattle.server_core.specs.declared.step.Moved.TheVariants as moved
 use Rattle.server_core.specs.declared.step.Step.{Step}
 use Rattle.server_core.specs.declared.step.Step.TheVariants as step
 use Rattle.server_core.specs.declared.task.Task.{Task}
-use Rattle.server_core.specs.declared.task.Task.TheVariants.{Resting, Scanning, Leaving}
+use Rattle.server_core.specs.declared.task.Task.TheVariants.{Resting, Scanning, Listing, Leaving}
 
 -- an answer as an actor is told it
 abbrev pub told : Result Reply Refusal → Moved
@@ -37,12 +38,18 @@ abbrev pub begun : Request → ℕ → Actor → Option Refusal → Moved × Act
 begun request cell a (Some refusal) = (moved.Refused refusal, a)
 begun request cell a None = (moved.Scanning, record a { task = Scanning request cell })
 
+-- a list of pads begins at the first cell where nothing speaks against it
+abbrev pub list_begun : Actor → Option Refusal → Moved × Actor
+list_begun a (Some refusal) = (moved.Refused refusal, a)
+list_begun a None = (moved.Scanning, record a { task = Listing 0 [] })
+
 -- a request is asked
 abbrev pub ask : ℕ → Accounts → Request → Actor → Moved × Actor
 ask replica accounts (request.Hello name token) a = opened a (hello replica accounts name token a.who)
 ask replica accounts (request.Peer number token version) a = opened a (peer replica accounts number token version a.who)
 ask replica accounts (request.Create name) a = begun (request.Create name) (first_cell name a.rooms) a
     (create_refusal a.who name)
+ask replica accounts request.Pads a = list_begun a (pads_refusal a.who)
 ask replica accounts (request.On name act) a = begun (request.On name act) (first_cell name a.rooms) a
     (act_refusal a.who name act)
 
@@ -91,6 +98,7 @@ leave_first a (room ∷ rooms) cells = let next = ended a rooms in (next.0, next
 abbrev pub move : Task → Actor → List Machine → Moved × Actor × List Machine
 move Resting a cells = (moved.Idle, a, cells)
 move (Scanning request cell) a cells = scan request cell a cells
+move (Listing cell found) a cells = list_on cell found a cells
 move Leaving a cells = leave_first a a.rooms cells
 
 -- the end of a session begins: a scan is dropped, an end that is under way goes on

@@ -1,8 +1,9 @@
 //! An actor: a session, and what it is doing.
-ghost use Rattle.std.specs.Prelude.{◌≡◌, ◌⊎◌, ◌≤◌, List, length, option_map};
+ghost use Rattle.std.specs.Prelude.{◌≡◌, ◌⊎◌, ◌≤◌, List, length, option_map, IfSome, IsTrue};
+ghost use Rattle.pad_model.specs.Checked.{is_name};
 ghost use Rattle.pad_model.specs.declared.refusal.Refusal.TheVariants as refusal;
 ghost use Rattle.server_core.specs.Actor.{is_busy as busy, nobody};
-ghost use Rattle.server_core.specs.Served.{Acted};
+ghost use Rattle.server_core.specs.Served.{Acted, IsFormed};
 ghost use Rattle.server_core.specs.Steps.{actor_step as stepped, name_at};
 ghost use Rattle.server_core.specs.declared.limits.TheConstants.{MAX_CELLS};
 ghost use Rattle.pad_core.specs.Machine.{Machine};
@@ -79,7 +80,8 @@ impl Actor {
         step: &Step,
     ) -> Moved
         requires { length cells.old ≤ MAX_CELLS }
-        ensures { Acted step.now cells.old self.old (stepped replica accounts.now step.now self.old cells.old) result self.new cells.new }
+        ensures acted { Acted step.now cells.old self.old (stepped replica accounts.now step.now self.old cells.old) result self.new cells.new }
+        ensures formed { (cell : _) → step.now ≡ Step.Look cell → IsFormed result }
     {
         match step {
             Step::Ask(request) => self.ask(alloc, replica, accounts, request),
@@ -110,7 +112,8 @@ fn is_busy(task: &Task) -> bool
 
 /// The name of a cell.
 fn look<S: Sequence>(alloc: Global, cells: &[Pad<S>], cell: u32) -> Moved
-    ensures { (moved.Named (name_at cell cells.now) ≡ result) ⊎ (result ≡ moved.Refused refusal.Memory) }
+    ensures told { (moved.Named (name_at cell cells.now) ≡ result) ⊎ (result ≡ moved.Refused refusal.Memory) }
+    ensures formed { IsFormed result }
 {
     match name_in(cells, cell) {
         None => Moved::Named(None),
@@ -122,7 +125,8 @@ fn look<S: Sequence>(alloc: Global, cells: &[Pad<S>], cell: u32) -> Moved
 }
 
 fn name_in<S: Sequence>(cells: &[Pad<S>], cell: u32) -> Option<&str>
-    ensures { option_map (λ name. name.now) result ≡ name_at cell cells.now }
+    ensures value { option_map (λ name. name.now) result ≡ name_at cell cells.now }
+    ensures formed { IfSome result (λ name. IsTrue (is_name name.now)) }
 {
     let place = cell as usize;
     if place < cells.len() {

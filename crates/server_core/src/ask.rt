@@ -1,5 +1,5 @@
 //! What is asked: a session's own request is answered at once, one on a pad begins a scan.
-ghost use Rattle.std.specs.Prelude.{◌≡◌, ◌⊎◌};
+ghost use Rattle.std.specs.Prelude.{◌≡◌, ◌⊎◌, []};
 ghost use Rattle.pad_model.specs.declared.refusal.Refusal.TheVariants as refusal;
 ghost use Rattle.server_core.specs.Actor.{actor_of, first_cell as first_cell_of};
 ghost use Rattle.server_core.specs.Rooms.{IsAsked, IsSoundTask};
@@ -8,11 +8,11 @@ ghost use Rattle.server_core.specs.Steps.{ask as asked, told};
 ghost use Rattle.server_core.specs.declared.step.Moved.TheVariants as moved;
 ghost use Rattle.server_core.specs.declared.task.Task.TheVariants as doing;
 
-use crate::opening::{act_refusal, create_refusal, hello, peer};
+use crate::opening::{act_refusal, create_refusal, hello, pads_refusal, peer};
 use crate::step::Moved;
 use crate::task::Task;
 use pad_core::{Reply, Request};
-use pad_model::{Name, Refusal};
+use pad_model::{Name, Refusal, Row};
 use sessions::{Accounts, Session};
 use std::alloc::Global;
 
@@ -42,6 +42,10 @@ pub fn ask(
             Some(refusal) => Moved::Refused(refusal),
             None => begin(session, task, pad, request),
         },
+        Request::Pads => match pads_refusal(session.who()) {
+            Some(refusal) => Moved::Refused(refusal),
+            None => begin_list(alloc, task),
+        },
         Request::On { pad, act } => match act_refusal(session.who(), pad, act) {
             Some(refusal) => Moved::Refused(refusal),
             None => begin(session, task, pad, request),
@@ -62,6 +66,16 @@ fn begin(session: &Session, task: &mut Task, pad: &Name, request: &Request) -> M
         }
         Err(_) => Moved::Refused(Refusal::Memory),
     }
+}
+
+/// Begins a list of pads, which takes no memory yet.
+fn begin_list(alloc: Global, task: &mut Task) -> Moved
+    ensures told { result ≡ moved.Scanning }
+    ensures task { task.new ≡ doing.Listing 0 [] }
+{
+    let found = Row::new(alloc);
+    task.turn(Task::Listing { cell: 0, found });
+    Moved::Scanning
 }
 
 /// Where the scan for a pad begins: at its cell where the session has joined it.

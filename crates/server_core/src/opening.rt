@@ -1,7 +1,7 @@
 //! How a session becomes an author's or a peer's, and what a request takes of its session.
 ghost use Rattle.std.specs.Prelude.{◌≡◌};
 ghost use Rattle.pad_model.specs.Answers.{Answers};
-ghost use Rattle.server_core.specs.Opening.{hello as author_opened, peer as peer_opened, relay as relay_opened, is_nobody, is_of_author, is_unsayable, create_refusal as create_refused, act_refusal as act_refused};
+ghost use Rattle.server_core.specs.Opening.{hello as author_opened, peer as peer_opened, relay as relay_opened, is_nobody, is_of_author, is_unsayable, create_refusal as create_refused, pads_refusal as pads_refused, act_refusal as act_refused};
 
 use pad_core::{Act, Reply, session_refusal};
 use pad_model::{Author, Name, OLD_REPLICA, Refusal, Version, Who};
@@ -90,6 +90,17 @@ pub fn create_refusal(who: &Who, pad: &Name) -> Option<Refusal>
         return Some(Refusal::BadName);
     }
     None
+}
+
+/// Why a list of pads is refused, if so.
+pub fn pads_refusal(who: &Who) -> Option<Refusal>
+    ensures { result ≡ pads_refused who.now }
+{
+    if is_of_author(who) {
+        None
+    } else {
+        Some(Refusal::NoSession)
+    }
 }
 
 /// Why an act is refused before it comes to a cell, if so.

@@ -11,12 +11,14 @@ ghost use Rattle.server_core.specs.declared.limits.TheConstants.{MAX_CELLS};
 use crate::at_cell::request_at;
 use crate::leave::leave_first;
 use crate::limits::MAX_CELLS;
+use crate::listing::list_cell;
 use crate::step::Moved;
 use crate::task::Task;
 use pad_core::{Pad, Reply, Request};
-use pad_model::{Refusal, Sequence};
+use pad_model::{Refusal, Row, Sequence};
 use sessions::Session;
 use std::alloc::Global;
+use std::mem;
 
 /// Goes on with what is under way, by one cell.
 pub fn go_on<S: Sequence>(
@@ -33,6 +35,20 @@ pub fn go_on<S: Sequence>(
     match task {
         Task::Resting => Moved::Idle,
         Task::Leaving => leave_first(cells, session, task),
+        Task::Listing { cell, found } => {
+            let place = *cell;
+            if let Err(refusal) = list_cell(alloc, cells, place, session.who(), found) {
+                task.turn(Task::Resting);
+                return Moved::Refused(refusal);
+            }
+            if u64::from(place) + 1 < cells.len() as u64 {
+                *cell = place + 1;
+                return Moved::Scanning;
+            }
+            let pads = mem::replace(found, Row::new(alloc));
+            task.turn(Task::Resting);
+            Moved::Done(Reply::Pads { pads })
+        }
         Task::Scanning { request, cell } => {
             let place = *cell;
             let answer = answer_at(alloc, cells, place, session, request);

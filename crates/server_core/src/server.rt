@@ -9,7 +9,7 @@ ghost use Rattle.pad_core.specs.Delivered.{IsDelivered};
 ghost use Rattle.pad_core.specs.Laws.{HaveSame, ReadAlike};
 ghost use Rattle.pad_core.specs.Machine.{Machine};
 ghost use Rattle.server_core.specs.Machine.{new_server, with_newcomer, run as machine_run, unnamed};
-ghost use Rattle.server_core.specs.Served.{FoundMemory, Ran, Served};
+ghost use Rattle.server_core.specs.Served.{FoundMemory, IsFormed, Ran, Served};
 ghost use Rattle.server_core.specs.declared.step.Step.TheVariants as Step;
 
 use crate::actor::Actor;
@@ -92,7 +92,8 @@ impl<S: Sequence> Server<S> {
 
     /// Makes one step of an actor that was opened.
     pub fn step(&mut self, alloc: Global, actor: u32, step: &Step) -> Moved
-        ensures { Served self.old actor step.now result self.new }
+        ensures served { Served self.old actor step.now result self.new }
+        ensures formed { (cell : _) → step.now ≡ Step.Look cell → IsFormed result }
     {
         let index = actor as usize;
         if index >= self.actors.len() {

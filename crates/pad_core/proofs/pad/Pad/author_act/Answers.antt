@@ -74,8 +74,8 @@ invariant_of-self-in-Grant-1 g c =
       | in-None w ↦ subst (λ i. IsPad i.owned i.replica i.held i.presence) (sym w.self-inside-is) c.self.invariant
     ]
 
-pub returns-in-Edit : goal.returns-in-Edit
-returns-in-Edit g c owned e =
+pub returns-in-Edit-clause-answers : goal.returns-in-Edit-clause-answers
+returns-in-Edit-clause-answers g c owned e =
     edit_answers c.self.inside.owned c.self.inside.replica c.self.inside.ledger c.edit.new.ledger c.self.inside.held
     c.self.inside.presence owned c.args.name.now (unwrap_or c.args.visit 0) c.in-Edit.rev c.args.act.now
     c.in-Edit.changes c.as_slice.result.now c.edit.result c.args.self.now

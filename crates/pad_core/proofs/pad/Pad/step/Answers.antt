@@ -12,7 +12,8 @@ returns-in-Author g c =
     author_stepped c.in-Some.owned c.in-Author.name c.args.event.now c.args.self.now c.author_step.new.self
     c.author_step.result
     owned same ((bytes_eq-Decides c.in-Some.owned.name c.args.event.now.pad.now).1 same) c.in-Author.is
-    (c.author_step.ensures c.in-Some.owned owned)
+    (c.author_step.ensures.answers c.in-Some.owned owned)
+    (λ none. c.author_step.ensures.exact none c.in-Some.owned owned)
 
 pub returns-in-Peer : goal.returns-in-Peer
 returns-in-Peer g c =

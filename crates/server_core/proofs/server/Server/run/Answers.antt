@@ -18,7 +18,7 @@ loop-event-preserved g c =
       ran = rw (one_more, c.push_reserved.ensures.items)
           (Ran-push c.args.self.now c.loop-event.self c.step-answer.new.self
           (take c.loop-event.event-index c.args.steps.now) c.loop-event.answers.items c.event-item.result
-          c.step-answer.result c.loop-event.invariant.ran c.step-answer.ensures);
+          c.step-answer.result c.loop-event.invariant.ran c.step-answer.ensures.served);
       room = omega arith;
     }
 

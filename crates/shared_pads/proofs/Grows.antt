@@ -327,6 +327,7 @@ request_grows w (request.On name act) cell rooms m = step_grows name w (visit_on
     m.held m.presence
 request_grows w (request.Create name) cell rooms m =
     create_grows name w cell rooms m.owned m.replica m.log m.held m.presence
+request_grows w request.Pads cell rooms m = bare request.Pads (Ok None) m.log refl refl
 request_grows w (request.Hello name token) cell rooms m = bare (request.Hello name token) (Ok None) m.log refl refl
 request_grows w (request.Peer number token version) cell rooms m = bare (request.Peer number token version)
     (Ok None) m.log refl refl
@@ -334,6 +335,7 @@ request_grows w (request.Peer number token version) cell rooms m = bare (request
 unread : (request : Request) (log : List Op) → Grown request (Err Memory) log log
 unread (request.On name act) log = refused (effect_of act) Memory log
 unread (request.Create name) log = bare (request.Create name) (Ok None) log refl refl
+unread request.Pads log = bare request.Pads (Ok None) log refl refl
 unread (request.Hello name token) log = bare (request.Hello name token) (Ok None) log refl refl
 unread (request.Peer number token version) log = bare (request.Peer number token version) (Ok None) log refl refl
 

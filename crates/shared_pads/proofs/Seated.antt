@@ -51,14 +51,15 @@ within f (seat ∷ seats) counts apart h =
     get_or_from_slice_get counts seat.number (f seat.tally) 0 h.0 in
     omega arith
 
-placed : (f : Tally → ℕ) (k : Kept) (seats : List Seat) → AllByRecursion (IsOf k) seats →
+placed : (f : Tally → ℕ) (cell : ℕ) (k : Kept) (seats : List Seat) → AllByRecursion (IsOf cell k) seats →
     Places f (map f k.tallies) seats
-placed f k [] h = tt
-placed f k (seat ∷ seats) h = (slice_get-map f k.tallies seat.number ∙ ap (option_map f) h.0.1, placed f k seats h.1)
+placed f cell k [] h = tt
+placed f cell k (seat ∷ seats) h =
+    (slice_get-map f k.tallies seat.number ∙ ap (option_map f) h.0.1, placed f cell k seats h.1)
 
-no_more : (f : Tally → ℕ) (k : Kept) (seats : List Seat) → AreAll k seats → sum_by (λ seat. f seat.tally) seats
-    ≤ sum_by f k.tallies
-no_more f k seats all = let least = within f seats (map f k.tallies) all.1 (placed f k seats all.2) in let is =
+no_more : (f : Tally → ℕ) (cell : ℕ) (k : Kept) (seats : List Seat) → AreAll cell k seats →
+    sum_by (λ seat. f seat.tally) seats ≤ sum_by f k.tallies
+no_more f cell k seats all = let least = within f seats (map f k.tallies) all.1 (placed f cell k seats all.2) in let is =
     sum-map f k.tallies in omega arith
 
 -- none is more than the sum
@@ -89,11 +90,11 @@ as_many m (x ∷ xs) (y ∷ ys) e =
 
 -- as many seats as there are places, each with its own, add just what the places do: they add no more of what each has,
 -- and no more of what each lacks
-same_sum : (f : Tally → ℕ) (k : Kept) (seats : List Seat) → AreAll k seats → sum_by (λ seat. f seat.tally) seats
-    ≡ sum_by f k.tallies
-same_sum f k seats all =
-    let has = no_more f k seats all in
-    let lacks = no_more (λ t. sum_by f k.tallies - f t) k seats all in
+same_sum : (f : Tally → ℕ) (cell : ℕ) (k : Kept) (seats : List Seat) → AreAll cell k seats →
+    sum_by (λ seat. f seat.tally) seats ≡ sum_by f k.tallies
+same_sum f cell k seats all =
+    let has = no_more f cell k seats all in
+    let lacks = no_more (λ t. sum_by f k.tallies - f t) cell k seats all in
     let seated = lacking (λ (seat : Seat). f seat.tally) (sum_by f k.tallies) seats
     (each_low (λ (seat : Seat). f seat.tally) (sum_by f k.tallies) seats has) in
     let known = lacking f (sum_by f k.tallies) k.tallies (each_low f (sum_by f k.tallies) k.tallies (omega arith)) in
@@ -101,22 +102,22 @@ same_sum f k seats all =
     omega arith
 
 -- so they have made the revision of the pad, and all calls
-pub all_made : (pad : Machine) (base : ℕ) (ts : List Tally) (calls : ℕ) (k : Kept) (seats : List Seat) →
-    kept_of pad base ts calls ≡ k → IsKept pad.log base ts calls → AreAll k seats →
+pub all_made : (pad : Machine) (base : ℕ) (ts : List Tally) (calls room cell : ℕ) (k : Kept) (seats : List Seat) →
+    kept_of pad base ts calls ≡ k → IsKept pad.log base ts calls room → AreAll cell k seats →
     (length pad.log ≡ base + sum_by (λ seat. seat.tally.operations) seats)
     × (calls ≡ sum_by (λ seat. seat.tally.calls) seats)
-all_made pad base ts calls k seats view kept all =
-    let here = subst (λ k. AreAll k seats) (sym view) all in
-    let operations = same_sum (λ t. t.operations) (kept_of pad base ts calls) seats here in
-    let called = same_sum (λ t. t.calls) (kept_of pad base ts calls) seats here in
+all_made pad base ts calls room cell k seats view kept all =
+    let here = subst (λ k. AreAll cell k seats) (sym view) all in
+    let operations = same_sum (λ t. t.operations) cell (kept_of pad base ts calls) seats here in
+    let called = same_sum (λ t. t.calls) cell (kept_of pad base ts calls) seats here in
     let revision = kept.revision in
     let counted = kept.called in
     (omega arith, omega arith)
 
 -- what is refused was not all seats
-pub not_all : (result : Option Sums) (k : Kept) (seats : List Seat) → result ≡ None → (AreAll k seats → ⊥) →
-    IsSome result ↔ AreAll k seats
-not_all result k seats none refuted = (
+pub not_all : (result : Option Sums) (cell : ℕ) (k : Kept) (seats : List Seat) → result ≡ None →
+    (AreAll cell k seats → ⊥) → IsSome result ↔ AreAll cell k seats
+not_all result cell k seats none refuted = (
   (λ some. absurd (none_some (sym (ap is_some none) ∙ some))),
   (λ all. absurd (refuted all)),
 )

@@ -92,10 +92,10 @@ stands_after log None before h b = b
 stands_after log (Some edit) before h b = h
 
 -- what is kept under the lock after a call
-pub kept_on : (old new more : List Op) (base calls i : ℕ) (ts : List Tally) (t : Tally) (edit : Option LastEdit) →
-    IsKept old base ts calls → slice_get ts i ≡ Some t → new ≡ old ++ more → Stands new edit →
-    IsKept new base (slice_set ts i (counted (length more) edit t)) (calls + 1)
-kept_on old new more base calls i ts t edit kept e grown stands = record {
+pub kept_on : (old new more : List Op) (base calls room i : ℕ) (ts : List Tally) (t : Tally) (edit : Option LastEdit) →
+    IsKept old base ts calls room → slice_get ts i ≡ Some t → new ≡ old ++ more → Stands new edit →
+    IsKept new base (slice_set ts i (counted (length more) edit t)) (calls + 1) room
+kept_on old new more base calls room i ts t edit kept e grown stands = record {
   revision = (let both = ap length grown ∙ length-append old more in let sum = sum_after (λ t. t.operations) ts i t
       (counted (length more) edit t) (length more) e refl in let was = kept.revision in omega arith);
   standing =
@@ -106,16 +106,18 @@ kept_on old new more base calls i ts t edit kept e grown stands = record {
       (stands_on old more t.last (one_of (λ t. Stands old t.last) ts i t kept.standing e))));
   called = (let sum = sum_after (λ t. t.calls) ts i t (counted (length more) edit t) 1 e refl in
       let was = kept.called in omega arith);
+  roomy = kept.roomy;
 }
 
 -- one more seat, which has made no call
-pub one_more : (log : List Op) (base calls : ℕ) (ts : List Tally) → IsKept log base ts calls →
-    IsKept log base (ts ++ uncounted ∷ []) calls
-one_more log base calls ts kept = record {
+pub one_more : (log : List Op) (base calls room : ℕ) (ts : List Tally) → IsKept log base ts calls room →
+    IsKept log base (ts ++ uncounted ∷ []) calls room
+one_more log base calls room ts kept = record {
   revision = (let sum = sum_by-append (λ t. t.operations) ts (uncounted ∷ []) in let was = kept.revision in
       omega arith);
   standing = all_more ts kept.standing;
   called = (let sum = sum_by-append (λ t. t.calls) ts (uncounted ∷ []) in let was = kept.called in omega arith);
+  roomy = kept.roomy;
 }
   where
     all_more : (ts : List Tally) → AllByRecursion (λ t. Stands log t.last) ts → AllByRecursion (λ t. Stands log t.last)
@@ -123,15 +125,38 @@ one_more log base calls ts kept = record {
     all_more [] h = (tt, tt)
     all_more (t ∷ ts) h = (h.0, all_more ts h.1)
 
--- the seats that a lock knows have its base
-one_base : (k : Kept) (seats : List Seat) → AllByRecursion (IsOf k) seats →
+-- the seats that a lock knows have its base, and are of the cell
+one_base : (cell : ℕ) (k : Kept) (seats : List Seat) → AllByRecursion (IsOf cell k) seats →
     AllByRecursion (λ seat. seat.base ≡ k.base) seats
-one_base k [] h = tt
-one_base k (seat ∷ seats) h = (h.0.0, one_base k seats h.1)
+one_base cell k [] h = tt
+one_base cell k (seat ∷ seats) h = (h.0.0, one_base cell k seats h.1)
+
+one_cell : (cell : ℕ) (k : Kept) (seats : List Seat) → AllByRecursion (IsOf cell k) seats →
+    AllByRecursion (λ seat. seat.cell ≡ cell) seats
+one_cell cell k [] h = tt
+one_cell cell k (seat ∷ seats) h = (h.0.2, one_cell cell k seats h.1)
+
+-- the last edit of each seat that a lock knows stands in the log
+pub seats_stand : (cell : ℕ) (k : Kept) (seats : List Seat) → AllByRecursion (λ t. Stands k.pad.log t.last) k.tallies →
+    AllByRecursion (IsOf cell k) seats → AllByRecursion (λ seat. Stands k.pad.log seat.tally.last) seats
+seats_stand cell k [] stand h = tt
+seats_stand cell k (seat ∷ seats) stand h = (
+  one_of (λ t. Stands k.pad.log t.last) k.tallies seat.number seat.tally stand h.0.1,
+  seats_stand cell k seats stand h.1,
+)
 
 -- what the lock was asked, of the pad that it gives up
-pub closed : (k : Kept) (pad : Machine) (seats asked : List Seat) (sums : Sums) → IsClosed k asked sums →
-    asked ≡ seats → pad ≡ k.pad → HasClosed pad seats sums.operations sums.calls
-closed k pad seats asked sums all same is =
-    subst (λ s. HasClosed pad s sums.operations sums.calls) same
-    (k.base, all.0, one_base k asked all.1, ap (λ (m : Machine). length m.log) is ∙ all.4, all.2, all.3)
+pub closed : (cell : ℕ) (k : Kept) (pad : Machine) (seats asked : List Seat) (sums : Sums) → IsClosed cell k asked sums →
+    AllByRecursion (λ seat. Stands k.pad.log seat.tally.last) asked → asked ≡ seats → pad ≡ k.pad →
+    HasClosed pad cell seats sums.operations sums.calls
+closed cell k pad seats asked sums all stand same is =
+    subst (λ s. HasClosed pad cell s sums.operations sums.calls) same (record {
+      base = k.base;
+      apart = all.0;
+      placed = one_cell cell k asked all.1;
+      based = one_base cell k asked all.1;
+      standing = subst (λ (m : Machine). AllByRecursion (λ seat. Stands m.log seat.tally.last) asked) (sym is) stand;
+      revision = ap (λ (m : Machine). length m.log) is ∙ all.4;
+      made = all.2;
+      called = all.3;
+    })

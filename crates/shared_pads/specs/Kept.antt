@@ -1,19 +1,22 @@
 -- What lies under the lock of a shared pad, and what a call of a seat is.
 use Rattle.std.specs.Prelude.{◌≡◌, ◌⊎◌, ℕ, ◌+◌, ◌≤◌, ◌<◌, ◌^◌, ◌-◌, List, [], ◌∷◌, ◌++◌, length, sum_by, slice_get}
-use Rattle.std.specs.Prelude.{slice_set, true, Option, Some, Err}
+use Rattle.std.specs.Prelude.{slice_set, true, Option, None, Some, Err}
 use Rattle.std.specs.List.{AllByRecursion}
 use Rattle.pad_model.specs.declared.op.Op.{Op}
 use Rattle.pad_model.specs.declared.refusal.Refusal.TheVariants.{SeatsOut}
 use Rattle.pad_model.specs.declared.who.Who.{Who}
 use Rattle.sessions.specs.declared.session.Room.{Room}
 use Rattle.pad_core.specs.Delivered.{IsDelivered}
-use Rattle.pad_core.specs.Machine.{Machine, step}
+use Rattle.pad_core.specs.Listing.{listing}
+use Rattle.pad_core.specs.Machine.{IsPad, Machine, step}
 use Rattle.pad_core.specs.declared.act.Act.TheVariants.{Leave}
+use Rattle.pad_core.specs.declared.reply.Listed.{Listed}
 use Rattle.pad_core.specs.declared.request.Request.{Request}
 use Rattle.server_core.specs.AtCell.{request_at}
 use Rattle.server_core.specs.Served.{Visited}
 use Rattle.shared_pads.specs.Seats.{Answer, Stands, Tells, are_apart, counted, edit_of, uncounted}
 use Rattle.shared_pads.specs.declared.seat.LastEdit.{LastEdit}
+use Rattle.shared_pads.specs.declared.seat.TheConstants.{MAX_SEATS}
 use Rattle.shared_pads.specs.declared.seat.Seat.{Seat}
 use Rattle.shared_pads.specs.declared.seat.Tally.{Tally}
 use Rattle.shared_pads.specs.declared.sums.Sums.{Sums}
@@ -27,11 +30,12 @@ pub record Kept : Type 0 where
   pub calls : ℕ
 
 -- whenever the lock is free: the revision is the base and the operations of all seats, each last edit stands in the
--- log, and the calls are those of all seats
-pub record IsKept (log : List Op) (base : ℕ) (tallies : List Tally) (calls : ℕ) : Type 0 where
+-- log, the calls are those of all seats, and there is room for the tallies of as many seats as may be made
+pub record IsKept (log : List Op) (base : ℕ) (tallies : List Tally) (calls room : ℕ) : Type 0 where
   pub revision : length log ≡ base + sum_by (λ t. t.operations) tallies
   pub standing : AllByRecursion (λ t. Stands log t.last) tallies
   pub called : calls ≡ sum_by (λ t. t.calls) tallies
+  pub roomy : MAX_SEATS ≤ room
 
 -- what lies under the lock of a pad that no seat was made for
 abbrev pub unseated : Machine → Kept
@@ -73,6 +77,7 @@ left who room m = (step room.pad who (Some room.visit) Leave m).1
 -- the seat behind its base
 abbrev pub Fits : Seat → Machine → Type 0
 Fits seat m = IsDelivered m.log × Stands m.log seat.tally.last × (seat.base + seat.tally.operations ≤ length m.log)
+    × IsPad m.owned m.replica m.held m.presence
 
 -- a call of a seat: the lock does not know it, and nothing changes; or what the machine's step does at the cell from
 -- some state that fits the seat, which is counted and fits what it leads to
@@ -84,27 +89,54 @@ Called seat who request rooms answer after new =
     × Visited who request rooms old (request_at who request seat.cell rooms old) answer new next
     × (after ≡ seat_after more (edit_of request answer) seat) × Fits after next)
 
--- a seat is just as the lock knows it
-abbrev pub IsOf : Kept → Seat → Type 0
-IsOf k seat = (seat.base ≡ k.base) × (slice_get k.tallies seat.number ≡ Some seat.tally)
+-- a pad can be in this state
+abbrev pub CanBe : Machine → Type 0
+CanBe m = IsDelivered m.log × IsPad m.owned m.replica m.held m.presence
 
--- seats are all that the lock made: as many, with numbers of their own, and each is as the lock knows it
-abbrev pub AreAll : Kept → List Seat → Type 0
-AreAll k seats = (length seats ≡ length k.tallies) × (are_apart seats ≡ true) × AllByRecursion (IsOf k) seats
+-- what a pad tells somebody in a list of pads, in some state that it can have
+abbrev pub IsListing : Who → Option Listed → Type 0
+IsListing who told = (m : Machine) × CanBe m × (told ≡ listing who m)
 
--- what all seats together have done: they have numbers of their own, each is as the lock knows it, and the revision of
--- the pad is the base and their operations
-abbrev pub IsClosed : Kept → List Seat → Sums → Type 0
-IsClosed k seats sums =
-    (are_apart seats ≡ true) × AllByRecursion (IsOf k) seats
+-- a session's departure from a pad, by a seat: the lock did not know the seat, which stays; or the session left the pad
+-- in some state that fits the seat, and the seat counted a call. A call of `SharedPad::depart` alone gives this fact
+pub Departs : Seat → Who → Room → Seat → Type 0
+Departs seat who room after =
+    (after ≡ seat) ⊎ ((m : Machine) × Fits seat m × (after ≡ seat_after 0 None seat) × Fits after (left who room m))
+
+-- a departure that came to one of both
+pub departed : (seat : Seat) (who : Who) (room : Room) (after : Seat) →
+    (after ≡ seat)
+    ⊎ ((m : Machine) × Fits seat m × (after ≡ seat_after 0 None seat) × Fits after (left who room m)) →
+    Departs seat who room after
+unfolding Departs
+departed seat who room after h = h
+
+-- a seat is of this cell, and just as the lock knows it
+abbrev pub IsOf : ℕ → Kept → Seat → Type 0
+IsOf cell k seat = (seat.base ≡ k.base) × (slice_get k.tallies seat.number ≡ Some seat.tally) × (seat.cell ≡ cell)
+
+-- seats are all that the lock made: as many, with numbers of their own, and each is of the cell and as the lock knows it
+abbrev pub AreAll : ℕ → Kept → List Seat → Type 0
+AreAll cell k seats =
+    (length seats ≡ length k.tallies) × (are_apart seats ≡ true) × AllByRecursion (IsOf cell k) seats
+
+-- what all seats together have done: they have numbers of their own, each is of the cell and as the lock knows it, and
+-- the revision of the pad is the base and their operations
+abbrev pub IsClosed : ℕ → Kept → List Seat → Sums → Type 0
+IsClosed cell k seats sums =
+    (are_apart seats ≡ true) × AllByRecursion (IsOf cell k) seats
     × (sums.operations ≡ sum_by (λ seat. seat.tally.operations) seats)
     × (sums.calls ≡ sum_by (λ seat. seat.tally.calls) seats)
     × (length k.pad.log ≡ k.base + sums.operations) × (k.calls ≡ sums.calls)
 
--- a pad is not shared any more: its seats have numbers of their own and one base, and its revision is that base and
--- their operations
-abbrev pub HasClosed : Machine → List Seat → ℕ → ℕ → Type 0
-HasClosed m seats operations calls =
-    (base : ℕ) × (are_apart seats ≡ true) × AllByRecursion (λ seat. seat.base ≡ base) seats
-    × (length m.log ≡ base + operations)
-    × (operations ≡ sum_by (λ seat. seat.tally.operations) seats) × (calls ≡ sum_by (λ seat. seat.tally.calls) seats)
+-- a pad is not shared any more: its seats have numbers of their own, this cell and one base, the last edit of each
+-- stands in its log, and its revision is that base and their operations
+pub record HasClosed (m : Machine) (cell : ℕ) (seats : List Seat) (operations calls : ℕ) : Type 0 where
+  pub base : ℕ
+  pub apart : are_apart seats ≡ true
+  pub placed : AllByRecursion (λ seat. seat.cell ≡ cell) seats
+  pub based : AllByRecursion (λ seat. seat.base ≡ base) seats
+  pub standing : AllByRecursion (λ seat. Stands m.log seat.tally.last) seats
+  pub revision : length m.log ≡ base + operations
+  pub made : operations ≡ sum_by (λ seat. seat.tally.operations) seats
+  pub called : calls ≡ sum_by (λ seat. seat.tally.calls) seats

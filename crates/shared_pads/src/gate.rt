@@ -19,9 +19,9 @@ pub trait Gate {
     /// A request was answered at a cell, whose lock is still held: what is told of a cell comes in the order of its steps.
     fn answered(&self, _alloc: Global, _told: &Answered<'_>) {}
 
-    /// Whether what is answered from now on can be kept. Where it can't, a request that may leave something to be kept is
-    /// refused as 901, before its step.
-    fn keeps(&self, _alloc: Global) -> bool {
+    /// Whether what a request leaves can be kept. Where it can't, one that may leave something is refused as 901, before
+    /// its step.
+    fn keeps(&self, _alloc: Global, _request: &Request) -> bool {
         true
     }
 

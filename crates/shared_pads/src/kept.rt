@@ -1,21 +1,25 @@
 //! What lies under the lock of a shared pad.
-ghost use Rattle.std.specs.Prelude.{◌≡◌, ◌⊎◌, ◌↔◌, ◌≤◌, drop, length, IsTrue, IsSome, IfOk, IfErr, IfSome, OnOk, OnErr, Err, None};
+ghost use Rattle.std.specs.Prelude.{◌≡◌, ◌⊎◌, ◌↔◌, ◌≤◌, drop, length, IsTrue, is_some, IsSome, IfOk, IfErr, IfSome, MatchResult, OnOk, OnErr, Err, None};
 ghost use Rattle.std.specs.List.{AllByRecursion};
 ghost use Rattle.server_core.specs.Rooms.{IsAsked};
+ghost use Rattle.pad_core.specs.Listing.{listing};
 ghost use Rattle.pad_core.specs.Machine.{name_of};
+ghost use Rattle.pad_model.specs.Checked.{is_name};
 ghost use Rattle.shared_pads.specs.declared.seat.TheConstants.{MAX_SEATS};
-ghost use Rattle.shared_pads.specs.Kept.{AreAll, Called, Counts, IsClosed, IsKnown, IsOf, kept_after, left, next_seat, one_more, seat_after, unseated};
+ghost use Rattle.shared_pads.specs.Kept.{AreAll, Called, Counts, Departs, IsClosed, IsKnown, IsListing, IsOf, kept_after, left, next_seat, one_more, seat_after, unseated};
+ghost use Rattle.shared_pads.specs.Seats.{Stands};
 
 use crate::seat::{MAX_SEATS, Seat, Tally, edit_of};
 use crate::sums::{Sums, are_apart, sums_of};
-use pad_core::{Pad, Reply, Request};
+use pad_core::{Listed, Pad, Reply, Request};
 use pad_model::{Name, Op, Refusal, Sequence, Who};
 use server_core::request_at;
 use sessions::{Room, Session};
 use std::alloc::Global;
 use std::marker::Model;
 
-/// A pad, the revision that it had when it came under its lock, and what was counted of each seat.
+/// A pad, the revision that it had when it came under its lock, and what was counted of each seat. It has room for all
+/// seats that it may make.
 #[derive(Drop)]
 pub struct Kept<S: Sequence> {
     pad: Pad<S>,
@@ -25,33 +29,39 @@ pub struct Kept<S: Sequence> {
 }
 
 impl<S: Sequence> Model for Kept<S> {
+    ghost use Rattle.std.specs.Prelude.{vec_capacity};
     ghost use Rattle.shared_pads.specs.Kept.{Kept, IsKept};
 
     ghost Value = { Kept };
 
     ghost view = { λ k. record { pad = k.pad; base = k.base; tallies = k.tallies.items; calls = k.calls } };
 
-    ghost invariant = { λ k. IsKept k.pad.log k.base k.tallies.items k.calls };
+    ghost invariant = { λ k. IsKept k.pad.log k.base k.tallies.items k.calls (vec_capacity k.tallies) };
 }
 
 impl<S: Sequence> Kept<S> {
-    /// A pad that no seat was made for.
-    pub fn new(alloc: Global, pad: Pad<S>) -> Kept<S>
-        ensures { result ≡ unseated pad }
+    /// A pad that no seat was made for. Without memory for the tallies of all seats it is handed back.
+    pub fn new(alloc: Global, pad: Pad<S>) -> Result<Kept<S>, Pad<S>>
+        ensures { MatchResult result (λ kept. kept ≡ unseated pad) (λ back. back ≡ pad) }
     {
-        let base = pad.revision();
-        Kept {
-            pad,
-            base,
-            tallies: Vec::new(alloc),
-            calls: 0,
+        match Vec::with_capacity(alloc, MAX_SEATS as usize) {
+            Ok(tallies) => {
+                let base = pad.revision();
+                Ok(Kept {
+                    pad,
+                    base,
+                    tallies,
+                    calls: 0,
+                })
+            }
+            Err(_) => Err(pad),
         }
     }
 
-    /// A seat with a number of its own, at this cell.
+    /// A seat with a number of its own, at this cell. It takes no memory.
     pub fn seat(&mut self, cell: u32) -> Result<Seat, Refusal>
         ensures gone { (result ≡ Err Refusal.SeatsGone) ↔ (MAX_SEATS ≤ length self.old.tallies) }
-        ensures refusal { IfErr result (λ e. (e ≡ Refusal.SeatsGone) ⊎ (e ≡ Refusal.Memory)) }
+        ensures refusal { IfErr result (λ e. e ≡ Refusal.SeatsGone) }
         ensures refused { OnErr result (self.new ≡ self.old) }
         ensures seat { IfOk result (λ seat. seat ≡ next_seat cell self.old) }
         ensures kept { OnOk result (self.new ≡ one_more self.old) }
@@ -60,7 +70,7 @@ impl<S: Sequence> Kept<S> {
         if number >= MAX_SEATS as usize {
             return Err(Refusal::SeatsGone);
         }
-        self.tallies.push(Tally::new())?;
+        self.tallies.push_reserved(Tally::new());
         Ok(Seat {
             cell,
             number: number as u32,
@@ -71,6 +81,7 @@ impl<S: Sequence> Kept<S> {
 
     /// The leave of a session that ends: it ends a visit where it is present and the session's. It takes no memory.
     pub fn depart(&mut self, seat: &mut Seat, who: &Who, room: &Room)
+        ensures departs { Departs seat.old who.now room.now seat.new }
         ensures seat { (seat.new ≡ seat.old) ⊎ (seat.new ≡ seat_after 0 None seat.old) }
         ensures known { IsKnown self.old seat.old → (seat.new ≡ seat_after 0 None seat.old) × (self.new ≡ kept_after (left who.now room.now self.old.pad) 0 None seat.old self.old) }
         ensures unknown { ¬ IsKnown self.old seat.old → (seat.new ≡ seat.old) × (self.new ≡ self.old) }
@@ -78,7 +89,10 @@ impl<S: Sequence> Kept<S> {
         if !self.knows(seat) {
             return;
         }
+        // The contract of `revision` says what a pad is, before and after.
+        let _before = self.pad.revision();
         self.pad.depart(room.pad.as_str(), who, room.visit);
+        let _after = self.pad.revision();
         let tally = seat.tally.with_departure();
         self.tallies[seat.number as usize] = tally;
         self.calls += 1;
@@ -88,6 +102,7 @@ impl<S: Sequence> Kept<S> {
     /// The name of the pad, if it has one.
     pub fn name(&self, alloc: Global) -> Result<Option<Name>, Refusal>
         ensures name { IfOk result (λ name. name ≡ name_of self.now.pad.owned) }
+        ensures formed { IfOk result (λ name. IfSome name (λ text. IsTrue (is_name text))) }
         ensures refusal { IfErr result (λ e. e ≡ Refusal.Memory) }
     {
         match self.pad.name() {
@@ -96,10 +111,20 @@ impl<S: Sequence> Kept<S> {
         }
     }
 
-    /// What all seats have done, where these are the seats that were made.
-    pub fn sum(&self, seats: &[Seat]) -> Option<Sums>
-        ensures sums { IfSome result (λ sums. IsClosed self.now seats.now sums) }
-        ensures all { IsSome result ↔ AreAll self.now seats.now }
+    /// What the pad tells somebody in a list of pads, if it is to be listed for them.
+    pub fn listing(&self, alloc: Global, who: &Who) -> Result<Option<Listed>, Refusal>
+        ensures exact { MatchResult result (λ told. told ≡ listing who.now self.now.pad) (λ e. (e ≡ Refusal.Memory) × IsTrue (is_some (listing who.now self.now.pad))) }
+        ensures some { IfOk result (IsListing who.now) }
+    {
+        let _revision = self.pad.revision();
+        self.pad.listing(alloc, who)
+    }
+
+    /// What all seats have done, where these are the seats that were made, at this cell.
+    pub fn sum(&self, cell: u32, seats: &[Seat]) -> Option<Sums>
+        ensures sums { IfSome result (λ sums. IsClosed cell self.now seats.now sums) }
+        ensures standing { IfSome result (λ _. AllByRecursion (λ seat. Stands self.now.pad.log seat.tally.last) seats.now) }
+        ensures all { IsSome result ↔ AreAll cell self.now seats.now }
     {
         let revision = self.pad.revision();
         let calls = self.calls;
@@ -108,26 +133,26 @@ impl<S: Sequence> Kept<S> {
         if revision != made || calls != sums.calls {
             return None;
         }
-        if seats.len() != self.tallies.len() || !are_apart(seats) || !self.has_all(seats) {
+        if seats.len() != self.tallies.len() || !are_apart(seats) || !self.has_all(cell, seats) {
             return None;
         }
         Some(sums)
     }
 
-    /// Whether each seat is just as it is known here.
-    fn has_all(&self, seats: &[Seat]) -> bool
-        ensures { IsTrue result ↔ AllByRecursion (IsOf self.now) seats.now }
+    /// Whether each seat is just as it is known here, and of this cell.
+    fn has_all(&self, cell: u32, seats: &[Seat]) -> bool
+        ensures { IsTrue result ↔ AllByRecursion (IsOf cell self.now) seats.now }
     {
         match seats.split_first() {
             None => true,
-            Some((first, rest)) => self.has(first) && self.has_all(rest),
+            Some((first, rest)) => self.has(cell, first) && self.has_all(cell, rest),
         }
     }
 
-    fn has(&self, seat: &Seat) -> bool
-        ensures { IsTrue result ↔ IsOf self.now seat.now }
+    fn has(&self, cell: u32, seat: &Seat) -> bool
+        ensures { IsTrue result ↔ IsOf cell self.now seat.now }
     {
-        if seat.base != self.base {
+        if seat.cell != cell || seat.base != self.base {
             return false;
         }
         match self.tallies.get(seat.number as usize) {

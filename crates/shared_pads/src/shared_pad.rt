@@ -1,13 +1,14 @@
 //! A pad that many threads share, behind its lock.
-ghost use Rattle.std.specs.Prelude.{◌≡◌, ◌⊎◌, ◌↔◌, IsTrue, IfOk, IfErr, None};
+ghost use Rattle.std.specs.Prelude.{◌≡◌, ◌⊎◌, ◌↔◌, IsTrue, IfOk, IfErr, IfSome, MatchResult, None};
+ghost use Rattle.pad_model.specs.Checked.{is_name};
 ghost use Rattle.server_core.specs.Rooms.{IsAsked};
-ghost use Rattle.shared_pads.specs.Kept.{Called, HasClosed, seat_after};
+ghost use Rattle.shared_pads.specs.Kept.{Called, Departs, HasClosed, IsListing, seat_after};
 ghost use Rattle.shared_pads.specs.Seats.{uncounted};
 
 use crate::gate::{Answered, Gate};
 use crate::kept::Kept;
 use crate::seat::Seat;
-use pad_core::{Pad, Reply, Request};
+use pad_core::{Listed, Pad, Reply, Request};
 use pad_model::{Name, Refusal, Sequence, Who};
 use sessions::{Room, Session};
 use std::alloc::Global;
@@ -29,13 +30,16 @@ pub struct SharedPad<S: Sequence> {
 }
 
 impl<S: Sequence> SharedPad<S> {
-    /// Puts a pad behind a lock. It takes no memory.
-    pub fn new(alloc: Global, pad: Pad<S>, cell: u32) -> SharedPad<S>
-        ensures { result.cell ≡ cell }
+    /// Puts a pad behind a lock, with room for what is counted of all seats. Without memory for it the pad is handed back.
+    pub fn new(alloc: Global, pad: Pad<S>, cell: u32) -> Result<SharedPad<S>, Pad<S>>
+        ensures { MatchResult result (λ shared. shared.cell ≡ cell) (λ back. back ≡ pad) }
     {
-        SharedPad {
-            kept: Mutex::new(Kept::new(alloc, pad)),
-            cell,
+        match Kept::new(alloc, pad) {
+            Ok(kept) => Ok(SharedPad {
+                kept: Mutex::new(kept),
+                cell,
+            }),
+            Err(pad) => Err(pad),
         }
     }
 
@@ -53,10 +57,10 @@ impl<S: Sequence> SharedPad<S> {
         seat.cell() == self.cell
     }
 
-    /// One more seat. 317 where 64 were made, and out of memory.
+    /// One more seat. 317 where 64 were made. It takes no memory.
     pub fn seat<R: Wait>(&self, rt: &R) -> Result<Seat, Refusal>
         ensures seat { IfOk result (λ seat. (seat.cell ≡ self.now.cell) × (seat.tally ≡ uncounted)) }
-        ensures refusal { IfErr result (λ e. (e ≡ Refusal.SeatsGone) ⊎ (e ≡ Refusal.Memory)) }
+        ensures refusal { IfErr result (λ e. e ≡ Refusal.SeatsGone) }
     {
         self.kept.lock(rt).seat(self.cell)
     }
@@ -112,7 +116,8 @@ impl<S: Sequence> SharedPad<S> {
         gate: &G,
     )
         requires { seat.old.cell ≡ self.now.cell }
-        ensures { (seat.new ≡ seat.old) ⊎ (seat.new ≡ seat_after 0 None seat.old) }
+        ensures seat { (seat.new ≡ seat.old) ⊎ (seat.new ≡ seat_after 0 None seat.old) }
+        ensures departs { Departs seat.old who.now room.now seat.new }
     {
         let mut kept = self.kept.lock(rt);
         kept.depart(seat, who, room);
@@ -121,20 +126,33 @@ impl<S: Sequence> SharedPad<S> {
 
     /// The name of the pad, if it has one.
     pub fn name<R: Wait>(&self, rt: &R, alloc: Global) -> Result<Option<Name>, Refusal>
-        ensures { IfErr result (λ e. e ≡ Refusal.Memory) }
+        ensures formed { IfOk result (λ name. IfSome name (λ text. IsTrue (is_name text))) }
+        ensures refusal { IfErr result (λ e. e ≡ Refusal.Memory) }
     {
         self.kept.lock(rt).name(alloc)
     }
 
+    /// What the pad tells somebody in a list of pads, if it is to be listed for them. It needs no seat and tells no gate.
+    pub fn listing<R: Wait>(
+        &self,
+        rt: &R,
+        alloc: Global,
+        who: &Who,
+    ) -> Result<Option<Listed>, Refusal>
+        ensures { MatchResult result (IsListing who.now) (λ e. e ≡ Refusal.Memory) }
+    {
+        self.kept.lock(rt).listing(alloc, who)
+    }
+
     /// Ends the sharing, where these are the seats that were made, each once, with their tallies; else all is handed back
-    /// (318).
+    /// (318). A seat of another cell is none of them.
     pub fn close(self, seats: Vec<Seat>) -> Result<Closed<S>, (SharedPad<S>, Vec<Seat>)>
-        ensures closed { IfOk result (λ closed. HasClosed closed.pad seats.items closed.operations closed.calls) }
+        ensures closed { IfOk result (λ closed. HasClosed closed.pad self.cell seats.items closed.operations closed.calls) }
         ensures back { IfErr result (λ back. (back.0.cell ≡ self.cell) × (back.1 ≡ seats)) }
     {
         let SharedPad { kept, cell } = self;
         let kept = kept.into_inner();
-        match kept.sum(seats.as_slice()) {
+        match kept.sum(cell, seats.as_slice()) {
             Some(sums) => Ok(Closed {
                 pad: kept.into_pad(),
                 operations: sums.operations,

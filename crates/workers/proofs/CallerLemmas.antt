@@ -1,11 +1,10 @@
 -- What the crates above need.
-use Rattle.std.proofs.Common.{◌≡◌, ◌⊎◌, inl, inr, ℕ, ◌+◌, Bool, true, false, cond, List, [], ◌∷◌, ◌++◌, length, Option}
-use Rattle.std.proofs.Common.{Some, None, Result, Ok, Err, refl, sym, ap, ◌∙◌, subst}
+use Rattle.std.proofs.Common.{◌≡◌, inl, inr, ℕ, Bool, true, false, List, [], ◌∷◌, ◌++◌, length}
+use Rattle.std.proofs.Common.{Some, Result, Ok, Err, refl, ap, subst}
 use Rattle.std.specs.Prelude.{nat_le}
 use Rattle.std.specs.List.{slice_get}
-use Rattle.pad_model.proofs.Newer.{split}
 use Rattle.pad_model.specs.Answers.{Answers}
-use Rattle.server_core.specs.Actor.{Actor, nobody}
+use Rattle.server_core.specs.Actor.{nobody}
 use Rattle.server_core.specs.Machine.{Server, with_newcomer}
 use Rattle.server_core.specs.declared.limits.TheConstants.{MAX_ACTORS}
 use Rattle.workers.specs.Calls.{IsAtRest}

@@ -77,11 +77,11 @@ search_told X Y Z PeerReply told before start unread unread_then first made made
 search_told X Y Z Memory told (Some other) start unread unread_then first made made_then counted counted_then unwritten
     between unwritten_then old new none cause count same so kept tells = absurd (cc)
 search_told X Y Z Memory told None start unread unread_then first made made_then counted counted_then unwritten between
-    unwritten_then old new none cause count same so kept (inl memory, part, wrote) =
+    unwritten_then old new none cause count same so kept (inl memory) =
     subst (λ f. HasFaultCause {X = X} (Err f) start unread_then first made_then unwritten unwritten_then) (sym memory.0)
     (cause ∙ same, memory.1 ∙ kept)
 search_told X Y Z Memory told None start unread unread_then first made made_then counted counted_then unwritten between
-    unwritten_then old new none cause count same so kept (inr failed, part, wrote) =
+    unwritten_then old new none cause count same so kept (inr failed) =
     subst (λ f. HasFaultCause {X = X} (Err f) start unread_then first made_then unwritten unwritten_then) (sym failed.0)
     (cause ∙ same, failed.1 ∙ ap one_more kept)
 

@@ -1,5 +1,5 @@
 -- What is under way comes to its end.
-use Rattle.std.proofs.Common.{◌≡◌, ◌⊎◌, inl, inr, ℕ, ◌+◌, ◌-◌, ◌<◌, suc, Bool, true, false, ltb, List, [], ◌∷◌, length}
+use Rattle.std.proofs.Common.{◌≡◌, inl, inr, ℕ, ◌+◌, ◌-◌, ◌<◌, true, nat_lt, List, [], ◌∷◌, length}
 use Rattle.std.proofs.Common.{Option, Some, None, Result, Ok, Err, refl, sym, ap, ◌∙◌, subst, arith}
 use Rattle.std.specs.List.{slice_get, slice_set}
 use Rattle.std.proofs.lemmas.Option.{slice_get_within}
@@ -11,14 +11,14 @@ use Rattle.pad_core.specs.declared.reply.Reply.{Reply}
 use Rattle.pad_core.specs.declared.request.Request.{Request}
 use Rattle.server_core.specs.Actor.{Actor}
 use Rattle.server_core.specs.AtCell.{RowAnswer, row_answer}
-use Rattle.server_core.specs.Machine.{Server, server_step, with_actor}
-use Rattle.server_core.specs.Served.{Served, StepFoundNone}
-use Rattle.server_core.specs.Steps.{actor_step, concluded, goes_on, leave_first, left_room, move, scanned}
+use Rattle.server_core.specs.Machine.{Server, with_actor}
+use Rattle.server_core.specs.Served.{Served}
+use Rattle.server_core.specs.Steps.{concluded, goes_on, leave_first, move, scanned}
 use Rattle.server_core.specs.declared.step.Moved.{Moved}
 use Rattle.server_core.specs.declared.step.Moved.TheVariants as moved
 use Rattle.server_core.specs.declared.step.Step.TheVariants.{Move}
 use Rattle.server_core.specs.declared.task.Task.{Task}
-use Rattle.server_core.specs.declared.task.Task.TheVariants.{Resting, Scanning, Leaving}
+use Rattle.server_core.specs.declared.task.Task.TheVariants.{Resting, Scanning, Listing, Leaving}
 use Rattle.server_core.proofs.Lengths.{step-cells}
 use Rattle.server_core.proofs.Served.{told_memory}
 use Rattle.server_core.proofs.Named.{get-set_same}
@@ -59,6 +59,9 @@ move-nears replica accounts Resting a cells e = λ is. cc
 move-nears replica accounts (Scanning request cell) a cells e =
     scan-nears request cell a cells (row_answer a.who request cell a.rooms cells)
     (subst (λ t. length (move t a cells).2 ≡ length cells) e (step-cells replica accounts Move a cells))
+move-nears replica accounts (Listing cell found) a cells e = split (nat_lt (cell + 1) (length cells))
+    (λ goes. let more = ltb-true (cell + 1) (length cells) goes in rw goes (λ _. omega (arith, more)))
+    (λ stops. rw stops (λ is. cc))
 move-nears replica accounts Leaving a cells e = leave-nears a a.rooms cells refl
 
 -- the same of a server's actor

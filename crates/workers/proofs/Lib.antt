@@ -2,8 +2,10 @@
 pub mod CallerLemmas
 pub mod Causes
 pub mod Crews
+pub mod Departures
 pub mod Ends
 pub mod Rests
+pub mod RowListings
 pub mod RowScans
 pub mod Seatings
 pub mod Serving

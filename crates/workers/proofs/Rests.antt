@@ -1,9 +1,8 @@
 -- An actor has nothing under way after an answer.
-use Rattle.std.proofs.Common.{◌≡◌, ◌⊎◌, inl, inr, ℕ, ◌+◌, Bool, true, false, cond, List, [], ◌∷◌, length, Option, Some}
-use Rattle.std.proofs.Common.{None, Result, Ok, Err, refl, sym, ap, ◌∙◌, subst, get_or}
-use Rattle.std.specs.List.{slice_get, slice_set}
-use Rattle.std.proofs.lemmas.Option.{slice_get_within, get_or_from_slice_get}
-use Rattle.std.proofs.lemmas.List.{set-get_or}
+use Rattle.std.proofs.Common.{◌≡◌, inl, inr, ℕ, ◌+◌, true, cond, nat_lt, List, [], ◌∷◌, length, Option, Some}
+use Rattle.std.proofs.Common.{None, Result, Ok, Err, refl, sym, ap, ◌∙◌, subst}
+use Rattle.std.specs.List.{slice_get}
+use Rattle.std.proofs.lemmas.Option.{slice_get_within}
 use Rattle.pad_model.proofs.Newer.{split}
 use Rattle.pad_model.specs.declared.refusal.Refusal.{Refusal}
 use Rattle.pad_model.specs.declared.refusal.Refusal.TheVariants.{Memory}
@@ -13,21 +12,21 @@ use Rattle.pad_core.specs.Machine.{Machine}
 use Rattle.pad_core.specs.declared.reply.Reply.{Reply}
 use Rattle.pad_core.specs.declared.request.Request.{Request}
 use Rattle.pad_core.specs.declared.request.Request.TheVariants as request
-use Rattle.server_core.specs.Actor.{Actor, is_busy, rested, first_cell}
+use Rattle.server_core.specs.Actor.{Actor, is_busy, first_cell}
 use Rattle.server_core.specs.AtCell.{RowAnswer, row_answer}
-use Rattle.server_core.specs.Machine.{Server, server_step, with_actor}
-use Rattle.server_core.specs.Opening.{create_refusal, act_refusal}
-use Rattle.server_core.specs.Served.{Served, StepFoundNone, FoundNone}
-use Rattle.server_core.specs.Steps.{actor_step, ask, begun, concluded, end, ended, goes_on, leave_first, left_room}
-use Rattle.server_core.specs.Steps.{move, opened, scanned, told, unless_busy}
+use Rattle.server_core.specs.Machine.{Server, with_actor}
+use Rattle.server_core.specs.Opening.{create_refusal, pads_refusal, act_refusal}
+use Rattle.server_core.specs.Served.{Served, FoundNone}
+use Rattle.server_core.specs.Steps.{actor_step, ask, begun, concluded, end, ended, goes_on, leave_first, list_begun}
+use Rattle.server_core.specs.Steps.{move, scanned, told, unless_busy}
 use Rattle.server_core.specs.declared.step.Moved.{Moved}
 use Rattle.server_core.specs.declared.step.Moved.TheVariants as moved
 use Rattle.server_core.specs.declared.step.Step.{Step}
 use Rattle.server_core.specs.declared.step.Step.TheVariants.{Ask, Move, Look, Relay, End}
 use Rattle.server_core.specs.declared.task.Task.{Task}
-use Rattle.server_core.specs.declared.task.Task.TheVariants.{Resting, Scanning, Leaving}
+use Rattle.server_core.specs.declared.task.Task.TheVariants.{Resting, Scanning, Listing, Leaving}
 use Rattle.server_core.proofs.Named.{get-set_same}
-use Rattle.workers.specs.Calls.{IsAtRest, IsUnderWay, IsCall, IsAnswer, IsNamed}
+use Rattle.workers.specs.Calls.{IsAtRest, IsUnderWay, IsCall, IsAnswer}
 
 -- after what was told an actor rests, or something is under way
 abbrev pub Leaves : Moved → Actor → Type 0
@@ -50,12 +49,17 @@ begun-leaves : (asked : Request) (cell : ℕ) (a : Actor) (o : Option Refusal) �
 begun-leaves asked cell a None rest = refl
 begun-leaves asked cell a (Some refusal) rest = rest
 
+list-leaves : (a : Actor) (o : Option Refusal) → a.task ≡ Resting → Leaves (list_begun a o).0 (list_begun a o).1
+list-leaves a None rest = refl
+list-leaves a (Some refusal) rest = rest
+
 ask-leaves : (replica : ℕ) (accounts : Accounts) (asked : Request) (a : Actor) → a.task ≡ Resting →
     Leaves (ask replica accounts asked a).0 (ask replica accounts asked a).1
 ask-leaves replica accounts (request.Hello name token) a rest = told-leaves _ _ rest
 ask-leaves replica accounts (request.Peer number token version) a rest = told-leaves _ _ rest
 ask-leaves replica accounts (request.Create name) a rest = begun-leaves (request.Create name)
     (first_cell name a.rooms) a (create_refusal a.who name) rest
+ask-leaves replica accounts request.Pads a rest = list-leaves a (pads_refusal a.who) rest
 ask-leaves replica accounts (request.On name act) a rest = begun-leaves (request.On name act)
     (first_cell name a.rooms) a (act_refusal a.who name act) rest
 
@@ -103,6 +107,7 @@ move-leaves : (task : Task) (a : Actor) (cells : List Machine) → is_busy task 
     Leaves (move task a cells).0 (move task a cells).1
 move-leaves Resting a cells busy = cc
 move-leaves (Scanning asked cell) a cells busy = scan-leaves asked cell a (row_answer a.who asked cell a.rooms cells)
+move-leaves (Listing cell found) a cells busy = split (nat_lt (cell + 1) (length cells)) (λ e. rw e refl) (λ e. rw e refl)
 move-leaves Leaving a cells busy = leave-leaves a a.rooms cells
 
 -- a step leaves at the server's actor what it leaves at the actor
@@ -122,12 +127,15 @@ none_leaves : (step : Step) (task : Task) (a : Actor) (cells : List Machine) (ex
     (answer ≡ moved.Refused Memory) × (new.task ≡ Resting)
 none_leaves (Ask asked) Resting a cells expected answer new after is h = (h.0, ap (λ (b : Actor). b.task) h.1 ∙ is)
 none_leaves (Ask asked) (Scanning request cell) a cells expected answer new after is h = absurd h
+none_leaves (Ask asked) (Listing at found) a cells expected answer new after is h = absurd h
 none_leaves (Ask asked) Leaving a cells expected answer new after is h = absurd h
 none_leaves Move Resting a cells expected answer new after is h = absurd h
 none_leaves Move (Scanning request cell) a cells expected answer new after is h = (h.0, ap (λ (b : Actor). b.task) h.1)
+none_leaves Move (Listing cell found) a cells expected answer new after is h = (h.0, ap (λ (b : Actor). b.task) h.1)
 none_leaves Move Leaving a cells expected answer new after is h = absurd h
 none_leaves (Look cell) Resting a cells expected answer new after is h = (h.0, ap (λ (b : Actor). b.task) h.1 ∙ is)
 none_leaves (Look cell) (Scanning request at) a cells expected answer new after is h = absurd h
+none_leaves (Look cell) (Listing at found) a cells expected answer new after is h = absurd h
 none_leaves (Look cell) Leaving a cells expected answer new after is h = absurd h
 none_leaves (Relay number) task a cells expected answer new after is h = absurd h
 none_leaves End task a cells expected answer new after is h = absurd h
@@ -163,3 +171,34 @@ rests actor (moved.Done reply) new not leaves = (tt, leaves)
 rests actor (moved.Refused refusal) new not leaves = (tt, leaves)
 rests actor moved.Idle new not leaves = absurd leaves.2
 rests actor (moved.Named name) new not leaves = absurd leaves.2
+
+-- a look leaves the actor as it is
+look_keeps : (replica : ℕ) (accounts : Accounts) (cell : ℕ) (a : Actor) (cells : List Machine) →
+    (actor_step replica accounts (Look cell) a cells).1 ≡ a
+look_keeps replica accounts cell a cells = split (is_busy a.task) (λ e. rw e refl) (λ e. rw e refl)
+
+put_rest : (s new : Server) (actor : ℕ) (a : Actor) (done : Moved × Actor × List Machine) (answer : Moved) →
+    slice_get s.actors actor ≡ Some a → with_actor actor s done ≡ (answer, new) → done.1.task ≡ Resting →
+    IsAtRest new actor
+put_rest s new actor a done answer is step rest =
+    subst (λ d. IsAtRest d.1 actor) step (
+      done.1,
+      get-set_same s.actors actor done.1 (slice_get_within s.actors actor a is),
+      rest,
+    )
+
+looked : (s new : Server) (actor cell : ℕ) (a : Actor) (answer : Moved) → slice_get s.actors actor ≡ Some a →
+    a.task ≡ Resting → Served s actor (Look cell) answer new → IsAtRest new actor
+looked s new actor cell a answer is rest (inl e) =
+    put_rest s new actor a (actor_step s.replica s.accounts (Look cell) a s.cells) answer is (rw is at e)
+    (ap (λ (b : Actor). b.task) (look_keeps s.replica s.accounts cell a s.cells) ∙ rest)
+looked s new actor cell a answer is rest (inr h) =
+    let found = rw is at h in
+    let so = none_leaves (Look cell) a.task a s.cells (actor_step s.replica s.accounts (Look cell) a s.cells).0 answer
+    found.0 found.1 refl found.2 in
+    put_rest s new actor a (answer, found.0, found.1) answer is found.3 so.1
+
+-- after a look the actor has nothing under way
+pub looks_rest : (s new : Server) (actor cell : ℕ) (answer : Moved) → IsAtRest s actor →
+    Served s actor (Look cell) answer new → IsAtRest new actor
+looks_rest s new actor cell answer rest served = looked s new actor cell rest.0 answer rest.1 rest.2 served

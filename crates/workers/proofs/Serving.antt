@@ -16,7 +16,7 @@ use Rattle.wire_lines.specs.Served.{lines, is_cut}
 use Rattle.wire_lines.specs.declared.buffer.Found.TheVariants as found
 use Rattle.wire_lines.proofs.InOrder.{lines_in_order}
 use Rattle.workers.specs.Session.{Answer, Serves, ServesSome, texts, no_memory, IsWhole, IsFront, IsBefore}
-use Rattle.workers.specs.Connection.{ServesOne, ServesAll, BreaksOff, ServesRead, TellsFault}
+use Rattle.workers.specs.Connection.{ServesOne, ServesAll, BreaksOff, RunsOut, ServesRead, TellsFault}
 use Rattle.std.specs.Prelude.{sum_by}
 use Rattle.std.proofs.lemmas.List.Sums.{sum_by-append}
 use Rattle.workers.specs.Delivered.{IsCount, Tells, counted, delivered_of, up_to}
@@ -206,6 +206,21 @@ module _ {P : Type 0} (calls : P → Request → Answer → P → Type 0) (old n
           (whole_text (texts so.answers) before after so.written),
     )
 
+    -- that there is no memory for a line is told, or a front of it is
+    memory_told : (count : ℕ) (last : Option (List ℕ)) → Appends after last (take count (line_of (Err Refusal.Memory))) →
+        BreaksOff calls old known before last now
+    memory_told count last wrote = (
+      so.asked,
+      so.answers,
+      no_memory,
+      length (texts so.answers) + count,
+      so.serves,
+      front_told known left so.asked so.stays,
+      subst (λ t. Appends before last (take (length (texts so.answers) + count) t))
+          (sym (texts-append so.answers no_memory ∙ ap (λ t. texts so.answers ++ t) (text_of_one (Err Refusal.Memory))))
+          (front_text (texts so.answers) (line_of (Err Refusal.Memory)) count before after last so.written wrote),
+    )
+
     -- no line is found, and that is told where memory ran out
     pub told_off : (fault told : Fault) (failed failed_then : ℕ) (last : Option (List ℕ)) →
         TellsFault fault told failed failed_then after last → BreaksOff calls old known before last now
@@ -215,16 +230,27 @@ module _ {P : Type 0} (calls : P → Request → Answer → P → Type 0) (old n
         (sym tells.2) breaks_off
     told_off PeerReply told failed failed_then last tells = subst (λ l. BreaksOff calls old known before l now)
         (sym tells.2) breaks_off
-    told_off Memory told failed failed_then last tells = (
+    told_off Memory told failed failed_then last (inl (memory, none, wrote)) =
+        memory_told (length (line_of (Err Refusal.Memory))) last
+        (whole_text (line_of (Err Refusal.Memory)) after last wrote)
+    told_off Memory told failed failed_then last (inr (write, more, count, wrote)) = memory_told count last wrote
+
+    -- no line is found where memory ran out, and that was told whole
+    pub runs_out : (fault told : Fault) (failed failed_then : ℕ) (last : Option (List ℕ)) →
+        TellsFault fault told failed failed_then after last → told ≡ Memory → RunsOut calls old known before last now
+    runs_out ReadFault told failed failed_then last tells memory = let same : told ≡ ReadFault = tells.0 in absurd (cc)
+    runs_out WriteFault told failed failed_then last tells memory = let same : told ≡ WriteFault = tells.0 in
+        absurd (cc)
+    runs_out PeerReply told failed failed_then last tells memory = let same : told ≡ PeerReply = tells.0 in absurd (cc)
+    runs_out Memory told failed failed_then last (inr (write, none, count, more)) memory = absurd (cc)
+    runs_out Memory told failed failed_then last (inl (same, none, wrote)) memory = (
       so.asked,
       so.answers,
-      no_memory,
-      length (texts so.answers) + tells.1,
       so.serves,
       front_told known left so.asked so.stays,
-      subst (λ t. Appends before last (take (length (texts so.answers) + tells.1) t))
+      subst (λ t. Appends before last t)
           (sym (texts-append so.answers no_memory ∙ ap (λ t. texts so.answers ++ t) (text_of_one (Err Refusal.Memory))))
-          (front_text (texts so.answers) (line_of (Err Refusal.Memory)) tells.1 before after last so.written tells.2),
+          (Appends-trans before after last (texts so.answers) (line_of (Err Refusal.Memory)) so.written wrote),
     )
 
     -- no line is found in what was read

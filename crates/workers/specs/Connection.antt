@@ -11,7 +11,7 @@ use Rattle.wire_lines.specs.declared.fault.Fault.TheVariants.{ReadFault, WriteFa
 use Rattle.wire_lines.specs.Lines.{line_end}
 use Rattle.workers.specs.Delivered.{IsCount, Tells, delivered_of}
 use Rattle.workers.specs.declared.connection.Served.{Served}
-use Rattle.workers.specs.Session.{Answer, IsTold, texts, Serves, IsWhole, IsFront, IsBefore}
+use Rattle.workers.specs.Session.{Answer, IsTold, texts, Serves, IsWhole, IsFront, IsBefore, no_memory}
 
 -- a writer failed where the fault is its, and else it has not
 abbrev pub HasWriteCause : {X : Type 0} → Result X Fault → ℕ → ℕ → Type 0
@@ -35,11 +35,12 @@ HasFaultCause (Err PeerReply) unread unread_then made made_then unwritten unwrit
 HasFaultCause (Err Memory) unread unread_then made made_then unwritten unwritten_then = (unread_then ≡ unread)
     × (unwritten_then ≡ unwritten)
 
--- the fault of running out of memory is told; any fault stays the result, unless the writer fails
+-- the fault of running out of memory is told, whole unless the writer fails; any other fault stays, and nothing is told
 abbrev pub TellsFault : Fault → Fault → ℕ → ℕ → Option (List ℕ) → Option (List ℕ) → Type 0
 TellsFault Memory told old new before after =
-    (((told ≡ Memory) × (new ≡ old)) ⊎ ((told ≡ WriteFault) × (new ≡ one_more old))) × (count : ℕ)
-    × Appends before after (take count (line_of (Err Refusal.Memory)))
+    ((told ≡ Memory) × (new ≡ old) × Appends before after (line_of (Err Refusal.Memory)))
+    ⊎ ((told ≡ WriteFault) × (new ≡ one_more old) × (count : ℕ)
+    × Appends before after (take count (line_of (Err Refusal.Memory))))
 TellsFault fault told old new before after = (told ≡ fault) × (new ≡ old) × (after ≡ before)
 
 -- an answer was told so, whole, and tells of so many operations
@@ -76,6 +77,13 @@ module _ {P : Type 0} (calls : P → Request → Answer → P → Type 0) where
       (asked : List (List ℕ)) × (answers tail : List Answer) × (count : ℕ) × Serves calls old asked answers new
       × IsFront known asked tail
       × Appends before after (take count (texts (answers ++ tail)))
+
+  -- the first lines were answered, and all answers were written, and then that there is no memory for the next line
+  abbrev pub RunsOut : P → Option (List ℕ) → Option (List ℕ) → Option (List ℕ) → P → Type 0
+  RunsOut old known before after new =
+      (asked : List (List ℕ)) × (answers : List Answer) × Serves calls old asked answers new
+      × IsFront known asked no_memory
+      × Appends before after (texts (answers ++ no_memory))
 
   -- each line whose line feed was read was answered, and all answers were written
   abbrev pub ServesRead : P → Option (List ℕ) → Option (List ℕ) → Option (List ℕ) → Option (List ℕ) → P → Type 0

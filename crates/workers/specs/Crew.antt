@@ -1,28 +1,33 @@
 -- What a thread that serves connections does with its seats.
-use Rattle.std.specs.Prelude.{◌≡◌, ◌<◌, ◌⊎◌, ℕ, zero, suc, List, [], ◌∷◌, length, Some, None, Vec}
+use Rattle.std.specs.Prelude.{◌≡◌, ◌<◌, ◌⊎◌, ℕ, zero, suc, List, [], ◌∷◌, length, Some, Vec}
 use Rattle.std.specs.Prelude.{slice_get, slice_set, slice_index_or}
 use Rattle.std.specs.declared.alloc.Global.{Global}
+use Rattle.pad_model.specs.declared.who.Who.{Who}
 use Rattle.pad_model.specs.declared.who.Who.TheVariants.{Nobody}
 use Rattle.sessions.specs.declared.session.Room.{Room}
 use Rattle.pad_core.specs.declared.request.Request.{Request}
-use Rattle.shared_pads.specs.Kept.{seat_after}
+use Rattle.shared_pads.specs.Kept.{Departs}
 use Rattle.shared_pads.specs.declared.seat.Seat.{Seat}
 use Rattle.workers.specs.Row.{RowAsked}
+use Rattle.workers.specs.Seating.{cells_in}
 use Rattle.workers.specs.Session.{Answer, Serves}
 use Rattle.workers.specs.declared.row.Row.{Row}
 use Rattle.workers.specs.declared.shared.Shared.{Shared}
 
--- the seat at the cell of a room made one more call or none; or there is no seat of that cell
-abbrev pub LeavesRoom : Room → List Seat → List Seat → Type 0
-LeavesRoom room old new =
-    (new ≡ old)
-    ⊎ ((seat after : Seat) × (slice_get old room.cell ≡ Some seat) × ((after ≡ seat) ⊎ (after ≡ seat_after 0 None seat))
-    × (new ≡ slice_set old room.cell after))
+-- a session of this author left the pad of a room, by the seat that the thread has at the room's cell; or it has none
+-- there, and its seats stay
+abbrev pub LeavesRoom : List ℕ → Who → Room → List Seat → List Seat → Type 0
+LeavesRoom cells who room old new =
+    ((seat after : Seat) × (slice_get old room.cell ≡ Some seat) × (slice_get cells room.cell ≡ Some seat.cell)
+    × Departs seat who room after × (new ≡ slice_set old room.cell after))
+    ⊎ (((seat : Seat) → slice_get old room.cell ≡ Some seat → slice_get cells room.cell ≡ Some seat.cell → ⊥)
+    × (new ≡ old))
 
--- rooms were left, one after the other
-abbrev pub LeavesRooms : List Room → List Seat → List Seat → Type 0
-LeavesRooms [] old new = new ≡ old
-LeavesRooms (room ∷ rooms) old new = (mid : List Seat) × LeavesRoom room old mid × LeavesRooms rooms mid new
+-- the pads of all rooms were left so, one after the other
+abbrev pub LeavesRooms : List ℕ → Who → List Room → List Seat → List Seat → Type 0
+LeavesRooms cells who [] old new = new ≡ old
+LeavesRooms cells who (room ∷ rooms) old new = (mid : List Seat) × LeavesRoom cells who room old mid
+    × LeavesRooms cells who rooms mid new
 
 module _ {P : Type 0} (calls : P → Request → Answer → P → Type 0) (ends : P → P → Type 0) where
   -- a connection was served: lines were answered one after the other, and then the session was ended
@@ -48,11 +53,11 @@ module _ {S R G : Type 0} where
       (record { rooms = old.session.rooms; seats = old.seats.items })
       request answer new.session.who (record { rooms = new.session.rooms; seats = new.seats.items })
 
-  -- the end of a thread's session: it leaves its rooms, and is nobody's then
+  -- the end of a thread's session: as the author that it was it leaves its rooms, and is nobody's then
   abbrev pub EndsRow : Shared S R G → Shared S R G → Type 0
   EndsRow old new =
       (new.row ≡ old.row) × (new.session.who ≡ Nobody) × (new.session.rooms ≡ [])
-      × LeavesRooms old.session.rooms old.seats.items new.seats.items
+      × LeavesRooms (cells_in old.row.now.cells.now) old.session.who old.session.rooms old.seats.items new.seats.items
 
   -- a thread's part of a pool: with these seats and a session that is nobody's it served some connections of the row,
   -- one after the other

@@ -1,5 +1,5 @@
 -- How many operations an answer tells of as delivered, and how many all do.
-use Rattle.std.specs.Prelude.{◌≡◌, ℕ, ◌+◌, ◌-◌, ◌^◌, min, List, [], ◌∷◌, length, sum_by, Option, None, Some, Result, Ok}
+use Rattle.std.specs.Prelude.{◌≡◌, ℕ, ◌+◌, ◌-◌, ◌^◌, min, List, [], ◌∷◌, length, sum_by, Option, None, Some, Ok}
 use Rattle.std.specs.Prelude.{Err}
 use Rattle.pad_core.specs.declared.reply.Pushed.TheVariants as pushed
 use Rattle.pad_core.specs.declared.reply.PadReply.{PadReply}

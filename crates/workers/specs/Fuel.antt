@@ -4,12 +4,13 @@ use Rattle.pad_core.specs.Machine.{Machine}
 use Rattle.server_core.specs.Actor.{Actor}
 use Rattle.server_core.specs.Machine.{Server}
 use Rattle.server_core.specs.declared.task.Task.{Task}
-use Rattle.server_core.specs.declared.task.Task.TheVariants.{Resting, Scanning, Leaving}
+use Rattle.server_core.specs.declared.task.Task.TheVariants.{Resting, Scanning, Listing, Leaving}
 
 -- the cells that a task has before it, or the pads that it has still to leave
 abbrev pub task_left : Task → Actor → List Machine → ℕ
 task_left Resting a cells = 0
 task_left (Scanning request cell) a cells = length cells - cell
+task_left (Listing cell found) a cells = length cells - cell
 task_left Leaving a cells = length a.rooms
 
 -- the same of an actor, if it was opened

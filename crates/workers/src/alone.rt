@@ -1,5 +1,6 @@
 //! A server that one thread has alone, and one of its actors.
-ghost use Rattle.std.specs.Prelude.{◌≡◌, length};
+ghost use Rattle.std.specs.Prelude.{◌≡◌, length, IsTrue, IfOk, IfSome};
+ghost use Rattle.pad_model.specs.Checked.{is_name};
 ghost use Rattle.server_core.specs.Steps.{told};
 ghost use Rattle.workers.specs.Calls.{IsAtRest, IsAnswer, IsNamed, Asks, Relays, Ends, Looks, named};
 
@@ -69,7 +70,7 @@ impl<S: Sequence> Pads for Alone<S> {
 
     ghost ends = { λ old new. Ends old new };
 
-    ghost names = { λ old cell answer new. Looks old cell answer new };
+    ghost names = { λ old cell answer new. Looks old cell answer new × IfOk answer (λ name. IfSome name (λ text. IsTrue (is_name text))) };
 
     ghost width = { λ a. length a.server.cells };
 

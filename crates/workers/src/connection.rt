@@ -2,9 +2,9 @@
 ghost use Rattle.std.specs.Prelude.{◌≡◌, [], ◌∷◌, Err, IfOk, OnErr};
 ghost use Rattle.wire_json.specs.Lines.{request};
 ghost use Rattle.wire_json.specs.Reading.{IsLine};
-ghost use Rattle.wire_lines.specs.declared.fault.Fault.TheVariants.{ReadFault};
+ghost use Rattle.wire_lines.specs.declared.fault.Fault.TheVariants.{Memory, ReadFault};
 ghost use Rattle.workers.specs.Session.{Hears, ServesSome};
-ghost use Rattle.workers.specs.Connection.{ServesAll, ServesOne, BreaksOff, ServesRead, HasFaultCause, HasWriteCause, TellsFault, ThenEnds, WritesAnswer, WritesPart};
+ghost use Rattle.workers.specs.Connection.{ServesAll, ServesOne, BreaksOff, ServesRead, HasFaultCause, HasWriteCause, RunsOut, TellsFault, ThenEnds, WritesAnswer, WritesPart};
 
 use crate::delivered::delivered_by;
 use crate::pads::Pads;
@@ -15,7 +15,7 @@ use std::alloc::Global;
 use wire_json::{memory_line, read_request, reply_line, too_long_line};
 use wire_lines::{Fault, Found, LineBuffer, Sink, Source, write_all};
 
-/// The bytes of a line from which on it is long: a gate is told before it is read, and after.
+/// A longer line is long: the gate is called before and after it is parsed.
 pub const LONG_LINE: usize = 65_536;
 
 /// What a connection came to.
@@ -69,6 +69,11 @@ pub fn serve_connection<P: Pads, R: Source, W: Sink, G: Gate>(
         (W.contents writer.old) (W.contents writer.new))
         P.ends pads.new }
 
+    // Where memory ran out, all answers so far were written, and then the line that says so.
+    ensures memory { result ≡ Err Memory → ThenEnds
+        (RunsOut P.calls pads.old (R.remaining reader.old) (W.contents writer.old) (W.contents writer.new))
+        P.ends pads.new }
+
     // Which fault it is, the devices tell.
     ensures cause { HasFaultCause result (R.failures reader.old) (R.failures reader.new) (R.reads reader.old) (R.reads reader.new)
         (W.failures writer.old) (W.failures writer.new) }
@@ -92,6 +97,8 @@ fn serve_lines<P: Pads, R: Source, W: Sink, G: Gate>(
     ensures fault { OnErr result (BreaksOff P.calls pads.old (R.remaining reader.old)
         (W.contents writer.old) (W.contents writer.new) pads.new) }
     ensures unread { result ≡ Err ReadFault → ServesRead P.calls pads.old (R.remaining reader.old) (R.remaining reader.new)
+        (W.contents writer.old) (W.contents writer.new) pads.new }
+    ensures memory { result ≡ Err Memory → RunsOut P.calls pads.old (R.remaining reader.old)
         (W.contents writer.old) (W.contents writer.new) pads.new }
 
     // Which fault it is, the devices tell.

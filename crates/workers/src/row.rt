@@ -1,13 +1,16 @@
 //! A row of shared pads, as a session asks it.
-ghost use Rattle.std.specs.Prelude.{◌≡◌, ◌≤◌, [], length, vec_len, IfOk, IfErr};
+ghost use Rattle.std.specs.Prelude.{◌≡◌, ◌≤◌, [], length, IsTrue, IfOk, IfErr, IfSome};
+ghost use Rattle.std.specs.List.{range_with_len};
+ghost use Rattle.pad_model.specs.Checked.{is_name};
 ghost use Rattle.server_core.specs.Rooms.{IsAsked};
 ghost use Rattle.workers.specs.Crew.{LeavesRoom, LeavesRooms};
-ghost use Rattle.workers.specs.Row.{RowAsked, Scans, Seeks, VisitsAt};
+ghost use Rattle.workers.specs.Row.{ListsRow, RowAsked, Scans, Seeks, VisitsAt};
+ghost use Rattle.workers.specs.Seating.{cells_in};
 
 use pad_core::{Pad, Reply, Request};
-use pad_model::{Name, Refusal, Sequence};
+use pad_model::{Name, Refusal, Sequence, Who};
 use records::leaves_records;
-use server_core::{act_refusal, create_refusal, first_cell, hello, past_row, peer};
+use server_core::{act_refusal, create_refusal, first_cell, hello, pads_refusal, past_row, peer};
 use sessions::{Accounts, Room, Session};
 use shared_pads::{Gate, Seat, SharedPad};
 use std::alloc::Global;
@@ -20,12 +23,15 @@ pub fn open_row<S: Sequence>(
     cells: u32,
 ) -> Result<Vec<SharedPad<S>>, Refusal>
     requires replica { 1 ≤ replica }
-    ensures count { IfOk result (λ row. vec_len row ≡ cells) }
+    ensures cells { IfOk result (λ row. cells_in row.items ≡ range_with_len 0 cells) }
     ensures memory { IfErr result (λ e. e ≡ Refusal.Memory) }
 {
     let mut row = Vec::new(alloc);
     for cell in 0..cells {
-        row.push(SharedPad::new(alloc, Pad::new(alloc, replica)?, cell))?;
+        let Ok(pad) = SharedPad::new(alloc, Pad::new(alloc, replica)?, cell) else {
+            return Err(Refusal::Memory);
+        };
+        row.push(pad)?;
     }
     Ok(row)
 }
@@ -75,11 +81,28 @@ impl<'a, S: Sequence, R: Wait, G: Gate> Row<'a, S, R, G> {
                 Some(refusal) => Err(refusal),
                 None => self.search(alloc, seats, session, first_cell(session, pad), request),
             },
+            Request::Pads => match pads_refusal(session.who()) {
+                Some(refusal) => Err(refusal),
+                None => self.list(alloc, session.who()),
+            },
             Request::On { pad, act } => match act_refusal(session.who(), pad, act) {
                 Some(refusal) => Err(refusal),
                 None => self.search(alloc, seats, session, first_cell(session, pad), request),
             },
         }
+    }
+
+    /// The pads that somebody may read, one cell after the other.
+    fn list(&self, alloc: Global, who: &Who) -> Result<Reply, Refusal>
+        ensures { ListsRow (length self.now.cells.now) who.now result }
+    {
+        let mut pads = pad_model::Row::new(alloc);
+        for cell in self.cells {
+            if let Some(listed) = cell.listing(self.rt, alloc, who)? {
+                pads.push(listed)?;
+            }
+        }
+        Ok(Reply::Pads { pads })
     }
 
     /// A scan, unless the request may leave what cannot be kept.
@@ -95,7 +118,7 @@ impl<'a, S: Sequence, R: Wait, G: Gate> Row<'a, S, R, G> {
         ensures who { session.new.who ≡ session.old.who }
         ensures seeks { Seeks (length self.now.cells.now) start session.old.who request.now (record { rooms = session.old.rooms; seats = seats.old.items }) result (record { rooms = session.new.rooms; seats = seats.new.items }) }
     {
-        if leaves_records(request) && !self.gate.keeps(alloc) {
+        if leaves_records(request) && !self.gate.keeps(alloc, request) {
             return Err(Refusal::StoreFull);
         }
         self.scan(alloc, seats, session, start, request)
@@ -159,7 +182,7 @@ impl<'a, S: Sequence, R: Wait, G: Gate> Row<'a, S, R, G> {
     pub fn leave_all(&self, seats: &mut Vec<Seat>, session: &mut Session)
         ensures who { session.new.who ≡ session.old.who }
         ensures rooms { session.new.rooms ≡ [] }
-        ensures left { LeavesRooms session.old.rooms seats.old.items seats.new.items }
+        ensures left { LeavesRooms (cells_in self.now.cells.now) session.old.who session.old.rooms seats.old.items seats.new.items }
     {
         while let Some(room) = session.take_first() {
             self.leave(seats, session, &room);
@@ -168,7 +191,7 @@ impl<'a, S: Sequence, R: Wait, G: Gate> Row<'a, S, R, G> {
 
     /// A session leaves one pad.
     fn leave(&self, seats: &mut Vec<Seat>, session: &Session, room: &Room)
-        ensures { LeavesRoom room.now seats.old.items seats.new.items }
+        ensures { LeavesRoom (cells_in self.now.cells.now) session.now.who room.now seats.old.items seats.new.items }
     {
         let place = room.cell as usize;
         if place >= self.cells.len() || place >= seats.len() {
@@ -182,7 +205,8 @@ impl<'a, S: Sequence, R: Wait, G: Gate> Row<'a, S, R, G> {
 
     /// The name of a cell, if it has one.
     pub fn name_of(&self, alloc: Global, cell: u32) -> Result<Option<Name>, Refusal>
-        ensures { IfErr result (λ e. e ≡ Refusal.Memory) }
+        ensures formed { IfOk result (λ name. IfSome name (λ text. IsTrue (is_name text))) }
+        ensures refusal { IfErr result (λ e. e ≡ Refusal.Memory) }
     {
         let place = cell as usize;
         if place >= self.cells.len() {

@@ -1,6 +1,6 @@
 //! Seats for the threads of a server, made before any of them starts.
-ghost use Rattle.std.specs.Prelude.{◌≡◌, ◌⊎◌, ◌+◌, vec_len, OnOk, IfErr};
-ghost use Rattle.workers.specs.Seating.{TakesSeats};
+ghost use Rattle.std.specs.Prelude.{◌≡◌, ◌⊎◌, IfErr};
+ghost use Rattle.workers.specs.Seating.{TakesAllSeats, TakesSeats};
 
 use pad_model::{Refusal, Sequence};
 use shared_pads::{Seat, SharedPad};
@@ -27,7 +27,8 @@ pub fn take_seats<S: Sequence, R: Wait>(
 
 /// Such seats for each of so many threads, behind those that are there.
 ///
-/// 317 where a pad has made all its seats, and out of memory. The seats that were made before that are there then.
+/// 317 where a pad has made all its seats, and out of memory. The seats that were made before that are there then, those
+/// of the thread that could not have all of them too.
 pub fn take_all_seats<S: Sequence, R: Wait>(
     rt: &R,
     alloc: Global,
@@ -35,7 +36,7 @@ pub fn take_all_seats<S: Sequence, R: Wait>(
     threads: u32,
     crew: &mut Vec<Vec<Seat>>,
 ) -> Result<(), Refusal>
-    ensures crew { OnOk result (vec_len crew.new ≡ vec_len crew.old + threads) }
+    ensures crew { TakesAllSeats cells.now threads crew.old.items result crew.new.items }
     ensures refusal { IfErr result (λ e. (e ≡ Refusal.SeatsGone) ⊎ (e ≡ Refusal.Memory)) }
 {
     for _thread in 0..threads {

@@ -1,6 +1,6 @@
 //! An actor's step, and the moves that follow it until nothing is under way.
 ghost use Rattle.std.specs.Prelude.{◌≡◌};
-ghost use Rattle.server_core.specs.Served.{Served};
+ghost use Rattle.server_core.specs.Served.{IsFormed, Served};
 ghost use Rattle.server_core.specs.declared.step.Step.TheVariants.{Ask, Look};
 ghost use Rattle.workers.specs.Calls.{IsAtRest, IsUnderWay, IsCall, IsAnswer, IsNamed, Made, Finishes};
 
@@ -60,6 +60,7 @@ pub fn look<S: Sequence>(alloc: Global, server: &mut Server<S>, actor: u32, cell
     requires { IsAtRest server.old actor }
     ensures looks { Served server.old actor (Look cell) result server.new }
     ensures named { IsNamed result }
+    ensures formed { IsFormed result }
     ensures rest { IsAtRest server.new actor }
 {
     server.step(alloc, actor, &Step::Look(cell))

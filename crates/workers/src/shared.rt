@@ -1,5 +1,6 @@
 //! A thread's seats at a row of shared pads, with one session at a time.
-ghost use Rattle.std.specs.Prelude.{◌≡◌, ◌-◌, ◌^◌, length, min, IfErr};
+ghost use Rattle.std.specs.Prelude.{◌≡◌, ◌-◌, ◌^◌, length, min, IsTrue, IfErr, IfOk, IfSome};
+ghost use Rattle.pad_model.specs.Checked.{is_name};
 ghost use Rattle.pad_model.specs.declared.refusal.Refusal.TheVariants as refusal;
 ghost use Rattle.server_core.specs.Opening.{relay as relay_opened};
 ghost use Rattle.workers.specs.Crew.{CallsRow, EndsRow};
@@ -52,7 +53,7 @@ impl<'a, S: Sequence, R: Wait, G: Gate> Pads for Shared<'a, S, R, G> {
 
     ghost ends = { λ old new. EndsRow old new };
 
-    ghost names = { λ old cell answer new. (new ≡ old) × IfErr answer (λ e. e ≡ refusal.Memory) };
+    ghost names = { λ old cell answer new. (new ≡ old) × IfOk answer (λ name. IfSome name (λ text. IsTrue (is_name text))) × IfErr answer (λ e. e ≡ refusal.Memory) };
 
     ghost width = { λ s. min (length s.row.now.cells.now) (2 ^ 32 - 1) };
 

@@ -11,5 +11,8 @@ returns-clause-fault c = grind (arith, common_steps)
 pub returns-clause-unread : goal.returns-clause-unread
 returns-clause-unread c = grind (arith, common_steps)
 
+pub returns-clause-memory : goal.returns-clause-memory
+returns-clause-memory c = grind (arith, common_steps)
+
 pub returns-clause-cause : goal.returns-clause-cause
 returns-clause-cause c = grind (arith, common_steps)

@@ -1,13 +1,18 @@
-use Rattle.std.proofs.Common.{ℕ, Option, ap, ◌∙◌, refl, subst, sym, take}
+use Rattle.std.proofs.Common.{◌≡◌, ℕ, Option, Result, Err, ap, ◌∙◌, refl, subst, sym, take}
 use Rattle.std.specs.Io.KnownBytes.{Appends}
 use Rattle.wire_lines.specs.Buffer.{ahead}
 use Rattle.wire_lines.specs.Causes.{with_more}
 use Rattle.wire_lines.specs.declared.buffer.Found.{Found}
+use Rattle.wire_lines.specs.declared.fault.Fault.{Fault}
+use Rattle.wire_lines.specs.declared.fault.Fault.TheVariants.{Memory}
 use Rattle.workers.specs.declared.connection.Served.{Served}
 use Rattle.workers.proofs.Causes.{found_counted, found_kept, search_told, write_fails}
 use Rattle.workers.proofs.Turns.{of_error}
-use Rattle.workers.proofs.Serving.{IsServing, begins, at_cut, cut_in_part, breaks_in, goes_on, told_off}
+use Rattle.workers.proofs.Serving.{IsServing, begins, at_cut, cut_in_part, breaks_in, goes_on, runs_out, told_off}
 use Rattle.workers.proofs.connection.serve_lines.Goals as goal
+
+same_fault : (told fault : Fault) → (let r : Result Served Fault = Err told in r) ≡ Err fault → told ≡ fault
+same_fault told fault e = cc
 
 pub returns-in-Err-clause-fault : goal.returns-in-Err-clause-fault
 returns-in-Err-clause-fault g c =
@@ -102,3 +107,18 @@ returns-in_err-written-in-Text-clause-cause g c =
     _ c.from_residual-in_err-written-in-Text.ensures.1
     (found_kept Found c.in-Ok-find_line.found c.loop-found.buffer.fault _ _ c.find_line.new.self.reads so.fault
     c.in-Ok-find_line.ensures.cause ∙ so.unread) so.failures c.in_err-written-in-Text.ensures.cause
+
+pub returns-in-Err-clause-memory : goal.returns-in-Err-clause-memory
+returns-in-Err-clause-memory g c e =
+    runs_out g.P.Pads.calls _ _ _ _ _ _ _
+    (begins g.P.Pads.calls c.args.pads.now (g.R.Source.remaining c.args.reader.now)
+    (g.W.Sink.contents c.args.writer.now))
+    c.in-Err.fault c.tell_fault.result _ _ (g.W.Sink.contents c.tell_fault.new.writer) c.tell_fault.ensures
+    (same_fault c.tell_fault.result Memory e)
+
+pub returns-in-Err-find_line-clause-memory : goal.returns-in-Err-find_line-clause-memory
+returns-in-Err-find_line-clause-memory g c e =
+    runs_out g.P.Pads.calls _ _ _ _ _ _ _ c.loop-found.invariant.so
+    c.in-Err-find_line.fault c.tell_fault-in-Err-find_line.result _ _
+    (g.W.Sink.contents c.tell_fault-in-Err-find_line.new.writer) c.tell_fault-in-Err-find_line.ensures
+    (same_fault c.tell_fault-in-Err-find_line.result Memory e)

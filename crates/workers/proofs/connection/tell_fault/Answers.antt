@@ -1,18 +1,14 @@
-use Rattle.std.proofs.Common.{Err, inl, length, refl, subst, sym}
+use Rattle.std.proofs.Common.{inl, refl, subst, sym}
 use Rattle.std.specs.Io.KnownBytes.{Appends}
-use Rattle.pad_model.specs.declared.refusal.Refusal.TheVariants as Refusal
-use Rattle.wire_json.specs.Replies.{line_of}
 use Rattle.wire_lines.specs.declared.fault.Fault.TheVariants.{Memory}
 use Rattle.workers.specs.Connection.{TellsFault}
-use Rattle.workers.proofs.Serving.{whole_text}
 use Rattle.workers.proofs.connection.tell_fault.Goals as goal
 
 pub returns-in-Ok : goal.returns-in-Ok
 returns-in-Ok g c =
     let before = g.W.Sink.contents c.args.writer.now in
     let after = g.W.Sink.contents c.write_all.new.writer in
-    let line = line_of (Err Refusal.Memory) in
     let whole = subst (Appends before after) c.memory_line.ensures c.in-Ok.ensures.whole in
     subst (λ fault. TellsFault fault Memory (g.W.Sink.failures c.args.writer.now)
     (g.W.Sink.failures c.write_all.new.writer) before after) (sym c.in-Memory.is)
-    (inl (refl, c.in-Ok.ensures.none), length line, whole_text line before after whole)
+    (inl (refl, c.in-Ok.ensures.none, whole))

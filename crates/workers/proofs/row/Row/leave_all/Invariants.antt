@@ -2,14 +2,15 @@
 use Rattle.std.proofs.Common.{◌≡◌, List, length}
 use Rattle.shared_pads.specs.declared.seat.Seat.{Seat}
 use Rattle.workers.specs.Crew.{LeavesRooms}
+use Rattle.workers.specs.Seating.{cells_in}
 use Rattle.workers.proofs.row.Row.leave_all.Given as goal
 
 -- the session stays whose it is, and where the rooms that are left over are left, all are
 abbrev pub invariant-loop-room : goal.invariant-loop-room
 invariant-loop-room g l =
     (l.session.who ≡ l.fn.session.who)
-    × ((last : List Seat) → LeavesRooms l.session.rooms l.seats.items last →
-    LeavesRooms l.fn.session.rooms l.fn.seats.items last)
+    × ((last : List Seat) → LeavesRooms (cells_in l.self.cells.now) l.session.who l.session.rooms l.seats.items last →
+    LeavesRooms (cells_in l.self.cells.now) l.fn.session.who l.fn.session.rooms l.fn.seats.items last)
 
 -- the pads that are left
 abbrev pub decreases-loop-room : goal.decreases-loop-room

@@ -1,3 +1,4 @@
 -- The lemmas, by topic.
 pub mod Lines
+pub mod Tokens
 pub mod Visits

@@ -1,8 +1,9 @@
 -- The lines and the words of an accounts file.
-use Rattle.std.proofs.Common.{◌≡◌, ℕ, zero, suc, ◌+◌, ◌<◌, Bool, true, false, ◌&&◌, ◌||◌, not, List, [], ◌∷◌, length}
-use Rattle.std.proofs.Common.{take, drop, get_or, None, Some, true≢false, ◌≢◌, refl, sym, ap, ◌∙◌, arith, eqb, ltb, leb}
-use Rattle.std.proofs.Common.{bytes_eq}
+use Rattle.std.proofs.Common.{◌≡◌, ℕ, zero, suc, ◌+◌, ◌<◌, Bool, true, false, ◌&&◌, List, [], ◌∷◌, length}
+use Rattle.std.proofs.Common.{take, drop, Option, None, Some, true≢false, refl, sym, ap, ◌∙◌, arith, eqb, ltb, leb}
 use Rattle.std.specs.List.{list_all, position, position_or_len, slice_split, onto_first}
+use Rattle.std.specs.Borrow.{Bor}
+use Rattle.std.specs.Option.{is_some}
 use Rattle.std.specs.Str.{IsAscii, IsUtf8}
 use Rattle.std.specs.Str.Lines.{lines_of_parts, strip_carriage_return}
 use Rattle.std.proofs.lemmas.Bool.{ltb-true, ltb-false, leb-true, ne_eqb, and_parts, and_from, and_left, and_right}
@@ -13,7 +14,8 @@ use Rattle.std.proofs.lemmas.List.Sums.{fails_before_first}
 use Rattle.std.proofs.lemmas.Str.{IsUtf8-from_ascii}
 use Rattle.pad_model.specs.Checked.{is_name, is_name_byte, is_within}
 use Rattle.pad_model.proofs.Newer.{split}
-use Rattle.sessions.specs.AccountsFile.{is_shown, is_word, no_form, said_by, words}
+use Rattle.sessions.specs.AccountsFile.{is_shown, is_word, words}
+use Rattle.sessions.specs.Said.{words_behind}
 
 -- the first part of a list that is cut ends where the test first holds
 pub split_found : (p : ℕ → Bool) (xs : List ℕ) (i : ℕ) → position p xs ≡ Some i → slice_split p xs ≡ take i xs
@@ -78,41 +80,22 @@ name_is_word w h =
     by_other false b h t = refl
     by_other true b h t = absurd (true≢false (sym t ∙ h))
 
--- equal so far, and at one more place
-pub same_more : (a b : List ℕ) (i : ℕ) → i < length a → i < length b → bytes_eq (take (i + 1) a) (take (i + 1) b)
-    ≡ (bytes_eq (take i a) (take i b) && eqb (get_or a i 0) (get_or b i 0))
-same_more [] b i la lb = absurd (omega arith)
-same_more (x ∷ a) [] i la lb = absurd (omega arith)
-same_more (x ∷ a) (y ∷ b) zero la lb = and_true (eqb x y)
+-- what holds of a word and any words behind it holds of the words of any text
+of_words : (P : List (List ℕ) → Type 0) → ((word : List ℕ) (rest : List (List ℕ)) → P (word ∷ rest)) → (text : List ℕ)
+    → P (words text)
+of_words P each [] = each [] []
+of_words P each (y ∷ ys) = split (eqb y 32) (λ t. rw t (each [] (words ys))) (λ f. rw f (onto (words ys)))
   where
-    and_true : (p : Bool) → (p && true) ≡ p
-    and_true true = refl
-    and_true false = refl
-same_more (x ∷ a) (y ∷ b) (suc i) la lb =
-    let e : suc i + 1 ≡ suc (i + 1) = omega arith in
-    rw e (ap (λ r. eqb x y && r) (same_more a b i (omega arith) (omega arith)) ∙ and_assoc (eqb x y)
-    (bytes_eq (take i a) (take i b)) (eqb (get_or a i 0) (get_or b i 0)))
-  where
-    and_assoc : (p q r : Bool) → (p && (q && r)) ≡ ((p && q) && r)
-    and_assoc true q r = refl
-    and_assoc false q r = refl
+    onto : (parts : List (List ℕ)) → P (onto_first y parts)
+    onto [] = each (y ∷ []) []
+    onto (part ∷ parts) = each (y ∷ part) parts
 
-pub other_length : (a b : List ℕ) → length a ≢ length b → bytes_eq a b ≡ false
-other_length [] [] ne = absurd (ne refl)
-other_length [] (y ∷ b) ne = refl
-other_length (x ∷ a) [] ne = refl
-other_length (x ∷ a) (y ∷ b) ne = and_right (eqb x y) _ (other_length a b (λ e. ne (ap suc e)))
+-- and of the words behind a word that is not the last
+pub of_more_words : (P : List (List ℕ) → Type 0) → ((word : List ℕ) (rest : List (List ℕ)) → P (word ∷ rest))
+    → (rest : Option (Bor (List ℕ))) → is_some rest ≡ true → P (words_behind rest)
+of_more_words P each None some = absurd (true≢false (sym some))
+of_more_words P each (Some text) some = of_words P each text.now
 
-pub no_difference : (differs same : Bool) → not (differs || not same) ≡ (not differs && same)
-no_difference true same = refl
-no_difference false true = refl
-no_difference false false = refl
-
--- a line of more than four words has no form
-pub too_many : (a b c d x : List ℕ) → said_by (a ∷ b ∷ c ∷ d ∷ words x) ≡ no_form
-too_many a b c d [] = refl
-too_many a b c d (y ∷ ys) = split (eqb y 32) (λ t. rw t refl) (λ f. rw f (more (words ys)))
-  where
-    more : (parts : List (List ℕ)) → said_by (a ∷ b ∷ c ∷ d ∷ onto_first y parts) ≡ no_form
-    more [] = refl
-    more (part ∷ parts) = refl
+-- the words behind a place, if there are some
+pub words_at : (rest : Option (Bor (List ℕ))) (text : Bor (List ℕ)) → rest ≡ Some text → words_behind rest ≡ words text.now
+words_at rest text is = ap words_behind is

@@ -1,15 +1,16 @@
 -- Who may log in.
-use Rattle.std.specs.Prelude.{◌≡◌, ℕ, ◌+◌, Bool, ◌&&◌, ◌||◌, ◌==◌, nat_le, if◌then◌else◌, Option, Some, None, Result}
+use Rattle.std.specs.Prelude.{◌≡◌, ℕ, ◌+◌, Bool, ◌&&◌, ◌==◌, nat_le, if◌then◌else◌, Option, Some, None, Result}
 use Rattle.std.specs.Prelude.{Ok, Err, List, [], ◌∷◌, ◌++◌, length, bytes_eq}
 use Rattle.std.specs.List.{list_any}
-use Rattle.std.specs.Option.{option_map_or}
 use Rattle.std.specs.Str.Lines.{lines}
-use Rattle.sessions.specs.AccountsFile.{Said, nothing, an_author, a_peer, no_form, meaning}
+use Rattle.sessions.specs.AccountsFile.{Said, nothing, an_author, a_peer, meaning}
 use Rattle.sessions.specs.declared.accounts.TheConstants.{MAX_ACCOUNTS}
 use Rattle.sessions.specs.declared.accounts.AuthorAccount.{AuthorAccount}
 use Rattle.sessions.specs.declared.accounts.Peer.{Peer}
 use Rattle.sessions.specs.declared.accounts.AccountsError.{AccountsError}
 use Rattle.sessions.specs.declared.accounts.AccountsError.TheVariants.{BadLine, Memory}
+use Rattle.sessions.specs.declared.mistake.Mistake.{Mistake}
+use Rattle.sessions.specs.declared.mistake.Mistake.TheVariants.{NameTwice, NumberTwice, TooManyAccounts}
 
 -- the accounts of authors and of peers, in the order of their lines
 pub record Accounts : Type 0 where
@@ -32,33 +33,44 @@ has_number number p = p.number == number
 abbrev pub is_full : Accounts → Bool
 is_full a = nat_le MAX_ACCOUNTS (length a.authors + length a.peers)
 
--- the accounts with one more line, if it has a form and its account is new
-abbrev pub with_line : Accounts → Said → Option Accounts
-with_line a nothing = Some a
-with_line a (an_author name token) =
-    if is_full a || list_any (has_name name) a.authors
-    then None
-    else Some (record a { authors = a.authors ++ record { name = name; token = token } ∷ [] })
-with_line a (a_peer number token address) =
-    if is_full a || list_any (has_number number) a.peers
-    then None
-    else Some (record a { peers = a.peers ++ record { number = number; token = token; address = address } ∷ [] })
-with_line a no_form = None
+-- the accounts with one more line, or what is wrong with it: an account has to be new, and not one too many
+abbrev pub with_line : Accounts → Result Said Mistake → Result Accounts Mistake
+with_line a (Ok nothing) = Ok a
+with_line a (Ok (an_author name token)) =
+    if is_full a then Err TooManyAccounts
+    else if list_any (has_name name) a.authors then Err NameTwice
+    else Ok (record a { authors = a.authors ++ record { name = name; token = token } ∷ [] })
+with_line a (Ok (a_peer number token address)) =
+    if is_full a then Err TooManyAccounts
+    else if list_any (has_number number) a.peers then Err NumberTwice
+    else Ok (record a { peers = a.peers ++ record { number = number; token = token; address = address } ∷ [] })
+with_line a (Err mistake) = Err mistake
 
--- the accounts with the lines from one on, or the number of the first line that is at fault
-abbrev pub with_lines : Accounts → ℕ → List (List ℕ) → Result Accounts ℕ
+-- what follows the accounts with a line, or the error of this line's number
+abbrev pub after_line : ℕ → (Accounts → Result Accounts AccountsError) → Result Accounts Mistake →
+    Result Accounts AccountsError
+after_line number rest (Ok accounts) = rest accounts
+after_line number rest (Err mistake) = Err (BadLine number mistake)
+
+-- the accounts with the lines from one on, or the first line that is at fault, by its number and its mistake
+abbrev pub with_lines : Accounts → ℕ → List (List ℕ) → Result Accounts AccountsError
 with_lines a number [] = Ok a
-with_lines a number (line ∷ rest) = option_map_or (λ more. with_lines more (number + 1) rest)
-    (with_line a (meaning line)) (Err number)
+with_lines a number (line ∷ rest) =
+    after_line number (λ more. with_lines more (number + 1) rest) (with_line a (meaning line))
 
--- the accounts of a file, or the number of the first line that is at fault, from 1
-abbrev pub accounts_of : List ℕ → Result Accounts ℕ
+-- the accounts of a file, or the first line that is at fault; lines are counted from 1
+abbrev pub accounts_of : List ℕ → Result Accounts AccountsError
 accounts_of bytes = with_lines no_accounts 1 (lines bytes)
 
--- an error says that there was no memory, or tells the first line that is at fault
+-- an error says that there was no memory, or which line is the first at fault and what is wrong with it
 abbrev pub Tells : List ℕ → AccountsError → Type 0
-Tells bytes (BadLine line) = accounts_of bytes ≡ Err line
+Tells bytes (BadLine line mistake) = accounts_of bytes ≡ Err (BadLine line mistake)
 Tells bytes Memory = Unit {0}
+
+-- what comes of a line: the new accounts, or its mistake
+abbrev pub outcome : Option Mistake → Accounts → Result Accounts Mistake
+outcome None accounts = Ok accounts
+outcome (Some mistake) accounts = Err mistake
 
 -- whether an author has this token
 abbrev pub is_author : List ℕ → List ℕ → Accounts → Bool

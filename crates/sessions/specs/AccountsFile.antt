@@ -1,17 +1,18 @@
--- What the lines of an accounts file say.
+-- What the lines of an accounts file say, or what is wrong with them.
 use Rattle.std.specs.Prelude.{ℕ, ◌+◌, ◌-◌, ◌*◌, Bool, not, ◌&&◌, ◌==◌, nat_le, if◌then◌else◌, List, [], ◌∷◌, length}
-use Rattle.std.specs.Prelude.{fold, slice_index, bytes_eq, codes}
+use Rattle.std.specs.Prelude.{fold, slice_index, bytes_eq, codes, Result, Ok, Err}
 use Rattle.std.specs.List.{list_all, list_any, slice_split}
 use Rattle.pad_model.specs.Checked.{is_within, is_name}
-use Rattle.pad_model.specs.declared.limits.TheConstants.{MAX_REPLICA}
+use Rattle.pad_model.specs.declared.limits.TheConstants.{MAX_NAME, MAX_REPLICA}
 use Rattle.sessions.specs.declared.line.TheConstants.{MAX_TOKEN, MAX_ADDRESS}
+use Rattle.sessions.specs.declared.mistake.Mistake.{Mistake}
+use Rattle.sessions.specs.declared.mistake.Mistake.TheVariants as mistake
 
 -- what a line says
 pub data Said : Type 0 where
   nothing : Said
   an_author : List ℕ → List ℕ → Said
   a_peer : ℕ → List ℕ → List ℕ → Said
-  no_form : Said
 
 -- the words between the spaces of a line
 abbrev pub words : List ℕ → List (List ℕ)
@@ -29,26 +30,79 @@ is_word most word = is_within (length word) most && list_all is_shown word
 abbrev pub is_address : List ℕ → Bool
 is_address word = is_word MAX_ADDRESS word && list_any (λ b. b == 58) word
 
+-- whether a word has only digits
+abbrev pub are_digits : List ℕ → Bool
+are_digits word = list_all (λ b. nat_le 48 b && nat_le b 57) word
+
 -- the number that digits are
 abbrev pub decimal : List ℕ → ℕ
 decimal digits = fold (λ n digit. n * 10 + (digit - 48)) 0 digits
 
 -- whether a word is a replica's number in digits, without a zero in front
 abbrev pub is_number : List ℕ → Bool
-is_number word = list_all (λ b. nat_le 48 b && nat_le b 57) word && not (slice_index word 0 == 48)
-    && is_within (decimal word) MAX_REPLICA
+is_number word = are_digits word && not (slice_index word 0 == 48) && is_within (decimal word) MAX_REPLICA
 
--- what the words of a line say
-abbrev pub said_by : List (List ℕ) → Said
-said_by (kind ∷ name ∷ token ∷ []) =
-    if bytes_eq kind (codes "author") && is_name name && is_word MAX_TOKEN token then an_author name token else no_form
-said_by (kind ∷ number ∷ token ∷ address ∷ []) =
-    if bytes_eq kind (codes "peer") && is_number number && is_word MAX_TOKEN token && is_address address
-    then a_peer (decimal number) token address
-    else no_form
-said_by others = no_form
+-- why a word is no name
+abbrev pub name_mistake : List ℕ → Mistake
+name_mistake word = if nat_le (length word) MAX_NAME then mistake.NameByte else mistake.LongName
+
+-- why a word is no replica's number
+abbrev pub number_mistake : List ℕ → Mistake
+number_mistake word =
+    if not (are_digits word) then mistake.NotDigits
+    else if slice_index word 0 == 48 then mistake.LeadingZero
+    else mistake.LargeNumber
+
+-- why a word is no token
+abbrev pub token_mistake : List ℕ → Mistake
+token_mistake word = if nat_le (length word) MAX_TOKEN then mistake.TokenByte else mistake.LongToken
+
+-- why a word is no address
+abbrev pub address_mistake : List ℕ → Mistake
+address_mistake word =
+    if not (nat_le (length word) MAX_ADDRESS) then mistake.LongAddress
+    else if list_all is_shown word then mistake.NoColon
+    else mistake.AddressByte
+
+-- what the words behind `author` say
+abbrev pub author_said : List (List ℕ) → Result Said Mistake
+author_said [] = Err mistake.NoName
+author_said (name ∷ []) = Err mistake.NoToken
+author_said (name ∷ token ∷ []) =
+    if not (is_name name) then Err (name_mistake name)
+    else if not (is_word MAX_TOKEN token) then Err (token_mistake token)
+    else Ok (an_author name token)
+author_said more = Err mistake.ExtraWord
+
+-- what the words behind `peer` say
+abbrev pub peer_said : List (List ℕ) → Result Said Mistake
+peer_said [] = Err mistake.NoNumber
+peer_said (number ∷ []) = Err mistake.NoToken
+peer_said (number ∷ token ∷ []) = Err mistake.NoAddress
+peer_said (number ∷ token ∷ address ∷ []) =
+    if not (is_number number) then Err (number_mistake number)
+    else if not (is_word MAX_TOKEN token) then Err (token_mistake token)
+    else if not (is_address address) then Err (address_mistake address)
+    else Ok (a_peer (decimal number) token address)
+peer_said more = Err mistake.ExtraWord
+
+-- what the words of a line say: the first names the form of the others
+abbrev pub said_by : List (List ℕ) → Result Said Mistake
+said_by [] = Err mistake.UnknownWord
+said_by (kind ∷ rest) =
+    if bytes_eq kind (codes "author") then author_said rest
+    else if bytes_eq kind (codes "peer") then peer_said rest
+    else Err mistake.UnknownWord
+
+-- whether a word is empty: a space is too many
+abbrev pub is_empty : List ℕ → Bool
+is_empty word = length word == 0
 
 -- what a line says: nothing where it is empty or begins with #
-abbrev pub meaning : List ℕ → Said
-meaning [] = nothing
-meaning (b ∷ bs) = if b == 35 then nothing else said_by (words (b ∷ bs))
+abbrev pub meaning : List ℕ → Result Said Mistake
+meaning [] = Ok nothing
+meaning (b ∷ bs) =
+    if b == 35 then Ok nothing
+    else if list_any (λ c. c == 9) (b ∷ bs) then Err mistake.Tab
+    else if list_any is_empty (words (b ∷ bs)) then Err mistake.ExtraSpace
+    else said_by (words (b ∷ bs))

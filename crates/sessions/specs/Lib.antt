@@ -5,3 +5,4 @@ pub mod Inside
 pub mod Presence
 pub mod Said
 pub mod Session
+pub mod Tokens

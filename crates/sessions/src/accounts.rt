@@ -1,12 +1,13 @@
 //! Who may log in.
-ghost use Rattle.std.specs.Prelude.{◌≡◌, if◌then◌else◌, Some, None, Ok, IfOk, IfErr};
+ghost use Rattle.std.specs.Prelude.{◌≡◌, Ok, IfOk, IfErr};
 ghost use Rattle.std.specs.List.{list_any};
-ghost use Rattle.sessions.specs.Accounts.{no_accounts, has_name, has_number, is_full, with_line, accounts_of, Tells, is_author, is_peer};
+ghost use Rattle.sessions.specs.Accounts.{no_accounts, has_name, has_number, is_full, with_line, outcome, accounts_of, Tells, is_author, is_peer};
 ghost use Rattle.sessions.specs.AccountsFile.{an_author, a_peer};
 ghost use Rattle.sessions.specs.Said.{said};
 ghost use Rattle.sessions.specs.declared.accounts.AccountsError.TheVariants.{Memory};
 
 use crate::line::{Line, cut_line, read_line};
+use crate::mistake::Mistake;
 use crate::word::Word;
 use pad_model::Name;
 use std::alloc::{AllocError, AllocFailed, Global};
@@ -19,8 +20,8 @@ pub const MAX_ACCOUNTS: u64 = 1_000;
 #[derive(Clone, Copy, Debug, PartialEq, Eq)]
 pub enum AccountsError {
     /// 500: the first line, counted from 1, that has none of the forms, or whose account is there already
-    /// or is one too many.
-    BadLine { line: u64 },
+    /// or is one too many; and what is wrong with it.
+    BadLine { line: u64, mistake: Mistake },
     /// 900: there was no memory.
     Memory,
 }
@@ -78,8 +79,12 @@ impl Accounts {
         while !rest.is_empty() {
             let (text, after) = cut_line(rest);
             line += 1;
-            if !accounts.add(alloc, read_line(text))? {
-                return Err(AccountsError::BadLine { line });
+            let mistake = match read_line(text) {
+                Ok(said) => accounts.add(alloc, said)?,
+                Err(mistake) => Some(mistake),
+            };
+            if let Some(mistake) = mistake {
+                return Err(AccountsError::BadLine { line, mistake });
             }
             rest = after;
         }
@@ -109,34 +114,41 @@ impl Accounts {
         self.peers.as_slice()
     }
 
-    /// Adds what a line says; false where it is at fault.
-    fn add(&mut self, alloc: Global, line: Line<'_>) -> Result<bool, AllocError>
-        ensures { IfOk result (λ taken. with_line self.old (said line.entry) ≡ (if taken then Some self.new else None)) }
+    /// Adds a line's account, or returns why it cannot be added.
+    fn add(&mut self, alloc: Global, line: Line<'_>) -> Result<Option<Mistake>, AllocError>
+        ensures { IfOk result (λ refused. with_line self.old (Ok (said line.entry)) ≡ outcome refused self.new) }
     {
         match line {
-            Line::Skip => Ok(true),
+            Line::Skip => Ok(None),
             Line::Author { name, token } => self.add_author(alloc, name, token),
             Line::Peer {
                 number,
                 token,
                 address,
             } => self.add_peer(alloc, number, token, address),
-            Line::Bad => Ok(false),
         }
     }
 
-    fn add_author(&mut self, alloc: Global, name: &str, token: &str) -> Result<bool, AllocError>
-        ensures { IfOk result (λ taken. with_line self.old (an_author name.now token.now) ≡ (if taken then Some self.new else None)) }
+    fn add_author(
+        &mut self,
+        alloc: Global,
+        name: &str,
+        token: &str,
+    ) -> Result<Option<Mistake>, AllocError>
+        ensures { IfOk result (λ refused. with_line self.old (Ok (an_author name.now token.now)) ≡ outcome refused self.new) }
     {
-        if self.is_full() || self.has_author(name) {
-            return Ok(false);
+        if self.is_full() {
+            return Ok(Some(Mistake::TooManyAccounts));
+        }
+        if self.has_author(name) {
+            return Ok(Some(Mistake::NameTwice));
         }
         let account = AuthorAccount {
             name: Name::from_str(alloc, name)?,
             token: Word::from_str(alloc, token)?,
         };
         self.authors.push(account)?;
-        Ok(true)
+        Ok(None)
     }
 
     fn add_peer(
@@ -145,11 +157,14 @@ impl Accounts {
         number: u16,
         token: &str,
         address: &str,
-    ) -> Result<bool, AllocError>
-        ensures { IfOk result (λ taken. with_line self.old (a_peer number token.now address.now) ≡ (if taken then Some self.new else None)) }
+    ) -> Result<Option<Mistake>, AllocError>
+        ensures { IfOk result (λ refused. with_line self.old (Ok (a_peer number token.now address.now)) ≡ outcome refused self.new) }
     {
-        if self.is_full() || self.has_peer(number) {
-            return Ok(false);
+        if self.is_full() {
+            return Ok(Some(Mistake::TooManyAccounts));
+        }
+        if self.has_peer(number) {
+            return Ok(Some(Mistake::NumberTwice));
         }
         let peer = Peer {
             number,
@@ -157,7 +172,7 @@ impl Accounts {
             address: Word::from_str(alloc, address)?,
         };
         self.peers.push(peer)?;
-        Ok(true)
+        Ok(None)
     }
 
     fn is_full(&self) -> bool

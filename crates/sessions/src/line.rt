@@ -1,12 +1,15 @@
 //! The lines of an accounts file.
-ghost use Rattle.std.specs.Prelude.{◌≡◌, ◌<◌, ◌∷◌, [], true, false, ◌&&◌, ◌==◌, nat_le, min, length, MatchOption};
+ghost use Rattle.std.specs.Prelude.{◌≡◌, ◌<◌, ◌≤◌, ◌∷◌, true, false, ◌==◌, min, length, MatchOption, MatchResult};
 ghost use Rattle.std.specs.List.{list_all, list_any, position};
 ghost use Rattle.std.specs.Str.Lines.{lines, strip_carriage_return};
 ghost use Rattle.pad_model.specs.Checked.{is_name};
-ghost use Rattle.sessions.specs.AccountsFile.{words, is_shown, is_word, is_address, is_number, decimal, said_by, meaning};
-ghost use Rattle.sessions.specs.Said.{said, words_behind};
+ghost use Rattle.sessions.specs.AccountsFile.{words, is_empty, is_shown, is_word, is_address, are_digits, is_number, decimal};
+ghost use Rattle.sessions.specs.AccountsFile.{name_mistake, number_mistake, token_mistake, address_mistake};
+ghost use Rattle.sessions.specs.AccountsFile.{author_said, peer_said, said_by, meaning};
+ghost use Rattle.sessions.specs.Said.{said_or_mistake, words_behind};
 ghost use Rattle.sessions.specs.declared.line.TheConstants.{MAX_TOKEN};
 
+use crate::mistake::Mistake;
 use pad_model::{MAX_NAME, MAX_REPLICA, is_well_formed_name};
 
 /// Bytes of a token.
@@ -27,10 +30,9 @@ pub enum Line<'a> {
         token: &'a str,
         address: &'a str,
     },
-    Bad,
 }
 
-/// The first line, without its end, and the bytes behind it.
+/// The first line, without its end, and the bytes after it.
 pub fn cut_line(bytes: &[u8]) -> (&[u8], &[u8])
     requires { 0 < length bytes.now }
     ensures lines { lines bytes.now ≡ result.0.now ∷ lines result.1.now }
@@ -63,39 +65,48 @@ fn without_return(line: &[u8]) -> &[u8]
     }
 }
 
-/// What a line says.
-pub fn read_line(line: &[u8]) -> Line<'_>
-    ensures { said result ≡ meaning line.now }
+/// What a line says, or what is wrong with it.
+pub fn read_line(line: &[u8]) -> Result<Line<'_>, Mistake>
+    ensures { said_or_mistake result ≡ meaning line.now }
 {
     match line {
-        [] | [b'#', ..] => Line::Skip,
+        [] | [b'#', ..] => Ok(Line::Skip),
+        _ if line.contains(&b'\t') => Err(Mistake::Tab),
+        _ if has_empty_word(line) => Err(Mistake::ExtraSpace),
         _ => read_words(line),
     }
 }
 
-fn read_words(line: &[u8]) -> Line<'_>
-    ensures { said result ≡ said_by (words line.now) }
+/// Whether there is a space at the start, at the end or after another space.
+fn has_empty_word(line: &[u8]) -> bool
+    ensures { result ≡ list_any is_empty (words line.now) }
+{
+    let mut rest = Some(line);
+    while let Some(text) = rest {
+        let (word, after) = cut_word(text);
+        if word.is_empty() {
+            return true;
+        }
+        rest = after;
+    }
+    false
+}
+
+/// What the words of a line say: the first one names the form of the others.
+fn read_words(line: &[u8]) -> Result<Line<'_>, Mistake>
+    ensures { said_or_mistake result ≡ said_by (words line.now) }
 {
     let (kind, rest) = cut_word(line);
-    let Some(rest) = rest else {
-        return Line::Bad;
-    };
-    let (first, rest) = cut_word(rest);
-    let Some(rest) = rest else {
-        return Line::Bad;
-    };
-    let (second, rest) = cut_word(rest);
-    let Some(rest) = rest else {
-        return author_line(kind, first, second);
-    };
-    let (third, rest) = cut_word(rest);
-    match rest {
-        None => peer_line(kind, first, second, third),
-        Some(_) => Line::Bad,
+    if kind == b"author".as_slice() {
+        author_line(rest)
+    } else if kind == b"peer".as_slice() {
+        peer_line(rest)
+    } else {
+        Err(Mistake::UnknownWord)
     }
 }
 
-/// The first word, and what stands behind the space at its end, if there is one.
+/// The first word, and what comes after the space at its end, if there is one.
 fn cut_word(text: &[u8]) -> (&[u8], Option<&[u8]>)
     ensures { words text.now ≡ result.0.now ∷ words_behind result.1 }
 {
@@ -105,59 +116,67 @@ fn cut_word(text: &[u8]) -> (&[u8], Option<&[u8]>)
     }
 }
 
-fn author_line<'a>(kind: &[u8], name: &'a [u8], token: &'a [u8]) -> Line<'a>
-    ensures { said result ≡ said_by (kind.now ∷ name.now ∷ token.now ∷ []) }
+/// `author NAME TOKEN`, by what stands behind its first word.
+fn author_line(rest: Option<&[u8]>) -> Result<Line<'_>, Mistake>
+    ensures { said_or_mistake result ≡ author_said (words_behind rest.entry) }
 {
-    if kind != b"author".as_slice() {
-        return Line::Bad;
+    let (name, rest) = cut_word(rest.ok_or(Mistake::NoName)?);
+    let (token, rest) = cut_word(rest.ok_or(Mistake::NoToken)?);
+    if rest.is_some() {
+        return Err(Mistake::ExtraWord);
     }
-    let Some(name) = name_text(name) else {
-        return Line::Bad;
-    };
-    let Some(token) = word_text(token, MAX_TOKEN) else {
-        return Line::Bad;
-    };
-    Line::Author { name, token }
+    Ok(Line::Author {
+        name: name_text(name)?,
+        token: token_text(token)?,
+    })
 }
 
-fn peer_line<'a>(kind: &[u8], number: &[u8], token: &'a [u8], address: &'a [u8]) -> Line<'a>
-    ensures { said result ≡ said_by (kind.now ∷ number.now ∷ token.now ∷ address.now ∷ []) }
+/// `peer NUMBER TOKEN HOST:PORT`, by what stands behind its first word.
+fn peer_line(rest: Option<&[u8]>) -> Result<Line<'_>, Mistake>
+    ensures { said_or_mistake result ≡ peer_said (words_behind rest.entry) }
 {
-    if kind != b"peer".as_slice() {
-        return Line::Bad;
+    let (number, rest) = cut_word(rest.ok_or(Mistake::NoNumber)?);
+    let (token, rest) = cut_word(rest.ok_or(Mistake::NoToken)?);
+    let (address, rest) = cut_word(rest.ok_or(Mistake::NoAddress)?);
+    if rest.is_some() {
+        return Err(Mistake::ExtraWord);
     }
-    let Some(number) = number_of(number) else {
-        return Line::Bad;
-    };
-    let Some(token) = word_text(token, MAX_TOKEN) else {
-        return Line::Bad;
-    };
-    let Some(address) = address_text(address) else {
-        return Line::Bad;
-    };
-    Line::Peer {
-        number,
-        token,
-        address,
-    }
+    Ok(Line::Peer {
+        number: number_of(number)?,
+        token: token_text(token)?,
+        address: address_text(address)?,
+    })
 }
 
-fn name_text(word: &[u8]) -> Option<&str>
-    ensures { MatchOption result (is_name word.now ≡ false) (λ name. (name.now ≡ word.now) × (is_name word.now ≡ true)) }
+fn name_text(word: &[u8]) -> Result<&str, Mistake>
+    ensures { MatchResult result (λ name. (name.now ≡ word.now) × (is_name word.now ≡ true)) (λ mistake. (is_name word.now ≡ false) × (mistake ≡ name_mistake word.now)) }
 {
-    let name = word_text(word, MAX_NAME)?;
-    if is_well_formed_name(name) {
-        Some(name)
-    } else {
-        None
+    match word_text(word, MAX_NAME) {
+        Some(name) if is_well_formed_name(name) => Ok(name),
+        _ if word.len() as u64 <= MAX_NAME => Err(Mistake::NameByte),
+        _ => Err(Mistake::LongName),
     }
 }
 
-fn address_text(word: &[u8]) -> Option<&str>
-    ensures { MatchOption result (is_address word.now ≡ false) (λ text. (text.now ≡ word.now) × (is_address word.now ≡ true)) }
+fn token_text(word: &[u8]) -> Result<&str, Mistake>
+    ensures { MatchResult result (λ token. (token.now ≡ word.now) × (is_word MAX_TOKEN word.now ≡ true)) (λ mistake. (is_word MAX_TOKEN word.now ≡ false) × (mistake ≡ token_mistake word.now)) }
 {
-    let text = word_text(word, MAX_ADDRESS)?;
-    if has_colon(word) { Some(text) } else { None }
+    match word_text(word, MAX_TOKEN) {
+        Some(token) => Ok(token),
+        None if word.len() as u64 <= MAX_TOKEN => Err(Mistake::TokenByte),
+        None => Err(Mistake::LongToken),
+    }
+}
+
+fn address_text(word: &[u8]) -> Result<&str, Mistake>
+    ensures { MatchResult result (λ text. (text.now ≡ word.now) × (is_address word.now ≡ true)) (λ mistake. (is_address word.now ≡ false) × (mistake ≡ address_mistake word.now)) }
+{
+    match word_text(word, MAX_ADDRESS) {
+        Some(text) if has_colon(word) => Ok(text),
+        _ if word.len() as u64 > MAX_ADDRESS => Err(Mistake::LongAddress),
+        _ if are_shown(word) => Err(Mistake::NoColon),
+        _ => Err(Mistake::AddressByte),
+    }
 }
 
 fn has_colon(word: &[u8]) -> bool
@@ -190,27 +209,30 @@ fn are_shown(word: &[u8]) -> bool
     word.iter().all(|byte| 0x21 <= *byte && *byte <= 0x7E)
 }
 
-fn number_of(word: &[u8]) -> Option<u16>
-    ensures { MatchOption result (is_number word.now ≡ false) (λ number. (number ≡ decimal word.now) × (is_number word.now ≡ true)) }
+fn number_of(word: &[u8]) -> Result<u16, Mistake>
+    ensures { MatchResult result (λ number. (number ≡ decimal word.now) × (is_number word.now ≡ true)) (λ mistake. (is_number word.now ≡ false) × (mistake ≡ number_mistake word.now)) }
 {
-    if !are_digits(word) || word.first() == Some(&b'0') {
-        return None;
+    if !are_digits(word) {
+        return Err(Mistake::NotDigits);
+    }
+    if word.first() == Some(&b'0') {
+        return Err(Mistake::LeadingZero);
     }
     let number = decimal_up_to_limit(word);
     if 1 <= number && number <= u32::from(MAX_REPLICA) {
-        Some(number as u16)
+        Ok(number as u16)
     } else {
-        None
+        Err(Mistake::LargeNumber)
     }
 }
 
 fn are_digits(word: &[u8]) -> bool
-    ensures { result ≡ list_all (λ b. nat_le 48 b && nat_le b 57) word.now }
+    ensures { result ≡ are_digits word.now }
 {
     word.iter().all(|byte| b'0' <= *byte && *byte <= b'9')
 }
 
-/// The number that digits are, or one more than the greatest of a replica where it is above that.
+/// The value of the digits, or `MAX_REPLICA` + 1 if it is greater.
 fn decimal_up_to_limit(digits: &[u8]) -> u32
     ensures { result ≡ min (decimal digits.now) 65536 }
 {

@@ -9,13 +9,13 @@ use pad_model::{Name, Refusal, Row, Stamp};
 use std::alloc::{AllocError, Global};
 use std::marker::Model;
 
-/// How many visits of a pad are present at once.
+/// The most visits that are present on a pad at once.
 pub const MAX_PRESENT: u64 = 64;
 
-/// How many visit numbers a pad gives.
+/// The most visit numbers that a pad gives.
 pub const MAX_VISITS: u64 = 1_000_000;
 
-/// One who is present: its number, and the character that its caret stands behind.
+/// A visit: its number, its author, and the character before its caret.
 #[derive(Clone, Debug, PartialEq, Drop)]
 pub struct Visit {
     pub number: u64,
@@ -24,14 +24,14 @@ pub struct Visit {
     pub caret: Option<Stamp>,
 }
 
-/// What is kept beside the number of a visit.
+/// What is kept of a visit besides its number.
 #[derive(Drop)]
 pub struct Visitor {
     author: Name,
     caret: Option<Stamp>,
 }
 
-/// The visits of a pad. Each join is a visit of its own, also of an author who is present already.
+/// The visits of a pad. Each join is a separate visit, even of an author who is present already.
 #[derive(Drop)]
 pub struct PresenceBook {
     visitors: IndexMap<u64, Visitor>,
@@ -51,7 +51,7 @@ impl Model for PresenceBook {
 }
 
 impl PresenceBook {
-    /// Nobody is present, and no number was given. It takes no memory yet.
+    /// Nobody is present, and no number has been given. It allocates no memory yet.
     pub fn new(alloc: Global) -> PresenceBook
         ensures { result ≡ record { given = 0; present = [] } }
     {
@@ -61,7 +61,7 @@ impl PresenceBook {
         }
     }
 
-    /// Gives the next number to an author, who is then present without a caret.
+    /// Gives the next number to an author, who is then present, with no caret.
     pub fn join(&mut self, alloc: Global, author: &str) -> Result<u64, Refusal>
         ensures ok { IfOk result (λ visit. (join_refusal self.old ≡ None) × (visit ≡ self.old.given + 1) × (self.new ≡ joined author.now self.old)) }
         ensures refused { IfErr result (λ e. (e ≡ unwrap_or (join_refusal self.old) Refusal.Memory) × (self.new ≡ self.old)) }
@@ -92,7 +92,7 @@ impl PresenceBook {
         Ok(())
     }
 
-    /// Puts the caret of a visit behind a character, or at the start.
+    /// Puts the caret of a visit after a character, or at the start.
     pub fn caret(&mut self, visit: u64, caret: Option<Stamp>) -> Result<(), Refusal>
         ensures { OnVisit visit self.old self.new result (with_caret caret) }
     {
@@ -103,7 +103,7 @@ impl PresenceBook {
         Ok(())
     }
 
-    /// Whether a visit is present, and this author's.
+    /// Whether a visit is present and belongs to this author.
     pub fn holds(&self, visit: u64, author: &str) -> bool
         ensures { result ≡ is_joined_by visit author.now self.now.present }
     {

@@ -9,7 +9,7 @@ use pad_model::{Name, Refusal, Who};
 use std::alloc::Global;
 use std::marker::Model;
 
-/// A pad that a session has joined: the cell where it stands, and the number of the visit.
+/// A pad that a session has joined: its cell, and the number of the visit.
 #[derive(Debug, PartialEq, Drop)]
 pub struct Room {
     pub pad: Name,
@@ -17,7 +17,7 @@ pub struct Room {
     pub visit: u64,
 }
 
-/// Whose a session is, and its rooms in order of joining.
+/// A session: whose it is, and its rooms in order of joining.
 #[derive(Drop)]
 pub struct Session {
     who: Who,
@@ -37,7 +37,7 @@ impl Model for Session {
 }
 
 impl Session {
-    /// An unauthenticated session, which has joined no pad. It takes no memory yet.
+    /// An unauthenticated session, which has joined no pad. It allocates no memory yet.
     pub fn new(alloc: Global) -> Session
         ensures { result ≡ record { who = Who.Nobody; rooms = []; spare = 0 } }
     {
@@ -54,7 +54,7 @@ impl Session {
         &self.who
     }
 
-    /// Makes it the session of someone else. Its rooms stay.
+    /// Sets whose session it is. Its rooms stay.
     pub fn set(&mut self, who: Who)
         requires { IsNamed who }
         ensures { self.new ≡ record self.old { who = who } }
@@ -76,7 +76,7 @@ impl Session {
         !self.rooms.is_empty()
     }
 
-    /// Makes memory for one more room.
+    /// Allocates memory for one more room.
     pub fn reserve(&mut self) -> Result<(), Refusal>
         ensures same { (self.new.who ≡ self.old.who) × (self.new.rooms ≡ self.old.rooms) }
         ensures ok { OnOk result (1 ≤ self.new.spare) }
@@ -87,7 +87,7 @@ impl Session {
         Ok(())
     }
 
-    /// Adds a room behind the others, in memory that `reserve` made.
+    /// Adds a room after the others, in memory that `reserve` allocated.
     pub fn enter(&mut self, room: Room)
         requires { 1 ≤ self.old.spare }
         ensures who { self.new.who ≡ self.old.who }
@@ -97,7 +97,7 @@ impl Session {
         self.rooms.push_reserved(room);
     }
 
-    /// Takes the room of a pad out.
+    /// Removes the room of a pad.
     pub fn leave(&mut self, pad: &str)
         ensures who { self.new.who ≡ self.old.who }
         ensures rooms { self.new.rooms ≡ filter (λ room. not (is_of pad.now room)) self.old.rooms }
@@ -106,7 +106,7 @@ impl Session {
         self.rooms.retain(|room| !room.pad.is(pad));
     }
 
-    /// Takes the room out that was joined first.
+    /// Removes the room that was joined first.
     pub fn take_first(&mut self) -> Option<Room>
         ensures who { self.new.who ≡ self.old.who }
         ensures first { result ≡ slice_get self.old.rooms 0 }

@@ -1,4 +1,5 @@
-ghost use Rattle.std.specs.Prelude.{◌≡◌, IfOk, bytes_eq};
+ghost use Rattle.std.specs.Prelude.{◌≡◌, IfOk, bytes_eq, length};
+ghost use Rattle.sessions.specs.Tokens.{differences};
 
 use std::alloc::{AllocError, Global};
 use std::marker::Model;
@@ -42,9 +43,9 @@ impl Word {
         self.text.as_str()
     }
 
-    /// Whether this is the token with just this text. Where the lengths are equal it looks at every byte,
-    /// also behind one that differs, so its steps do not tell how far a guess was right. They do tell
-    /// whether the length was, and nothing is promised of the time that a step takes.
+    /// Whether this is the token with exactly this text. If the lengths are equal, it counts the bytes that differ, so it
+    /// looks at every byte, and its steps do not reveal where a guess first differs. They do reveal whether the length is
+    /// right, and nothing is promised about the time of a step.
     pub fn is(&self, text: &str) -> bool
         ensures { result ≡ bytes_eq self.now text.now }
     {
@@ -55,12 +56,17 @@ impl Word {
 fn are_same(a: &[u8], b: &[u8]) -> bool
     ensures { result ≡ bytes_eq a.now b.now }
 {
-    if a.len() != b.len() {
-        return false;
-    }
-    let mut differs = false;
+    a.len() == b.len() && count_differences(a, b) == 0
+}
+
+/// At how many places two texts differ.
+fn count_differences(a: &[u8], b: &[u8]) -> usize
+    requires { length a.now ≡ length b.now }
+    ensures { result ≡ differences a.now b.now }
+{
+    let mut count = 0;
     for i in 0..a.len() {
-        differs |= a[i] != b[i];
+        count += usize::from(a[i] != b[i]);
     }
-    !differs
+    count
 }

@@ -5,6 +5,8 @@ use Rattle.serde_json.specs.Data.{Data, depth, items_depth}
 use Rattle.serde_json.specs.View.{items_of}
 use Rattle.serde_json.specs.Written.{has_float, items_have_float}
 use Rattle.pad_model.specs.Stamp.{Stamp}
+use Rattle.pad_model.specs.declared.piece.Piece.{Piece}
+use Rattle.pad_model.specs.declared.piece.Piece.TheVariants as piece
 use Rattle.pad_model.specs.declared.refusal.Refusal.{Refusal}
 use Rattle.pad_model.specs.declared.op.Op.{Op}
 use Rattle.pad_model.specs.declared.op.OpName.{OpName}
@@ -21,8 +23,8 @@ use Rattle.wire_json.specs.Forms.{parent_data, span_data, counted_data}
 use Rattle.wire_json.specs.Operations.{part_data, op_data}
 use Rattle.wire_json.specs.Peers.{peer_request, pull_request, vector_request, push_request}
 use Rattle.wire_json.specs.Requests.{op_of}
-use Rattle.wire_json.specs.Replies.{run_data, shown_data, entry_data, present_data, grant_data, pad_data, reply_data}
-use Rattle.wire_json.specs.Replies.{outcome_data}
+use Rattle.wire_json.specs.Replies.{run_data, piece_data, shown_data, entry_data, present_data, grant_data, listed_data, pad_data}
+use Rattle.wire_json.specs.Replies.{outcome_data, reply_data}
 
 -- a value holds no float, and nests at most so many levels deep
 record IsPlain (most : ℕ) (d : Data) : Type 0 where
@@ -91,6 +93,11 @@ fields_of name seen author (p ∷ q ∷ parts) =
 op_plain : (op : Op) → IsPlain 5 (op_data op)
 op_plain op = fields_of op.name op.seen op.author op.parts
 
+piece_of : (p : Piece) → IsPlain 1 (piece_data p)
+piece_of (piece.Keep n) = record { floatless = refl; shallow = lit≤ tt }
+piece_of (piece.Drop n) = record { floatless = refl; shallow = lit≤ tt }
+piece_of (piece.Insert author text) = record { floatless = refl; shallow = lit≤ tt }
+
 -- a pad's answer: one that lists something needs a line of its own, any other one is plain as it stands
 pad_of : (said : PadReply) → IsPlain 7 (pad_data said)
 pad_of (pad.Runs now rev runs) =
@@ -98,6 +105,9 @@ pad_of (pad.Runs now rev runs) =
     record { floatless = rw all.floatless refl; shallow = omega (arith, all.shallow) }
 pad_of (pad.Comments now rev comments) =
     let all = each_of shown_data 2 (λ shown. record { floatless = refl; shallow = lit≤ tt }) comments in
+    record { floatless = rw all.floatless refl; shallow = omega (arith, all.shallow) }
+pad_of (pad.Changes now rev to pieces notes) =
+    let all = each_of piece_data 1 piece_of pieces in
     record { floatless = rw all.floatless refl; shallow = omega (arith, all.shallow) }
 pad_of (pad.Entries now entries) =
     let all = each_of entry_data 2 (λ entry. record { floatless = refl; shallow = lit≤ tt }) entries in
@@ -120,6 +130,9 @@ reply_of : (said : Reply) → IsPlain 7 (reply_data said)
 reply_of (reply.Peer replica version.One) = record { floatless = refl; shallow = lit≤ tt }
 reply_of (reply.Peer replica version.Two) = record { floatless = refl; shallow = lit≤ tt }
 reply_of (reply.Pad said) = pad_of said
+reply_of (reply.Pads pads) =
+    let all = each_of listed_data 1 (λ pad. record { floatless = refl; shallow = lit≤ tt }) pads in
+    record { floatless = rw all.floatless refl; shallow = omega (arith, all.shallow) }
 reply_of other = record { floatless = refl; shallow = lit≤ tt }
 
 outcome_of : (outcome : Result Reply Refusal) → IsPlain 7 (outcome_data outcome)

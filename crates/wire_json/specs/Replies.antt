@@ -7,11 +7,14 @@ use Rattle.serde_json.specs.Written.{compact_text}
 use Rattle.anchors.specs.declared.show.Shown.{Shown}
 use Rattle.rights.specs.declared.book.Grant.{Grant}
 use Rattle.pad_model.specs.Refusals.{code_of, name_of}
+use Rattle.pad_model.specs.declared.piece.Piece.{Piece}
+use Rattle.pad_model.specs.declared.piece.Piece.TheVariants as piece
 use Rattle.pad_model.specs.declared.refusal.Refusal.{Refusal}
 use Rattle.pad_model.specs.declared.who.AuthorRun.{AuthorRun}
 use Rattle.pad_model.specs.declared.who.Version.{Version}
 use Rattle.pad_model.specs.declared.who.Version.TheVariants as version
 use Rattle.pad_core.specs.declared.reply.Entry.{Entry}
+use Rattle.pad_core.specs.declared.reply.Listed.{Listed}
 use Rattle.pad_core.specs.declared.reply.Present.{Present}
 use Rattle.pad_core.specs.declared.reply.PadReply.{PadReply}
 use Rattle.pad_core.specs.declared.reply.PadReply.TheVariants as pad
@@ -25,6 +28,13 @@ use Rattle.wire_json.specs.Operations.{op_data}
 -- a stretch of one author
 abbrev pub run_data : AuthorRun → Data
 run_data run = list_data (author_data run.author ∷ number_data run.len ∷ [])
+
+-- a piece of what leads from one text to another
+abbrev pub piece_data : Piece → Data
+piece_data (piece.Keep n) = list_data (string (codes "keep") ∷ number_data n ∷ [])
+piece_data (piece.Drop n) = list_data (string (codes "drop") ∷ number_data n ∷ [])
+piece_data (piece.Insert author text) =
+    list_data (string (codes "insert") ∷ text_data text ∷ author_data author ∷ [])
 
 -- a comment
 abbrev pub shown_data : Shown → Data
@@ -51,6 +61,10 @@ present_data present =
 abbrev pub grant_data : Grant → Data
 grant_data grant = list_data (string grant.name ∷ string (right_word grant.right) ∷ [])
 
+-- a pad in a list of pads: its name, the right on it and its present revision
+abbrev pub listed_data : Listed → Data
+listed_data pad = list_data (string pad.name ∷ string (right_word pad.right) ∷ number_data pad.now ∷ [])
+
 -- an answer says that all is well, and has these fields
 abbrev pub answer : List Field → Data
 answer fields = fields_data ((codes "ok", boolean true) ∷ fields)
@@ -72,6 +86,10 @@ pad_data (pad.Runs now rev runs) = pad_answer now ((codes "rev", number_data rev
     ∷ (codes "runs", each_data run_data runs) ∷ [])
 pad_data (pad.Comments now rev comments) =
     pad_answer now ((codes "comments", each_data shown_data comments) ∷ (codes "rev", number_data rev) ∷ [])
+pad_data (pad.Changes now rev to pieces notes) =
+    pad_answer now ((codes "changes", each_data piece_data pieces) ∷ (codes "notes", number_data notes)
+    ∷ (codes "rev", number_data rev)
+    ∷ (codes "to", number_data to) ∷ [])
 pad_data (pad.Revs now cells length) = pad_answer now ((codes "cells", number_data cells)
     ∷ (codes "length", number_data length) ∷ [])
 pad_data (pad.Entries now entries) = pad_answer now ((codes "entries", each_data entry_data entries) ∷ [])
@@ -93,6 +111,7 @@ abbrev pub reply_data : Reply → Data
 reply_data (reply.Hello author) = answer ((codes "author", author_data author) ∷ [])
 reply_data (reply.Peer replica version) = answer ((codes "replica", number_data replica) ∷ version_fields version)
 reply_data (reply.Pad said) = pad_data said
+reply_data (reply.Pads pads) = answer ((codes "pads", each_data listed_data pads) ∷ [])
 reply_data reply.Ended = answer []
 
 -- why a request is refused

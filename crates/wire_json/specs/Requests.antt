@@ -1,6 +1,6 @@
 -- What requests and operations are read as. What is nothing here is no request.
 use Rattle.std.specs.Prelude.{ℕ, ◌==◌, if◌then◌else◌, Bool, true, false, List, [], ◌∷◌, length, Option, Some, None}
-use Rattle.std.specs.Prelude.{option_map, option_and_then, is_some, bytes_eq, codes}
+use Rattle.std.specs.Prelude.{option_map, option_and_then, unwrap_or, is_some, bytes_eq, codes}
 use Rattle.serde_json.specs.Data.{Data}
 use Rattle.serde_json.specs.Find.{get}
 use Rattle.pad_model.specs.declared.op.Op.{Op}
@@ -96,6 +96,9 @@ act_of act_word.Resolve d = option_map act.Resolve (field op_name_in (codes "com
 act_of act_word.Text d = option_map act.Text (optional number_in (codes "rev") d)
 act_of act_word.Runs d = option_map act.Runs (optional number_in (codes "rev") d)
 act_of act_word.Comments d = option_map act.Comments (optional number_in (codes "rev") d)
+act_of act_word.Changes d =
+    of_three act.Changes (field number_in (codes "rev") d) (optional number_in (codes "to") d)
+    (option_map (λ wait. unwrap_or wait 0) (optional number_in (codes "wait") d))
 act_of act_word.Revs d = Some act.Revs
 act_of act_word.Entries d = of_two act.Entries (field number_in (codes "from") d) (field number_in (codes "count") d)
 act_of act_word.Caret d = of_two act.Caret (field number_in (codes "rev") d) (field number_in (codes "at") d)
@@ -130,6 +133,7 @@ asked word d =
     if bytes_eq word (codes "hello") then hello_in d
     else if bytes_eq word (codes "peer") then peer_in d
     else if bytes_eq word (codes "create") then create_in d
+    else if bytes_eq word (codes "pads") then Some request.Pads
     else on_in word d
 
 -- a request

@@ -69,8 +69,8 @@ act_words =
     (codes "join", act_word.Join) ∷ (codes "leave", act_word.Leave) ∷ (codes "insert", act_word.Insert)
     ∷ (codes "delete", act_word.Delete) ∷ (codes "edit", act_word.Edit) ∷ (codes "text", act_word.Text)
     ∷ (codes "runs", act_word.Runs) ∷ (codes "comment", act_word.Comment) ∷ (codes "resolve", act_word.Resolve)
-    ∷ (codes "comments", act_word.Comments) ∷ (codes "revs", act_word.Revs) ∷ (codes "entries", act_word.Entries)
-    ∷ (codes "caret", act_word.Caret) ∷ (codes "who", act_word.Who) ∷ (codes "grant", act_word.Grant)
+    ∷ (codes "comments", act_word.Comments) ∷ (codes "changes", act_word.Changes) ∷ (codes "revs", act_word.Revs)
+    ∷ (codes "entries", act_word.Entries) ∷ (codes "caret", act_word.Caret) ∷ (codes "who", act_word.Who) ∷ (codes "grant", act_word.Grant)
     ∷ (codes "rights", act_word.Rights) ∷ (codes "vector", act_word.Vector) ∷ (codes "push", act_word.Push)
     ∷ (codes "pull", act_word.Pull) ∷ []
 

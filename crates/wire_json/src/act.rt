@@ -92,6 +92,15 @@ fn read_resolve(value: &Value) -> Result<Act, Refusal>
     Ok(Act::Resolve { comment })
 }
 
+fn read_changes(value: &Value) -> Result<Act, Refusal>
+    ensures { IsForm (act_of ActWord.Changes (view value.now)) result }
+{
+    let rev = number_field(value, "rev")?;
+    let to = optional_number_field(value, "to")?;
+    let wait = optional_number_field(value, "wait")?.unwrap_or(0);
+    Ok(Act::Changes { rev, to, wait })
+}
+
 fn read_entries(value: &Value) -> Result<Act, Refusal>
     ensures { IsForm (act_of ActWord.Entries (view value.now)) result }
 {
@@ -178,6 +187,7 @@ pub fn read_act(alloc: Global, word: ActWord, value: &Value) -> Result<Act, Refu
         ActWord::Comment => read_comment(alloc, value),
         ActWord::Resolve => read_resolve(value),
         ActWord::Comments => read_comments(value),
+        ActWord::Changes => read_changes(value),
         ActWord::Revs => Ok(Act::Revs),
         ActWord::Entries => read_entries(value),
         ActWord::Caret => read_caret(value),

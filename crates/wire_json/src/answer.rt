@@ -12,7 +12,7 @@ use crate::short::{
 use crate::show::{seen_value, text_value};
 use anchors::Shown;
 use pad_core::{Entry, PadReply, Present};
-use pad_model::{AuthorRun, Op, Seen, Text};
+use pad_model::{AuthorRun, Op, Piece, Seen, Text};
 use rights::Grant;
 use serde_json::{Value, json};
 use std::alloc::{AllocError, Global};
@@ -46,6 +46,17 @@ pub fn pad_line(alloc: Global, reply: &PadReply) -> Result<String, AllocError>
             alloc,
             reply,
             comments_value(alloc, *now, *rev, comments.as_slice()),
+        ),
+        PadReply::Changes {
+            now,
+            rev,
+            to,
+            pieces,
+            notes,
+        } => said_line(
+            alloc,
+            reply,
+            changes_value(alloc, *now, *rev, *to, pieces.as_slice(), *notes),
         ),
         PadReply::Entries { now, entries } => {
             said_line(alloc, reply, entries_value(alloc, *now, entries.as_slice()))
@@ -118,6 +129,20 @@ fn comments_value(
     ensures { IfOk result (λ v. view v ≡ pad_data (PadReply.Comments now rev comments.now)) }
 {
     answer_at(alloc, now, rev, "comments", list_value(alloc, comments)?)
+}
+
+fn changes_value(
+    alloc: Global,
+    now: u64,
+    rev: u64,
+    to: u64,
+    pieces: &[Piece],
+    notes: u64,
+) -> Result<Value, AllocError>
+    ensures { IfOk result (λ v. view v ≡ pad_data (PadReply.Changes now rev to pieces.now notes)) }
+{
+    let changes = list_value(alloc, pieces)?;
+    json!(in alloc; {"changes": changes, "notes": notes, "now": now, "ok": true, "rev": rev, "to": to})
 }
 
 fn entries_value(alloc: Global, now: u64, entries: &[Entry]) -> Result<Value, AllocError>

@@ -5,9 +5,10 @@ ghost use Rattle.wire_json.specs.Replies.{IsLineFor, IsWritten, line_of, outcome
 
 use crate::answer::pad_line;
 use crate::line::value_line;
+use crate::list::list_value;
 use crate::short::ended_line;
 use crate::show::author_value;
-use pad_core::Reply;
+use pad_core::{Listed, Reply};
 use pad_model::{Author, Refusal, Version};
 use serde_json::{Value, json};
 use std::alloc::{AllocError, Global};
@@ -29,6 +30,7 @@ fn outcome_line(alloc: Global, outcome: &Result<Reply, Refusal>) -> Result<Strin
             value_line(alloc, peer_value(alloc, *replica, *version))
         }
         Ok(Reply::Pad(reply)) => pad_line(alloc, reply),
+        Ok(Reply::Pads { pads }) => pads_line(alloc, pads.as_slice()),
         Ok(Reply::Ended) => ended_line(alloc),
         Err(refusal) => value_line(alloc, refusal_value(alloc, *refusal)),
     }
@@ -47,6 +49,19 @@ fn hello_value(alloc: Global, author: &Author) -> Result<Value, AllocError>
 {
     let author = author_value(alloc, author)?;
     json!(in alloc; {"author": author, "ok": true})
+}
+
+fn pads_line(alloc: Global, pads: &[Listed]) -> Result<String, AllocError>
+    ensures { IfOk result (λ line. IsWritten (reply_data (Reply.Pads pads.now)) (string_bytes line)) }
+{
+    value_line(alloc, pads_value(alloc, pads))
+}
+
+fn pads_value(alloc: Global, pads: &[Listed]) -> Result<Value, AllocError>
+    ensures { IfOk result (λ v. view v ≡ reply_data (Reply.Pads pads.now)) }
+{
+    let pads = list_value(alloc, pads)?;
+    json!(in alloc; {"ok": true, "pads": pads})
 }
 
 /// The version is told to those alone who named it.

@@ -41,6 +41,7 @@ fn request_of(alloc: Global, value: &Value) -> Result<Request, Refusal>
         "hello" => read_hello(alloc, value),
         "peer" => read_peer(alloc, value),
         "create" => read_create(alloc, value),
+        "pads" => Ok(Request::Pads),
         word => read_on(alloc, word, value),
     }
 }

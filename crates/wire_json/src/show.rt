@@ -3,13 +3,13 @@ ghost use Rattle.std.specs.Prelude.{◌≡◌, IfOk};
 ghost use Rattle.serde_json.specs.View.{view};
 ghost use Rattle.serde_json.specs.Data.{string};
 ghost use Rattle.wire_json.specs.Forms.{op_name_data, stamp_data, parent_data, text_data, author_data, seen_data, counted_data, span_data};
-ghost use Rattle.wire_json.specs.Replies.{run_data, shown_data, entry_data, present_data, grant_data};
+ghost use Rattle.wire_json.specs.Replies.{run_data, piece_data, shown_data, entry_data, present_data, grant_data, listed_data};
 
 use crate::list::{ToJson, list_value};
 use crate::word::{kind_word, right_word};
 use anchors::Shown;
-use pad_core::{Entry, Present};
-use pad_model::{Author, AuthorRun, Counted, Name, OpName, Seen, Span, Stamp, Text};
+use pad_core::{Entry, Listed, Present};
+use pad_model::{Author, AuthorRun, Counted, Name, OpName, Piece, Seen, Span, Stamp, Text};
 use rights::Grant;
 use serde_json::{Map, Value, json, put};
 use std::alloc::{AllocError, Global};
@@ -98,6 +98,28 @@ impl ToJson for AuthorRun {
     }
 }
 
+impl ToJson for Piece {
+    ghost says = { piece_data };
+
+    fn to_json(&self, alloc: Global) -> Result<Value, AllocError> {
+        match self {
+            Piece::Keep(len) => {
+                let len = *len;
+                json!(in alloc; ["keep", len])
+            }
+            Piece::Drop(len) => {
+                let len = *len;
+                json!(in alloc; ["drop", len])
+            }
+            Piece::Insert { author, text } => {
+                let text = text_value(alloc, text)?;
+                let author = author_value(alloc, author)?;
+                json!(in alloc; ["insert", text, author])
+            }
+        }
+    }
+}
+
 impl ToJson for Shown {
     ghost says = { shown_data };
 
@@ -138,6 +160,17 @@ impl ToJson for Present {
         let caret = self.caret;
         let visit = self.visit;
         json!(in alloc; {"author": author, "caret": caret, "visit": visit})
+    }
+}
+
+impl ToJson for Listed {
+    ghost says = { listed_data };
+
+    fn to_json(&self, alloc: Global) -> Result<Value, AllocError> {
+        let name = name_value(alloc, &self.name)?;
+        let right = right_word(self.right);
+        let now = self.now;
+        json!(in alloc; [name, right, now])
     }
 }
 

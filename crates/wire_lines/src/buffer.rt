@@ -20,10 +20,10 @@ pub const MAX_READS: u64 = 4_294_967_296;
 // How many bytes one read may give.
 const CHUNK: usize = 65_536;
 
-// How much room is kept for bytes that wait. What a longer line took is given back when it was answered.
+// The room that is kept for waiting bytes. What a longer line took is given back before the next read.
 const KEPT: usize = 2 * CHUNK;
 
-/// What stands at the front of the bytes.
+/// What comes first in the bytes.
 #[derive(Clone, Copy, Debug, PartialEq, Eq)]
 pub enum Found {
     /// A line.
@@ -34,7 +34,7 @@ pub enum Found {
     End,
 }
 
-/// Bytes that were read and not answered yet, and the line that was found last.
+/// Bytes that were read and not used yet, and the line that was found last.
 #[derive(Drop)]
 pub struct LineBuffer {
     chunk: Vec<u8>,
@@ -67,7 +67,7 @@ impl Model for LineBuffer {
 }
 
 impl LineBuffer {
-    /// Nothing was read yet.
+    /// A buffer that has read nothing.
     pub fn new(alloc: Global) -> Result<LineBuffer, Fault>
         ensures made { IfOk result (λ buffer. buffer ≡ record { waiting = []; line = []; reads = 0; ended = false; fault = None }) }
         ensures err { IfErr result (λ fault. fault ≡ Memory) }
@@ -95,7 +95,7 @@ impl LineBuffer {
         &self.held[from..to]
     }
 
-    /// Finds the next line, and reads as long as it has to. After a fault it answers that fault again.
+    /// Finds the next line, and reads as often as it has to. After a fault, it returns that fault again.
     pub fn find_line<R: Source>(&mut self, source: &mut R) -> Result<Found, Fault>
         // What waits and what the source still gives are the bytes to come: what is found stands at their front.
         ensures found { IfOk result (λ found. Finds found (ahead self.old (R.remaining source.old))
@@ -153,7 +153,7 @@ impl LineBuffer {
         }
     }
 
-    // Takes the first line off, where its end or too many of its bytes wait.
+    // Takes off the first line, if its end has been read or it is too long.
     fn take_line(&mut self) -> Option<Found>
         ensures found { IfSome result (λ found. ShowsBefore found self.old.waiting self.new.line self.new.waiting) }
         ensures none { IfNone result (IsPart self.new.waiting) }
@@ -184,7 +184,7 @@ impl LineBuffer {
         }
     }
 
-    // Takes all that waits as the last line, if it is any.
+    // Takes all waiting bytes as the last line, if there are any.
     fn take_rest(&mut self) -> Found
         requires { IsPart self.old.waiting }
         ensures found { Shows result self.old.waiting self.new.line self.new.waiting }
@@ -241,7 +241,7 @@ fn drop_front(held: &mut Vec<u8>, count: usize)
     held.shrink_to(KEPT);
 }
 
-// Reads once, and puts what came behind what is held. Answers whether the source is at its end.
+// Reads once, and appends what came. Returns whether the source is at its end.
 fn read_once<R: Source>(
     source: &mut R,
     chunk: &mut Vec<u8>,

@@ -1,5 +1,5 @@
 //! What a reader and a writer may do: cut, be interrupted, fail.
-ghost use Rattle.std.specs.Prelude.{◌≡◌, ℕ, ◌≤◌, List, Option, IfOk, length};
+ghost use Rattle.std.specs.Prelude.{◌≡◌, ℕ, ◌≤◌, Bool, true, List, Option, None, IfOk, IfSome, OnOk, length};
 ghost use Rattle.std.specs.Io.KnownBytes.{Keeps, ReadConsumes, WriteAppends};
 ghost use Rattle.wire_lines.specs.Device.{after_read, after_write, after_flush, one_more};
 
@@ -27,7 +27,7 @@ pub trait Source {
     /// How many calls were made, as far as a `u64` counts.
     ghost reads: { Self → ℕ };
 
-    /// Reads once. 0 bytes come only at the end, or where the buffer has no room.
+    /// Reads once. It returns 0 only at the end, or if the buffer is empty.
     fn read(&mut self, buffer: &mut [u8]) -> Result<usize, ReadError>
         ensures bound { IfOk result (λ count. count ≤ length buffer.new) }
         ensures bytes { ReadConsumes (remaining self.old) (remaining self.new) result buffer.new }
@@ -43,6 +43,9 @@ pub trait Sink {
     /// How many calls have failed or taken no byte of some, as far as a `u64` counts.
     ghost failures: { Self → ℕ };
 
+    /// Whether all that was written has been sent on, where the writer says so.
+    ghost is_sent: { Self → Option Bool } = { λ _. None };
+
     /// Writes once, as many bytes as it takes.
     fn write(&mut self, bytes: &[u8]) -> Result<usize, WriteError>
         ensures bound { IfOk result (λ count. count ≤ length bytes.now) }
@@ -52,7 +55,8 @@ pub trait Sink {
     /// Sends on what was written.
     fn flush(&mut self) -> Result<(), WriteError>
         ensures bytes { Keeps (contents self.old) (contents self.new) }
-        ensures failures { failures self.new ≡ after_flush result (failures self.old) };
+        ensures failures { failures self.new ≡ after_flush result (failures self.old) }
+        ensures sent { OnOk result (IfSome (is_sent self.new) (λ sent. sent ≡ true)) };
 }
 
 impl<S: Source> Source for &mut S {

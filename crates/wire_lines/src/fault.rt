@@ -6,16 +6,16 @@ ghost use Rattle.wire_lines.specs.declared.fault.Fault.TheVariants.{Memory};
 use std::alloc::{AllocError, AllocFailed};
 use thiserror::Error;
 
-/// Why a connection or a relay round ended before its time.
+/// Why a connection or a relay round ended early.
 #[derive(Clone, Copy, Debug, PartialEq, Eq, Error)]
 pub enum Fault {
-    /// 510: the reader failed, or was asked too often.
+    /// 510: the reader failed, or all reads were made.
     #[error("510 ReadFault")]
     ReadFault,
     /// 511: the writer failed, or took no byte.
     #[error("511 WriteFault")]
     WriteFault,
-    /// 512: a peer's reply is none.
+    /// 512: a peer's line is not a reply.
     #[error("512 PeerReply")]
     PeerReply,
     /// 900: there was no memory.

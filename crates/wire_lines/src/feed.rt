@@ -1,4 +1,4 @@
-//! Where a line ends, and whether a carriage return stands before its end.
+//! Where a line ends, and whether a carriage return comes before its end.
 ghost use Rattle.std.specs.Prelude.{◌≡◌, ◌+◌, ◌≤◌, ◌<◌, length, drop, slice_range, IfNone, IfSome};
 ghost use Rattle.std.specs.List.{position};
 ghost use Rattle.wire_lines.specs.Lines.{is_feed, line_end, without_return};
@@ -6,7 +6,7 @@ ghost use Rattle.wire_lines.specs.Lines.{is_feed, line_end, without_return};
 /// The most bytes of a line: 8 MiB. Its line feed is not counted, a carriage return is.
 pub const MAX_LINE: usize = 8_388_608;
 
-/// The place of the first line feed from `start` on. It was searched up to `searched` before.
+/// The place of the first line feed from `start` on. There is none before `searched`.
 pub fn first_feed(held: &[u8], start: usize, searched: usize) -> Option<usize>
     requires in_range { searched ≤ length held.now }
     requires begun { start ≤ searched }

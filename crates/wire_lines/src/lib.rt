@@ -1,6 +1,6 @@
 //! Bytes as lines, and lines as bytes: readers and writers that may cut, interrupt or fail.
 //!
-//! It stands on std alone. It knows no JSON: a line is bytes.
+//! It depends on std and `thiserror`. It knows no JSON: a line is bytes.
 #![tactic(auto)]
 
 mod buffer;

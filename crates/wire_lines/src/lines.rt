@@ -17,7 +17,7 @@ use std::alloc::Global;
 pub enum Line<'a> {
     /// A line, without its end.
     Text(&'a [u8]),
-    /// A line of more than `MAX_LINE` bytes. It is answered again from then on.
+    /// A line of more than `MAX_LINE` bytes. It is returned again from then on.
     TooLong,
     /// No more lines.
     End,
@@ -31,7 +31,7 @@ pub struct Lines<R> {
 }
 
 impl<R: Source> Lines<R> {
-    /// Nothing is read yet. Where there is no memory the reader is dropped.
+    /// Reads nothing yet. If there is no memory, the reader is dropped.
     pub fn new(alloc: Global, source: R) -> Result<Lines<R>, Fault>
     where
         R: Drop,
@@ -44,7 +44,7 @@ impl<R: Source> Lines<R> {
         Ok(Lines { source, buffer })
     }
 
-    /// The next line. After a line that is too long, or a fault, it answers that again.
+    /// The next line. After a line that is too long, or a fault, it returns that again.
     pub fn next(&mut self) -> Result<Line<'_>, Fault>
         ensures line { GivesLine (lines_ahead R.remaining self.old) result }
         ensures* after_borrow { sem 𝓛 (Rests (the_row R.row) self.entry (λ new.

@@ -21,7 +21,7 @@ pub struct Input<'a> {
 impl<'a> Input<'a> {
     ghost use Rattle.wire_lines.specs.Devices.{input_rest, input_settings};
 
-    /// It gives as many bytes as there is room for, and doesn't fail.
+    /// A reader that fills each buffer and does not fail.
     pub fn new(bytes: &'a [u8]) -> Input<'a>
         ensures bytes { input_rest result ≡ bytes.now }
         ensures settings { input_settings result ≡ record { piece = usize.MAX; is_interrupted = false; fails_at = 0 } }
@@ -37,7 +37,7 @@ impl<'a> Input<'a> {
         }
     }
 
-    /// One read gives so many bytes at most.
+    /// With at most `piece` bytes for each read.
     pub fn in_pieces(mut self, piece: usize) -> Input<'a>
         requires { 0 < piece }
         ensures bytes { input_rest result ≡ input_rest self.entry }
@@ -58,7 +58,7 @@ impl<'a> Input<'a> {
         self
     }
 
-    /// A read fails, counted from 1.
+    /// With a read that fails, counted from 1.
     pub fn failing_at(mut self, call: u64) -> Input<'a>
         ensures bytes { input_rest result ≡ input_rest self.entry }
         ensures settings { input_settings result ≡ record (input_settings self.entry) { fails_at = call } }
@@ -110,7 +110,7 @@ fn copy_front(bytes: &[u8], buffer: &mut [u8], count: usize)
     buffer[..count].copy_from_slice(&bytes[..count]);
 }
 
-// One more, where there is one.
+// One more, up to the greatest `u64`.
 fn one_more(calls: u64) -> u64
     ensures { result ≡ one_more calls }
 {
@@ -130,7 +130,7 @@ pub struct Output {
 impl Output {
     ghost use Rattle.wire_lines.specs.Devices.{output_bytes, output_settings};
 
-    /// Nothing is written. It takes all bytes of a call, and doesn't fail while there is memory.
+    /// An empty writer, which takes all bytes of a call and fails only if it is out of memory.
     pub fn new(alloc: Global) -> Output
         ensures bytes { output_bytes result ≡ [] }
         ensures settings { output_settings result ≡ record { piece = usize.MAX; is_interrupted = false; fails_at = 0 } }
@@ -145,7 +145,7 @@ impl Output {
         }
     }
 
-    /// One write takes so many bytes at most, which may be none.
+    /// With at most `piece` bytes for each write, which may be 0.
     pub fn in_pieces(mut self, piece: usize) -> Output
         ensures bytes { output_bytes result ≡ output_bytes self }
         ensures settings { output_settings result ≡ record (output_settings self) { piece = piece } }
@@ -155,7 +155,7 @@ impl Output {
         self
     }
 
-    /// A write fails, counted from 1.
+    /// With a write that fails, counted from 1.
     pub fn failing_at(mut self, call: u64) -> Output
         ensures bytes { output_bytes result ≡ output_bytes self }
         ensures settings { output_settings result ≡ record (output_settings self) { fails_at = call } }
@@ -179,6 +179,8 @@ impl Sink for Output {
     ghost contents = { λ o. Some o.bytes.items };
 
     ghost failures = { λ o. o.failures };
+
+    ghost is_sent = { λ _. Some true };
 
     fn write(&mut self, bytes: &[u8]) -> Result<usize, WriteError>
         ensures bound { IfOk result (λ count. count ≤ length bytes.now) }

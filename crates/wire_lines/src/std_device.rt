@@ -5,7 +5,7 @@ ghost use Rattle.wire_lines.specs.Device.{one_more};
 use crate::device::{ReadError, Sink, Source, WriteError};
 use std::io::{ErrorKind, Read, Write};
 
-/// A reader or a writer of std as a `Source` or a `Sink`. An interrupted write is a failed one.
+/// A reader or a writer of std as a `Source` or a `Sink`. An interrupted write counts as failed.
 #[derive(Drop)]
 pub struct Std<T> {
     inner: T,
@@ -29,7 +29,7 @@ impl<T> Std<T> {
     }
 }
 
-// One more, where there is one.
+// One more, up to the greatest `u64`.
 fn one_more(failures: u64) -> u64
     ensures { result ≡ one_more failures }
 {

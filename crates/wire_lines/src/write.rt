@@ -1,5 +1,5 @@
 //! A line as it is written: whole, or up to where the writer failed.
-ghost use Rattle.std.specs.Prelude.{◌≡◌, ℕ, ◌≤◌, length, take, OnOk, OnErr, IfErr};
+ghost use Rattle.std.specs.Prelude.{◌≡◌, ℕ, ◌≤◌, true, length, take, OnOk, OnErr, IfErr, IfSome};
 ghost use Rattle.std.specs.Io.KnownBytes.{Appends};
 ghost use Rattle.wire_lines.specs.Device.{one_more};
 ghost use Rattle.wire_lines.specs.declared.fault.Fault.TheVariants.{WriteFault};
@@ -15,6 +15,8 @@ pub fn write_all<W: Sink>(writer: &mut W, bytes: &[u8]) -> Result<(), Fault>
     ensures fault { IfErr result (λ fault. fault ≡ WriteFault) }
     ensures cause { OnErr result (W.failures writer.new ≡ one_more (W.failures writer.old)) }
     ensures none { OnOk result (W.failures writer.new ≡ W.failures writer.old) }
+    // What was written is not kept back by a writer that says what it has sent on.
+    ensures sent { OnOk result (IfSome (W.is_sent writer.new) (λ sent. sent ≡ true)) }
 {
     let mut written = 0;
     while written < bytes.len() {

@@ -1,13 +1,13 @@
 -- The operations of a log that a pad can have are delivered again, one behind the other.
-use Rattle.std.proofs.Common.{◌≡◌, ℕ, ◌+◌, ◌≤◌, ◌<◌, Bool, true, false, not, cond, eqb, eq-eqb, List, [], ◌∷◌, ◌++◌}
-use Rattle.std.proofs.Common.{length, map, fold, flat_map, count_by, Option, Some, None, Result, Ok, Err, refl, sym, ap}
-use Rattle.std.proofs.Common.{ap₂, ◌∙◌, subst, arith, append-nil, append_assoc}
+use Rattle.std.proofs.Common.{◌≡◌, ℕ, ◌+◌, ◌≤◌, true, cond, eq-eqb, List, [], ◌∷◌, ◌++◌}
+use Rattle.std.proofs.Common.{length, map, fold, flat_map, count_by, Option, None, Result, Ok, refl, sym, ap}
+use Rattle.std.proofs.Common.{◌∙◌, subst, arith, append-nil, append_assoc}
 use Rattle.std.specs.Prelude.{IsTrue, sum_by}
 use Rattle.std.proofs.lemmas.List.{length-append}
 use Rattle.std.proofs.lemmas.List.Concat.{flat_map-append}
 use Rattle.std.proofs.lemmas.List.Sums.{sum_by-append, sum_by-cons}
 use Rattle.pad_model.specs.Checked.{is_checked}
-use Rattle.pad_model.specs.History.{Continues, IsHistory}
+use Rattle.pad_model.specs.History.{Continues}
 use Rattle.pad_model.specs.Log.{is_comment, is_valid}
 use Rattle.pad_model.specs.Operation.{characters_in, inserted_by}
 use Rattle.pad_model.specs.Seen.{count_in}
@@ -16,13 +16,12 @@ use Rattle.pad_model.specs.declared.op.Op.{Op}
 use Rattle.pad_model.specs.declared.refusal.Refusal.{Refusal}
 use Rattle.pad_model.specs.declared.seen.Counted.{Counted}
 use Rattle.pad_core.specs.Counts.{AreNumbered, counted, vector_of}
-use Rattle.pad_core.specs.Delivered.{IsDelivered, delivery_refusal}
+use Rattle.pad_core.specs.Delivered.{IsDelivered}
 use Rattle.pad_core.specs.Machine.{Machine}
 use Rattle.pad_core.specs.Restart.{delivered_again, is_next, restarted, restore_refusal}
 use Rattle.pad_core.specs.declared.owned.Owned.{Owned}
 use Rattle.pad_core.proofs.Judged.{Allowed, not_refused}
 use Rattle.records.specs.Records.{replay_all, replayed, unless_refused}
-use Rattle.records.specs.declared.kept_record.Record.{Record}
 use Rattle.records.specs.declared.kept_record.Record.TheVariants.{Delivered}
 
 -- a restarted pad with these

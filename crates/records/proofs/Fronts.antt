@@ -1,9 +1,10 @@
 -- The first records of a pad's life lead to the restarted pad that it was by then.
-use Rattle.std.proofs.Common.{◌≡◌, ◌⊎◌, inl, inr, ℕ, ◌+◌, ◌-◌, ◌≤◌, ◌<◌, nat_le, true, false, List, [], ◌∷◌, ◌++◌}
-use Rattle.std.proofs.Common.{length, map, take, drop, fold, Option, Some, None, Result, Ok, Err, refl, sym, ap, ◌∙◌}
-use Rattle.std.proofs.Common.{subst, arith}
+use Rattle.std.proofs.Common.{◌≡◌, ◌⊎◌, inl, inr, ℕ, ◌+◌, ◌-◌, ◌≤◌, ◌<◌, nat_le, true, false, List, [], ◌++◌}
+use Rattle.std.proofs.Common.{length, map, take, drop, fold, Some, None, Result, Ok, Err, refl, sym, ap, ◌∙◌}
+use Rattle.std.proofs.Common.{min, subst, arith}
 use Rattle.std.proofs.lemmas.Bool.Decides.{leb_tells}
-use Rattle.std.proofs.lemmas.List.{length-append, take-append-drop, take-append-le, take-map, take_all}
+use Rattle.std.proofs.lemmas.List.{length-take, take-append-drop, take-append-le, take-map, take-take}
+use Rattle.std.proofs.lemmas.List.{take_all}
 use Rattle.std.proofs.lemmas.List.Sums.{fold-append}
 use Rattle.std.proofs.Math.Seq.{take-append-add, take-nil}
 use Rattle.pad_model.specs.declared.op.Op.{Op}
@@ -18,19 +19,20 @@ use Rattle.pad_core.specs.declared.act.Act.{Act}
 use Rattle.pad_core.specs.declared.act.Act.TheVariants as act
 use Rattle.pad_core.specs.declared.request.Request.{Request}
 use Rattle.pad_core.specs.declared.request.Request.TheVariants as request
-use Rattle.records.specs.Laws.{Had, Left, Life}
-use Rattle.records.specs.Laws.Had.{last, within, earlier, unended}
-use Rattle.records.specs.Laws.Life.{begins, asked, left}
+use Rattle.records.specs.Laws.{Had, Left, Life, restarted_by}
+use Rattle.records.specs.Laws.Had.{last, within, earlier, unended, before_start}
+use Rattle.records.specs.Laws.Life.{begins, asked, left, starts_again}
 use Rattle.records.specs.Records.{Answer, act_records, claim_records, rebuilt, records_of, replayed, unnamed}
 use Rattle.records.specs.declared.kept_record.Record.{Record}
 use Rattle.records.specs.declared.kept_record.Record.TheVariants.{Delivered}
 use Rattle.records.proofs.Deliveries.{front_again}
+use Rattle.records.proofs.Numbers.{any_number}
 use Rattle.records.proofs.Steps.{life_again}
 
--- some records lead to a pad that was there on the way
+-- some records lead to a pad that was there on the way, whatever the server's number is
 abbrev Found : ℕ → List Record → Machine → List Record → Type 0
 Found replica records m front = (had : Machine) × Had replica records m front had
-    × (rebuilt replica front ≡ Ok (restarted had))
+    × ((number : ℕ) → rebuilt number front ≡ Ok (restarted_by number had))
 
 -- one record at most, or one for each operation
 abbrev IsFew : List Record → List Op → Type 0
@@ -51,11 +53,16 @@ few_of_act other answer more = inr refl
 few : (w : Who) (this : Request) (answer : Answer) (more : List Op) → IsFew (records_of w this answer more) more
 few w (request.On name this) answer more = few_of_act this answer more
 few w (request.Create name) answer more = few_of_claim w name answer more
+few w request.Pads answer more = inl (omega arith)
 few w (request.Hello name token) answer more = inl (omega arith)
 few w (request.Peer number token version) answer more = inl (omega arith)
 
 whole : (replica : ℕ) (records : List Record) (m : Machine) → Life replica records m → Found replica records m records
-whole replica records m life = (m, last records m life, life_again replica records m life)
+whole replica records m life = (
+  m,
+  last replica records m life,
+  any_number replica records m (life_again replica records m life),
+)
 
 -- the operations that a request delivered first are delivered again
 part_again : (replica : ℕ) (records : List Record) (old : Machine) (first rest : List Op) → Life replica records old →
@@ -75,9 +82,10 @@ part replica records w this cell rooms old answer new after more first rest is l
     subst (λ (all : List Op). Found replica (records ++ records_of w this answer all) after
     (records ++ map Delivered first)) is (
       record old { log = old.log ++ first },
-      within records w this cell rooms old answer new after first rest life
+      within replica records w this cell rooms old answer new after first rest life
           parted,
-      part_again replica records old first rest life delivered,
+      any_number replica (records ++ map Delivered first) (record old { log = old.log ++ first })
+          (part_again replica records old first rest life delivered),
     )
   where
     parted : Left w this cell rooms old answer new after (first ++ rest)
@@ -99,7 +107,7 @@ asked_front replica records w this cell rooms old answer new after more n life l
         subst (λ (rs : List Record). Found replica (records ++ records_of w this answer more) after (records ++ rs))
         (sym (take_all n (records_of w this answer more) (omega arith)))
         (whole replica (records ++ records_of w this answer more) after
-        (asked records w this cell rooms old answer new after more life l))
+        (asked replica records w this cell rooms old answer new after more life l))
     at (inr is) =
         subst (λ (rs : List Record). Found replica (records ++ records_of w this answer more) after (records ++ rs))
         (sym (ap (take n) is ∙ take-map Delivered n more))
@@ -108,9 +116,9 @@ asked_front replica records w this cell rooms old answer new after more n life l
 
 pub front : (replica : ℕ) (records : List Record) (m : Machine) (count : ℕ) → Life replica records m →
     Found replica records m (take count records)
-front replica records m count begins = subst (Found replica [] (unnamed replica)) (sym (take-nil count))
-    (whole replica [] (unnamed replica) begins)
-front replica records m count (asked before w this cell rooms old answer new after more life l) =
+front replica records m count (begins same) = subst (Found replica [] (unnamed replica)) (sym (take-nil count))
+    (whole replica [] (unnamed replica) (begins replica))
+front replica records m count (asked same before w this cell rooms old answer new after more life l) =
     at (leb_tells count (length before)) (front replica before old count life)
   where
     at : ((nat_le count (length before) ≡ true) × (count ≤ length before))
@@ -121,7 +129,7 @@ front replica records m count (asked before w this cell rooms old answer new aft
     at (inl (_, low)) (had, there, is) =
         subst (Found replica (before ++ records_of w this answer more) after)
         (sym (take-append-le count before (records_of w this answer more) low))
-        (had, earlier before w this cell rooms old answer new after more (take count before) had there l, is)
+        (had, earlier replica before w this cell rooms old answer new after more (take count before) had there l, is)
     at (inr (_, high)) found = past (count - length before) (omega arith) (omega arith)
       where
         past : (n : ℕ) → count ≡ length before + n → 1 ≤ n →
@@ -132,7 +140,25 @@ front replica records m count (asked before w this cell rooms old answer new aft
             (sym (ap (λ k. take k (before ++ records_of w this answer more)) is
             ∙ take-append-add before (records_of w this answer more) n))
             (asked_front replica before w this cell rooms old answer new after more n life l some)
-front replica records m count (left before name w visit old life) = at (front replica before old count life)
+front replica records m count (left same before name w visit old life) = at (front replica before old count life)
   where
     at : Found replica before old (take count before) → Found replica before m (take count before)
-    at (had, there, is) = (had, unended before name w visit old (take count before) had there, is)
+    at (had, there, is) = (had, unended replica before name w visit old (take count before) had there, is)
+front replica records m count (starts_again was before old few number again life leads) =
+    at (leb_tells count few) (λ n. front was before old n life)
+  where
+    at : ((nat_le count few ≡ true) × (count ≤ few)) ⊎ ((nat_le count few ≡ false) × (few < count)) →
+        ((n : ℕ) → Found was before old (take n before)) → Found replica records m (take count records)
+    at (inl (_, low)) fronts = subst (Found replica records m) (sym (take-take count few before low)) (kept (fronts count))
+      where
+        kept : Found was before old (take count before) → Found replica records m (take count before)
+        kept (had, there, is) = (had, before_start was before old few number again (take count before) had there leads, is)
+    at (inr (_, high)) fronts =
+        subst (Found replica records m) (sym (take_all count (take few before) (short (length-take few before))))
+        (kept (fronts few))
+      where
+        short : length (take few before) ≡ min few (length before) → length (take few before) ≤ count
+        short is = omega (arith, high, is)
+
+        kept : Found was before old (take few before) → Found replica records m (take few before)
+        kept (had, there, is) = (had, before_start was before old few number again (take few before) had there leads, is)

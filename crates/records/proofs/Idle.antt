@@ -104,6 +104,7 @@ idle : (w : Who) (this : Request) (rooms : List Room) (cell : ℕ) (old : Machin
     (after : Machine) (more : List Op) →
     Visited w this rooms old (request_at w this cell rooms old) answer new after → after.log ≡ old.log ++ more →
     Idle w this answer more
+idle w request.Pads rooms cell old answer new after more visited grown = inl refl
 idle w (request.Hello name token) rooms cell old answer new after more visited grown = inl refl
 idle w (request.Peer number token version) rooms cell old answer new after more visited grown = inl refl
 idle w (request.Create name) rooms cell old answer new after more visited grown = inr refl

@@ -2,5 +2,6 @@
 pub mod Deliveries
 pub mod Fronts
 pub mod Idle
+pub mod Numbers
 pub mod Replays
 pub mod Steps

@@ -1,31 +1,27 @@
 -- The records of a request lead from the restarted pad before it to the restarted pad after it.
-use Rattle.std.proofs.Common.{◌≡◌, ◌⊎◌, inl, inr, ℕ, zero, suc, ◌+◌, Bool, true, false, not, cond, List, [], ◌∷◌, ◌++◌}
-use Rattle.std.proofs.Common.{length, map, Option, Some, None, Result, Ok, Err, bytes_eq, nat_le, ◌&&◌, unwrap_or, eqb}
-use Rattle.std.proofs.Common.{eq-eqb, ltb, refl, sym, ap, ap₂, ◌∙◌, subst, arith, append-nil, fold}
-use Rattle.std.specs.Prelude.{IsTrue}
-use Rattle.std.proofs.lemmas.Bool.{and_from, cases_eq}
-use Rattle.std.proofs.lemmas.List.{append_cancel_left}
+use Rattle.std.proofs.Common.{◌≡◌, ◌⊎◌, inl, inr, ℕ, ◌+◌, Bool, true, false, not, cond, List, [], ◌∷◌, ◌++◌}
+use Rattle.std.proofs.Common.{length, map, Option, Some, None, Result, Ok, Err, bytes_eq, nat_le, unwrap_or}
+use Rattle.std.proofs.Common.{ltb, refl, sym, ap, ◌∙◌, subst, fold}
 use Rattle.pad_model.specs.Checked.{is_name}
 use Rattle.pad_model.specs.Visible.{visible}
 use Rattle.pad_model.specs.declared.op.Op.{Op}
 use Rattle.pad_model.specs.declared.refusal.Refusal.{Refusal}
-use Rattle.pad_model.specs.declared.refusal.Refusal.TheVariants.{Memory, Crowded, NoPad, NoSession}
+use Rattle.pad_model.specs.declared.refusal.Refusal.TheVariants.{Memory, Crowded, NoPad}
 use Rattle.pad_model.specs.declared.who.Who.{Who}
 use Rattle.pad_model.specs.declared.who.Who.TheVariants as who
 use Rattle.pad_model.specs.declared.who.Version.{Version}
-use Rattle.pad_model.proofs.Newer.{split}
 use Rattle.rights.specs.Rights.{Rights, grant, is_full}
 use Rattle.rights.specs.declared.right.Right.{Right}
 use Rattle.sessions.specs.Presence.{Presence, join_refusal, joined}
-use Rattle.sessions.specs.declared.presence.TheConstants.{MAX_PRESENT, MAX_VISITS}
+use Rattle.sessions.specs.declared.presence.TheConstants.{MAX_PRESENT}
 use Rattle.sessions.specs.declared.session.Room.{Room}
 use Rattle.pad_core.specs.Counts.{characters_at}
 use Rattle.pad_core.specs.Delivered.{IsDelivered}
 use Rattle.pad_core.specs.Grants.{grant as granted, told_done}
-use Rattle.pad_core.specs.Machine.{Machine, author_act, author_refusal, author_step, claim, now_of, nobody_refusal}
+use Rattle.pad_core.specs.Machine.{Machine, author_act, author_refusal, author_step, now_of, nobody_refusal}
 use Rattle.pad_core.specs.Machine.{peer_act, session_step, step, need_of}
 use Rattle.pad_core.specs.Presence.{join, put_caret}
-use Rattle.pad_core.specs.Restart.{ended, restarted, restore_claim, restore_grant, visited}
+use Rattle.pad_core.specs.Restart.{restarted, restore_claim, restore_grant, visited}
 use Rattle.pad_core.specs.declared.act.Act.{Act}
 use Rattle.pad_core.specs.declared.act.Act.TheVariants as act
 use Rattle.pad_core.specs.declared.event.Claim.{Claim}
@@ -43,13 +39,14 @@ use Rattle.server_core.specs.Rooms.{IsAsked}
 use Rattle.server_core.specs.Served.{Visited}
 use Rattle.sessions.specs.Session.{IsNamed}
 use Rattle.records.specs.Laws.{Left, Life}
-use Rattle.records.specs.Laws.Life.{begins, asked, left}
+use Rattle.records.specs.Laws.Life.{begins, asked, left, starts_again}
 use Rattle.std.proofs.lemmas.List.Sums.{fold-append}
 use Rattle.records.specs.Records.{Answer, act_records, claim_records, rebuilt, records_of, replay_all, replayed}
 use Rattle.records.specs.Records.{unless_refused, unnamed}
 use Rattle.records.specs.declared.kept_record.Record.{Record}
 use Rattle.records.specs.declared.kept_record.Record.TheVariants as kept
 use Rattle.records.proofs.Deliveries.{bare, quiet}
+use Rattle.records.proofs.Numbers.{alone, bare_stays}
 
 -- some records lead from a pad to another one, which delivered these operations
 abbrev Leads : (Answer → List Op → List Record) → Machine → Answer → Machine → Type 0
@@ -62,11 +59,6 @@ either P false x y p q = q
 
 abbrev machine : Option Owned → ℕ → List Op → List Op → Presence → Machine
 machine o replica log held p = record { owned = o; replica = replica; log = log; held = held; presence = p }
-
--- the visit that was given last has ended
-alone : (given : ℕ) (name : List ℕ) → ended (joined name (record { given = given; present = [] }))
-    ≡ record { given = given + 1; present = [] }
-alone given name = rw (eq-eqb (given + 1) (given + 1) refl) refl
 
 -- whoever can join can join an empty pad
 can_join : (p : Presence) → join_refusal p ≡ None → join_refusal (record { given = p.given; present = [] }) ≡ None
@@ -299,6 +291,7 @@ request_leads w (request.Create name) cell rooms m sound named =
   where
     owner_named : (w : Who) → IsNamed w → (owner : List ℕ) → w ≡ who.Author owner → is_name owner ≡ true
     owner_named w named owner is = subst IsNamed is named
+request_leads w request.Pads cell rooms m sound named = λ more grown d. refl
 request_leads w (request.Hello name token) cell rooms m sound named = λ more grown d. refl
 request_leads w (request.Peer number token version) cell rooms m sound named = λ more grown d. refl
 
@@ -307,6 +300,7 @@ unread w (request.On name act_there) m = idle act_there Memory m
 unread who.Nobody (request.Create name) m = λ more grown d. refl
 unread (who.Author owner) (request.Create name) m = λ more grown d. refl
 unread (who.Peer number version) (request.Create name) m = λ more grown d. refl
+unread w request.Pads m = λ more grown d. refl
 unread w (request.Hello name token) m = λ more grown d. refl
 unread w (request.Peer number token version) m = λ more grown d. refl
 
@@ -367,13 +361,15 @@ leave_again name w visit m = at m.owned m.replica m.log m.held m.presence
         (not (bytes_eq owned.name name)) (Ok pad.Elsewhere, machine (Some owned) replica log held p) _ refl
         (session_at owned w replica log held p)
 
--- a pad's whole life
+-- a pad's lives
 pub life_again : (replica : ℕ) (records : List Record) (m : Machine) → Life replica records m → rebuilt replica records
     ≡ Ok (restarted m)
-life_again replica records m begins = refl
-life_again replica records m (asked before w request cell rooms old answer new after more life step_left) =
+life_again replica records m (begins same) = refl
+life_again replica records m (asked same before w request cell rooms old answer new after more life step_left) =
     fold-append replayed (Ok (unnamed replica)) before (records_of w request answer more)
     ∙ (ap (λ (r : Result Machine Refusal). fold replayed r (records_of w request answer more))
     (life_again replica before old life) ∙ request_again w request cell rooms old answer new after more step_left)
-life_again replica records m (left before name w visit old life) = life_again replica before old life
+life_again replica records m (left same before name w visit old life) = life_again replica before old life
     ∙ ap Ok (sym (leave_again name w visit old))
+life_again replica records m (starts_again was before old count number again life leads) =
+    leads ∙ ap Ok (bare_stays replica records m leads)

@@ -48,43 +48,54 @@ abbrev pub DeparturesLaw : Type 0
 DeparturesLaw = (name : List ℕ) (who : Who) (visit : ℕ) (m : Machine) → restarted (step name who (Some visit) Leave m).1
     ≡ restarted m
 
--- the life of a pad on the server with a number, with what it left to be kept: requests and the ends of visits, one
--- after the other
-pub data Life (replica : ℕ) : List Record → Machine → Type 0 where
-  begins : Life replica [] (unnamed replica)
-  asked : (records : List Record) (who : Who) (request : Request) (cell : ℕ) (rooms : List Room) (old : Machine)
-      (answer : Answer) (new : List Room) (after : Machine) (more : List Op) →
+-- the pad as a server with this number starts again with it
+abbrev pub restarted_by : ℕ → Machine → Machine
+restarted_by number m = record (restarted m) { replica = number }
+
+-- the lives of a pad, by the number of its present server, what is kept of it, and what it is: requests and the ends of
+-- visits, one after the other, and starts of a server with any number, with what some of the first records lead to
+pub data Life : ℕ → List Record → Machine → Type 0 where
+  begins : (replica : ℕ) → Life replica [] (unnamed replica)
+  asked : (replica : ℕ) (records : List Record) (who : Who) (request : Request) (cell : ℕ) (rooms : List Room)
+      (old : Machine) (answer : Answer) (new : List Room) (after : Machine) (more : List Op) →
       Life replica records old → Left who request cell rooms old answer new after more →
       Life replica (records ++ records_of who request answer more) after
-  left : (records : List Record) (name : List ℕ) (who : Who) (visit : ℕ) (m : Machine) → Life replica records m →
-      Life replica records (step name who (Some visit) Leave m).1
+  left : (replica : ℕ) (records : List Record) (name : List ℕ) (who : Who) (visit : ℕ) (m : Machine) →
+      Life replica records m → Life replica records (step name who (Some visit) Leave m).1
+  starts_again : (replica : ℕ) (records : List Record) (old : Machine) (count number : ℕ) (m : Machine) →
+      Life replica records old → rebuilt number (take count records) ≡ Ok m → Life number (take count records) m
 
--- what a pad left is never refused, and leads to the restarted pad
+-- what a pad left in all its lives is never refused, and leads to the restarted pad
 abbrev pub LivesLaw : Type 0
 LivesLaw = (replica : ℕ) (records : List Record) (m : Machine) → Life replica records m → rebuilt replica records
     ≡ Ok (restarted m)
 
--- a state that a pad had in a life that left some records and led to a pad, with the records that it had left by then:
--- before and after each request, and within a request between the operations that it delivered
-pub data Had (replica : ℕ) : List Record → Machine → List Record → Machine → Type 0 where
-  last : (records : List Record) (m : Machine) → Life replica records m → Had replica records m records m
-  within : (records : List Record) (who : Who) (request : Request) (cell : ℕ) (rooms : List Room) (old : Machine)
-      (answer : Answer) (new : List Room) (after : Machine) (first rest : List Op) →
+-- a state that a pad had in lives that left some records and led to a pad, with the records that it had left by then:
+-- before and after each request, within a request between the operations that it delivered, and before a start
+pub data Had : ℕ → List Record → Machine → List Record → Machine → Type 0 where
+  last : (replica : ℕ) (records : List Record) (m : Machine) → Life replica records m → Had replica records m records m
+  within : (replica : ℕ) (records : List Record) (who : Who) (request : Request) (cell : ℕ) (rooms : List Room)
+      (old : Machine) (answer : Answer) (new : List Room) (after : Machine) (first rest : List Op) →
       Life replica records old → Left who request cell rooms old answer new after (first ++ rest) →
       Had replica (records ++ records_of who request answer (first ++ rest)) after (records ++ map Delivered first)
       (record old { log = old.log ++ first })
-  earlier : (records : List Record) (who : Who) (request : Request) (cell : ℕ) (rooms : List Room) (old : Machine)
-      (answer : Answer) (new : List Room) (after : Machine) (more : List Op) (before : List Record) (m : Machine) →
+  earlier : (replica : ℕ) (records : List Record) (who : Who) (request : Request) (cell : ℕ) (rooms : List Room)
+      (old : Machine) (answer : Answer) (new : List Room) (after : Machine) (more : List Op) (before : List Record)
+      (m : Machine) →
       Had replica records old before m → Left who request cell rooms old answer new after more →
       Had replica (records ++ records_of who request answer more) after before m
-  unended : (records : List Record) (name : List ℕ) (who : Who) (visit : ℕ) (old : Machine) (before : List Record)
-      (m : Machine) →
+  unended : (replica : ℕ) (records : List Record) (name : List ℕ) (who : Who) (visit : ℕ) (old : Machine)
+      (before : List Record) (m : Machine) →
       Had replica records old before m → Had replica records (step name who (Some visit) Leave old).1 before m
+  before_start : (replica : ℕ) (records : List Record) (old : Machine) (count number : ℕ) (again : Machine)
+      (before : List Record) (m : Machine) →
+      Had replica records old before m → rebuilt number (take count records) ≡ Ok again →
+      Had number (take count records) again before m
 
--- the first records of a pad's life, however many, are never refused, and lead to the restarted pad that it was when it
--- had left just these
+-- the first records of a pad's lives, however many, are never refused, and on a server with any number they lead to the
+-- restarted pad that it was when it had left just these
 abbrev pub FrontsLaw : Type 0
 FrontsLaw =
     (replica : ℕ) (records : List Record) (m : Machine) (count : ℕ) → Life replica records m →
     (had : Machine) × Had replica records m (take count records) had
-    × (rebuilt replica (take count records) ≡ Ok (restarted had))
+    × ((number : ℕ) → rebuilt number (take count records) ≡ Ok (restarted_by number had))

@@ -11,7 +11,7 @@ pub fn departures_law()
     ensures { DeparturesLaw }
 {}
 
-/// What a pad left in its whole life is never refused, and leads to the restarted pad.
+/// What a pad left in all its lives is never refused, and leads to the restarted pad.
 pub fn lives_law()
     ensures { LivesLaw }
 {}

@@ -11,7 +11,7 @@ pub fn leaves_records(request: &Request) -> bool
     match request {
         Request::Create { .. } => true,
         Request::On { act, .. } => is_kept(act),
-        Request::Hello { .. } | Request::Peer { .. } => false,
+        Request::Hello { .. } | Request::Peer { .. } | Request::Pads => false,
     }
 }
 

@@ -21,7 +21,7 @@ pub fn records_of(
     match request {
         Request::Create { pad } => records_of_claim(alloc, who, pad, answer),
         Request::On { act, .. } => records_of_act(alloc, act, answer, more),
-        Request::Hello { .. } | Request::Peer { .. } => Ok(Vec::new(alloc)),
+        Request::Hello { .. } | Request::Peer { .. } | Request::Pads => Ok(Vec::new(alloc)),
     }
 }
 

@@ -1,38 +1,38 @@
 -- What a crash leaves of a pad's file leads to a restarted state that the pad had.
-use Rattle.std.proofs.Common.{◌≡◌, ℕ, zero, suc, ◌≤◌, List, [], ◌∷◌, length, map, take, fold, bytes_eq, Some, Result}
-use Rattle.std.proofs.Common.{Ok, Err, refl, sym, ap, ◌∙◌, subst, arith}
-use Rattle.std.specs.List.{AllByRecursion}
-use Rattle.std.proofs.lemmas.Bool.{cond-true}
-use Rattle.std.proofs.lemmas.List.{take-map}
+use Rattle.std.proofs.Common.{◌≡◌, ℕ, zero, suc, ◌+◌, ◌≤◌, List, [], ◌∷◌, ◌++◌, length, take, fold}
+use Rattle.std.proofs.Common.{bytes_eq, Option, Some, Result, Ok, Err, refl, sym, ap, ◌∙◌, subst, arith, append-nil}
+use Rattle.std.proofs.Common.{append_assoc}
+use Rattle.std.specs.List.{AllByRecursion, list_any}
+use Rattle.std.proofs.lemmas.Bool.{cond-true, cond-false}
+use Rattle.std.proofs.lemmas.List.{length-append}
 use Rattle.std.proofs.lemmas.Slice.Eq.{bytes_eq-Decides}
 use Rattle.pad_model.specs.declared.refusal.Refusal.{Refusal}
 use Rattle.pad_core.specs.Machine.{Machine}
-use Rattle.pad_core.specs.Restart.{restarted}
-use Rattle.records.specs.Laws.{Had, Life}
+use Rattle.records.specs.Laws.{Had, Life, restarted_by}
+use Rattle.records.specs.Laws.Life.{starts_again}
 use Rattle.records.specs.Records.{rebuilt, replay, replay_all, replayed, unnamed}
 use Rattle.records.specs.declared.kept_record.Record.{Record}
+use Rattle.records.specs.declared.kept_record.Record.TheVariants.{Named}
 use Rattle.records.proofs.Fronts.{front as records_front}
+use Rattle.store.specs.Batches.{begins_batch}
 use Rattle.store.specs.Entries.{entry_said}
-use Rattle.store.specs.Files.{Read, begun, entered, entry_behind, file_read, if_named, lines_read, pad_read, read_lines}
-use Rattle.store.specs.Files.{read_on, said_at, text_at, unless_refused}
-use Rattle.store.specs.Laws.{Disk, IsLine, MayLeave, Say, entries_of, file_of}
-use Rattle.store.specs.Lines.{line_text, lines_behind, sum_after, whole_lines}
+use Rattle.store.specs.Files.{Read, begun, behind_line, by_text, entered, file_read, if_named, lines_read, pad_read}
+use Rattle.store.specs.Files.{read_lines, read_on, said_at, text_read, torn_at, torn_front, unless_refused}
+use Rattle.store.specs.Laws.{AreOf, Disk, HasSynced, IsFile, IsLine, IsTorn, MayLeave, Say, file_of, last_sum, records_in}
+use Rattle.store.specs.Laws.MayLeave.{cut, torn}
+use Rattle.store.specs.Lines.{bytes_of, line_text, lines_behind, sum_after, whole_lines}
 use Rattle.store.specs.declared.entry.Entry.{Entry}
 use Rattle.store.specs.declared.entry.Entry.TheVariants as entry
+use Rattle.store.specs.declared.header.Header.{Header}
 use Rattle.store.specs.declared.reader.Damage.{Damage}
-use Rattle.store.specs.declared.reader.Damage.TheVariants.{Empty, OtherPad}
-use Rattle.store.proofs.Fronts.{front, text_found}
+use Rattle.store.specs.declared.reader.Damage.TheVariants.{Empty, OtherPad, Unlinked}
+use Rattle.store.proofs.Names.{is_empty, is_taken}
+use Rattle.store.proofs.Fronts.{front, text_found, text_line, whole_first}
 
 front_length : (n : ℕ) (bytes : List ℕ) → length (take n bytes) ≤ n
 front_length zero bytes = omega arith
 front_length (suc n) [] = omega arith
 front_length (suc n) (b ∷ bytes) = let h = front_length n bytes in omega (arith, h)
-
--- what the line of a text says
-said_behind : (number : ℕ) (before text : List ℕ) (said : Entry) → entry_said text ≡ Some said →
-    entry_behind number before (line_text before text) ≡ Ok (said, sum_after before text)
-said_behind number before text said is = ap (text_at number before) (text_found before text)
-    ∙ ap (said_at number (sum_after before text)) is
 
 -- the first texts say the first of it
 say_front : (n : ℕ) (says : List Entry) (texts : List (List ℕ)) → Say says texts → Say (take n says) (take n texts)
@@ -48,11 +48,19 @@ plain_texts [] (text ∷ texts) h = absurd h
 plain_texts (said ∷ says) [] h = absurd h
 plain_texts (said ∷ says) (text ∷ texts) (plain, is, rest) = (plain, plain_texts says texts rest)
 
-say_length : (says : List Entry) (texts : List (List ℕ)) → Say says texts → length texts ≡ length says
-say_length [] [] h = refl
-say_length [] (text ∷ texts) h = absurd h
-say_length (said ∷ says) [] h = absurd h
-say_length (said ∷ says) (text ∷ texts) (plain, is, rest) = ap suc (say_length says texts rest)
+are_front : (n : ℕ) (name : List ℕ) (says : List Entry) → AreOf name says → AreOf name (take n says)
+are_front zero name says h = tt
+are_front (suc n) name [] h = tt
+are_front (suc n) name (entry.Header header ∷ says) (is, rest) = (is, are_front n name says rest)
+are_front (suc n) name (entry.Record kept ∷ says) h = are_front n name says h
+
+-- the records among the first entries are the first records
+records_of_front : (n : ℕ) (says : List Entry) → take (length (records_in (take n says))) (records_in says)
+    ≡ records_in (take n says)
+records_of_front zero says = refl
+records_of_front (suc n) [] = refl
+records_of_front (suc n) (entry.Header header ∷ says) = records_of_front n says
+records_of_front (suc n) (entry.Record kept ∷ says) = ap (λ (rs : List Record). kept ∷ rs) (records_of_front n says)
 
 refused_stays : (records : List Record) (e : Refusal) → fold replayed (Err e) records ≡ Err e
 refused_stays [] e = refl
@@ -61,123 +69,185 @@ refused_stays (x ∷ records) e = refused_stays records e
 err_is_no_ok : (e : Refusal) (m : Machine) → (let r : Result Machine Refusal = Err e in r) ≡ Ok m → ⊥
 err_is_no_ok e m h = cc
 
--- what was read has this pad
-abbrev Leads : Result Read Damage → Machine → Type 0
-Leads result m = (read : Read) × (read.pad ≡ m) × (result ≡ Ok read)
+-- what was read has this pad, and so many bytes
+abbrev Leads : Result Read Damage → Machine → ℕ → Type 0
+Leads result m whole = (read : Read) × (read.pad ≡ m) × (read.whole ≡ whole) × (result ≡ Ok read)
 
--- lines that say records lead where the records lead
-pub records_read : (number : ℕ) (name : List ℕ) (records : List Record) (texts : List (List ℕ)) (before : Read)
-    (m : Machine) → Say (map entry.Record records) texts → replay_all records before.pad ≡ Ok m →
-    Leads (read_lines number name before (lines_behind before.sum texts)) m
-records_read number name [] [] before m says leads = (before, same leads, refl)
+-- nothing more is read of lines that are no further ones
+torn_stays : (number : ℕ) (name : List ℕ) (before : Read) (rest : List (List ℕ)) → IsTorn before.sum rest →
+    read_lines number name before rest ≡ Ok before
+torn_stays number name before [] h = refl
+torn_stays number name before (line ∷ lines) (unlinked, none) =
+    ap (by_text (torn_at number before (line ∷ lines)) (λ text. read_on (λ next. read_lines (suc number) name next lines)
+    (text_read number name (behind_line before line text) text))) unlinked
+    ∙ cond-false (list_any begins_batch (line ∷ lines)) (Err (Unlinked number)) (Ok before) none
+
+-- one more line is read, which says this
+line_leads : (number : ℕ) (name : List ℕ) (before : Read) (text : List ℕ) (said : Entry) (lines : List (List ℕ)) →
+    entry_said text ≡ Some said → read_lines number name before (line_text before.sum text ∷ lines)
+    ≡ read_on (λ next. read_lines (suc number) name next lines)
+    (entered number name (behind_line before (line_text before.sum text) text) said)
+line_leads number name before text said lines is =
+    ap (by_text (torn_at number before (line_text before.sum text ∷ lines)) (λ t. read_on
+    (λ next. read_lines (suc number) name next lines)
+    (text_read number name (behind_line before (line_text before.sum text) t) t))) (text_found before.sum text)
+    ∙ ap (λ (o : Option Entry). read_on (λ next. read_lines (suc number) name next lines)
+    (read_on (entered number name (behind_line before (line_text before.sum text) text)) (said_at number o))) is
+
+-- the bytes of one more line
+one_more : (whole : ℕ) (line : List ℕ) (lines : List (List ℕ)) → whole + suc (length line) + length (bytes_of lines)
+    ≡ whole + length (bytes_of (line ∷ lines))
+one_more whole line lines = at (length-append line (10 ∷ bytes_of lines))
+  where
+    at : length (line ++ 10 ∷ bytes_of lines) ≡ length line + suc (length (bytes_of lines)) → whole + suc (length line)
+        + length (bytes_of lines) ≡ whole + length (line ++ 10 ∷ bytes_of lines)
+    at h = omega (arith, h)
+
+first_one : (line : List ℕ) (lines : List (List ℕ)) → suc (length line) + length (bytes_of lines)
+    ≡ length (bytes_of (line ∷ lines))
+first_one line lines = at (length-append line (10 ∷ bytes_of lines))
+  where
+    at : length (line ++ 10 ∷ bytes_of lines) ≡ length line + suc (length (bytes_of lines)) → suc (length line)
+        + length (bytes_of lines) ≡ length (line ++ 10 ∷ bytes_of lines)
+    at h = omega (arith, h)
+
+-- lines that say headers of this pad and records lead where the records lead
+entries_read : (number : ℕ) (name : List ℕ) (says : List Entry) (texts rest : List (List ℕ)) (before : Read)
+    (m : Machine) → Say says texts → AreOf name says → replay_all (records_in says) before.pad ≡ Ok m →
+    IsTorn (last_sum before.sum texts) rest →
+    Leads (read_lines number name before (lines_behind before.sum texts ++ rest)) m
+    (before.whole + length (bytes_of (lines_behind before.sum texts)))
+entries_read number name [] [] rest before m says are leads none = (
+  before,
+  same leads,
+  omega arith,
+  torn_stays number name before rest none,
+)
   where
     same : (let r : Result Machine Refusal = Ok before.pad in r) ≡ Ok m → before.pad ≡ m
     same e = cc
-records_read number name [] (text ∷ texts) before m says leads = absurd says
-records_read number name (kept ∷ records) [] before m says leads = absurd says
-records_read number name (kept ∷ records) (text ∷ texts) before m (plain, is, says) leads =
-    subst (λ (r : Result Read Damage). Leads r m)
-    (sym (ap (λ (r : Result (Entry × List ℕ) Damage). on (read_on (entered number name before) r))
-    (said_behind number before.sum text (entry.Record kept) is)))
-    (at (replay kept before.pad) leads (λ next. records_read (suc number) name records texts
-    (record before { pad = next; sum = sum_after before.sum text }) m says))
+entries_read number name [] (text ∷ texts) rest before m says are leads none = absurd says
+entries_read number name (said ∷ more) [] rest before m says are leads none = absurd says
+entries_read number name (entry.Header header ∷ more) (text ∷ texts) rest before m (plain, is, says) (called, are) leads
+    none =
+    subst (λ (r : Result Read Damage). Leads r m (before.whole + length (bytes_of (lines_behind before.sum (text ∷ texts)))))
+    (sym
+    (line_leads number name before text (entry.Header header) (lines_behind (sum_after before.sum text) texts ++ rest) is
+    ∙ ap (read_on (λ read. read_lines (suc number) name read (lines_behind (sum_after before.sum text) texts ++ rest)))
+    (cond-true (bytes_eq header.pad name) (Ok next) (Err OtherPad) ((bytes_eq-Decides header.pad name).1 called))))
+    (subst (Leads (read_lines (suc number) name next (lines_behind next.sum texts ++ rest)) m)
+    (one_more before.whole (line_text before.sum text) (lines_behind next.sum texts))
+    (entries_read (suc number) name more texts rest next m says are leads none))
   where
-    on : Result Read Damage → Result Read Damage
-    on r = read_on (λ next. read_lines (suc number) name next (lines_behind (sum_after before.sum text) texts)) r
+    next : Read
+    next = record (behind_line before (line_text before.sum text) text) { header = header }
+entries_read number name (entry.Record kept ∷ more) (text ∷ texts) rest before m (plain, is, says) are leads none =
+    subst (λ (r : Result Read Damage). Leads r m (before.whole + length (bytes_of (lines_behind before.sum (text ∷ texts)))))
+    (sym (line_leads number name before text (entry.Record kept) (lines_behind (sum_after before.sum text) texts ++ rest)
+    is))
+    (at (replay kept before.pad) leads (λ pad ok. subst
+    (Leads (read_lines (suc number) name (next pad) (lines_behind (sum_after before.sum text) texts ++ rest)) m)
+    (one_more before.whole (line_text before.sum text) (lines_behind (sum_after before.sum text) texts))
+    (entries_read (suc number) name more texts rest (next pad) m says are ok none)))
+  where
+    next : Machine → Read
+    next pad = record (behind_line before (line_text before.sum text) text) { pad = pad }
+
+    Goal : Result Read Damage → Type 0
+    Goal r = Leads (read_on (λ read. read_lines (suc number) name read
+        (lines_behind (sum_after before.sum text) texts ++ rest)) r) m
+        (before.whole + length (bytes_of (lines_behind before.sum (text ∷ texts))))
 
     at : (done : Result (Unit {0}) Refusal × Machine) →
-        fold replayed (Rattle.records.specs.Records.unless_refused done) records ≡ Ok m →
-        ((next : Machine) → replay_all records next ≡ Ok m →
-        Leads (read_lines (suc number) name (record before { pad = next; sum = sum_after before.sum text })
-        (lines_behind (sum_after before.sum text) texts)) m) →
-        Leads (on (unless_refused number (sum_after before.sum text) before done)) m
-    at (Ok done, next) leads more = more next leads
-    at (Err e, next) leads more = absurd (err_is_no_ok e m (sym (refused_stays records e) ∙ leads))
+        fold replayed (Rattle.records.specs.Records.unless_refused done) (records_in more) ≡ Ok m →
+        ((pad : Machine) → replay_all (records_in more) pad ≡ Ok m → Goal (Ok (next pad))) →
+        Goal (unless_refused number (behind_line before (line_text before.sum text) text) done)
+    at (Ok done, pad) ok on = on pad ok
+    at (Err e, pad) ok on = absurd (err_is_no_ok e m (sym (refused_stays (records_in more) e) ∙ ok))
 
-map_length : (records : List Record) → length (map entry.Record records) ≡ length records
-map_length [] = refl
-map_length (kept ∷ records) = ap suc (map_length records)
+-- the whole lines of a file with bytes behind its lines
+pub with_tail : (before : List ℕ) (texts : List (List ℕ)) (tail : List ℕ) → AllByRecursion IsLine texts →
+    whole_lines (bytes_of (lines_behind before texts) ++ tail) ≡ lines_behind before texts ++ whole_lines tail
+with_tail before [] tail h = refl
+with_tail before (text ∷ texts) tail (plain, h) =
+    ap whole_lines (append_assoc (line_text before text) (10 ∷ bytes_of (lines_behind (sum_after before text) texts)) tail)
+    ∙ (whole_first (line_text before text) (bytes_of (lines_behind (sum_after before text) texts) ++ tail)
+    (text_line before text plain)
+    ∙ ap (λ (ls : List (List ℕ)). line_text before text ∷ ls) (with_tail (sum_after before text) texts tail h))
 
--- what is claimed of the lines that are left
-abbrev Again : ℕ → List ℕ → List Record → Machine → List (List ℕ) → ℕ → List (List ℕ) → Type 0
-Again replica name records m texts synced lines =
-    (count : ℕ) × (had : Machine) × Had replica records m (take count records) had
-    × Leads (file_read replica name lines) (restarted had)
-    × ((whole : ℕ) → whole ≤ length records → length (file_of (take (suc whole) texts)) ≤ synced → whole ≤ count)
+front_plain : (n : ℕ) (texts : List (List ℕ)) → AllByRecursion IsLine texts → AllByRecursion IsLine (take n texts)
+front_plain zero texts h = tt
+front_plain (suc n) [] h = tt
+front_plain (suc n) (text ∷ texts) (plain, h) = (plain, front_plain n texts h)
 
--- the first line is a header, and those behind it records
-file_again : (replica : ℕ) (name : List ℕ) (records : List Record) (text : List ℕ) (texts : List (List ℕ))
-    (had : Machine) →
-    entry_said text ≡ Some (entry.Header (record { pad = name; replica = replica })) →
-    Say (map entry.Record records) texts → rebuilt replica records ≡ Ok (restarted had) →
-    Leads (file_read replica name (lines_behind [] (text ∷ texts))) (restarted had)
-file_again replica name records text texts had is says leads =
-    subst (λ (r : Result Read Damage). Leads
-    (read_on (λ before. read_lines 2 name before (lines_behind (sum_after [] text) texts)) r) (restarted had))
-    (sym
-    (ap (read_on (begun replica name)) (said_behind 1 [] text (entry.Header (record { pad = name; replica = replica }))
-    is)
-    ∙ cond-true (bytes_eq name name) (Ok first) (Err OtherPad) ((bytes_eq-Decides name name).1 refl)))
-    (records_read 2 name records texts first (restarted had) says leads)
+-- the lines that a crash left, and what stands behind them
+abbrev LeftLines : Disk → List (List ℕ) → List ℕ → Type 0
+LeftLines disk texts bytes =
+    (lines : ℕ) × (rest : List (List ℕ)) × (1 ≤ lines) × HasSynced disk texts lines
+    × (whole_lines bytes ≡ lines_behind [] (take lines texts) ++ rest) × IsTorn (last_sum [] (take lines texts)) rest
+
+first_left : (texts : List (List ℕ)) (n : ℕ) (count : ℕ) → 1 ≤ length texts → length (file_of (take 1 texts)) ≤ n →
+    ((whole : ℕ) → whole ≤ length texts → length (file_of (take whole texts)) ≤ n → whole ≤ count) → 1 ≤ count
+first_left texts n count some far least = least 1 some far
+
+left_lines : (texts : List (List ℕ)) (disk : Disk) (bytes : List ℕ) → 1 ≤ length texts → AllByRecursion IsLine texts →
+    disk.written ≡ file_of texts → MayLeave disk texts bytes → LeftLines disk texts bytes
+left_lines texts disk bytes some plain written (torn lines tail synced first is none) = (
+  lines,
+  whole_lines tail,
+  first,
+  synced,
+  ap whole_lines is ∙ with_tail [] (take lines texts) tail (front_plain lines texts plain),
+  none,
+)
+left_lines texts disk bytes some plain written (cut left synced is first) = at (front [] texts left plain)
   where
+    far : length (file_of (take 1 texts)) ≤ left
+    far = let cut_length : length bytes ≤ left = subst (λ (bs : List ℕ). length bs ≤ left) (sym is)
+        (front_length left disk.written) in omega (arith, first, cut_length)
+
+    at : ((count : ℕ) × (whole_lines (take left (file_of texts)) ≡ lines_behind [] (take count texts))
+        × ((whole : ℕ) → whole ≤ length texts → length (file_of (take whole texts)) ≤ left → whole ≤ count)) →
+        LeftLines disk texts bytes
+    at (count, lines, least) = (
+      count,
+      [],
+      first_left texts left count some far least,
+      λ whole few short. least whole few (reach (length (file_of (take whole texts))) short synced),
+      ap whole_lines (is ∙ ap (take left) written) ∙ (lines ∙ sym (append-nil (lines_behind [] (take count texts)))),
+      tt,
+    )
+      where
+        reach : (n : ℕ) → n ≤ disk.synced → disk.synced ≤ left → n ≤ left
+        reach n a b = omega arith
+
+-- the first line is a header, and what stands behind it is read
+file_again : (number : ℕ) (name : List ℕ) (header : Header) (says : List Entry) (text : List ℕ)
+    (texts rest : List (List ℕ)) (m : Machine) →
+    entry_said text ≡ Some (entry.Header header) → header.pad ≡ name → AreOf name says → Say says texts →
+    rebuilt number (records_in says) ≡ Ok m → IsTorn (last_sum [] (text ∷ texts)) rest →
+    Leads (file_read number name (lines_behind [] (text ∷ texts) ++ rest)) m (length (file_of (text ∷ texts)))
+file_again number name header says text texts rest m is called are says_so leads none =
+    subst (λ (r : Result Read Damage). Leads r m (length (file_of (text ∷ texts))))
+    (sym (ap (read_on on)
+    (ap (by_text (Err (torn_front line all)) (λ t. read_on (begun number name line (sum_after [] t))
+    (said_at 1 (entry_said t)))) (text_found [] text)
+    ∙ (ap (λ (o : Option Entry). read_on (begun number name line (sum_after [] text)) (said_at 1 o)) is
+    ∙ cond-true (bytes_eq header.pad name) (Ok first) (Err OtherPad) ((bytes_eq-Decides header.pad name).1 called)))))
+    (subst (Leads (on first) m) (first_one line (lines_behind (sum_after [] text) texts))
+    (entries_read 2 name says texts rest first m says_so are leads none))
+  where
+    line : List ℕ
+    line = line_text [] text
+
+    all : List (List ℕ)
+    all = line ∷ (lines_behind (sum_after [] text) texts ++ rest)
+
+    on : Read → Result Read Damage
+    on read = read_lines 2 name read (lines_behind (sum_after [] text) texts ++ rest)
+
     first : Read
-    first = record { pad = unnamed replica; header = record { pad = name; replica = replica }; sum = sum_after [] text }
-
-pub left_again : (replica : ℕ) (name : List ℕ) (records : List Record) (m : Machine) (texts : List (List ℕ))
-    (disk : Disk) (bytes : List ℕ) →
-    Life replica records m → Say (entries_of replica name records) texts → disk.written ≡ file_of texts →
-    MayLeave disk bytes → length (file_of (take 1 texts)) ≤ length bytes →
-    Again replica name records m texts disk.synced (whole_lines bytes)
-left_again replica name records m [] disk bytes life says written left first = absurd says
-left_again replica name records m (text ∷ texts) disk bytes life (plain, is, says) written (n, synced, cut) first =
-    at (front [] (text ∷ texts) n (plain, plain_texts (map entry.Record records) texts says))
-  where
-    lines_left : whole_lines bytes ≡ whole_lines (take n (file_of (text ∷ texts)))
-    lines_left = ap whole_lines (cut ∙ ap (take n) written)
-
-    far : length (file_of (take 1 (text ∷ texts))) ≤ n
-    far = let cut_length : length bytes ≤ n = subst (λ (bs : List ℕ). length bs ≤ n) (sym cut)
-        (front_length n disk.written) in omega (arith, first, cut_length)
-
-    at : ((count : ℕ) × (whole_lines (take n (file_of (text ∷ texts))) ≡ lines_behind [] (take count (text ∷ texts)))
-        × ((whole : ℕ) → whole ≤ length (text ∷ texts) → length (file_of (take whole (text ∷ texts))) ≤ n →
-        whole ≤ count)) →
-        Again replica name records m (text ∷ texts) disk.synced (whole_lines bytes)
-    at (zero, lines, least) = absurd (none (least 1 (omega arith) far))
-      where
-        none : 1 ≤ 0 → ⊥
-        none h = omega arith
-    at (suc k, lines, least) = found (records_front replica records m k life)
-      where
-        found : ((had : Machine) × Had replica records m (take k records) had
-            × (rebuilt replica (take k records) ≡ Ok (restarted had))) →
-            Again replica name records m (text ∷ texts) disk.synced (whole_lines bytes)
-        found (had, there, leads) = (
-          k,
-          had,
-          there,
-          subst (λ ls. Leads (file_read replica name ls) (restarted had)) (sym (lines_left ∙ lines))
-              (file_again replica name (take k records) text (take k texts) had is
-              (subst (λ (es : List Entry). Say es (take k texts)) (take-map entry.Record k records)
-              (say_front k (map entry.Record records) texts says)) leads),
-          most,
-        )
-          where
-            most : (whole : ℕ) → whole ≤ length records → length (file_of (take (suc whole) (text ∷ texts)))
-                ≤ disk.synced → whole ≤ k
-            most whole few short = omega (
-              arith,
-              least (suc whole) (counted few (say_length (map entry.Record records) texts says) (map_length records))
-                  (reach short synced),
-            )
-              where
-                counted : whole ≤ length records → length texts ≡ length (map entry.Record records) →
-                    length (map entry.Record records) ≡ length records → suc whole ≤ length (text ∷ texts)
-                counted a b c = omega arith
-
-                reach : length (file_of (take (suc whole) (text ∷ texts))) ≤ disk.synced → disk.synced ≤ n →
-                    length (file_of (take (suc whole) (text ∷ texts))) ≤ n
-                reach a b = omega arith
+    first = record { pad = unnamed number; header = header; sum = sum_after [] text; whole = suc (length line) }
 
 -- what was read of lines is what the file's bytes lead to, if the pad has the name
 pub named_read : (replica : ℕ) (name bytes : List ℕ) (read : Read) → file_read replica name (whole_lines bytes)
@@ -191,3 +261,86 @@ named_read replica name bytes read is = at (whole_lines bytes) is
         ≡ if_named name read
     at [] e = absurd (no_line e)
     at (first ∷ lines) e = ap (read_on (if_named name)) e
+
+-- what a server with this number reads of what is left
+abbrev Again : ℕ → List ℕ → List ℕ → List Entry → List (List ℕ) → Machine → Type 0
+Again number name bytes says texts had =
+    (read : Read) × (read.pad ≡ restarted_by number had) × (read.whole ≡ length (file_of texts))
+    × (file_read number name (whole_lines bytes) ≡ Ok read) × (pad_read number name bytes ≡ if_named name read)
+    × ((owner : List ℕ) (more : List Record) → records_in says ≡ Named name owner ∷ more → pad_read number name bytes
+    ≡ Ok read)
+    × (records_in says ≡ [] → pad_read number name bytes ≡ Err Empty)
+    × Life number (records_in says) read.pad × IsFile name says
+
+-- and in which state the pad was then
+abbrev AllAgain : ℕ → List ℕ → List Entry → Machine → List (List ℕ) → Disk → List ℕ → Type 0
+AllAgain replica name says m texts disk bytes =
+    (lines : ℕ) × HasSynced disk texts lines
+    × (had : Machine) × Had replica (records_in says) m (records_in (take lines says)) had
+    × ((number : ℕ) → Again number name bytes (take lines says) (take lines texts) had)
+
+read_again : (number : ℕ) (name bytes : List ℕ) (header : Header) (says : List Entry) (text : List ℕ)
+    (texts rest : List (List ℕ)) (had : Machine) →
+    entry_said text ≡ Some (entry.Header header) → header.pad ≡ name → AreOf name says → Say says texts →
+    whole_lines bytes ≡ lines_behind [] (text ∷ texts) ++ rest → IsTorn (last_sum [] (text ∷ texts)) rest →
+    rebuilt number (records_in says) ≡ Ok (restarted_by number had) →
+    Life number (records_in says) (restarted_by number had) →
+    Again number name bytes (entry.Header header ∷ says) (text ∷ texts) had
+read_again number name bytes header says text texts rest had is called are says_so lines none leads life =
+    at (file_again number name header says text texts rest (restarted_by number had) is called are says_so leads none)
+  where
+    at : Leads (file_read number name (lines_behind [] (text ∷ texts) ++ rest)) (restarted_by number had)
+        (length (file_of (text ∷ texts))) →
+        Again number name bytes (entry.Header header ∷ says) (text ∷ texts) had
+    at (read, pad, whole, found) = (
+      read,
+      pad,
+      whole,
+      ap (file_read number name) lines ∙ found,
+      named_read number name bytes read (ap (file_read number name) lines ∙ found),
+      λ owner more first. named_read number name bytes read (ap (file_read number name) lines ∙ found)
+          ∙ is_taken number name owner (records_in says) more read (leads ∙ ap Ok (sym pad)) first,
+      λ none_left. named_read number name bytes read (ap (file_read number name) lines ∙ found)
+          ∙ is_empty number name (records_in says) read (leads ∙ ap Ok (sym pad)) none_left,
+      subst (Life number (records_in says)) (sym pad) life,
+      (called, are),
+    )
+
+pub left_again : (replica : ℕ) (name : List ℕ) (says : List Entry) (m : Machine) (texts : List (List ℕ)) (disk : Disk)
+    (bytes : List ℕ) →
+    Life replica (records_in says) m → IsFile name says → Say says texts → disk.written ≡ file_of texts →
+    MayLeave disk texts bytes → AllAgain replica name says m texts disk bytes
+left_again replica name [] m texts disk bytes life file says written may = absurd file
+left_again replica name (entry.Record kept ∷ more) m texts disk bytes life file says written may = absurd file
+left_again replica name (entry.Header header ∷ more) m [] disk bytes life file says written may = absurd says
+left_again replica name (entry.Header header ∷ more) m (text ∷ texts) disk bytes life (called, are) (plain, is, says)
+    written may =
+    at (left_lines (text ∷ texts) disk bytes (omega arith) (plain, plain_texts more texts says) written may)
+  where
+    none_left : 1 ≤ 0 → ⊥
+    none_left h = omega arith
+
+    at : LeftLines disk (text ∷ texts) bytes → AllAgain replica name (entry.Header header ∷ more) m (text ∷ texts) disk
+        bytes
+    at (zero, rest, some, synced, lines, none) = absurd (none_left some)
+    at (suc k, rest, some, synced, lines, none) =
+        found (records_front replica (records_in more) m (length (records_in (take k more))) life)
+      where
+        found : ((had : Machine)
+            × Had replica (records_in more) m (take (length (records_in (take k more))) (records_in more)) had
+            × ((number : ℕ) → rebuilt number (take (length (records_in (take k more))) (records_in more))
+            ≡ Ok (restarted_by number had))) →
+            AllAgain replica name (entry.Header header ∷ more) m (text ∷ texts) disk bytes
+        found (had, there, leads) = (
+          suc k,
+          synced,
+          had,
+          subst (λ (rs : List Record). Had replica (records_in more) m rs had) (records_of_front k more) there,
+          λ number. read_again number name bytes header (take k more) text (take k texts) rest had is called
+              (are_front k name more are) (say_front k more texts says) lines none
+              (subst (λ (rs : List Record). rebuilt number rs ≡ Ok (restarted_by number had)) (records_of_front k more)
+              (leads number))
+              (subst (λ (rs : List Record). Life number rs (restarted_by number had)) (records_of_front k more)
+              (starts_again replica (records_in more) m (length (records_in (take k more))) number
+              (restarted_by number had) life (leads number))),
+        )

@@ -1,19 +1,19 @@
 -- The whole lines of a file are found feed by feed, and one more line is read.
 use Rattle.std.proofs.Common.{◌≡◌, ◌⊎◌, inl, inr, ℕ, suc, ◌+◌, ◌-◌, ◌≤◌, ◌<◌, nat_le, nat_lt, Bool, true, false, List}
-use Rattle.std.proofs.Common.{[], ◌∷◌, ◌++◌, length, take, drop, Option, Some, None, string_bytes, bytes_eq, IfOk}
-use Rattle.std.proofs.Common.{Result, Ok, Err, refl, sym, ap, ◌∙◌, subst, arith, cond, option_map}
+use Rattle.std.proofs.Common.{[], ◌∷◌, length, take, drop, Option, Some, None, Result, Ok, Err, refl, sym, ap, ◌∙◌}
+use Rattle.std.proofs.Common.{subst, arith, cond, option_map, ◌||◌}
 use Rattle.std.proofs.lemmas.Bool.{cond-true, cond-false, le-ltb, lt-ltb}
 use Rattle.std.proofs.lemmas.Bool.Decides.{leb_tells}
-use Rattle.std.proofs.lemmas.List.{length-append, length-drop, length-take-le, take_rest}
-use Rattle.std.specs.List.{position, position_or_len}
+use Rattle.std.proofs.lemmas.List.{length-drop, length-take-le, take_rest}
+use Rattle.std.specs.List.{list_any, position, position_or_len}
 use Rattle.records.specs.Records.{unnamed}
-use Rattle.store.specs.Files.{Read, begun, entry_behind, file_read, if_named, lines_read, pad_read, read_line}
-use Rattle.store.specs.Files.{read_lines, read_on, so_far, unbegun}
-use Rattle.store.specs.Lines.{bytes_of, is_feed, whole_lines, with_byte}
+use Rattle.store.specs.Batches.{begins_batch}
+use Rattle.store.specs.Files.{Read, behind_line, by_text, file_read, first_read, if_named, lines_read, pad_read}
+use Rattle.store.specs.Files.{read_lines, read_on, so_far, text_read, torn_at, unbegun}
+use Rattle.store.specs.Lines.{is_feed, sum_after, text_behind, whole_lines, with_byte}
 use Rattle.store.specs.declared.reader.Damage.{Damage}
-use Rattle.store.specs.declared.reader.Damage.TheVariants.{Memory, OtherPad}
+use Rattle.store.specs.declared.reader.Damage.TheVariants.{Memory}
 use Rattle.store.specs.declared.reader.Tail.{Tail}
-use Rattle.store.specs.declared.entry.Entry.TheVariants as entry
 
 -- where the first line feed is, by cases
 counted_on : (p n : ℕ) → cond (nat_lt (1 + p) (suc n)) (Some (1 + p)) None
@@ -77,32 +77,6 @@ none_whole (byte ∷ bytes) is = at (is_feed byte) refl (none_whole bytes)
         found None e = rw h (ap (with_byte byte) (more e))
         found (Some k) e = absurd (none_is_some (suc k) (sym is ∙ (position_on byte bytes h ∙ ap (option_map suc) e)))
 
--- the bytes of the whole lines, of which the first has its line feed
-pub whole_length : (bytes : List ℕ) (end : ℕ) → position is_feed bytes ≡ Some end → end < length bytes →
-    length (bytes_of (whole_lines bytes)) ≡ suc end + length (bytes_of (whole_lines (drop (suc end) bytes)))
-whole_length bytes end is low = ap (λ lines. length (bytes_of lines)) (first_whole bytes end is)
-    ∙ at (length-append (take end bytes) (10 ∷ bytes_of (whole_lines (drop (suc end) bytes))))
-    (length-take-le end bytes (omega (arith, low)))
-  where
-    at : length (take end bytes ++ 10 ∷ bytes_of (whole_lines (drop (suc end) bytes))) ≡ length (take end bytes)
-        + suc (length (bytes_of (whole_lines (drop (suc end) bytes)))) → length (take end bytes) ≡ end →
-        length (take end bytes ++ 10 ∷ bytes_of (whole_lines (drop (suc end) bytes))) ≡ suc end
-        + length (bytes_of (whole_lines (drop (suc end) bytes)))
-    at a b = omega arith
-
--- what the lines lead to, of which the first one leads so far
-pub one_more : (number : ℕ) (name : List ℕ) (before : Read) (bytes : List ℕ) (end : ℕ) (found : Result Read Damage) →
-    position is_feed bytes ≡ Some end → read_line number name before (take end bytes) ≡ found →
-    read_lines number name before (whole_lines bytes)
-    ≡ read_on (λ next. read_lines (suc number) name next (whole_lines (drop (suc end) bytes))) found
-one_more number name before bytes end found is leads = ap (read_lines number name before) (first_whole bytes end is)
-    ∙ ap (read_on (λ next. read_lines (suc number) name next (whole_lines (drop (suc end) bytes)))) leads
-
--- nothing more is read
-pub no_more : (number : ℕ) (name : List ℕ) (before : Read) (bytes : List ℕ) → position is_feed bytes ≡ None →
-    read_lines number name before (whole_lines bytes) ≡ Ok before
-no_more number name before bytes is = ap (read_lines number name before) (none_whole bytes is)
-
 feed_low : (bytes : List ℕ) (end : ℕ) → position is_feed bytes ≡ Some end → end < length bytes
 feed_low [] end is = absurd (none_is_some end is)
 feed_low (byte ∷ bytes) end is = at (is_feed byte) refl (feed_low bytes)
@@ -119,59 +93,113 @@ feed_low (byte ∷ bytes) end is = at (is_feed byte) refl (feed_low bytes)
             (same_some (suc k) end (sym (position_on byte bytes h ∙ ap (option_map suc) e) ∙ is))
             (omega (arith, more k e))
 
--- the damage of the next line is that of all
-pub fails : (number count : ℕ) (name : List ℕ) (before : Read) (bytes : List ℕ) (end : ℕ) (damage : Damage)
-    (all : Result Read Damage) → count ≡ suc number → Some end ≡ position is_feed bytes →
-    (damage ≡ Memory) ⊎ (read_line count name before (take end bytes) ≡ Err damage) →
-    read_lines (suc number) name before (whole_lines bytes) ≡ all → (damage ≡ Memory) ⊎ (all ≡ Err damage)
-fails number count name before bytes end damage all next is (inl memory) so = inl memory
-fails number count name before bytes end damage all next is (inr wrong) so =
-    inr (sym so ∙ one_more (suc number) name before bytes end (Err damage) (sym is)
-    (subst (λ n. read_line n name before (take end bytes) ≡ Err damage) next wrong))
+-- the same with another sum and count, which are those of one more line with this text
+pub line_there : (before : Read) (bytes : List ℕ) (end w : ℕ) (text sum : List ℕ) → Some end ≡ position is_feed bytes →
+    sum ≡ sum_after before.sum text → w ≡ before.whole + end + 1 →
+    record before { sum = sum; whole = w } ≡ behind_line before (take end bytes) text
+line_there before bytes end w text sum is linked long =
+    ap (λ (s : List ℕ). (let r : Read = record before { sum = s; whole = w } in r)) linked
+    ∙ ap (λ (n : ℕ). (let r : Read = record before { sum = sum_after before.sum text; whole = n } in r))
+    (at (length-take-le end bytes (low (feed_low bytes end (sym is)))))
+  where
+    low : end < length bytes → end ≤ length bytes
+    low h = omega arith
 
--- what a loop over the lines keeps: where they lead, the bytes that are counted, and how many lines there may be
+    at : length (take end bytes) ≡ end → w ≡ before.whole + suc (length (take end bytes))
+    at h = omega (arith, h, long)
+
+-- what the lines lead to, of which the first one leads so far
+one_more : (number : ℕ) (name : List ℕ) (before : Read) (bytes text : List ℕ) (end : ℕ) (found : Result Read Damage) →
+    Some end ≡ position is_feed bytes → text_behind before.sum (take end bytes) ≡ Some text →
+    text_read number name (behind_line before (take end bytes) text) text ≡ found →
+    read_lines number name before (whole_lines bytes)
+    ≡ read_on (λ next. read_lines (suc number) name next (whole_lines (drop (suc end) bytes))) found
+one_more number name before bytes text end found is linked leads =
+    ap (read_lines number name before) (first_whole bytes end (sym is))
+    ∙ ap (by_text (torn_at number before (take end bytes ∷ whole_lines (drop (suc end) bytes)))
+    (λ t. read_on (λ next. read_lines (suc number) name next (whole_lines (drop (suc end) bytes)))
+    (text_read number name (behind_line before (take end bytes) t) t))) linked
+    ∙ ap (read_on (λ next. read_lines (suc number) name next (whole_lines (drop (suc end) bytes)))) leads
+
+-- what lines lead to, of which the first is not linked
+torn_lines : (number : ℕ) (name : List ℕ) (before : Read) (bytes : List ℕ) (end : ℕ) →
+    Some end ≡ position is_feed bytes → text_behind before.sum (take end bytes) ≡ None →
+    read_lines number name before (whole_lines bytes) ≡ torn_at number before (whole_lines bytes)
+torn_lines number name before bytes end is unlinked =
+    ap (read_lines number name before) (first_whole bytes end (sym is))
+    ∙ (ap (by_text (torn_at number before (take end bytes ∷ whole_lines (drop (suc end) bytes)))
+    (λ t. read_on (λ next. read_lines (suc number) name next (whole_lines (drop (suc end) bytes)))
+    (text_read number name (behind_line before (take end bytes) t) t))) unlinked
+    ∙ ap (torn_at number before) (sym (first_whole bytes end (sym is))))
+
+-- what a loop over the lines keeps: where they lead, how many bytes there are, and how many lines there may be
 abbrev pub Kept : ℕ → List ℕ → Read → List ℕ → Result Read Damage → ℕ → ℕ → Type 0
-Kept number name before bytes all whole total =
-    (read_lines (suc number) name before (whole_lines bytes) ≡ all)
-    × (whole + length bytes ≡ total + length (bytes_of (whole_lines bytes))) × (number + length bytes ≤ 1 + total)
+Kept number name before bytes all total limit =
+    (read_lines (suc number) name before (whole_lines bytes) ≡ all) × (before.whole + length bytes ≡ total)
+    × (number + length bytes ≤ limit)
 
 -- it is kept by one more line
-pub goes_on : (number count : ℕ) (name : List ℕ) (before next : Read) (bytes rest : List ℕ) (end k : ℕ)
-    (all : Result Read Damage) (whole total : ℕ) → count ≡ suc number → k ≡ suc end →
+pub goes_on : (number count : ℕ) (name : List ℕ) (before next : Read) (bytes rest text sum : List ℕ) (end k w : ℕ)
+    (all : Result Read Damage) (total limit : ℕ) → count ≡ suc number → k ≡ suc end → w ≡ before.whole + end + 1 →
     take (length bytes - k) (drop k bytes) ≡ rest → Some end ≡ position is_feed bytes →
-    read_line count name before (take end bytes) ≡ Ok next → Kept number name before bytes all whole total →
-    Kept count name next rest all whole total
-goes_on number count name before next bytes rest end k all whole total more behind left is leads (so, counted, few) =
-    subst (λ n. Kept n name next rest all whole total) (sym more)
-    (subst (λ bs. Kept (suc number) name next bs all whole total) (ap (λ i. drop i bytes) (sym behind)
+    text_behind before.sum (take end bytes) ≡ Some text → sum ≡ sum_after before.sum text →
+    text_read count name (record before { sum = sum; whole = w }) text ≡ Ok next → next.whole ≡ w →
+    Kept number name before bytes all total limit → Kept count name next rest all total limit
+goes_on number count name before next bytes rest text sum end k w all total limit more behind long left is linked summed
+    leads counted (so, whole, few) =
+    subst (λ n. Kept n name next rest all total limit) (sym more)
+    (subst (λ bs. Kept (suc number) name next bs all total limit) (ap (λ i. drop i bytes) (sym behind)
     ∙ (sym (take_rest bytes k) ∙ left)) (
-      sym (one_more (suc number) name before bytes end (Ok next) (sym is)
-          (subst (λ n. read_line n name before (take end bytes) ≡ Ok next) more leads)) ∙ so,
-      counts (whole_length bytes end (sym is) (feed_low bytes end (sym is))) (length-drop (suc end) bytes)
-          (feed_low bytes end (sym is)),
+      sym (one_more (suc number) name before bytes text end (Ok next) is linked
+          (ap (λ (r : Read). text_read (suc number) name r text) (sym (line_there before bytes end w text sum is summed long))
+          ∙ subst (λ n. text_read n name (record before { sum = sum; whole = w }) text ≡ Ok next) more leads)) ∙ so,
+      counts (length-drop (suc end) bytes) (feed_low bytes end (sym is)),
       fewer (length-drop (suc end) bytes) (feed_low bytes end (sym is)),
     ))
   where
-    counts : length (bytes_of (whole_lines bytes)) ≡ suc end + length (bytes_of (whole_lines (drop (suc end) bytes))) →
-        length (drop (suc end) bytes) ≡ length bytes - suc end → end < length bytes →
-        whole + length (drop (suc end) bytes) ≡ total + length (bytes_of (whole_lines (drop (suc end) bytes)))
-    counts a b low = omega (arith, counted)
+    counts : length (drop (suc end) bytes) ≡ length bytes - suc end → end < length bytes →
+        next.whole + length (drop (suc end) bytes) ≡ total
+    counts b low = omega (arith, counted, long, whole)
 
     fewer : length (drop (suc end) bytes) ≡ length bytes - suc end → end < length bytes → suc number
-        + length (drop (suc end) bytes) ≤ 1 + total
+        + length (drop (suc end) bytes) ≤ limit
     fewer b low = omega (arith, few)
 
+-- the damage of the next line is that of all
+pub fails : (number count : ℕ) (name : List ℕ) (before : Read) (bytes text sum : List ℕ) (end w : ℕ) (damage : Damage)
+    (all : Result Read Damage) → count ≡ suc number → w ≡ before.whole + end + 1 → Some end ≡ position is_feed bytes →
+    text_behind before.sum (take end bytes) ≡ Some text → sum ≡ sum_after before.sum text →
+    (damage ≡ Memory) ⊎ (text_read count name (record before { sum = sum; whole = w }) text ≡ Err damage) →
+    read_lines (suc number) name before (whole_lines bytes) ≡ all → (damage ≡ Memory) ⊎ (all ≡ Err damage)
+fails number count name before bytes text sum end w damage all next long is linked summed (inl memory) so = inl memory
+fails number count name before bytes text sum end w damage all next long is linked summed (inr wrong) so =
+    inr (sym so ∙ one_more (suc number) name before bytes text end (Err damage) is linked
+    (ap (λ (r : Read). text_read (suc number) name r text) (sym (line_there before bytes end w text sum is summed long))
+    ∙ subst (λ n. text_read n name (record before { sum = sum; whole = w }) text ≡ Err damage) next wrong))
+
+-- what stands instead of a line that is not linked decides
+pub torn_ends : (number count : ℕ) (name : List ℕ) (before : Read) (bytes : List ℕ) (end : ℕ)
+    (all found : Result Read Damage) → count ≡ suc number → Some end ≡ position is_feed bytes →
+    text_behind before.sum (take end bytes) ≡ None → torn_at count before (whole_lines bytes) ≡ found →
+    read_lines (suc number) name before (whole_lines bytes) ≡ all → all ≡ found
+torn_ends number count name before bytes end all found next is unlinked wrong so =
+    sym so ∙ (torn_lines (suc number) name before bytes end is unlinked
+    ∙ subst (λ n. torn_at n before (whole_lines bytes) ≡ found) next wrong)
+
+pub torn_fails : (number count : ℕ) (name : List ℕ) (before : Read) (bytes : List ℕ) (end : ℕ) (damage : Damage)
+    (all : Result Read Damage) → count ≡ suc number → Some end ≡ position is_feed bytes →
+    text_behind before.sum (take end bytes) ≡ None →
+    (damage ≡ Memory) ⊎ ((read : Read) → torn_at count read (whole_lines bytes) ≡ Err damage) →
+    read_lines (suc number) name before (whole_lines bytes) ≡ all → (damage ≡ Memory) ⊎ (all ≡ Err damage)
+torn_fails number count name before bytes end damage all next is unlinked (inl memory) so = inl memory
+torn_fails number count name before bytes end damage all next is unlinked (inr wrong) so =
+    inr (torn_ends number count name before bytes end all (Err damage) next is unlinked (wrong before) so)
+
 -- no line is left: this is what all lead to
-pub ends : (number : ℕ) (name : List ℕ) (before : Read) (bytes : List ℕ) (all : Result Read Damage) (whole total : ℕ) →
-    None ≡ position is_feed bytes → Kept number name before bytes all whole total →
-    (all ≡ Ok before) × (whole + length bytes ≡ total)
-ends number name before bytes all whole total is (so, counted, few) = (
-  sym so ∙ no_more (suc number) name before bytes (sym is),
-  at (ap (λ lines. length (bytes_of lines)) (none_whole bytes (sym is))),
-)
-  where
-    at : length (bytes_of (whole_lines bytes)) ≡ 0 → whole + length bytes ≡ total
-    at none = omega (arith, counted)
+pub ends : (number : ℕ) (name : List ℕ) (before : Read) (bytes : List ℕ) (all : Result Read Damage) →
+    None ≡ position is_feed bytes → read_lines (suc number) name before (whole_lines bytes) ≡ all → all ≡ Ok before
+ends number name before bytes all is so =
+    sym so ∙ ap (read_lines (suc number) name before) (none_whole bytes (sym is))
 
 -- a file without a whole line
 pub unread : (replica : ℕ) (name bytes : List ℕ) (damage : Damage) → None ≡ position is_feed bytes →
@@ -186,40 +214,36 @@ lines_there replica name bytes end is =
     subst (λ lines. lines_read replica name bytes lines ≡ read_on (if_named name) (file_read replica name lines))
     (sym (first_whole bytes end (sym is))) refl
 
+-- what the file leads to, of which the first line leads so far
+begins_so : (replica : ℕ) (name bytes : List ℕ) (end : ℕ) (found : Result Read Damage) →
+    Some end ≡ position is_feed bytes → first_read replica name (take end bytes) (whole_lines bytes) ≡ found →
+    file_read replica name (whole_lines bytes)
+    ≡ read_on (λ before. read_lines 2 name before (whole_lines (drop (suc end) bytes))) found
+begins_so replica name bytes end found is leads =
+    ap (file_read replica name) (first_whole bytes end (sym is))
+    ∙ ap (read_on (λ before. read_lines 2 name before (whole_lines (drop (suc end) bytes))))
+    (ap (first_read replica name (take end bytes)) (sym (first_whole bytes end (sym is))) ∙ leads)
+
 -- the damage of the first line is that of the file
 pub begin_fails : (replica : ℕ) (name bytes : List ℕ) (end : ℕ) (damage : Damage) → Some end ≡ position is_feed bytes →
-    (damage ≡ Memory) ⊎ ((number : ℕ) → read_on (begun number name) (entry_behind 1 [] (take end bytes)) ≡ Err damage) →
+    (damage ≡ Memory)
+    ⊎ ((number : ℕ) → first_read number name (take end bytes) (whole_lines bytes) ≡ Err damage) →
     (damage ≡ Memory) ⊎ (file_read replica name (whole_lines bytes) ≡ Err damage)
 begin_fails replica name bytes end damage is (inl memory) = inl memory
 begin_fails replica name bytes end damage is (inr wrong) =
-    inr (ap (file_read replica name) (first_whole bytes end (sym is))
-    ∙ ap (read_on (λ before. read_lines 2 name before (whole_lines (drop (suc end) bytes)))) (wrong replica))
+    inr (begins_so replica name bytes end (Err damage) is (wrong replica))
 
 -- behind the first line
 pub begins : (replica : ℕ) (name bytes rest : List ℕ) (end k : ℕ) (first : Tail) → k ≡ suc end →
     take (length bytes - k) (drop k bytes) ≡ rest → Some end ≡ position is_feed bytes →
-    (entry_behind 1 [] (take end bytes) ≡ Ok (entry.Header first.header, string_bytes first.sum))
-    × (bytes_eq first.header.pad name ≡ true) →
-    (file_read replica name (whole_lines bytes) ≡ read_lines 2 name (so_far (unnamed replica) first) (whole_lines rest))
-    × (length (bytes_of (whole_lines bytes)) + length rest ≡ length bytes + length (bytes_of (whole_lines rest)))
-begins replica name bytes rest end k first behind left is (said, called) =
-    subst (λ bs. (file_read replica name (whole_lines bytes) ≡ read_lines 2 name (so_far (unnamed replica) first)
-    (whole_lines bs)) × (length (bytes_of (whole_lines bytes)) + length bs ≡ length bytes
-    + length (bytes_of (whole_lines bs))))
-    (ap (λ i. drop i bytes) (sym behind) ∙ (sym (take_rest bytes k) ∙ left)) (
-      ap (file_read replica name) (first_whole bytes end (sym is))
-          ∙ ap (read_on (λ before. read_lines 2 name before (whole_lines (drop (suc end) bytes))))
-          (ap (read_on (begun replica name)) said ∙ cond-true (bytes_eq first.header.pad name)
-          (Ok (so_far (unnamed replica) first)) (Err OtherPad) called),
-      counts (whole_length bytes end (sym is) (feed_low bytes end (sym is))) (length-drop (suc end) bytes)
-          (feed_low bytes end (sym is)),
-    )
-  where
-    counts : length (bytes_of (whole_lines bytes)) ≡ suc end + length (bytes_of (whole_lines (drop (suc end) bytes))) →
-        length (drop (suc end) bytes) ≡ length bytes - suc end → end < length bytes →
-        length (bytes_of (whole_lines bytes)) + length (drop (suc end) bytes) ≡ length bytes
-        + length (bytes_of (whole_lines (drop (suc end) bytes)))
-    counts a b low = omega arith
+    ((number : ℕ) → first_read number name (take end bytes) (whole_lines bytes)
+    ≡ Ok (so_far (unnamed number) first)) →
+    file_read replica name (whole_lines bytes)
+    ≡ read_lines 2 name (so_far (unnamed replica) first) (whole_lines rest)
+begins replica name bytes rest end k first behind left is leads =
+    subst (λ bs. file_read replica name (whole_lines bytes) ≡ read_lines 2 name (so_far (unnamed replica) first)
+    (whole_lines bs)) (ap (λ i. drop i bytes) (sym behind) ∙ (sym (take_rest bytes k) ∙ left))
+    (begins_so replica name bytes end (Ok (so_far (unnamed replica) first)) is (leads replica))
 
 -- what one result is told of holds of the other one
 pub moved : (damage : Damage) (from to : Result Read Damage) → to ≡ from → (damage ≡ Memory) ⊎ (from ≡ Err damage) →
@@ -227,8 +251,32 @@ pub moved : (damage : Damage) (from to : Result Read Damage) → to ≡ from →
 moved damage from to same (inl memory) = inl memory
 moved damage from to same (inr wrong) = inr (same ∙ wrong)
 
--- the bytes behind the last line feed are the same with the first line in front
-pub cut_left : {A E : Type 0} (r : Result A E) (count : A → ℕ) (first rest all behind : ℕ) → first + rest ≡ all
-    + behind → IfOk r (λ done. behind + count done ≡ rest) → IfOk r (λ done. first + count done ≡ all)
-cut_left (Ok done) count first rest all behind so h = omega (arith, so, h)
-cut_left (Err e) count first rest all behind so h = tt
+-- whether a line begins a batch is decided by the first line or by those behind it
+pub begins_here : (bytes : List ℕ) (end : ℕ) → Some end ≡ position is_feed bytes → begins_batch (take end bytes) ≡ true →
+    list_any begins_batch (whole_lines bytes) ≡ true
+begins_here bytes end is begins =
+    ap (list_any begins_batch) (first_whole bytes end (sym is))
+    ∙ ap (λ b. b || list_any begins_batch (whole_lines (drop (suc end) bytes))) begins
+
+pub begins_behind : (bytes rest : List ℕ) (end k : ℕ) (all : Bool) → k ≡ suc end →
+    take (length bytes - k) (drop k bytes) ≡ rest → Some end ≡ position is_feed bytes →
+    begins_batch (take end bytes) ≡ false → list_any begins_batch (whole_lines bytes) ≡ all →
+    list_any begins_batch (whole_lines rest) ≡ all
+begins_behind bytes rest end k all behind left is begins so =
+    subst (λ bs. list_any begins_batch (whole_lines bs) ≡ all) (ap (λ i. drop i bytes) (sym behind)
+    ∙ (sym (take_rest bytes k) ∙ left))
+    (sym (ap (list_any begins_batch) (first_whole bytes end (sym is))
+    ∙ ap (λ b. b || list_any begins_batch (whole_lines (drop (suc end) bytes))) begins) ∙ so)
+
+-- what is left behind some bytes is no longer
+pub rest_short : (bytes : List ℕ) (k limit : ℕ) → length bytes ≤ limit →
+    length (take (length bytes - k) (drop k bytes)) ≤ limit
+rest_short bytes k limit low = at (ap length (take_rest bytes k)) (length-drop k bytes)
+  where
+    at : length (take (length bytes - k) (drop k bytes)) ≡ length (drop k bytes) → length (drop k bytes) ≡ length bytes
+        - k → length (take (length bytes - k) (drop k bytes)) ≤ limit
+    at a b = omega (arith, low, a, b)
+
+pub begins_nowhere : (bytes : List ℕ) (all : Bool) → None ≡ position is_feed bytes →
+    list_any begins_batch (whole_lines bytes) ≡ all → all ≡ false
+begins_nowhere bytes all is so = sym so ∙ ap (list_any begins_batch) (none_whole bytes (sym is))

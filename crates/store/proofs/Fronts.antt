@@ -20,7 +20,7 @@ line_append [] ys hx hy = hy
 line_append (x ∷ xs) ys (ne, hx) hy = (ne, line_append xs ys hx hy)
 
 -- a whole line in front
-whole_first : (line rest : List ℕ) → IsLine line → whole_lines (line ++ 10 ∷ rest) ≡ line ∷ whole_lines rest
+pub whole_first : (line rest : List ℕ) → IsLine line → whole_lines (line ++ 10 ∷ rest) ≡ line ∷ whole_lines rest
 whole_first [] rest h = refl
 whole_first (b ∷ line) rest (ne, h) = rw (ne_eqb b 10 ne) (ap (with_byte b) (whole_first line rest h))
 
@@ -67,7 +67,7 @@ encoded_line t (b ∷ bytes) h = (entry_is_no_feed t (b / 16) h, (entry_is_no_fe
 sum_line : (before text : List ℕ) → IsLine (sum_after before text)
 sum_line before text = encoded_line lower_digits (sha256 (before ++ text)) (plain_line lower_digits refl)
 
-text_line : (before text : List ℕ) → IsLine text → IsLine (line_text before text)
+pub text_line : (before text : List ℕ) → IsLine text → IsLine (line_text before text)
 text_line before text h =
     line_append (((codes "[" ++ text) ++ codes ",\"") ++ sum_after before text) (codes "\"]")
     (line_append ((codes "[" ++ text) ++ codes ",\"") (sum_after before text)

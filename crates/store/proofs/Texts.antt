@@ -12,6 +12,7 @@ use Rattle.rights.specs.declared.right.Right.TheVariants as right
 use Rattle.pad_model.specs.declared.op.Op.{Op}
 use Rattle.records.specs.declared.kept_record.Record.{Record}
 use Rattle.records.specs.declared.kept_record.Record.TheVariants.{Named, Granted, Visited, Delivered}
+use Rattle.wire_json.specs.Lines.{value_of}
 use Rattle.wire_json.specs.Operations.{op_data}
 use Rattle.wire_json.specs.Peers.{push_request}
 use Rattle.wire_json.proofs.OneLine.{text_plain}
@@ -42,33 +43,50 @@ op_has_no_float op = at (has_float (op_data op)) refl
         there : has_float (push_request [] op) ≡ true
         there = rw is refl
 
-pub record_has_no_float : (at : ℕ) (kept : Record) → has_float (record_data at kept) ≡ false
-record_has_no_float at (Named name owner) = refl
-record_has_no_float at (Granted author given) = refl
-record_has_no_float at Visited = refl
-record_has_no_float at (Delivered op) = rw (op_has_no_float op) refl
+pub record_has_no_float : (at : ℕ) (together : Bool) (kept : Record) → has_float (record_data at together kept) ≡ false
+record_has_no_float at true (Named name owner) = refl
+record_has_no_float at false (Named name owner) = refl
+record_has_no_float at true (Granted author given) = refl
+record_has_no_float at false (Granted author given) = refl
+record_has_no_float at true Visited = refl
+record_has_no_float at false Visited = refl
+record_has_no_float at true (Delivered op) = rw (op_has_no_float op) refl
+record_has_no_float at false (Delivered op) = rw (op_has_no_float op) refl
 
-pub record_is_shallow : (at : ℕ) (kept : Record) → depth (record_data at kept) ≤ max_depth
-record_is_shallow at (Named name owner) = lit≤ tt
-record_is_shallow at (Granted author given) = lit≤ tt
-record_is_shallow at Visited = lit≤ tt
-record_is_shallow at (Delivered op) = omega (arith, push_is_shallow [] op)
+pub record_is_shallow : (at : ℕ) (together : Bool) (kept : Record) → depth (record_data at together kept) ≤ max_depth
+record_is_shallow at true (Named name owner) = lit≤ tt
+record_is_shallow at false (Named name owner) = lit≤ tt
+record_is_shallow at true (Granted author given) = lit≤ tt
+record_is_shallow at false (Granted author given) = lit≤ tt
+record_is_shallow at true Visited = lit≤ tt
+record_is_shallow at false Visited = lit≤ tt
+record_is_shallow at true (Delivered op) = omega (arith, push_is_shallow [] op)
+record_is_shallow at false (Delivered op) = omega (arith, push_is_shallow [] op)
 
-granted_again : (at : ℕ) (author : List ℕ) (given : Option Right) → entry_in (record_data at (Granted author given))
-    ≡ Some (entry.Record (Granted author given))
-granted_again at author None = refl
-granted_again at author (Some right.Read) = refl
-granted_again at author (Some right.Comment) = refl
-granted_again at author (Some right.Write) = refl
-granted_again at author (Some right.Own) = refl
+granted_again : (at : ℕ) (together : Bool) (author : List ℕ) (given : Option Right) →
+    entry_in (record_data at together (Granted author given)) ≡ Some (entry.Record (Granted author given))
+granted_again at true author None = refl
+granted_again at true author (Some right.Read) = refl
+granted_again at true author (Some right.Comment) = refl
+granted_again at true author (Some right.Write) = refl
+granted_again at true author (Some right.Own) = refl
+granted_again at false author None = refl
+granted_again at false author (Some right.Read) = refl
+granted_again at false author (Some right.Comment) = refl
+granted_again at false author (Some right.Write) = refl
+granted_again at false author (Some right.Own) = refl
 
 -- what a record is written as is read as the record
-pub record_again : (at : ℕ) (kept : Record) → IsSayableRecord kept → entry_in (record_data at kept)
-    ≡ Some (entry.Record kept)
-record_again at (Named name owner) h = refl
-record_again at (Granted author given) h = granted_again at author given
-record_again at Visited h = refl
-record_again at (Delivered op) (checked, sayable) =
+pub record_again : (at : ℕ) (together : Bool) (kept : Record) → IsSayableRecord kept →
+    entry_in (record_data at together kept) ≡ Some (entry.Record kept)
+record_again at true (Named name owner) h = refl
+record_again at false (Named name owner) h = refl
+record_again at together (Granted author given) h = granted_again at together author given
+record_again at true Visited h = refl
+record_again at false Visited h = refl
+record_again at true (Delivered op) (checked, sayable) =
+    ap (λ (o : Option Op). option_map entry.Record (option_map Delivered o)) (reads_again op checked sayable)
+record_again at false (Delivered op) (checked, sayable) =
     ap (λ (o : Option Op). option_map entry.Record (option_map Delivered o)) (reads_again op checked sayable)
 
 pub header_again : (pad : List ℕ) (replica : ℕ) → entry_in (header_data pad replica)
@@ -92,6 +110,14 @@ told bytes_of (Ok text) v d said Premise utf8 same floatless low again compact b
         ap (option_and_then entry_in) (value_of_text (bytes_of text) v (utf8 text)
         (back (subst (λ x. depth x ≤ max_depth) (sym same) low)))
         ∙ (ap entry_in same ∙ again premise)
+
+-- the value of such a text
+pub valued : {A E : Type 0} (bytes_of : A → List ℕ) (r : Result A E) (v d : Data) → ((x : A) → IsUtf8 (bytes_of x)) →
+    v ≡ d → depth d ≤ max_depth → IfOk r (λ text. depth v ≤ max_depth → read (bytes_of text) ≡ Some v) →
+    IfOk r (λ text. value_of (bytes_of text) ≡ Some d)
+valued bytes_of (Err e) v d utf8 same low back = tt
+valued bytes_of (Ok text) v d utf8 same low back =
+    value_of_text (bytes_of text) v (utf8 text) (back (subst (λ x. depth x ≤ max_depth) (sym same) low)) ∙ ap Some same
 
 -- and where nothing is asked of the entry
 pub told_always : {A E : Type 0} (bytes_of : A → List ℕ) (r : Result A E) (said : Entry) →

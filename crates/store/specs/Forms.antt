@@ -1,7 +1,7 @@
 -- What a record is written as, and read as. The time of day stands beside it, and is not read.
-use Rattle.std.specs.Prelude.{IsTrue, ℕ, List, [], ◌∷◌, codes, bytes_eq, if◌then◌else◌, Option, Some, None, option_map}
-use Rattle.std.specs.Prelude.{option_and_then}
-use Rattle.serde_json.specs.Data.{Data, string}
+use Rattle.std.specs.Prelude.{IsTrue, ℕ, List, [], ◌∷◌, ◌++◌, codes, bytes_eq, if◌then◌else◌, Bool, true, false, Option}
+use Rattle.std.specs.Prelude.{Some, None, option_map, option_and_then}
+use Rattle.serde_json.specs.Data.{Data, boolean, string}
 use Rattle.serde_json.specs.Find.{as_str}
 use Rattle.pad_model.specs.Checked.{is_checked}
 use Rattle.rights.specs.declared.right.Right.{Right}
@@ -28,9 +28,16 @@ record_fields (Granted author right) = (codes "author", string author) ∷ (code
 record_fields Visited = (codes "kind", string (codes "visited")) ∷ []
 record_fields (Delivered op) = (codes "kind", string (codes "delivered")) ∷ (codes "op", op_data op) ∷ []
 
--- a record with the time of day, in seconds since the year 1970
-abbrev pub record_data : ℕ → Record → Data
-record_data at kept = fields_data ((codes "at", number_data at) ∷ record_fields kept)
+-- the field of a record that is written when a line before it is not synced yet
+abbrev pub together_fields : Bool → List Field
+together_fields true = (codes "together", boolean true) ∷ []
+together_fields false = []
+
+-- a record with the time of day, in seconds since the year 1970, and whether it is written together with a line before
+-- it
+abbrev pub record_data : ℕ → Bool → Record → Data
+record_data at together kept = fields_data ((codes "at", number_data at) ∷ together_fields together
+    ++ record_fields kept)
 
 -- the operation of a record has values of its types, and is in the limits
 abbrev pub IsSayableRecord : Record → Type 0

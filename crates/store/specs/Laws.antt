@@ -1,15 +1,17 @@
 -- What is left of a pad's file after a crash.
-use Rattle.std.specs.Prelude.{◌≡◌, ℕ, suc, ◌≤◌, ◌≢◌, List, [], ◌∷◌, length, map, take, Some, Ok}
-use Rattle.std.specs.List.{AllByRecursion}
+use Rattle.std.specs.Prelude.{◌≡◌, ℕ, ◌≤◌, ◌≢◌, List, [], ◌∷◌, ◌++◌, length, take, false, Some, None, Ok, Err}
+use Rattle.std.specs.List.{AllByRecursion, list_any}
 use Rattle.pad_core.specs.Machine.{Machine}
-use Rattle.pad_core.specs.Restart.{restarted}
-use Rattle.records.specs.Laws.{Had, Life}
+use Rattle.records.specs.Laws.{Had, Life, restarted_by}
 use Rattle.records.specs.declared.kept_record.Record.{Record}
+use Rattle.records.specs.declared.kept_record.Record.TheVariants.{Named}
+use Rattle.store.specs.Batches.{begins_batch}
 use Rattle.store.specs.Entries.{entry_said}
 use Rattle.store.specs.Files.{Read, file_read, if_named, pad_read}
+use Rattle.store.specs.declared.reader.Damage.TheVariants.{Empty}
 use Rattle.store.specs.declared.entry.Entry.{Entry}
 use Rattle.store.specs.declared.entry.Entry.TheVariants as entry
-use Rattle.store.specs.Lines.{bytes_of, line_text, lines_behind, text_behind, whole_lines}
+use Rattle.store.specs.Lines.{bytes_of, line_text, lines_behind, sum_after, text_behind, whole_lines}
 
 -- a text without a line feed
 abbrev pub IsLine : List ℕ → Type 0
@@ -36,9 +38,30 @@ pub record Disk : Type 0 where
   pub written : List ℕ
   pub synced : ℕ
 
--- what a crash may leave: a front of what was written, with all that was synced
-abbrev pub MayLeave : Disk → List ℕ → Type 0
-MayLeave disk bytes = (left : ℕ) × (disk.synced ≤ left) × (bytes ≡ take left disk.written)
+-- the sum of the last of some texts' lines, the first behind a sum
+abbrev pub last_sum : List ℕ → List (List ℕ) → List ℕ
+last_sum before [] = before
+last_sum before (text ∷ texts) = last_sum (sum_after before text) texts
+
+-- lines that were never synced and are no further lines of a file: the first is not linked behind this sum, and none of
+-- them begins a batch
+abbrev pub IsTorn : List ℕ → List (List ℕ) → Type 0
+IsTorn sum [] = Unit {0}
+IsTorn sum (line ∷ lines) = (text_behind sum line ≡ None) × (list_any begins_batch (line ∷ lines) ≡ false)
+
+-- lines that stand whole are all that are synced
+abbrev pub HasSynced : Disk → List (List ℕ) → ℕ → Type 0
+HasSynced disk texts lines = (synced : ℕ) → synced ≤ length texts → length (file_of (take synced texts)) ≤ disk.synced →
+    synced ≤ lines
+
+-- what a crash may leave of the lines of some texts: a front of what was written, with all that was synced; or whole
+-- lines, with all that were synced, and behind them any bytes that are no further lines
+pub data MayLeave (disk : Disk) (texts : List (List ℕ)) (bytes : List ℕ) : Type 0 where
+  cut : (left : ℕ) → disk.synced ≤ left → bytes ≡ take left disk.written → length (file_of (take 1 texts)) ≤ length bytes →
+      MayLeave disk texts bytes
+  torn : (lines : ℕ) (tail : List ℕ) → HasSynced disk texts lines → 1 ≤ lines →
+      bytes ≡ file_of (take lines texts) ++ tail → IsTorn (last_sum [] (take lines texts)) (whole_lines tail) →
+      MayLeave disk texts bytes
 
 -- texts without a line feed that say these, each one
 abbrev pub Say : List Entry → List (List ℕ) → Type 0
@@ -47,20 +70,41 @@ Say [] (text ∷ texts) = ⊥
 Say (said ∷ more) [] = ⊥
 Say (said ∷ more) (text ∷ texts) = IsLine text × (entry_said text ≡ Some said) × Say more texts
 
--- what the file of a pad says whose life left these records: a header, and the records
-abbrev pub entries_of : ℕ → List ℕ → List Record → List Entry
-entries_of replica name records = entry.Header (record { pad = name; replica = replica }) ∷ map entry.Record records
+-- the records among some entries
+abbrev pub records_in : List Entry → List Record
+records_in [] = []
+records_in (entry.Header header ∷ entries) = records_in entries
+records_in (entry.Record kept ∷ entries) = kept ∷ records_in entries
 
--- however much of a pad's file a crash leaves beyond its first line: it is read, as the restarted pad that was there
--- when its first records had been left, and these are at least those that were synced
+-- each header among some entries names this pad
+abbrev pub AreOf : List ℕ → List Entry → Type 0
+AreOf name [] = Unit {0}
+AreOf name (entry.Header header ∷ entries) = (header.pad ≡ name) × AreOf name entries
+AreOf name (entry.Record kept ∷ entries) = AreOf name entries
+
+-- what the file of a pad says over all its lives: a header, and then the records, with a header before those of each new
+-- number
+abbrev pub IsFile : List ℕ → List Entry → Type 0
+IsFile name [] = ⊥
+IsFile name (entry.Header header ∷ entries) = (header.pad ≡ name) × AreOf name entries
+IsFile name (entry.Record kept ∷ entries) = ⊥
+
+-- whatever a crash leaves of a pad's file beyond its first line: a server with any number reads it, as the restarted pad
+-- that was there when the records among the lines that are left had been left, and these are at least those that were
+-- synced. It takes the pad if its first record names it so, and no pad if no record is left. What is left of the file is
+-- again that of a pad with these lives
 abbrev pub CrashLaw : Type 0
 CrashLaw =
-    (replica : ℕ) (name : List ℕ) (records : List Record) (m : Machine) (texts : List (List ℕ)) (disk : Disk)
+    (replica : ℕ) (name : List ℕ) (entries : List Entry) (m : Machine) (texts : List (List ℕ)) (disk : Disk)
     (bytes : List ℕ) →
-    Life replica records m → Say (entries_of replica name records) texts → disk.written ≡ file_of texts →
-    MayLeave disk bytes → length (file_of (take 1 texts)) ≤ length bytes →
-    (count : ℕ) × (had : Machine) × Had replica records m (take count records) had
-    × (read : Read) × (read.pad ≡ restarted had) × (file_read replica name (whole_lines bytes) ≡ Ok read)
-    × (pad_read replica name bytes ≡ if_named name read)
-    × ((synced : ℕ) → synced ≤ length records → length (file_of (take (suc synced) texts)) ≤ disk.synced →
-    synced ≤ count)
+    Life replica (records_in entries) m → IsFile name entries → Say entries texts → disk.written ≡ file_of texts →
+    MayLeave disk texts bytes →
+    (lines : ℕ) × HasSynced disk texts lines
+    × (had : Machine) × Had replica (records_in entries) m (records_in (take lines entries)) had
+    × ((number : ℕ) →
+    (read : Read) × (read.pad ≡ restarted_by number had) × (read.whole ≡ length (file_of (take lines texts)))
+    × (file_read number name (whole_lines bytes) ≡ Ok read) × (pad_read number name bytes ≡ if_named name read)
+    × ((owner : List ℕ) (more : List Record) → records_in (take lines entries) ≡ Named name owner ∷ more →
+    pad_read number name bytes ≡ Ok read)
+    × (records_in (take lines entries) ≡ [] → pad_read number name bytes ≡ Err Empty)
+    × Life number (records_in (take lines entries)) read.pad × IsFile name (take lines entries))

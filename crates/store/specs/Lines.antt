@@ -1,6 +1,7 @@
 -- The lines of a pad's file, and the sums that link them.
-use Rattle.std.specs.Prelude.{ℕ, ◌-◌, ◌==◌, nat_lt, if◌then◌else◌, Bool, List, [], ◌∷◌, ◌++◌, length, take, drop, codes}
-use Rattle.std.specs.Prelude.{bytes_eq, Option, Some, None}
+use Rattle.std.specs.Prelude.{ℕ, ◌-◌, ◌==◌, ◌&&◌, ◌||◌, nat_le, nat_lt, if◌then◌else◌, Bool, List, [], ◌∷◌, ◌++◌, length}
+use Rattle.std.specs.Prelude.{take, drop, codes, bytes_eq, Option, Some, None}
+use Rattle.std.specs.List.{list_all}
 use Rattle.hex.specs.Hex.{encode_lower}
 use Rattle.sha2.specs.Sha256.{sha256}
 
@@ -8,9 +9,13 @@ use Rattle.sha2.specs.Sha256.{sha256}
 abbrev pub sum_after : List ℕ → List ℕ → List ℕ
 sum_after before text = encode_lower (sha256 (before ++ text))
 
+-- a list of a text and a sum
+abbrev pub framed : List ℕ → List ℕ → List ℕ
+framed text sum = codes "[" ++ text ++ codes ",\"" ++ sum ++ codes "\"]"
+
 -- the line of a text behind a sum: a list of the text and its own sum
 abbrev pub line_text : List ℕ → List ℕ → List ℕ
-line_text before text = codes "[" ++ text ++ codes ",\"" ++ sum_after before text ++ codes "\"]"
+line_text before text = framed text (sum_after before text)
 
 -- the text of a line behind a sum, if it is one
 abbrev pub text_behind : List ℕ → List ℕ → Option (List ℕ)
@@ -19,6 +24,20 @@ text_behind before line =
     else if bytes_eq line (line_text before (take (length line - 69) (drop 1 line)))
     then Some (take (length line - 69) (drop 1 line))
     else None
+
+-- whether a byte is a digit of a sum
+abbrev pub is_digit : ℕ → Bool
+is_digit byte = (nat_le 48 byte && nat_le byte 57) || (nat_le 97 byte && nat_le byte 102)
+
+-- the text of a line with a text and a sum of this form, whatever line it stands behind
+abbrev pub if_framed : List ℕ → List ℕ → List ℕ → Option (List ℕ)
+if_framed line text sum = if bytes_eq line (framed text sum) && list_all is_digit sum then Some text else None
+
+-- the text of a line that has the form of one, whatever line it stands behind
+abbrev pub text_within : List ℕ → Option (List ℕ)
+text_within line =
+    if nat_lt (length line) 69 then None
+    else if_framed line (take (length line - 69) (drop 1 line)) (take 64 (drop (length line - 66) line))
 
 -- the lines of some texts, one behind the other, the first behind a sum
 abbrev pub lines_behind : List ℕ → List (List ℕ) → List (List ℕ)

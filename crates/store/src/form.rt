@@ -14,12 +14,21 @@ use serde_json::{Map, Value, put};
 use std::alloc::{AllocError, Global};
 use wire_json::{granted_by, name_field, name_value, op_value, read_op, right_word, str_field};
 
-/// A record as a JSON value, with the time of day in seconds since 1970.
-pub fn record_value(alloc: Global, at: u64, kept: &Record) -> Result<Value, AllocError>
-    ensures { IfOk result (λ v. view v ≡ record_data at kept.now) }
+/// A record as a JSON value, with the time of day in seconds since 1970, and whether it is written together with a line
+/// before it that is not synced yet.
+pub fn record_value(
+    alloc: Global,
+    at: u64,
+    together: bool,
+    kept: &Record,
+) -> Result<Value, AllocError>
+    ensures { IfOk result (λ v. view v ≡ record_data at together kept.now) }
 {
     let mut fields = Map::new(alloc);
     put(&mut fields, alloc, "at", Value::from(at))?;
+    if together {
+        put(&mut fields, alloc, "together", Value::Bool(true))?;
+    }
     put_record(alloc, &mut fields, kept)?;
     Ok(Value::Object(fields))
 }

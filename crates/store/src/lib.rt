@@ -1,6 +1,7 @@
 //! The file of a pad: lines that a person can read, each with a sum over all before it.
 #![tactic(auto)]
 
+mod batch;
 mod entry;
 mod form;
 mod header;

@@ -1,12 +1,16 @@
 //! A line: a text, and the sum of all texts up to it.
-ghost use Rattle.std.specs.Prelude.{◌≡◌, ◌∷◌, [], ◌++◌, codes, IfOk, IfSome, option_map, string_bytes};
-ghost use Rattle.store.specs.Lines.{line_text, sum_after as sum_behind, text_behind};
+ghost use Rattle.std.specs.Prelude.{◌≡◌, ◌&&◌, ◌∷◌, [], ◌++◌, bytes_eq, codes, IfOk, IfSome, option_map, string_bytes};
+ghost use Rattle.std.specs.List.{list_all, position};
+ghost use Rattle.store.specs.Lines.{framed, is_digit as is_sum_digit, is_feed, line_text, sum_after as sum_behind, text_behind, text_within};
 
 use sha2::{Digest, Sha256};
 use std::alloc::{AllocError, Global};
 
 /// How many bytes a line has beside its text: the brackets, the comma, the quotes and the 64 digits of the sum.
 const AROUND: usize = 69;
+
+/// How many bytes of them end the line: the sum, its quote and the bracket.
+const SUM_AND_END: usize = 66;
 
 /// A line, and the sum that the next one is linked by.
 #[derive(Debug, Drop)]
@@ -48,9 +52,47 @@ pub fn text_of<'a>(
     }
 }
 
+/// The text of a line that has the form of one, whatever line it stands behind. None: it has another form.
+pub fn text_within_line<'a>(alloc: Global, line: &'a [u8]) -> Result<Option<&'a [u8]>, AllocError>
+    ensures { IfOk result (λ found. text_within line.now ≡ option_map (λ text. text.now) found) }
+{
+    if line.len() < AROUND {
+        return Ok(None);
+    }
+    let text = &line[1..line.len() - (AROUND - 1)];
+    let sum = &line[line.len() - SUM_AND_END..line.len() - 2];
+    let framed = line_bytes(alloc, text, sum)?;
+    if is_framed(line, framed.as_slice(), sum) {
+        Ok(Some(text))
+    } else {
+        Ok(None)
+    }
+}
+
+/// Whether a line is this one, and its sum has digits alone.
+fn is_framed(line: &[u8], framed: &[u8], sum: &[u8]) -> bool
+    ensures { result ≡ (bytes_eq line.now framed.now && list_all is_sum_digit sum.now) }
+{
+    line == framed && has_digits(sum)
+}
+
+/// Whether a sum has digits alone.
+fn has_digits(sum: &[u8]) -> bool
+    ensures { result ≡ list_all is_sum_digit sum.now }
+{
+    sum.iter().all(|byte| is_digit(*byte))
+}
+
+/// Whether a byte is a digit of a sum.
+fn is_digit(byte: u8) -> bool
+    ensures { result ≡ is_sum_digit byte }
+{
+    (48 <= byte && byte <= 57) || (97 <= byte && byte <= 102)
+}
+
 /// The bytes of a line without its line feed.
 fn line_bytes(alloc: Global, text: &[u8], sum: &[u8]) -> Result<Vec<u8>, AllocError>
-    ensures { IfOk result (λ bytes. bytes.items ≡ codes "[" ++ text.now ++ codes ",\"" ++ sum.now ++ codes "\"]") }
+    ensures { IfOk result (λ bytes. bytes.items ≡ framed text.now sum.now) }
 {
     let mut bytes = Vec::new(alloc);
     bytes.extend_from_slice(b"[")?;
@@ -69,4 +111,11 @@ fn sum_after(alloc: Global, before: &[u8], text: &[u8]) -> Result<String, AllocE
     hasher.update(before);
     hasher.update(text);
     hex::encode(alloc, hasher.finalize())
+}
+
+/// The place of the first line feed.
+pub fn find_feed(bytes: &[u8]) -> Option<usize>
+    ensures { result ≡ position is_feed bytes.now }
+{
+    bytes.iter().position(|byte| *byte == b'\n')
 }

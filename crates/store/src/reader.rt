@@ -1,25 +1,25 @@
 //! From the bytes of a file to a pad.
-ghost use Rattle.std.specs.Prelude.{◌≡◌, ◌⊎◌, ◌≤◌, ◌+◌, ℕ, [], length, true, false, bytes_eq, string_bytes, IfOk, MatchResult, Some, None, Ok, Err};
+ghost use Rattle.std.specs.Prelude.{◌≡◌, ◌⊎◌, ◌≤◌, ◌<◌, ◌+◌, ℕ, [], length, true, false, bytes_eq, string_bytes, IfOk, MatchResult, Some, None, Ok, Err};
 ghost use Rattle.std.specs.List.{position};
-ghost use Rattle.serde_json.specs.View.{view};
 ghost use Rattle.pad_model.specs.declared.refusal.Refusal.{Refusal};
 ghost use Rattle.pad_core.specs.Machine.{name_of};
 ghost use Rattle.records.specs.Records.{replay as replayed, unnamed};
 ghost use Rattle.wire_json.specs.Lines.{value_of as value_in};
-ghost use Rattle.store.specs.Files.{Read, begun, entry_behind, file_read, if_called, if_named, pad_read, read_line as line_read, read_lines, read_on, so_far, unbegun};
-ghost use Rattle.store.specs.Forms.{IsSayableRecord};
+ghost use Rattle.store.specs.Entries.{entry_said};
+ghost use Rattle.store.specs.Files.{Read, file_read, first_read, if_called, if_named, pad_read, read_lines, read_on, said_at, so_far, text_read, torn_at, torn_front, unbegun};
+ghost use Rattle.store.specs.Forms.{IsSayableRecord, record_data};
 ghost use Rattle.store.specs.Laws.{Tells};
-ghost use Rattle.store.specs.Lines.{bytes_of, is_feed, whole_lines};
+ghost use Rattle.store.specs.Lines.{is_feed, whole_lines};
 ghost use Rattle.store.specs.declared.reader.Damage.TheVariants.{Memory};
 
-use crate::entry::{Entry, read_entry};
+use crate::batch::has_beginning;
+use crate::entry::{Entry, read_entry, value_of};
 use crate::form::record_value;
 use crate::header::Header;
-use crate::line::text_of;
+use crate::line::{find_feed, text_of};
 use pad_core::Pad;
 use pad_model::{Refusal, Sequence};
 use records::{Record, replay};
-use serde_json::Value;
 use std::alloc::{AllocError, Global};
 use thiserror::Error;
 
@@ -49,31 +49,39 @@ pub struct Loaded<S: Sequence> {
     pub pad: Pad<S>,
     /// Whose file it is by its last header.
     pub header: Header,
-    /// The sum of the last line.
+    /// The sum of the last line that was read.
     pub sum: String,
-    /// How many bytes the whole lines have.
+    /// How many bytes the lines have that were read.
     pub whole: u64,
-    /// How many bytes behind them have no line feed.
+    /// How many bytes stand behind them: a part of a line, or what a crash left of lines that were never synced.
     pub cut: u64,
 }
 
-// Where the next line is linked: the last header, and the sum of the last line.
+// Where the next line is linked: the last header, the sum of the last line, and how many bytes the lines have.
 #[derive(Drop)]
 struct Tail {
     header: Header,
     sum: String,
+    whole: usize,
 }
 
-/// The text of a record's line. An operation in the limits is read again as it is.
-pub fn record_text(alloc: Global, at: u64, kept: &Record) -> Result<String, AllocError>
-    ensures { IfOk result (λ text. IsSayableRecord kept.now → Tells (Entry.Record kept.now) (string_bytes text)) }
+/// The text of a record's line, at this time of day, and whether it is written together with a line before it that is not
+/// synced yet. An operation in the limits is read again as it is.
+pub fn record_text(
+    alloc: Global,
+    at: u64,
+    together: bool,
+    kept: &Record,
+) -> Result<String, AllocError>
+    ensures value { IfOk result (λ text. value_in (string_bytes text) ≡ Some (record_data at together kept.now)) }
+    ensures tells { IfOk result (λ text. IsSayableRecord kept.now → Tells (Entry.Record kept.now) (string_bytes text)) }
 {
-    let value = record_value(alloc, at, kept)?;
+    let value = record_value(alloc, at, together, kept)?;
     value.to_string(alloc)
 }
 
-/// The pad with this name on the server with this replica number, of the bytes of its file. The part of a line at the end
-/// is left aside.
+/// The pad with this name on the server with this replica number, of the bytes of its file. What a crash left at its end is
+/// left aside.
 pub fn load<S: Sequence>(
     alloc: Global,
     replica: u16,
@@ -81,39 +89,37 @@ pub fn load<S: Sequence>(
     bytes: &[u8],
 ) -> Result<Loaded<S>, Damage>
     requires { 1 ≤ replica }
-    ensures read { MatchResult result (λ loaded. pad_read replica name.now bytes.now ≡ Ok (record { pad = loaded.pad; header = loaded.header; sum = string_bytes loaded.sum })) (λ e. (e ≡ Damage.Memory) ⊎ (pad_read replica name.now bytes.now ≡ Err e)) }
-    ensures whole { IfOk result (λ loaded. loaded.whole ≡ length (bytes_of (whole_lines bytes.now))) }
+    ensures read { MatchResult result (λ loaded. pad_read replica name.now bytes.now ≡ Ok (record { pad = loaded.pad; header = loaded.header; sum = string_bytes loaded.sum; whole = loaded.whole })) (λ e. (e ≡ Damage.Memory) ⊎ (pad_read replica name.now bytes.now ≡ Err e)) }
     ensures cut { IfOk result (λ loaded. loaded.whole + loaded.cut ≡ length bytes.now) }
 {
     let Some(end) = find_feed(bytes) else {
         return Err(damage_of_front(bytes));
     };
-    let (pad, last, cut) = load_named(alloc, replica, name, bytes, end)?;
-    let Tail { header, sum } = last;
+    let (pad, last) = load_named(alloc, replica, name, bytes, end)?;
+    let Tail { header, sum, whole } = last;
     Ok(Loaded {
         pad,
         header,
         sum,
-        whole: (bytes.len() - cut) as u64,
-        cut: cut as u64,
+        whole: whole as u64,
+        cut: (bytes.len() - whole) as u64,
     })
 }
 
-// The pad with this name of the whole lines of a file, of which the first ends here, with the last line, and how many bytes
-// stand behind it.
+// The pad with this name of the lines of a file, of which the first ends here, with the last line.
 fn load_named<S: Sequence>(
     alloc: Global,
     replica: u16,
     name: &str,
     bytes: &[u8],
     end: usize,
-) -> Result<(Pad<S>, Tail, usize), Damage>
+) -> Result<(Pad<S>, Tail), Damage>
     requires numbered { 1 ≤ replica }
     requires feed { Some end ≡ position is_feed bytes.now }
     ensures read { MatchResult result (λ done. read_on (if_named name.now) (file_read replica name.now (whole_lines bytes.now)) ≡ Ok (so_far done.0 done.1)) (λ e. (e ≡ Damage.Memory) ⊎ (read_on (if_named name.now) (file_read replica name.now (whole_lines bytes.now)) ≡ Err e)) }
-    ensures cut { IfOk result (λ done. length (bytes_of (whole_lines bytes.now)) + done.2 ≡ length bytes.now) }
+    ensures within { IfOk result (λ done. done.1.whole ≤ length bytes.now) }
 {
-    let done: (Pad<S>, Tail, usize) = load_lines(alloc, replica, name, bytes, end)?;
+    let done: (Pad<S>, Tail) = load_lines(alloc, replica, name, bytes, end)?;
     check_name(&done.0, name)?;
     Ok(done)
 }
@@ -129,20 +135,20 @@ fn check_name<S: Sequence>(pad: &Pad<S>, name: &str) -> Result<(), Damage>
     }
 }
 
-// The pad of the whole lines of a file, of which the first ends here, with the last line, and how many bytes stand behind it.
+// The pad of the lines of a file, of which the first ends here, with the last line.
 fn load_lines<S: Sequence>(
     alloc: Global,
     replica: u16,
     name: &str,
     bytes: &[u8],
     end: usize,
-) -> Result<(Pad<S>, Tail, usize), Damage>
+) -> Result<(Pad<S>, Tail), Damage>
     requires numbered { 1 ≤ replica }
     requires feed { Some end ≡ position is_feed bytes.now }
     ensures read { MatchResult result (λ done. file_read replica name.now (whole_lines bytes.now) ≡ Ok (so_far done.0 done.1)) (λ e. (e ≡ Damage.Memory) ⊎ (file_read replica name.now (whole_lines bytes.now) ≡ Err e)) }
-    ensures cut { IfOk result (λ done. length (bytes_of (whole_lines bytes.now)) + done.2 ≡ length bytes.now) }
+    ensures within { IfOk result (λ done. done.1.whole ≤ length bytes.now) }
 {
-    let first = first_line(alloc, name, &bytes[..end])?;
+    let first = first_line(alloc, name, &bytes[..end], bytes)?;
     load_behind(alloc, replica, name, first, &bytes[end + 1..])
 }
 
@@ -153,82 +159,107 @@ fn load_behind<S: Sequence>(
     name: &str,
     first: Tail,
     bytes: &[u8],
-) -> Result<(Pad<S>, Tail, usize), Damage>
-    requires { 1 ≤ replica }
+) -> Result<(Pad<S>, Tail), Damage>
+    requires numbered { 1 ≤ replica }
+    requires room { first.whole + length bytes.now ≤ 18446744073709551615 }
     ensures read { MatchResult result (λ done. read_lines 2 name.now (so_far (unnamed replica) first) (whole_lines bytes.now) ≡ Ok (so_far done.0 done.1)) (λ e. (e ≡ Damage.Memory) ⊎ (read_lines 2 name.now (so_far (unnamed replica) first) (whole_lines bytes.now) ≡ Err e)) }
-    ensures cut { IfOk result (λ done. length (bytes_of (whole_lines bytes.now)) + done.2 ≡ length bytes.now) }
+    ensures within { IfOk result (λ done. done.1.whole ≤ first.whole + length bytes.now) }
 {
     let mut pad = match Pad::new(alloc, replica) {
         Ok(pad) => pad,
         Err(_) => return Err(Damage::Memory),
     };
-    let (last, cut) = replay_lines(alloc, &mut pad, name, first, bytes)?;
-    Ok((pad, last, cut))
+    let last = replay_lines(alloc, &mut pad, name, first, bytes)?;
+    Ok((pad, last))
 }
 
-// The place of the first line feed.
-fn find_feed(bytes: &[u8]) -> Option<usize>
-    ensures { result ≡ position is_feed bytes.now }
-{
-    bytes.iter().position(|byte| *byte == b'\n')
-}
-
-// Replays the whole lines behind the first one, and answers the last one, and how many bytes stand behind the last line
-// feed.
+// Replays the lines behind the first one, up to the first that is not linked, and answers the last one.
 fn replay_lines<S: Sequence>(
     alloc: Global,
     pad: &mut Pad<S>,
     name: &str,
     first: Tail,
     bytes: &[u8],
-) -> Result<(Tail, usize), Damage>
-    ensures read { MatchResult result (λ done. read_lines 2 name.now (so_far pad.old first) (whole_lines bytes.now) ≡ Ok (so_far pad.new done.0)) (λ e. (e ≡ Damage.Memory) ⊎ (read_lines 2 name.now (so_far pad.old first) (whole_lines bytes.now) ≡ Err e)) }
-    ensures cut { IfOk result (λ done. length (bytes_of (whole_lines bytes.now)) + done.1 ≡ length bytes.now) }
+) -> Result<Tail, Damage>
+    requires { first.whole + length bytes.now ≤ 18446744073709551615 }
+    ensures read { MatchResult result (λ last. read_lines 2 name.now (so_far pad.old first) (whole_lines bytes.now) ≡ Ok (so_far pad.new last)) (λ e. (e ≡ Damage.Memory) ⊎ (read_lines 2 name.now (so_far pad.old first) (whole_lines bytes.now) ≡ Err e)) }
+    ensures within { IfOk result (λ last. last.whole ≤ first.whole + length bytes.now) }
 {
     let mut last = first;
     let mut rest = bytes;
     let mut number: u64 = 1;
     while let Some(end) = find_feed(rest) {
         number += 1;
-        last = next_line(alloc, pad, name, last, &rest[..end], number)?;
+        let Some((text, sum)) = text_of(alloc, last.sum.as_str(), &rest[..end])? else {
+            check_torn(alloc, rest, number)?;
+            return Ok(last);
+        };
+        let behind = Tail {
+            header: last.header,
+            sum,
+            whole: last.whole + end + 1,
+        };
+        last = enter(alloc, pad, name, behind, text, number)?;
         rest = &rest[end + 1..];
     }
-    Ok((last, rest.len()))
+    Ok(last)
 }
 
-// Reads one more line.
-fn next_line<S: Sequence>(
+// Whether bytes behind a line are what a crash left of lines that were never synced: the line with this number is none.
+fn check_torn(alloc: Global, bytes: &[u8], number: u64) -> Result<(), Damage>
+    ensures { MatchResult result (λ _. (before : Read) → torn_at number before (whole_lines bytes.now) ≡ Ok before) (λ e. (e ≡ Damage.Memory) ⊎ ((before : Read) → torn_at number before (whole_lines bytes.now) ≡ Err e)) }
+{
+    if has_beginning(alloc, bytes)? {
+        Err(Damage::Unlinked { line: number })
+    } else {
+        Ok(())
+    }
+}
+
+// Does what the text of one more line says.
+fn enter<S: Sequence>(
     alloc: Global,
     pad: &mut Pad<S>,
     name: &str,
-    before: Tail,
-    line: &[u8],
+    behind: Tail,
+    text: &[u8],
     number: u64,
 ) -> Result<Tail, Damage>
-    ensures { MatchResult result (λ next. line_read number name.now (so_far pad.old before) line.now ≡ Ok (so_far pad.new next)) (λ e. (e ≡ Damage.Memory) ⊎ (line_read number name.now (so_far pad.old before) line.now ≡ Err e)) }
+    ensures read { MatchResult result (λ next. text_read number name.now (so_far pad.old behind) text.now ≡ Ok (so_far pad.new next)) (λ e. (e ≡ Damage.Memory) ⊎ (text_read number name.now (so_far pad.old behind) text.now ≡ Err e)) }
+    ensures within { IfOk result (λ next. next.whole ≡ behind.whole) }
 {
-    let Tail { header, sum } = before;
-    let (entry, next) = read_line(alloc, sum.as_str(), line, number)?;
-    match entry {
-        Entry::Header(other) => Ok(Tail {
-            header: checked(other, name)?,
-            sum: next,
+    match entry_of(alloc, text, number)? {
+        Entry::Header(header) => Ok(Tail {
+            header: checked(header, name)?,
+            sum: behind.sum,
+            whole: behind.whole,
         }),
         Entry::Record(kept) => {
             replay_record(alloc, pad, kept, number)?;
-            Ok(Tail { header, sum: next })
+            Ok(behind)
         }
     }
 }
 
-// A file without a whole line: its first write was cut off, or it was never a pad's.
+// A file that begins with no whole line of a pad's: its first write was lost, or it was never a pad's.
 fn damage_of_front(bytes: &[u8]) -> Damage
     ensures { result ≡ unbegun bytes.now }
 {
-    if bytes.starts_with(BEGINNING) || BEGINNING.starts_with(bytes) {
+    if bytes.starts_with(BEGINNING) || BEGINNING.starts_with(bytes) || bytes.starts_with(&[0]) {
         Damage::Empty
     } else {
         Damage::Unlinked { line: 1 }
+    }
+}
+
+// The damage of a file whose first line is not linked.
+fn damage_of_first(alloc: Global, line: &[u8], bytes: &[u8]) -> Damage
+    ensures { (result ≡ Damage.Memory) ⊎ (result ≡ torn_front line.now (whole_lines bytes.now)) }
+{
+    match has_beginning(alloc, bytes) {
+        Ok(true) => Damage::Unlinked { line: 1 },
+        Ok(false) => damage_of_front(line),
+        Err(_) => Damage::Memory,
     }
 }
 
@@ -243,35 +274,34 @@ fn checked(header: Header, name: &str) -> Result<Header, Damage>
     }
 }
 
-// The first line, which is a header, and its sum.
-fn first_line(alloc: Global, name: &str, line: &[u8]) -> Result<Tail, Damage>
-    ensures { MatchResult result (λ first. (entry_behind 1 [] line.now ≡ Ok (Entry.Header first.header, string_bytes first.sum)) × (bytes_eq first.header.pad name.now ≡ true)) (λ e. (e ≡ Damage.Memory) ⊎ ((replica : ℕ) → read_on (begun replica name.now) (entry_behind 1 [] line.now) ≡ Err e)) }
+// The first of the lines of these bytes, which is a header.
+fn first_line(alloc: Global, name: &str, line: &[u8], bytes: &[u8]) -> Result<Tail, Damage>
+    requires { length line.now < length bytes.now }
+    ensures read { MatchResult result (λ first. (replica : ℕ) → first_read replica name.now line.now (whole_lines bytes.now) ≡ Ok (so_far (unnamed replica) first)) (λ e. (e ≡ Damage.Memory) ⊎ ((replica : ℕ) → first_read replica name.now line.now (whole_lines bytes.now) ≡ Err e)) }
+    ensures within { IfOk result (λ first. first.whole ≡ length line.now + 1) }
 {
-    let (entry, sum) = read_line(alloc, "", line, 1)?;
-    match entry {
+    let Some((text, sum)) = text_of(alloc, "", line)? else {
+        return Err(damage_of_first(alloc, line, bytes));
+    };
+    match entry_of(alloc, text, 1)? {
         Entry::Header(header) => Ok(Tail {
             header: checked(header, name)?,
             sum,
+            whole: line.len() + 1,
         }),
         Entry::Record(_) => Err(Damage::Unknown { line: 1 }),
     }
 }
 
-// What a line behind this sum says, and its own sum.
-fn read_line(
-    alloc: Global,
-    before: &str,
-    line: &[u8],
-    number: u64,
-) -> Result<(Entry, String), Damage>
-    ensures { MatchResult result (λ pair. entry_behind number before.now line.now ≡ Ok (pair.0, string_bytes pair.1)) (λ e. (e ≡ Damage.Memory) ⊎ (entry_behind number before.now line.now ≡ Err e)) }
+// What the text of a line says.
+fn entry_of(alloc: Global, text: &[u8], number: u64) -> Result<Entry, Damage>
+    ensures { MatchResult result (λ entry. said_at number (entry_said text.now) ≡ Ok entry) (λ e. (e ≡ Damage.Memory) ⊎ (said_at number (entry_said text.now) ≡ Err e)) }
 {
-    let Some((text, sum)) = text_of(alloc, before, line)? else {
-        return Err(Damage::Unlinked { line: number });
+    let Some(value) = value_of(alloc, text)? else {
+        return Err(Damage::Unknown { line: number });
     };
-    let value = value_of(alloc, text, number)?;
     match read_entry(alloc, &value) {
-        Ok(entry) => Ok((entry, sum)),
+        Ok(entry) => Ok(entry),
         Err(Refusal::Memory) => Err(Damage::Memory),
         Err(_) => Err(Damage::Unknown { line: number }),
     }
@@ -292,16 +322,6 @@ fn replay_record<S: Sequence>(
             line: number,
             refusal,
         }),
-    }
-}
-
-fn value_of(alloc: Global, text: &[u8], line: u64) -> Result<Value, Damage>
-    ensures { MatchResult result (λ v. value_in text.now ≡ Some (view v)) (λ e. (e ≡ Damage.Memory) ⊎ ((e ≡ Damage.Unknown line) × (value_in text.now ≡ None))) }
-{
-    match Value::from_slice(alloc, text) {
-        Ok(value) => Ok(value),
-        Err(error) if error.is_memory() => Err(Damage::Memory),
-        Err(_) => Err(Damage::Unknown { line }),
     }
 }
 

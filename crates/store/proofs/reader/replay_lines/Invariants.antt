@@ -1,7 +1,7 @@
 -- The loop of `replay_lines`: the lines that are left lead from the pad so far to where all lead, and the loop ends.
 use Rattle.std.proofs.Common.{◌≡◌, ◌+◌, ◌≤◌, suc, length}
 use Rattle.store.specs.Files.{read_lines, so_far}
-use Rattle.store.specs.Lines.{bytes_of, whole_lines}
+use Rattle.store.specs.Lines.{whole_lines}
 use Rattle.store.proofs.reader.replay_lines.Given as goal
 
 -- the lines that are left lead from the pad so far to where all lead, and no byte is counted twice
@@ -9,8 +9,7 @@ abbrev pub invariant-loop-end : goal.invariant-loop-end
 invariant-loop-end g l =
     (read_lines (suc l.number) l.fn.name (so_far l.pad l.last) (whole_lines l.rest)
     ≡ read_lines 2 l.fn.name (so_far l.fn.pad l.fn.first) (whole_lines l.fn.bytes))
-    × (length (bytes_of (whole_lines l.fn.bytes)) + length l.rest ≡ length l.fn.bytes
-    + length (bytes_of (whole_lines l.rest)))
+    × (l.last.whole + length l.rest ≡ l.fn.first.whole + length l.fn.bytes)
     × (l.number + length l.rest ≤ 1 + length l.fn.bytes)
 
 abbrev pub decreases-loop-end : goal.decreases-loop-end

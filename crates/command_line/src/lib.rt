@@ -1,7 +1,7 @@
 //! What the command lines of the programs share: their options, and the status after a bad one.
 //!
-//! It stands on `clap`, and on `server_core` for how many pads a server has room for at most. The texts of help are the
-//! programs' own.
+//! It depends on `clap`, and on `server_core` for the most pads that a server has room for. Each program has help texts of
+//! its own.
 #![tactic(auto)]
 
 mod number;
@@ -12,5 +12,5 @@ pub use number::{cells_of, replica_of, replica_or};
 pub use option::{accounts_option, cells_option, replica_option};
 pub use status::{report, status_of};
 
-/// The version of the programs. CHANGELOG.md tells what came with each.
+/// The version of the programs, as in CHANGELOG.md.
 pub const VERSION: &str = "0.1.0";

@@ -6,7 +6,7 @@ ghost use Rattle.command_line.specs.Options.{Holds, named_or};
 use clap::ArgMatches;
 use server_core::MAX_CELLS;
 
-/// The replica number that is named, or else the other one: 0 names none.
+/// `named`, or `other` if it is None or 0.
 pub fn replica_or(named: Option<u16>, other: u16) -> u16
     ensures value { result ≡ named_or named other }
     ensures least { 1 ≤ other → 1 ≤ result }
@@ -17,7 +17,7 @@ pub fn replica_or(named: Option<u16>, other: u16) -> u16
     }
 }
 
-/// What `--replica` holds; 1 where it holds no such number.
+/// The number of `--replica`, or 1 without one.
 pub fn replica_of(matches: &ArgMatches<'_>) -> u16
     ensures value { Holds (codes "replica") 1 65535 1 matches.now result }
     ensures least { 1 ≤ result }
@@ -25,7 +25,7 @@ pub fn replica_of(matches: &ArgMatches<'_>) -> u16
     replica_or(matches.get_one::<u16>("replica"), 1)
 }
 
-/// What `--cells` holds; as many as there can be where it holds no such number.
+/// The number of `--cells`, or `MAX_CELLS` without one.
 pub fn cells_of(matches: &ArgMatches<'_>) -> u32
     ensures value { Holds (codes "cells") 0 MAX_CELLS MAX_CELLS matches.now result }
     ensures most { result ≤ MAX_CELLS }

@@ -7,7 +7,7 @@ use clap::{Arg, value_parser};
 use server_core::MAX_CELLS;
 use std::alloc::Global;
 
-/// `--replica N`, which has to be there.
+/// `--replica N`, which is required.
 pub fn replica_option<'a>(alloc: Global, help: &'a str) -> Arg<'a>
     ensures rule { rule_of result ≡ replica_rule }
     ensures rest { (result.global ≡ false) × (result.help ≡ Some help.entry) }

@@ -1,4 +1,4 @@
-//! The status of a program whose command line asks for nothing that it does.
+//! The exit status after a command line that starts nothing.
 ghost use Rattle.std.specs.Prelude.{◌≡◌, ◌⊎◌, true, false};
 ghost use Rattle.std.specs.Process.{exit_status};
 ghost use Rattle.clap.specs.Words.{kind_of};
@@ -6,9 +6,10 @@ ghost use Rattle.command_line.specs.Options.{is_text as is_asked_text, status};
 
 use clap::Error;
 use clap::error::ErrorKind;
+use std::io;
 use std::process::ExitCode;
 
-/// 0 after `--help` and `--version`, 1 where memory ran out, else 2.
+/// 0 after `--help` and `--version`, 1 if memory ran out, else 2.
 pub fn status_of(error: &Error) -> ExitCode
     ensures { exit_status result ≡ status (kind_of error.now) }
 {
@@ -25,14 +26,31 @@ fn is_text(kind: ErrorKind) -> bool
     matches!(kind, ErrorKind::DisplayHelp | ErrorKind::DisplayVersion)
 }
 
-/// Prints the help, the version or the fault, and says the status. A text that cannot be printed is 1; a fault keeps its
-/// status where standard error is closed.
-pub fn report<R: Print + Eprint>(rt: &R, error: &Error) -> ExitCode
+/// Prints the help, the version or the fault, and returns the status. A fault is printed after the program's name. If help
+/// or the version cannot be printed, the status is 1; a fault keeps its status if standard error is closed.
+pub fn report<R: Print + Eprint + AllocGlobal>(rt: &R, program: &str, error: &Error) -> ExitCode
     ensures fault { is_asked_text (kind_of error.now) ≡ false → exit_status result ≡ status (kind_of error.now) }
     ensures text { is_asked_text (kind_of error.now) ≡ true → (exit_status result ≡ 0) ⊎ (exit_status result ≡ 1) }
 {
-    match error.print(rt) {
-        Err(_) if is_text(error.kind()) => ExitCode::FAILURE,
-        _ => status_of(error),
+    if is_text(error.kind()) {
+        return match error.print(rt) {
+            Ok(()) => status_of(error),
+            Err(_) => ExitCode::FAILURE,
+        };
     }
+    let _told = print_fault(rt, program, error);
+    status_of(error)
+}
+
+/// Prints a fault with the program's name in place of clap's `error`.
+fn print_fault<R: Eprint + AllocGlobal>(rt: &R, program: &str, error: &Error) -> io::Result<()> {
+    let text = match format!(in rt.alloc(); "{error}") {
+        Ok(text) => text,
+        Err(_) => return eprintln!(rt; "{program}: out of memory"),
+    };
+    let fault = text.as_str();
+    eprint!(rt;
+        "{program}: {}",
+        fault.strip_prefix("error: ").unwrap_or(fault)
+    )
 }

@@ -5,7 +5,7 @@ use Rattle.pad_server.specs.declared.failure.Failure.TheVariants.{BadAccounts, O
 
 -- 2 after a bad line of the accounts file, for the store of another server and for a number that is not new, else 1
 abbrev pub status : Failure → ℕ
-status (BadAccounts line) = 2
+status (BadAccounts path line mistake) = 2
 status (OtherReplica folder replica) = 2
 status (UsedReplica folder number) = 2
 status other = 1

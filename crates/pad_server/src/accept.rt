@@ -8,13 +8,13 @@ use std::sync::Wait;
 use std::time::{Clock, Duration};
 use std::{io, thread};
 
-/// For how many milliseconds nothing is accepted after the system refused a connection: it mostly refuses the next too.
+/// The pause after the system refused a connection, in milliseconds: mostly it would refuse the next one too.
 const PAUSE: u64 = 50;
 
-/// For how many seconds a client may take nothing of a reply.
+/// The write timeout, in seconds.
 const PATIENCE: u64 = 30;
 
-/// How many connections are accepted, and how long they may be silent.
+/// How many connections are accepted, and how long each may be silent.
 #[derive(Clone, Copy)]
 pub struct Limits {
     /// None: any number.
@@ -23,8 +23,8 @@ pub struct Limits {
     pub idle: Option<u32>,
 }
 
-/// Accepts connections until there were so many or the server has stopped, and hands them to the workers. A connection
-/// that the system refuses is logged, and not counted.
+/// Accepts connections and hands them to the workers, until the limit is reached or the server has stopped. A connection
+/// that the system refuses is logged and not counted.
 pub fn accept_all<'a, R: Wait + Clock + Log>(
     rt: &'a R,
     listener: &TcpListener,
@@ -41,7 +41,7 @@ pub fn accept_all<'a, R: Wait + Clock + Log>(
             Ok(stream) => {
                 accepted = accepted.saturating_add(1);
                 if let Err(cause) = prepare(&stream, limits.idle) {
-                    warn!(rt; "connection {accepted}: it may be late, or stay for too long: {cause}");
+                    warn!(rt; "connection {accepted}: cannot set its socket options: {cause}");
                 }
                 hand_over(rt, accepted, stream, to, guard);
             }
@@ -59,7 +59,7 @@ pub fn accept_all<'a, R: Wait + Clock + Log>(
     }
 }
 
-// Replies go out at once; who takes none, or says nothing, is not waited for without end.
+// Sets TCP_NODELAY and the timeouts.
 fn prepare(stream: &TcpStream, idle: Option<u32>) -> io::Result<()> {
     stream.set_nodelay(true)?;
     stream.set_write_timeout(Some(Duration::from_secs(PATIENCE)))?;
@@ -69,7 +69,7 @@ fn prepare(stream: &TcpStream, idle: Option<u32>) -> io::Result<()> {
     Ok(())
 }
 
-/// Hands a connection to the workers, and waits while as many as the channel holds are before it.
+/// Hands a connection to the workers. It waits while the channel is full.
 fn hand_over<'a, R: Wait + Log>(
     rt: &'a R,
     number: u64,

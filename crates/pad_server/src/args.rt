@@ -19,7 +19,7 @@ use std::alloc::{AllocError, Global};
 pub struct Asked<'a> {
     /// The replica number of this server, at least 1.
     pub replica: u16,
-    /// How many pads there is room for, 1 to 64.
+    /// How many pads the server has room for, 1 to 64.
     pub cells: u32,
     /// The path of the accounts file.
     pub accounts: Option<&'a str>,
@@ -31,25 +31,29 @@ pub struct Asked<'a> {
     pub workers: u32,
     /// After how many connections the server ends. None: it does not.
     pub connections: Option<u32>,
-    /// For how many seconds a connection may say nothing. None: as long as it likes.
+    /// After how many seconds of silence a connection is closed. None: never.
     pub idle: Option<u32>,
-    /// The folder where pads are kept. None: they end with the server.
+    /// The directory where pads are kept. None: they are lost when the server ends.
     pub store: Option<&'a str>,
-    /// Whether no server had the replica number before, so that the store may be that of another one.
+    /// Whether no server has used the replica number before, so that the store may be one of another number.
     pub new_replica: bool,
 }
 
+const USAGE: &str = "pad_server --stdin --replica <N> [--accounts <PATH>] [--cells <N>]
+       pad_server --listen <ADDR> --replica <N> --accounts <PATH> [OPTIONS]";
+
 const ACCOUNTS_HELP: &str =
-    "The file of authors and peers that may log in [without it the session is the author solo]";
+    "The file of authors and peers that may log in; --listen needs it [with --stdin, default: the author solo]";
 
 // What is served, by which server, and for whom.
 fn first_options<'a>(alloc: Global) -> Result<Command<'a>, AllocError>
     ensures { IfOk result (λ command. app_of command ≡ first_line) }
 {
-    let replica_help = "The replica number of this server, 1 to 65535";
+    let replica_help = "The replica number of this server, 1 to 65535, different on each server";
     Command::new(alloc, "pad_server")
         .about("Serves shared pads")
         .version(VERSION)
+        .override_usage(USAGE)
         .arg(stdin_flag(alloc))?
         .arg(listen_option(alloc))?
         .arg(replica_option(alloc, replica_help))?
@@ -60,7 +64,7 @@ fn first_options<'a>(alloc: Global) -> Result<Command<'a>, AllocError>
 fn second_options<'a>(alloc: Global) -> Result<Command<'a>, AllocError>
     ensures { IfOk result (λ command. app_of command ≡ second_line) }
 {
-    let cells_help = "How many pads there is room for, 1 to 64 [default: 64]";
+    let cells_help = "How many pads the server has room for, 1 to 64 [default: 64]";
     first_options(alloc)?
         .arg(cells_option(alloc, cells_help))?
         .arg(workers_option(alloc))?

@@ -15,7 +15,7 @@ use std::sync::Wait;
 use wire_lines::{Fault, Std};
 use workers::{Connection, Gate, Pads, Served, serve_client};
 
-/// A client that is connected over TCP. Where its connection breaks, a line of the log says why.
+/// A client that is connected over TCP. If its connection breaks, a line of the log says why.
 #[derive(Drop)]
 pub struct Client<'a, R: Log> {
     rt: &'a R,
@@ -30,7 +30,7 @@ impl<'a, R: Log> Client<'a, R> {
     }
 }
 
-// Whether the time limit of a socket was passed.
+// Whether the timeout of a socket has passed.
 fn is_late(cause: io::Error) -> bool {
     matches!(cause.kind(), ErrorKind::WouldBlock | ErrorKind::TimedOut)
 }
@@ -80,7 +80,7 @@ fn serve_stream<'s, R: Wait + Log, P: Pads, G: Gate>(
     served
 }
 
-/// Logs why a connection broke, by what its devices said.
+/// Logs why a connection broke, with what the system said of its socket.
 fn log_end<R: Log>(
     rt: &R,
     number: u64,
@@ -90,10 +90,10 @@ fn log_end<R: Log>(
 ) {
     match (fault, unread, unwritten) {
         (Fault::ReadFault, Some(cause), _) if is_late(cause) => {
-            warn!(rt; "connection {number} ended: it said nothing for too long");
+            warn!(rt; "connection {number} ended: it was silent for too long");
         }
         (Fault::WriteFault, _, Some(cause)) if is_late(cause) => {
-            warn!(rt; "connection {number} ended: it took no reply for too long");
+            warn!(rt; "connection {number} ended: it did not read its replies");
         }
         (fault, unread, unwritten) => {
             let failure = Failure::of(fault, unread, unwritten);

@@ -10,19 +10,22 @@ use sessions::Peer;
 use std::alloc::Global;
 use std::io;
 use std::io::ErrorKind;
-use std::net::{Net, TcpListener, TcpStream, ToSocketAddrs};
+use std::net::{Net, SocketAddr, TcpListener, TcpStream, ToSocketAddrs};
 use std::sync::Wait;
 use std::time::{Clock, Duration, Instant};
 use wire_lines::{Fault, Sink, Source, Std};
 use workers::Pads;
 
-/// For how many seconds a peer may keep this server waiting: to connect, for each reply, and for each line to be taken.
+/// How long this server waits for a peer, in seconds: to connect, for each reply, and for each line to be taken.
 const PATIENCE: u64 = 30;
+
+/// For how many seconds of these it tries one connection. No further one is tried once the server has stopped.
+const TURN: u64 = 3;
 
 /// The pause after a failed round, in seconds. After each further one it is twice as long.
 const FIRST_PAUSE: u64 = 1;
 
-/// Under which number the socket to a peer is entered: connections that are accepted are counted from 1.
+/// The number under which the socket to a peer is entered; accepted connections are counted from 1.
 const RELAYING: u64 = 0;
 
 /// The longest pause, in seconds.
@@ -44,7 +47,7 @@ pub enum Brought {
 enum Broken {
     /// There was no connection.
     Apart(io::Error),
-    /// The connection broke, or the peer answered otherwise than a server does.
+    /// The connection broke, or the peer's answer was not that of a server.
     Off {
         fault: Fault,
         cause: Option<io::Error>,
@@ -52,7 +55,7 @@ enum Broken {
 }
 
 impl Broken {
-    // What tells one cause from another: the fault behind a connection, and what the system called the error.
+    // A failure is logged again only when this changes.
     fn kind(self) -> (Option<Fault>, Option<ErrorKind>) {
         match self {
             Broken::Apart(error) => (None, Some(error.kind())),
@@ -65,9 +68,9 @@ impl Broken {
 #[derive(Drop)]
 pub struct Contact<'a> {
     peer: &'a Peer,
-    /// What has to be synced before a line is written to the peer.
+    /// The store that has to be synced before a line is written to the peer.
     guard: Option<Guard<'a>>,
-    /// How many seconds the next round is put off after a failure; 0 where the last one succeeded.
+    /// The pause before the next round, in seconds; 0 if the last round succeeded.
     pause: u64,
     failed_at: Option<Instant>,
     told: Option<(Option<Fault>, Option<ErrorKind>)>,
@@ -101,7 +104,7 @@ impl<'a> Contact<'a> {
         }
     }
 
-    /// Makes a round. A failure is logged with its cause, once until that changes or a round succeeds.
+    /// Makes a round. A failure is logged with its cause, and not again until the cause changes or a round succeeds.
     pub fn exchange<P: Pads, R>(&mut self, rt: &R, alloc: Global, pads: &mut P, own: u16) -> Brought
     where
         R: Net<Listener = TcpListener, Stream = TcpStream> + Clock + Wait + Log,
@@ -127,7 +130,7 @@ impl<'a> Contact<'a> {
         }
     }
 
-    // Puts the next round off, and logs what is new.
+    // Sets the pause before the next round, and logs a new cause.
     fn note<R: Clock + Log>(&mut self, rt: &R, broken: Broken) {
         self.pause = match self.pause {
             0 => FIRST_PAUSE,
@@ -162,7 +165,7 @@ fn make_round<'s, P: Pads, R>(
 where
     R: Net<Listener = TcpListener, Stream = TcpStream> + Wait + Log,
 {
-    let stream = connect(rt, peer.address.as_str()).map_err(Broken::Apart)?;
+    let stream = connect(rt, peer.address.as_str(), guard).map_err(Broken::Apart)?;
     let Some(guard) = guard else {
         return exchange_over(rt, &stream, None, alloc, pads, own, peer);
     };
@@ -209,14 +212,14 @@ fn exchange_by<P: Pads, R: Source + Drop, W: Sink + Drop>(
 }
 
 // A connection to the first address that answers, with time limits for reading and writing.
-fn connect<R>(rt: &R, address: &str) -> io::Result<TcpStream>
+fn connect<R>(rt: &R, address: &str, guard: Option<Guard<'_>>) -> io::Result<TcpStream>
 where
-    R: Net<Listener = TcpListener, Stream = TcpStream>,
+    R: Net<Listener = TcpListener, Stream = TcpStream> + Wait,
 {
     let patience = Duration::from_secs(PATIENCE);
     let mut last = io::Error::from(ErrorKind::NotFound);
     for address in address.to_socket_addrs(rt)? {
-        match TcpStream::connect_timeout(rt, &address, patience) {
+        match connect_in_turns(rt, &address, guard) {
             Ok(stream) => {
                 stream.set_nodelay(true)?;
                 stream.set_read_timeout(Some(patience))?;
@@ -227,4 +230,25 @@ where
         }
     }
     Err(last)
+}
+
+// A connection to an address, which is tried for some seconds at a time.
+fn connect_in_turns<R>(
+    rt: &R,
+    address: &SocketAddr,
+    guard: Option<Guard<'_>>,
+) -> io::Result<TcpStream>
+where
+    R: Net<Listener = TcpListener, Stream = TcpStream> + Wait,
+{
+    for _turn in 0..PATIENCE / TURN {
+        if guard.is_some_and(|guard| guard.has_stopped(rt)) {
+            return Err(io::Error::from(ErrorKind::ConnectionAborted));
+        }
+        match TcpStream::connect_timeout(rt, address, Duration::from_secs(TURN)) {
+            Err(cause) if matches!(cause.kind(), ErrorKind::TimedOut) => {}
+            done => return done,
+        }
+    }
+    Err(io::Error::from(ErrorKind::TimedOut))
 }

@@ -2,6 +2,7 @@
 use crate::keeper::Keeper;
 use crate::turnstile::Turnstile;
 use crate::wake::Waker;
+use pad_core::Request;
 use shared_pads::Answered;
 use std::alloc::Global;
 use std::sync::Wait;
@@ -42,9 +43,9 @@ impl<R: Wait> Gate for Course<'_, R> {
         }
     }
 
-    fn keeps(&self, alloc: Global) -> bool {
+    fn keeps(&self, alloc: Global, request: &Request) -> bool {
         match self.keeper {
-            Some(keeper) => keeper.keeps(self.rt, alloc),
+            Some(keeper) => keeper.keeps(self.rt, alloc, request),
             None => true,
         }
     }

@@ -13,7 +13,7 @@ use std::sync::Wait;
 use std::time::{Clock, Duration};
 use workers::{Pads, Row, Shared};
 
-/// How often it is looked whether a pause after a failed round is over, in seconds.
+/// Seconds between checks for a peer to retry.
 const LOOK: u64 = 1;
 
 /// What the thread has to do next.
@@ -23,9 +23,9 @@ enum Turn {
     All,
     /// A round with those whose pause after a failure is over.
     Failed,
-    /// A round with each peer, and then no more.
+    /// A last round with each peer.
     Last,
-    /// Nobody is there who could wake it.
+    /// All senders are gone.
     Gone,
 }
 
@@ -85,7 +85,7 @@ where
     }
 }
 
-// One round with each peer that is meant.
+// One round with each peer of this turn.
 fn rounds<P: Pads, R>(
     rt: &R,
     contacts: &mut Vec<Contact<'_>>,
@@ -117,7 +117,7 @@ where
     all
 }
 
-// Waits for a wake-up, and no longer than a moment where a round is to be tried again.
+// Waits for a wake-up, or until the next check if a round is to be tried again.
 fn wait<R: Wait + Clock>(rt: &R, wakes: &Receiver<Wake>, has_failed: bool) -> Turn {
     if !has_failed {
         return match wakes.recv(rt) {

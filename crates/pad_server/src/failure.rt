@@ -1,10 +1,10 @@
-//! Why the server does not start, or ends before its input.
+//! Why the server does not start, or ends early.
 ghost use Rattle.std.specs.Prelude.{◌≡◌};
 ghost use Rattle.std.specs.Process.{exit_status};
 ghost use Rattle.pad_server.specs.Status.{status};
 
 use pad_model::Refusal;
-use sessions::AccountsError;
+use sessions::{AccountsError, Mistake};
 use std::alloc::AllocError;
 use std::io;
 use std::io::ErrorKind;
@@ -12,45 +12,94 @@ use std::process::ExitCode;
 use thiserror::Error;
 use wire_lines::Fault;
 
-/// Why the server does not start, or ends before its input.
+/// Why the server does not start, or ends before the end of its input.
 #[derive(Clone, Copy, Debug, Error)]
 pub enum Failure<'a> {
     #[error("the arguments cannot be read: {0}")]
     Unasked(io::Error),
     #[error("the accounts file {path} cannot be read: {cause}")]
-    Unread { path: &'a str, cause: io::Error },
+    Unread {
+        path: &'a str,
+        cause: io::Error,
+    },
     #[error("500 BadAccounts line {line}")]
-    BadAccounts { line: u64 },
+    BadAccounts {
+        path: &'a str,
+        line: u64,
+        mistake: Mistake,
+    },
+    #[error("cannot listen at {address}: HOST:PORT is needed, such as 127.0.0.1:7878")]
+    NoPort {
+        address: &'a str,
+    },
     #[error("cannot listen at {address}: {cause}")]
-    Deaf { address: &'a str, cause: io::Error },
+    Deaf {
+        address: &'a str,
+        cause: io::Error,
+    },
     #[error("the store {folder} cannot be opened: {cause}")]
-    Unopened { folder: &'a str, cause: io::Error },
+    Unopened {
+        folder: &'a str,
+        cause: io::Error,
+    },
     #[error("the store {folder} is in use by another process")]
-    InUse { folder: &'a str },
+    InUse {
+        folder: &'a str,
+    },
     #[error("the store {folder} is damaged")]
-    Damaged { folder: &'a str },
-    #[error("the store {folder} belongs to the server with replica number {replica}; another number has to be one that no server had, and is told by --new-replica")]
-    OtherReplica { folder: &'a str, replica: u64 },
+    Damaged {
+        folder: &'a str,
+    },
+    #[error("the store {folder} belongs to the server with replica number {replica}; to continue it under a number that no server has used, add --new-replica")]
+    OtherReplica {
+        folder: &'a str,
+        replica: u64,
+    },
     #[error("the store {folder} has operations of a server with replica number {number}")]
-    UsedReplica { folder: &'a str, number: u16 },
+    UsedReplica {
+        folder: &'a str,
+        number: u16,
+    },
     #[error("the store {folder} has more pads than there are cells")]
-    Crowded { folder: &'a str },
+    Crowded {
+        folder: &'a str,
+    },
     #[error("the store {folder} failed")]
-    Failed { folder: &'a str },
+    Failed {
+        folder: &'a str,
+    },
     #[error("the system makes no thread")]
     Alone,
     #[error("standard output: {0}")]
     Untold(io::Error),
     #[error("{code} {name}")]
-    Refused { code: u16, name: &'static str },
+    Refused {
+        code: u16,
+        name: &'static str,
+    },
     #[error("{0}")]
     Fault(Fault),
     #[error("{fault}: {cause}")]
-    Broken { fault: Fault, cause: io::Error },
+    Broken {
+        fault: Fault,
+        cause: io::Error,
+    },
 }
 
-impl Failure<'_> {
-    /// A connection's fault, with what its devices said of it, where they said something.
+impl<'a> Failure<'a> {
+    /// Why the accounts of a file could not be read.
+    pub fn of_accounts(path: &'a str, error: AccountsError) -> Failure<'a> {
+        match error {
+            AccountsError::BadLine { line, mistake } => Failure::BadAccounts {
+                path,
+                line,
+                mistake,
+            },
+            AccountsError::Memory => Failure::Fault(Fault::Memory),
+        }
+    }
+
+    /// A connection's fault, with the system's error if its device reported one.
     pub fn of(
         fault: Fault,
         unread: Option<io::Error>,
@@ -75,7 +124,7 @@ impl Failure<'_> {
         }
     }
 
-    /// 2 for a bad line of the accounts file, for the store of another server and for a number that is not new, else 1.
+    /// 2 for a bad line of the accounts file, the store of another server or a number that is not new; otherwise 1.
     pub fn status(self) -> ExitCode
         ensures { exit_status result ≡ status self.entry }
     {
@@ -84,15 +133,6 @@ impl Failure<'_> {
             | Failure::OtherReplica { .. }
             | Failure::UsedReplica { .. } => ExitCode::from(2),
             _ => ExitCode::FAILURE,
-        }
-    }
-}
-
-impl From<AccountsError> for Failure<'_> {
-    fn from(error: AccountsError) -> Self {
-        match error {
-            AccountsError::BadLine { line } => Failure::BadAccounts { line },
-            AccountsError::Memory => Failure::Fault(Fault::Memory),
         }
     }
 }

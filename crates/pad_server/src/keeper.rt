@@ -2,14 +2,16 @@
 //! written.
 use crate::progress::{Progress, Turn};
 use crate::reserve::{Reserve, is_full};
+use crate::spares::{Spare, Spares};
 use log::{error, warn};
+use pad_core::Request;
 use records::{Record, records_of};
 use shared_pads::Answered;
 use std::alloc::Global;
-use std::fs::{File, OpenOptions};
+use std::fs::File;
 use std::io;
 use std::io::{ErrorKind, Write};
-use std::sync::atomic::{AtomicBool, Ordering};
+use std::sync::atomic::{AtomicBool, AtomicU64, Ordering};
 use std::sync::{Mutex, Wait};
 use std::thread::yield_now;
 use std::time::{SystemTime, UNIX_EPOCH};
@@ -30,17 +32,41 @@ pub struct Book {
 #[derive(Drop)]
 pub struct Handle {
     file: Mutex<Option<File>>,
-    /// Whether something was appended since a sync last began.
-    dirty: AtomicBool,
+    /// How many notes were appended, and how many of these are synced.
+    appended: AtomicU64,
+    synced: AtomicU64,
 }
 
 impl Handle {
-    /// Of a file to which nothing was appended yet; None: it is still to be made.
+    /// Of a file of which all is synced; None: it is still to be made.
     pub fn new(file: Option<File>) -> Handle {
         Handle {
             file: Mutex::new(file),
-            dirty: AtomicBool::new(false),
+            appended: AtomicU64::new(0),
+            synced: AtomicU64::new(0),
         }
+    }
+
+    // One more note was appended.
+    fn note(&self) {
+        self.appended.fetch_add(1, Ordering::SeqCst);
+    }
+
+    // Whether all that was appended is synced.
+    fn is_synced(&self) -> bool {
+        self.synced.load(Ordering::SeqCst) == self.appended.load(Ordering::SeqCst)
+    }
+
+    // Syncs what was appended so far.
+    fn sync<R: Wait>(&self, rt: &R) -> io::Result<()> {
+        let appended = self.appended.load(Ordering::SeqCst);
+        if self.synced.load(Ordering::SeqCst) != appended {
+            if let Some(file) = &*self.file.lock(rt) {
+                file.sync_data()?;
+            }
+            self.synced.store(appended, Ordering::SeqCst);
+        }
+        Ok(())
     }
 }
 
@@ -62,8 +88,19 @@ pub struct Keeper {
     handles: Vec<Handle>,
     progress: Progress,
     reserve: Reserve,
-    // Held as long as the server runs.
-    _lock: File,
+    spares: Spares,
+    // Whether it was said that no file can be made for a pad.
+    is_short: AtomicBool,
+    held: Held,
+}
+
+/// What is held open of a store as long as the server runs.
+#[derive(Drop)]
+pub struct Held {
+    /// The lock of the folder.
+    pub lock: File,
+    /// The folder, which is synced when a file gets its name.
+    pub folder: File,
 }
 
 impl Keeper {
@@ -74,8 +111,9 @@ impl Keeper {
         replica: u16,
         books: Books,
         reserve: Reserve,
-        lock: File,
+        held: Held,
     ) -> Keeper {
+        let spares = Spares::new(files.alloc());
         Keeper {
             files,
             folder,
@@ -84,7 +122,9 @@ impl Keeper {
             handles: books.handles,
             progress: Progress::new(),
             reserve,
-            _lock: lock,
+            spares,
+            is_short: AtomicBool::new(false),
+            held,
         }
     }
 
@@ -101,6 +141,20 @@ impl Keeper {
                 self.progress.fail();
                 error!(&self.files; "the store {} cannot be written: {cause}", self.folder);
             }
+        }
+        if self.has_named_nothing(told) {
+            self.spares.release(rt);
+        }
+    }
+
+    // Whether a creation has ended and has named no pad: it was refused, or went past the last cell.
+    fn has_named_nothing(&self, told: &Answered<'_>) -> bool {
+        match (told.request, told.answer) {
+            (Request::Create { .. }, Err(_)) => true,
+            (Request::Create { .. }, Ok(None)) => {
+                (told.cell as usize).saturating_add(1) >= self.books.len()
+            }
+            _ => false,
         }
     }
 
@@ -121,16 +175,31 @@ impl Keeper {
             book.file = Some(file);
             book.sum = sum;
         }
-        let sum = self.append(alloc, book.sum.as_str(), records.as_slice(), &mut lines)?;
+        let together = !lines.is_empty() || !self.is_synced(cell);
+        let sum = self.append(
+            alloc,
+            book.sum.as_str(),
+            together,
+            records.as_slice(),
+            &mut lines,
+        )?;
         book.sum = sum;
         match &mut book.file {
             Some(file) => self.put(rt, file, lines.as_bytes())?,
             None => return Err(io::Error::from(ErrorKind::NotFound)),
         }
         if let Some(handle) = self.handles.get(cell) {
-            handle.dirty.store(true, Ordering::SeqCst);
+            handle.note();
         }
         Ok(true)
+    }
+
+    // Whether all that was appended to the file of a cell is synced.
+    fn is_synced(&self, cell: usize) -> bool {
+        match self.handles.get(cell) {
+            Some(handle) => handle.is_synced(),
+            None => false,
+        }
     }
 
     // Appends lines. Where the disk is full, what was written of them is cut off, and they get the room of the reserve.
@@ -154,9 +223,33 @@ impl Keeper {
         Ok(())
     }
 
-    /// Whether what is answered from now on can be kept, as far as that is known. Where the disk was full, it is found out
-    /// once in a second whether there is room again.
-    pub fn keeps<R: Wait>(&self, rt: &R, alloc: Global) -> bool {
+    /// Whether what a request leaves can be kept, as far as that is known. A creation is promised a file.
+    pub fn keeps<R: Wait>(&self, rt: &R, alloc: Global, request: &Request) -> bool {
+        self.has_room(rt, alloc)
+            && match request {
+                Request::Create { .. } => self.has_file(rt),
+                _ => true,
+            }
+    }
+
+    // Promises a file to a creation. Where none can be made, that is said, once until one can be made again.
+    fn has_file<R: Wait>(&self, rt: &R) -> bool {
+        match self.spares.promise(rt, &self.files, self.folder.as_str()) {
+            Ok(()) => {
+                self.is_short.store(false, Ordering::SeqCst);
+                true
+            }
+            Err(cause) => {
+                if !self.is_short.swap(true, Ordering::SeqCst) {
+                    warn!(&self.files; "the store {} has no file for a new pad: {cause}", self.folder);
+                }
+                false
+            }
+        }
+    }
+
+    // Whether there is room on the disk. Where it was full, it is found out once in a second whether there is room again.
+    fn has_room<R: Wait>(&self, rt: &R, alloc: Global) -> bool {
         if self.reserve.is_whole(rt) {
             return true;
         }
@@ -167,26 +260,29 @@ impl Keeper {
         has_room
     }
 
-    // The lines of records behind a line with this sum, and the sum of the last.
+    // The lines of records behind a line with this sum, which is synced or not, and the sum of the last.
     fn append(
         &self,
         alloc: Global,
         before: &str,
+        together: bool,
         records: &[Record],
         lines: &mut String,
     ) -> io::Result<String> {
         let at = self.seconds();
         let mut sum = String::from_str(alloc, before)?;
+        let mut is_together = together;
         for kept in records {
-            let text = record_text(alloc, at, kept)?;
+            let text = record_text(alloc, at, is_together, kept)?;
             let linked = link(alloc, sum.as_str(), text.as_str())?;
             lines.push_str(linked.line.as_str())?;
             sum = linked.sum;
+            is_together = true;
         }
         Ok(sum)
     }
 
-    // Makes the file of a pad that was just named, and the first line.
+    // Gives the file that was promised its pad's name, and makes the first line.
     fn begin<R: Wait>(
         &self,
         rt: &R,
@@ -198,31 +294,28 @@ impl Keeper {
         let Record::Named { name, .. } = first else {
             return Err(io::Error::from(ErrorKind::InvalidData));
         };
+        let Some(spare) = self.spares.take(rt) else {
+            return Err(io::Error::from(ErrorKind::NotFound));
+        };
         let folder = self.folder.as_str();
         let pad = name.as_str();
         let path = format!(in alloc; "{folder}/{pad}.pad")?;
-        let file = match self.create(path.as_str()) {
+        match spare.rename(&self.files, path.as_str()) {
             Err(cause) if is_full(&cause) => {
                 self.make_room(rt)?;
-                self.create(path.as_str())?
+                spare.rename(&self.files, path.as_str())?;
             }
-            made => made?,
-        };
-        if let Some(handle) = self.handles.get(cell) {
-            *handle.file.lock(rt) = Some(file.try_clone()?);
+            done => done?,
         }
-        File::open(&self.files, folder)?.sync_all()?;
+        self.held.folder.sync_all()?;
+        let Spare { file, handle, .. } = spare;
+        if let Some(kept) = self.handles.get(cell) {
+            *kept.file.lock(rt) = Some(handle);
+        }
         let text = header_text(alloc, name, self.replica)?;
         let linked = link(alloc, "", text.as_str())?;
         lines.push_str(linked.line.as_str())?;
         Ok((file, linked.sum))
-    }
-
-    // A file that was not there.
-    fn create(&self, path: &str) -> io::Result<File> {
-        let mut options = OpenOptions::new();
-        options.append(true).create_new(true);
-        options.open(&self.files, path)
     }
 
     // The time of day in seconds since 1970, or 0 where the clock does not tell.
@@ -269,13 +362,9 @@ impl Keeper {
     // Syncs the files to which something was appended.
     fn sync<R: Wait>(&self, rt: &R) -> io::Result<()> {
         for handle in &self.handles {
-            if handle.dirty.swap(false, Ordering::SeqCst) {
-                if let Some(file) = &*handle.file.lock(rt) {
-                    if let Err(cause) = file.sync_data() {
-                        error!(&self.files; "the store {} cannot be synced: {cause}", self.folder);
-                        return Err(cause);
-                    }
-                }
+            if let Err(cause) = handle.sync(rt) {
+                error!(&self.files; "the store {} cannot be synced: {cause}", self.folder);
+                return Err(cause);
             }
         }
         Ok(())

@@ -3,7 +3,7 @@ ghost use Rattle.std.specs.Prelude.{◌≤◌};
 ghost use Rattle.server_core.specs.declared.limits.TheConstants.{MAX_CELLS};
 
 use crate::accept::{Limits, accept_all};
-use crate::accounts::read_accounts;
+use crate::accounts::{has_port, read_accounts};
 use crate::args::Asked;
 use crate::client::Client;
 use crate::contact::Contact;
@@ -21,7 +21,6 @@ use sessions::Accounts;
 use shared_pads::{Seat, SharedPad};
 use std::alloc::{AllocError, Global};
 use std::fs::File;
-use std::io::Write;
 use std::net::{Net, SocketAddr, TcpListener, TcpStream};
 use std::rt::Runtime;
 use std::sync::Wait;
@@ -30,8 +29,8 @@ use std::time::Clock;
 use std::{io, thread};
 use workers::{Row, open_row, pool, take_all_seats, take_seats};
 
-/// Serves connections at an address, until as many as the command line names have ended. Where there is a store, the pads
-/// come from it, each reply waits until what it tells of is synced, and the server stops when the store fails.
+/// Serves connections at an address, until as many have ended as the command line says. With a store, the pads come from
+/// it, each reply waits until everything that it reveals is synced, and the server stops if the store fails.
 pub fn listen<'a, R>(
     rt: &R,
     files: HostRuntime,
@@ -132,14 +131,15 @@ where
     )
 }
 
-/// A listener at an address, and that address with the port that the system chose where it was 0, which is printed.
+/// Binds the address, prints it with the real port, and returns both.
 fn bind<'a, R>(rt: &R, address: &'a str) -> Result<(TcpListener, SocketAddr), Failure<'a>>
 where
     R: Net<Listener = TcpListener, Stream = TcpStream> + Print,
 {
     let listener = match TcpListener::bind(rt, address) {
         Ok(listener) => listener,
-        Err(cause) => return Err(Failure::Deaf { address, cause }),
+        Err(cause) if has_port(address) => return Err(Failure::Deaf { address, cause }),
+        Err(_) => return Err(Failure::NoPort { address }),
     };
     match announce(rt, &listener) {
         Ok(local) => Ok((listener, local)),
@@ -149,13 +149,11 @@ where
 
 fn announce<R: Print>(rt: &R, listener: &TcpListener) -> io::Result<SocketAddr> {
     let local = listener.local_addr()?;
-    let mut output = io::writer(rt);
-    writeln!(output, "listening on {local}")?;
-    output.flush()?;
+    println!(rt; "listening on {local}")?;
     Ok(local)
 }
 
-/// What the thread that exchanges with peers has, and how it is told that the last connection has ended.
+/// What the thread that exchanges with peers owns, and the sender that tells it of the last connection's end.
 #[derive(Drop)]
 struct Relaying<'a> {
     contacts: Vec<Contact<'a>>,
@@ -165,8 +163,8 @@ struct Relaying<'a> {
     guard: Option<Guard<'a>>,
 }
 
-/// Accepts connections in a thread of its own, and serves them in as many as there are seats for. One more exchanges with
-/// the peers, and once more after the last connection.
+/// Accepts connections in one thread, and serves them in as many as there are seats for. Another one exchanges with the
+/// peers, and once more after the last connection.
 fn serve<R>(
     row: &Row<'_, BlockSeq, R, Course<'_, R>>,
     listener: TcpListener,

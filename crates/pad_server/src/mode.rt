@@ -19,28 +19,32 @@ pub enum Mode<'a> {
     },
 }
 
-/// What is wrong with words that clap takes.
+/// What is wrong with a command line that clap accepts.
 #[derive(Clone, Copy, Debug, PartialEq, Eq, Error)]
 pub enum Misuse {
-    #[error("either --stdin or --listen <ADDR> has to be given, and not both")]
+    #[error("either --stdin or --listen <ADDR> is needed, and not both")]
     NotOne,
     #[error("--listen <ADDR> needs --accounts <PATH>")]
     NoAccounts,
     #[error("--store <DIR> needs --listen <ADDR>")]
     NoStore,
+    #[error("--idle <SECONDS> needs --listen <ADDR>")]
+    NoIdle,
+    #[error("--new-replica needs --listen <ADDR>")]
+    NoNewReplica,
 }
 
 impl<'a> Asked<'a> {
-    /// What is served. Just one of `--stdin` and `--listen` has to be given: the first without `--store`, the second with
-    /// `--accounts`.
+    /// What is served. Exactly one of `--stdin` and `--listen` has to be given: the first without `--store`, `--idle` and
+    /// `--new-replica`, the second with `--accounts`.
     pub fn mode(self) -> Result<Mode<'a>, Misuse>
         ensures { result ≡ mode_of self.entry }
     {
         match (self.stdin, self.listen) {
-            (true, None) => match self.store {
-                Some(_) => Err(Misuse::NoStore),
-                None => Ok(Mode::Stdin),
-            },
+            (true, None) if self.store.is_some() => Err(Misuse::NoStore),
+            (true, None) if self.idle.is_some() => Err(Misuse::NoIdle),
+            (true, None) if self.new_replica => Err(Misuse::NoNewReplica),
+            (true, None) => Ok(Mode::Stdin),
             (true, Some(_)) | (false, None) => Err(Misuse::NotOne),
             (false, Some(address)) => match self.accounts {
                 Some(accounts) => Ok(Mode::Listen { address, accounts }),

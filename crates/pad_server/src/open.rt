@@ -6,30 +6,39 @@ use crate::accounts::read_accounts;
 use crate::args::Asked;
 use crate::failure::Failure;
 use block_seq::BlockSeq;
+use log::Log;
 use pad_core::Request;
 use pad_model::{Name, Refusal};
 use server_core::Server;
 use sessions::{Accounts, Word};
 use std::alloc::Global;
+use std::rt::Files;
 use workers::{Alone, Pads};
 
 /// The author of a server without accounts, and its token.
 const SOLO: &str = "solo";
 
-/// The server that is asked for, whose actor is the author `solo` where there is no accounts file, else nobody.
-pub fn open<'a>(rt: &HostRuntime, asked: Asked<'a>) -> Result<Alone<BlockSeq>, Failure<'a>>
+/// The server of the command line. Its actor is the author `solo` if there is no accounts file, otherwise nobody.
+pub fn open<'a, R>(rt: &R, asked: Asked<'a>) -> Result<Alone<BlockSeq>, Failure<'a>>
+where
+    R: AllocGlobal + Files + Log,
     requires { (1 ≤ asked.replica) × (asked.cells ≤ MAX_CELLS) }
 {
     let alloc = rt.alloc();
     let accounts = match asked.accounts {
         Some(path) => read_accounts(rt, path)?,
-        None => Accounts::read(alloc, b"author solo solo\n")?,
+        None => solo_accounts(alloc)?,
     };
     let mut pads = open_server(alloc, asked.replica, asked.cells, accounts)?;
     if asked.accounts.is_none() {
         greet(alloc, &mut pads)?;
     }
     Ok(pads)
+}
+
+/// The accounts of a server without a file of them.
+fn solo_accounts(alloc: Global) -> Result<Accounts, Failure<'static>> {
+    Accounts::read(alloc, b"author solo solo\n").map_err(|error| Failure::of_accounts(SOLO, error))
 }
 
 /// A server with one actor, which is nobody yet.

@@ -7,10 +7,10 @@ ghost use Rattle.pad_server.specs.CommandLine.{connections_rule, idle_rule, list
 use clap::{Arg, ArgAction, ArgMatches, value_parser};
 use std::alloc::Global;
 
-/// Workers at most. Each has a seat at each pad, which makes 64 of them, and one is kept for exchange with other servers.
+/// The most workers. A pad has 64 seats: one for each worker, and one for the exchange with other servers.
 pub const MAX_WORKERS: u32 = 63;
 
-/// Workers where the command line names no number.
+/// The number of workers without `--workers`.
 pub const DEFAULT_WORKERS: u32 = 16;
 
 /// `--stdin`.
@@ -31,7 +31,7 @@ pub fn listen_option<'a>(alloc: Global) -> Arg<'a>
         .long("listen")
         .value_name("ADDR")
         .help(
-            "Serves connections over TCP at this address, as 127.0.0.1:7878; port 0 is any free one",
+            "Serves connections over TCP at HOST:PORT, such as 127.0.0.1:7878; port 0 is any free port",
         )
 }
 
@@ -54,7 +54,7 @@ pub fn connections_option<'a>(alloc: Global) -> Arg<'a>
         .long("connections")
         .value_name("N")
         .value_parser(value_parser!(u32).range(1..))
-        .help("Ends after so many connections [without it the server does not end]")
+        .help("Ends the server after its Nth connection [default: never]")
 }
 
 /// `--idle SECONDS`.
@@ -65,9 +65,7 @@ pub fn idle_option<'a>(alloc: Global) -> Arg<'a>
         .long("idle")
         .value_name("SECONDS")
         .value_parser(value_parser!(u32).range(1..))
-        .help(
-            "Ends a connection that says nothing for so long [without it a connection may be silent]",
-        )
+        .help("Closes a connection that is silent for SECONDS [default: never]")
 }
 
 /// `--store DIR`.
@@ -77,9 +75,7 @@ pub fn store_option<'a>(alloc: Global) -> Arg<'a>
     Arg::new(alloc, "store")
         .long("store")
         .value_name("DIR")
-        .help(
-            "Keeps the pads in this folder, for the next start [without it they end with the server]",
-        )
+        .help("Keeps the pads in this directory [default: they are lost when the server ends]")
 }
 
 /// `--new-replica`.
@@ -89,10 +85,10 @@ pub fn new_replica_flag<'a>(alloc: Global) -> Arg<'a>
     Arg::new(alloc, "new-replica")
         .long("new-replica")
         .action(ArgAction::SetTrue)
-        .help("No server had this replica number before: the store may be that of another number")
+        .help("Continues a store under a replica number that no server has used")
 }
 
-/// What `--workers` holds; 16 where it holds no such number.
+/// The number of `--workers`, or 16 without one.
 pub fn workers_of(matches: &ArgMatches<'_>) -> u32
     ensures value { Holds (codes "workers") 0 MAX_WORKERS DEFAULT_WORKERS matches.now result }
     ensures most { result ≤ MAX_WORKERS }
@@ -103,14 +99,14 @@ pub fn workers_of(matches: &ArgMatches<'_>) -> u32
     }
 }
 
-/// What `--connections` holds, if it holds a number.
+/// The number of `--connections`, if there is one.
 pub fn connections_of(matches: &ArgMatches<'_>) -> Option<u32>
     ensures { (other : ℕ) → Holds (codes "connections") 0 4294967295 other matches.now (unwrap_or result other) }
 {
     matches.get_one::<u32>("connections")
 }
 
-/// What `--idle` holds, if it holds a number.
+/// The number of `--idle`, if there is one.
 pub fn idle_of(matches: &ArgMatches<'_>) -> Option<u32>
     ensures { (other : ℕ) → Holds (codes "idle") 0 4294967295 other matches.now (unwrap_or result other) }
 {

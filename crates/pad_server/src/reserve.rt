@@ -1,8 +1,10 @@
 //! Room on the disk of a store, held in reserve: with it, what was done can still be written down when the disk is full.
+use crate::spares::PRIVATE;
 use std::alloc::Global;
 use std::fs::{File, OpenOptions};
 use std::io;
 use std::io::{ErrorKind, Write};
+use std::os::unix::fs::OpenOptionsExt;
 use std::sync::{Mutex, Wait};
 
 /// How many bytes are held in reserve. A thread has at most one request under way when the disk is full.
@@ -31,7 +33,7 @@ impl Reserve {
     /// The reserve in a file. Where the disk has no room for it, it is spent already.
     pub fn open(files: &HostRuntime, path: &str) -> io::Result<Reserve> {
         let mut options = OpenOptions::new();
-        options.append(true).create(true);
+        options.append(true).create(true).mode(PRIVATE);
         let mut state = State {
             file: options.open(files, path)?,
             is_whole: false,

@@ -5,12 +5,19 @@ use std::alloc::Global;
 use std::io;
 use std::net::{Net, Shutdown, SocketAddr, TcpListener, TcpStream};
 use std::sync::{Mutex, Wait};
+use std::time::Duration;
+
+/// For how many milliseconds a thread tries to wake the accept. Where a connection is not made at once, connections wait to
+/// be accepted, and the accept is awake.
+const WAKING: u64 = 500;
 
 /// The sockets that are read or written, each under its connection's number.
 #[derive(Drop)]
 struct Sockets {
     open: Vec<(u64, TcpStream)>,
     stopped: bool,
+    /// Whether the server has connected to itself since it stopped.
+    is_woken: bool,
 }
 
 /// Ends a server at once, as far as its connections go.
@@ -27,6 +34,7 @@ impl Stop {
             sockets: Mutex::new(Sockets {
                 open: Vec::new(alloc),
                 stopped: false,
+                is_woken: false,
             }),
             address,
         }
@@ -49,20 +57,31 @@ impl Stop {
         sockets.open.retain(|(own, _)| *own != number);
     }
 
-    // Shuts all sockets down, those that come later too, and connects to the server itself, which wakes the accept.
+    // Shuts all sockets down, and connects to the server itself, which wakes the accept. No lock is held meanwhile, since a
+    // connection can take its time. Where none was made, the next connection that ends tries it again.
     fn stop<R>(&self, rt: &R)
     where
         R: Net<Listener = TcpListener, Stream = TcpStream> + Wait,
     {
-        let mut sockets = self.sockets.lock(rt);
-        if sockets.stopped {
+        if self.shut_down(rt) {
             return;
         }
-        sockets.stopped = true;
-        for (_, stream) in sockets.open.iter() {
-            let _ended_already = stream.shutdown(Shutdown::Both);
+        let waking = Duration::from_millis(WAKING);
+        if TcpStream::connect_timeout(rt, &self.address, waking).is_ok() {
+            self.sockets.lock(rt).is_woken = true;
         }
-        let _nobody_accepts = TcpStream::connect(rt, self.address);
+    }
+
+    // Shuts all sockets down, those that come later too, and says whether the accept was woken before.
+    fn shut_down<R: Wait>(&self, rt: &R) -> bool {
+        let mut sockets = self.sockets.lock(rt);
+        if !sockets.stopped {
+            sockets.stopped = true;
+            for (_, stream) in sockets.open.iter() {
+                let _ended_already = stream.shutdown(Shutdown::Both);
+            }
+        }
+        sockets.is_woken
     }
 
     fn has_stopped<R: Wait>(&self, rt: &R) -> bool {

@@ -2,20 +2,28 @@
 ghost use Rattle.std.specs.Prelude.{◌≤◌};
 
 use crate::failure::Failure;
-use crate::keeper::{Book, Books, Handle, Keeper};
+use crate::keeper::{Book, Books, Handle, Held, Keeper};
 use crate::reserve::Reserve;
+use crate::spares::PRIVATE;
 use block_seq::BlockSeq;
 use log::{Log, warn};
 use pad_core::Pad;
 use pad_model::Refusal;
 use shared_pads::SharedPad;
 use std::alloc::{AllocError, Global};
-use std::fs::{File, OpenOptions};
-use std::io::{Eprint, Write};
+use std::fs::{DirBuilder, File, OpenOptions};
+use std::io::{Eprint, ErrorKind, Write};
+use std::os::unix::fs::{DirBuilderExt, OpenOptionsExt};
 use std::rt::Runtime;
 use std::sync::{Mutex, Wait};
 use std::{fs, io};
 use store::{Damage, Header, Loaded, header_text, link, load};
+
+/// Who may look into the folder of a store that the server makes: its user alone.
+const PRIVATE_FOLDER: u32 = 0o700;
+
+/// How many files of one pad's name may be moved aside.
+const MOST_ASIDE: u32 = 1_000;
 
 /// The number of a server that opens a store.
 #[derive(Clone, Copy)]
@@ -45,7 +53,7 @@ where
     requires { 1 ≤ owner.replica }
 {
     let kept_in = String::from_str(rt.alloc(), folder)?;
-    let (lock, names) = open_folder(rt, folder)?;
+    let (held, names) = open_folder(rt, folder)?;
     let Loading { cells, books } = load_row(rt, folder, names.as_slice(), owner, count)?;
     let path = format!(in rt.alloc(); "{folder}/reserve")?;
     let reserve = match Reserve::open(&files, path.as_str()) {
@@ -57,22 +65,22 @@ where
     }
     Ok(Stored {
         cells,
-        keeper: Keeper::new(files, kept_in, owner.replica, books, reserve, lock),
+        keeper: Keeper::new(files, kept_in, owner.replica, books, reserve, held),
     })
 }
 
-// The lock of the folder, and the names of its files.
-fn open_folder<'f, R>(rt: &R, folder: &'f str) -> Result<(File, Vec<String>), Failure<'f>>
+// The folder and its lock, and the names of its files.
+fn open_folder<'f, R>(rt: &R, folder: &'f str) -> Result<(Held, Vec<String>), Failure<'f>>
 where
     R: Runtime<A = Global, File = File>,
 {
-    let lock = match lock_folder(rt, folder) {
-        Ok(Some(lock)) => lock,
+    let held = match lock_folder(rt, folder) {
+        Ok(Some(held)) => held,
         Ok(None) => return Err(Failure::InUse { folder }),
         Err(cause) => return Err(Failure::Unopened { folder, cause }),
     };
     match names_of(rt, folder) {
-        Ok(names) => Ok((lock, names)),
+        Ok(names) => Ok((held, names)),
         Err(cause) => Err(Failure::Unopened { folder, cause }),
     }
 }
@@ -129,7 +137,10 @@ impl Loading {
             file,
             handle,
         } = opened;
-        self.cells.push(SharedPad::new(alloc, pad, cell))?;
+        let Ok(pad) = SharedPad::new(alloc, pad, cell) else {
+            return Err(AllocError);
+        };
+        self.cells.push(pad)?;
         self.books.all.push(Mutex::new(Book {
             file: Some(file),
             sum,
@@ -142,8 +153,10 @@ impl Loading {
     fn add_free(&mut self, alloc: Global, replica: u16, cell: u32) -> Result<(), Refusal>
         requires { 1 ≤ replica }
     {
-        let pad = Pad::new(alloc, replica)?;
-        self.cells.push(SharedPad::new(alloc, pad, cell))?;
+        let Ok(pad) = SharedPad::new(alloc, Pad::new(alloc, replica)?, cell) else {
+            return Err(Refusal::Memory);
+        };
+        self.cells.push(pad)?;
         self.books.all.push(Mutex::new(Book {
             file: None,
             sum: String::new(alloc),
@@ -166,15 +179,18 @@ struct Opened {
 fn lock_folder<R: Runtime<A = Global, File = File>>(
     rt: &R,
     folder: &str,
-) -> io::Result<Option<File>> {
-    fs::create_dir_all(rt, folder)?;
+) -> io::Result<Option<Held>> {
+    let mut builder = DirBuilder::new();
+    builder.recursive(true).mode(PRIVATE_FOLDER);
+    builder.create(rt, folder)?;
     let path = format!(in rt.alloc(); "{folder}/lock")?;
     let mut options = OpenOptions::new();
-    options.write(true).create(true);
+    options.write(true).create(true).mode(PRIVATE);
     let lock = options.open(rt, path.as_str())?;
-    File::open(rt, folder)?.sync_all()?;
+    let open = File::open(rt, folder)?;
+    open.sync_all()?;
     match lock.try_lock() {
-        Ok(()) => Ok(Some(lock)),
+        Ok(()) => Ok(Some(Held { lock, folder: open })),
         Err(_) => Ok(None),
     }
 }
@@ -193,7 +209,7 @@ fn names_of<R: Runtime<A = Global, File = File>>(rt: &R, folder: &str) -> io::Re
     Ok(names)
 }
 
-// Loads one pad. Its file is cut behind its last whole line; a file whose pad was never named is taken away.
+// Loads one pad. Its file is cut behind the last line that was read; a file whose pad was never named is moved aside.
 fn load_file<'f, R>(
     rt: &R,
     folder: &'f str,
@@ -218,7 +234,7 @@ where
                 Err(cause) => Err(Failure::Unopened { folder, cause }),
             }
         }
-        Err(Damage::Empty) => match remove(rt, path.as_str()) {
+        Err(Damage::Empty) => match move_aside(rt, path.as_str()) {
             Ok(()) => Ok(None),
             Err(cause) => Err(Failure::Unopened { folder, cause }),
         },
@@ -257,13 +273,19 @@ fn refuse<'f, R: Eprint>(rt: &R, folder: &'f str, path: &str, damage: Damage) ->
     Failure::Damaged { folder }
 }
 
-// Takes a file away whose pad was never named.
-fn remove<R: Runtime<A = Global, File = File> + Log>(rt: &R, path: &str) -> io::Result<()> {
-    warn!(rt; "{path}: the pad was never named, and its file is taken away");
-    fs::remove_file(rt, path)
+// Moves a file aside whose pad was never named, to a name that no file has.
+fn move_aside<R: Runtime<A = Global, File = File> + Log>(rt: &R, path: &str) -> io::Result<()> {
+    for number in 1..=MOST_ASIDE {
+        let aside = format!(in rt.alloc(); "{path}.unnamed-{number}")?;
+        if !fs::exists(rt, aside.as_str())? {
+            warn!(rt; "{path}: no pad was named in it, and it is moved to {aside}");
+            return fs::rename(rt, path, aside.as_str());
+        }
+    }
+    Err(io::Error::from(ErrorKind::AlreadyExists))
 }
 
-// A pad with its file, which is cut behind its last whole line. A server with a new number begins with a header.
+// A pad with its file, which is cut behind the last line that was read. A server with a new number begins with a header.
 fn open_loaded<R>(rt: &R, path: &str, replica: u16, loaded: Loaded<BlockSeq>) -> io::Result<Opened>
 where
     R: Runtime<A = Global, File = File> + Log,
@@ -276,7 +298,7 @@ where
         cut,
     } = loaded;
     if cut > 0 {
-        warn!(rt; "{path}: the last line was not whole: {cut} bytes are cut off");
+        warn!(rt; "{path}: the last {cut} bytes are no whole lines that were synced, and are cut off");
     }
     let (mut file, handle) = open_file(rt, path, whole)?;
     let sum = if header.replica == u64::from(replica) {

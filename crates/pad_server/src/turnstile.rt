@@ -11,18 +11,18 @@ pub struct Turnstile {
 }
 
 impl Turnstile {
-    /// Nobody holds it.
+    /// A place that nobody holds.
     pub fn new(alloc: Global) -> Result<Turnstile, AllocError> {
         let (enter, leave) = crossbeam_channel::bounded(alloc, 1)?;
         Ok(Turnstile { enter, leave })
     }
 
-    /// Waits until nobody holds it, and takes it.
+    /// Waits until the place is free, and takes it.
     pub fn enter<R: Wait>(&self, rt: &R) {
         let _held = self.enter.send(rt, ());
     }
 
-    /// Gives it back.
+    /// Frees the place.
     pub fn leave<R: Wait>(&self, rt: &R) {
         let _held = self.leave.try_recv(rt);
     }

@@ -2,28 +2,28 @@
 use crossbeam_channel::Sender;
 use std::sync::Wait;
 
-/// Why a relay thread is woken.
+/// Why the relay thread is woken.
 #[derive(Clone, Copy, Debug, PartialEq, Eq)]
 pub enum Wake {
-    /// An operation was delivered, and the reply that tells so is about to be written.
+    /// An operation was delivered, and the reply that reports it is about to be written.
     Delivered,
     /// The last connection has ended.
     Last,
 }
 
-/// Wakes the relay thread. A wake-up that waits already is enough: the round that follows it serves both.
+/// Wakes the relay thread. If a wake-up is waiting already, that one is enough: the round after it serves both.
 #[derive(Drop)]
 pub struct Waker {
     to: Option<Sender<Wake>>,
 }
 
 impl Waker {
-    /// Wakes whoever receives; None: nobody.
+    /// A waker of the receiver, or of nobody.
     pub fn new(to: Option<Sender<Wake>>) -> Waker {
         Waker { to }
     }
 
-    /// An operation was delivered.
+    /// Reports that an operation was delivered.
     pub fn wake<R: Wait>(&self, rt: &R) {
         if let Some(to) = &self.to {
             let _waits_already = to.try_send(rt, Wake::Delivered);

@@ -1,10 +1,10 @@
-//! A reader or a writer that keeps why it failed.
+//! A reader or a writer that remembers why it failed.
 ghost use Rattle.std.specs.Prelude.{◌≡◌};
 
 use std::io;
 use std::io::{ErrorKind, Read, Write};
 
-/// A reader or a writer of std, and why a call of it failed last. An interruption is no failure.
+/// A reader or a writer of std, with the error of its last failed call. An interruption is not a failure.
 #[derive(Drop)]
 pub struct Watched<T> {
     inner: T,
@@ -17,14 +17,14 @@ impl<T> Watched<T> {
         Watched { inner, cause: None }
     }
 
-    /// Why a call failed last. None: none has failed, or no byte was taken.
+    /// The error of the last failed call. None: no call has failed, or one took no byte.
     pub fn cause(&self) -> Option<io::Error>
         ensures { result ≡ self.now.cause }
     {
         self.cause
     }
 
-    // Keeps why the call failed.
+    // Remembers the error of a failed call.
     fn note<R>(&mut self, outcome: &io::Result<R>)
         ensures { self.new.inner ≡ self.old.inner }
     {

@@ -7,7 +7,7 @@ use Rattle.pad_server.proofs.args.first_options.Goals as goal
 
 pub returns : goal.returns
 returns c =
-    let start : app_of c.version.result ≡ versioned (new_app (codes "pad_server")) = search rules in
+    let start : app_of c.override_usage.result ≡ versioned (new_app (codes "pad_server")) = search rules in
     let one : app_of c.in_ok-arg.field-0 ≡ with_rule (versioned (new_app (codes "pad_server"))) stdin_rule =
     c.in_ok-arg.ensures.shape c.stdin_flag.ensures.1 ∙ ap₂ with_rule start c.stdin_flag.ensures.0 in
     let two : app_of c.in_ok-arg-2.field-0 ≡ with_rule (with_rule (versioned (new_app (codes "pad_server"))) stdin_rule)

@@ -60,7 +60,7 @@ impl fmt::Display for Fault {
 impl From<AccountsError> for Fault {
     fn from(error: AccountsError) -> Fault {
         match error {
-            AccountsError::BadLine { line } => Fault::BadAccounts { line },
+            AccountsError::BadLine { line, .. } => Fault::BadAccounts { line },
             AccountsError::Memory => Fault::Refused(Refusal::Memory),
         }
     }

@@ -29,7 +29,7 @@ fn main(rt: HostRuntime) -> anyhow::Result<ExitCode> {
     let words: Vec<String> = std::env::args(&rt)?.collect(alloc)?;
     let asked = match parse(alloc, words.as_slice()) {
         Ok(asked) => asked,
-        Err(error) => return Ok(report(&rt, &error)),
+        Err(error) => return Ok(report(&rt, "pad_replay", &error)),
     };
     let accounts = match fs::read(&rt, asked.accounts) {
         Ok(accounts) => accounts,

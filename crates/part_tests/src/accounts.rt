@@ -139,7 +139,7 @@ const BAD_FILES: &[(&[u8], u64)] = &[
 /// The number of a file's first bad line, where it is refused for one.
 fn bad_line(alloc: Global, text: &[u8]) -> Option<u64> {
     match Accounts::read(alloc, text) {
-        Err(AccountsError::BadLine { line }) => Some(line),
+        Err(AccountsError::BadLine { line, .. }) => Some(line),
         _ => None,
     }
 }

@@ -1,11 +1,13 @@
 //! What a gate is told before each reply.
+ghost use Rattle.std.specs.Prelude.{None};
+
 use block_seq::BlockSeq;
 use server_core::Server;
 use sessions::Accounts;
 use std::alloc::Global;
 use std::sync::atomic::{AtomicU64, Ordering};
 use std::test::Fail;
-use wire_lines::{Input, Output};
+use wire_lines::{Input, Output, Sink, WriteError};
 use workers::{Alone, Gate, Served, serve_connection};
 
 const LINES: &str = concat!(
@@ -65,25 +67,77 @@ impl Gate for Heard {
     fn done(&self, _connection: u64) {}
 }
 
+// What is written, and how many of the writes came before the gate was told of their reply.
+#[derive(Drop)]
+struct Watched<'a> {
+    output: Output,
+    gate: &'a Heard,
+    writes: u64,
+    early: u64,
+}
+
+impl Sink for Watched<'_> {
+    ghost contents = { λ _. None };
+
+    ghost failures = { λ w. ⟦<Output as Sink>⟧.failures w.output };
+
+    fn write(&mut self, bytes: &[u8]) -> Result<usize, WriteError> {
+        self.writes = self.writes.saturating_add(1);
+        if self.gate.replies.load(Ordering::SeqCst) < self.writes {
+            self.early = self.early.saturating_add(1);
+        }
+        self.output.write(bytes)
+    }
+
+    fn flush(&mut self) -> Result<(), WriteError> {
+        self.output.flush()
+    }
+}
+
 // What a connection with these lines to a server of one pad comes to.
-fn serve(alloc: Global, lines: &str, gate: &Heard) -> Result<Served, Fail> {
+fn serve<W: Sink>(
+    alloc: Global,
+    lines: &str,
+    writer: &mut W,
+    gate: &Heard,
+) -> Result<Served, Fail> {
     let accounts = Accounts::read(alloc, b"author a1 t\n")?;
     let mut server: Server<BlockSeq> = Server::new(alloc, 1, 1, accounts)?;
     let actor = server.open(alloc)?;
     let mut pads = Alone::new(server, actor);
     let mut reader = Input::new(lines.as_bytes());
-    let mut writer = Output::new(alloc);
-    Ok(serve_connection(alloc, &mut pads, &mut reader, &mut writer, 1, gate)?)
+    Ok(serve_connection(alloc, &mut pads, &mut reader, writer, 1, gate)?)
+}
+
+// The same, where nobody looks at what is written.
+fn serve_unseen(alloc: Global, lines: &str, gate: &Heard) -> Result<Served, Fail> {
+    serve(alloc, lines, &mut Output::new(alloc), gate)
 }
 
 #[test]
 fn an_insertion_is_told_as_delivered_and_a_reading_is_not(rt: HostRuntime) -> Result<(), Fail> {
     let gate = Heard::new();
-    let served = serve(rt.alloc(), LINES, &gate)?;
+    let served = serve_unseen(rt.alloc(), LINES, &gate)?;
     // The third line inserts and the sixth one erases; the fifth, an insertion past the end, is refused.
     assert_eq!(rt; gate.replies.load(Ordering::SeqCst), 6);
     assert_eq!(rt; gate.delivered.load(Ordering::SeqCst), 0b100100);
     assert_eq!(rt; served.delivered, 2);
+    Ok(())
+}
+
+#[test]
+fn a_gate_is_told_before_each_reply_is_written(rt: HostRuntime) -> Result<(), Fail> {
+    let alloc = rt.alloc();
+    let gate = Heard::new();
+    let mut writer = Watched {
+        output: Output::new(alloc),
+        gate: &gate,
+        writes: 0,
+        early: 0,
+    };
+    serve(alloc, LINES, &mut writer, &gate)?;
+    assert_eq!(rt; writer.writes, 6);
+    assert_eq!(rt; writer.early, 0);
     Ok(())
 }
 
@@ -103,9 +157,9 @@ fn a_line_of_more_than_64_kib_is_told_before_it_is_read_and_after(
 ) -> Result<(), Fail> {
     let alloc = rt.alloc();
     let gate = Heard::new();
-    serve(alloc, &spaces(alloc, 65_536)?, &gate)?;
+    serve_unseen(alloc, &spaces(alloc, 65_536)?, &gate)?;
     assert_eq!(rt; gate.long_lines.load(Ordering::SeqCst), 0);
-    serve(alloc, &spaces(alloc, 65_537)?, &gate)?;
+    serve_unseen(alloc, &spaces(alloc, 65_537)?, &gate)?;
     assert_eq!(rt; gate.long_lines.load(Ordering::SeqCst), 1);
     assert_eq!(rt; gate.long_lines_read.load(Ordering::SeqCst), 1);
     assert_eq!(rt; gate.replies.load(Ordering::SeqCst), 2);

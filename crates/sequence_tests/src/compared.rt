@@ -66,6 +66,20 @@ fn have_same_spans(
     Ok(true)
 }
 
+/// Whether both tell the same changes from one revision to another, and back.
+pub fn change_the_same(
+    alloc: Global,
+    rows: &BlockSeq,
+    plain: &PlainSeq,
+    rev: u64,
+    to: u64,
+) -> Result<bool, Refusal> {
+    Ok(
+        rows.changes(alloc, rev, to)? == plain.changes(alloc, rev, to)?
+            && rows.changes(alloc, to, rev)? == plain.changes(alloc, to, rev)?,
+    )
+}
+
 /// Whether both show the same at a revision: its text, authors and spans.
 pub fn show_the_same(
     alloc: Global,

@@ -1,5 +1,5 @@
 //! Twenty thousand operations of three replicas on the sequence of blocks beside the plain one, in forty texts.
-use crate::compared::show_the_same;
+use crate::compared::{change_the_same, show_the_same};
 use crate::converge::{Shares, made};
 use crate::several::op_of;
 use crate::site::Site;
@@ -65,6 +65,12 @@ fn keeps_a_text(rt: &impl Abort, alloc: Global, seed: u64) -> Result<(), Fail> {
             show_the_same(alloc, site.sequence(), site.plain(), rev)?,
             "revision {rev} of {seed}"
         );
+        for to in [rev + 1, rev + 10, OPERATIONS] {
+            assert!(rt;
+                change_the_same(alloc, site.sequence(), site.plain(), rev, to)?,
+                "changes from {rev} to {to} of {seed}"
+            );
+        }
     }
     Ok(())
 }

@@ -1,6 +1,6 @@
 //! How many labels are written while somebody types at one place: that of each new block, and those of others that change;
 //! and how often others change.
-use crate::side_by_side::{Pair, author_of};
+use crate::pair::{Pair, author_of};
 use block_seq::BlockSeq;
 use pad_model::{Part, Refusal, Run, Sequence, Stamp, Text};
 use std::alloc::Global;

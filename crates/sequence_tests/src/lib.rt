@@ -14,6 +14,8 @@ mod labels;
 #[cfg(test)]
 mod million;
 #[cfg(test)]
+mod pair;
+#[cfg(test)]
 mod readers;
 #[cfg(test)]
 mod sequences;

@@ -2,7 +2,7 @@
 ghost use Rattle.std.specs.Prelude.{IsTrue};
 ghost use Rattle.pad_model.specs.Checked.{is_run};
 
-use crate::side_by_side::{author_of, is_run};
+use crate::pair::{author_of, is_run};
 use block_seq::BlockSeq;
 use pad_model::{Author, MAX_TEXT, Refusal, Run, Sequence, Stamp, Text};
 use std::alloc::Global;

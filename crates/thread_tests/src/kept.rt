@@ -1,6 +1,7 @@
 //! A gate by which nothing can be kept, as where the disk of a store is full.
-use crate::stage::{accounts, ask, ask_all};
+use crate::stage::{accounts, ask, ask_all, tells};
 use block_seq::BlockSeq;
+use pad_core::Request;
 use pad_model::Refusal;
 use sessions::Session;
 use shared_pads::{Gate, SharedPad};
@@ -8,7 +9,6 @@ use std::alloc::Global;
 use std::process::Abort;
 use std::sync::atomic::{AtomicBool, Ordering};
 use std::test::Fail;
-use wire_json::reply_line;
 use workers::{Pads, Row, Shared, open_row, take_seats};
 
 // Keeps what is answered, or nothing.
@@ -18,7 +18,7 @@ struct Disk {
 }
 
 impl Gate for Disk {
-    fn keeps(&self, _alloc: Global) -> bool {
+    fn keeps(&self, _alloc: Global, _request: &Request) -> bool {
         self.has_room.load(Ordering::SeqCst)
     }
 
@@ -65,20 +65,6 @@ fn are_refused<P: Pads>(rt: &impl Abort, alloc: Global, pads: &mut P, lines: &[&
             "{line}: wanted StoreFull, came {came:?}"
         );
     }
-}
-
-// A line is answered by just this one.
-fn tells<P: Pads>(
-    rt: &impl Abort,
-    alloc: Global,
-    pads: &mut P,
-    line: &str,
-    want: &str,
-) -> Result<(), Refusal> {
-    let answer = ask(alloc, pads, line);
-    let came = reply_line(alloc, &answer)?;
-    assert!(rt; came.as_str() == want, "{line}: wanted {want}, came {came}");
-    Ok(())
 }
 
 #[test]

@@ -9,6 +9,8 @@ mod held;
 #[cfg(test)]
 mod kept;
 #[cfg(test)]
+mod rows;
+#[cfg(test)]
 mod seats;
 #[cfg(test)]
 mod stage;

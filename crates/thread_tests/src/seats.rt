@@ -35,6 +35,14 @@ fn ask<R: Wait>(
     shared.call(rt, alloc, seat, session, &request, &Open)
 }
 
+// A pad that is shared in the first cell.
+fn shared_pad(alloc: Global) -> Result<SharedPad<BlockSeq>, Refusal> {
+    match SharedPad::new(alloc, typed(alloc)?, 0) {
+        Ok(shared) => Ok(shared),
+        Err(_) => Err(Refusal::Memory),
+    }
+}
+
 // The visit that a join is answered with; 0 where it is not.
 fn join<R: Wait>(
     rt: &R,
@@ -136,7 +144,7 @@ fn comes_again<R: Wait>(
 #[test]
 fn one_seat(rt: HostRuntime) -> Result<(), Fail> {
     let alloc = rt.alloc();
-    let shared = SharedPad::new(alloc, typed(alloc)?, 0);
+    let shared = shared_pad(alloc)?;
     let mut seat = shared.seat(&rt)?;
     assert!(rt;
         is_named(&rt, alloc, &shared, "p"),
@@ -170,7 +178,7 @@ fn count_seats<R: Wait>(rt: &R, shared: &SharedPad<BlockSeq>) -> u64 {
 #[test]
 fn limit_seats(rt: HostRuntime) -> Result<(), Fail> {
     let alloc = rt.alloc();
-    let shared = SharedPad::new(alloc, typed(alloc)?, 0);
+    let shared = shared_pad(alloc)?;
     let came = count_seats(&rt, &shared);
     assert!(rt; came == 64, "wanted 64 seats, came {came}");
     Ok(())

@@ -4,7 +4,8 @@ use pad_core::{Act, Claim, Pad, PadEvent, Reply};
 use pad_model::{Name, Refusal, Text, Who};
 use sessions::Accounts;
 use std::alloc::Global;
-use wire_json::read_request;
+use std::process::Abort;
+use wire_json::{read_request, reply_line};
 use workers::Pads;
 
 /// The authors a1 to a5.
@@ -29,6 +30,20 @@ pub fn ask_all<P: Pads>(alloc: Global, pads: &mut P, lines: &[&str]) -> Result<(
     for line in lines {
         let _answered = ask(alloc, pads, line)?;
     }
+    Ok(())
+}
+
+/// A line is answered by just this one.
+pub fn tells<P: Pads>(
+    rt: &impl Abort,
+    alloc: Global,
+    pads: &mut P,
+    line: &str,
+    want: &str,
+) -> Result<(), Refusal> {
+    let answer = ask(alloc, pads, line);
+    let came = reply_line(alloc, &answer)?;
+    assert!(rt; came.as_str() == want, "{line}: wanted {want}, came {came}");
     Ok(())
 }
 

@@ -1,7 +1,7 @@
 //! A line for each reply.
 use anchors::Shown;
-use pad_core::{Entry, Kind, PadReply, Present, Pushed, Reply};
-use pad_model::{Author, AuthorRun, Name, OpName, Refusal, Row, Seen, Text, Version};
+use pad_core::{Entry, Kind, Listed, PadReply, Present, Pushed, Reply};
+use pad_model::{Author, AuthorRun, Name, OpName, Piece, Refusal, Row, Seen, Text, Version};
 use rights::{Grant, Right};
 use serde_json::Value;
 use std::alloc::Global;
@@ -27,6 +27,8 @@ enum Sample {
     Runs,
     Comments,
     Who,
+    Pads,
+    Changes,
     Entries,
     Rights,
     Vector,
@@ -58,6 +60,7 @@ fn reply_of(alloc: Global, sample: Sample) -> Result<Reply, Refusal> {
         Sample::Hello => hello(alloc),
         Sample::Peer(replica, version) => Ok(Reply::Peer { replica, version }),
         Sample::Ended => Ok(Reply::Ended),
+        Sample::Pads => pads_listed(alloc),
         Sample::Refused(refusal) => Err(refusal),
         _ => Ok(Reply::Pad(pad_reply_of(alloc, sample)?)),
     }
@@ -74,6 +77,7 @@ fn pad_reply_of(alloc: Global, sample: Sample) -> Result<PadReply, Refusal> {
         Sample::Runs => runs_told(alloc),
         Sample::Comments => comments_told(alloc),
         Sample::Who => who_told(alloc),
+        Sample::Changes => changes_told(alloc),
         Sample::Entries => entries_told(alloc),
         Sample::Rights => rights_told(alloc),
         Sample::Vector => vector_told(alloc),
@@ -201,6 +205,33 @@ fn entries_told(alloc: Global) -> Result<PadReply, Refusal> {
         entries.push(entry(alloc, name, number, kind)?)?;
     }
     Ok(PadReply::Entries { now: 2, entries })
+}
+
+fn pads_listed(alloc: Global) -> Result<Reply, Refusal> {
+    let mut pads = Row::new(alloc);
+    for (name, right, now) in [("minutes", Right::Own, 7), ("p", Right::Read, 0)] {
+        let name = Name::from_str(alloc, name)?;
+        pads.push(Listed { name, right, now })?;
+    }
+    Ok(Reply::Pads { pads })
+}
+
+/// Three characters stay, two go, and two of one author come.
+fn changes_told(alloc: Global) -> Result<PadReply, Refusal> {
+    let mut pieces = Row::new(alloc);
+    pieces.push(Piece::Keep(3))?;
+    pieces.push(Piece::Drop(2))?;
+    pieces.push(Piece::Insert {
+        author: author(alloc, "ann", 1)?,
+        text: Text::from_str(alloc, "X\u{1F600}")?,
+    })?;
+    Ok(PadReply::Changes {
+        now: 9,
+        rev: 4,
+        to: 7,
+        pieces,
+        notes: 2,
+    })
 }
 
 fn grant(alloc: Global, name: &str, right: Right) -> Result<Grant, Refusal> {
@@ -355,6 +386,20 @@ fn authors_are_shown_with_their_server(rt: HostRuntime) -> Result<(), Fail> {
 }
 
 const LISTS: &[(Sample, &str)] = &[
+    (
+        Sample::Pads,
+        concat!(
+            r#"{"ok":true,"pads":[["minutes","own",7],["p","read",0]]}"#,
+            "\n"
+        ),
+    ),
+    (
+        Sample::Changes,
+        concat!(
+            r#"{"changes":[["keep",3],["drop",2],["insert","X😀","ann@1"]],"notes":2,"now":9,"ok":true,"rev":4,"to":7}"#,
+            "\n"
+        ),
+    ),
     (
         Sample::Entries,
         concat!(

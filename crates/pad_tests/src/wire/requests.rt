@@ -30,6 +30,7 @@ const REQUESTS: &[(&str, &str)] = &[
         r#"{"do":"create","pad":"P"}"#,
         r#"Create { pad: Name { text: "P" } }"#,
     ),
+    (r#"{"do":"pads"}"#, "Pads"),
     (
         r#"{"do":"join","pad":"p"}"#,
         r#"On { pad: Name { text: "p" }, act: Join }"#,
@@ -85,6 +86,18 @@ const REQUESTS: &[(&str, &str)] = &[
     (
         r#"{"do":"comments","pad":"p"}"#,
         r#"On { pad: Name { text: "p" }, act: Comments { rev: None } }"#,
+    ),
+    (
+        r#"{"do":"changes","pad":"p","rev":1}"#,
+        r#"On { pad: Name { text: "p" }, act: Changes { rev: 1, to: None, wait: 0 } }"#,
+    ),
+    (
+        r#"{"do":"changes","pad":"p","rev":1,"to":4,"wait":61}"#,
+        r#"On { pad: Name { text: "p" }, act: Changes { rev: 1, to: Some(4), wait: 61 } }"#,
+    ),
+    (
+        r#"{"do":"changes","pad":"p","rev":0,"to":null,"wait":null}"#,
+        r#"On { pad: Name { text: "p" }, act: Changes { rev: 0, to: None, wait: 0 } }"#,
     ),
     (
         r#"{"do":"revs","pad":"p"}"#,

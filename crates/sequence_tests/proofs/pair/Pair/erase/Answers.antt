@@ -1,5 +1,5 @@
 use Rattle.block_seq.proofs.ByRevision.{deleted_by}
-use Rattle.sequence_tests.proofs.side_by_side.Pair.erase.Goals as goal
+use Rattle.sequence_tests.proofs.pair.Pair.erase.Goals as goal
 
 pub invariant_of-self : goal.invariant_of-self
 invariant_of-self c = (

@@ -1,5 +1,5 @@
 use Rattle.block_seq.proofs.ByRevision.{inserted_by}
-use Rattle.sequence_tests.proofs.side_by_side.Pair.insert.Goals as goal
+use Rattle.sequence_tests.proofs.pair.Pair.insert.Goals as goal
 
 pub invariant_of-self : goal.invariant_of-self
 invariant_of-self c = (

@@ -20,10 +20,34 @@ def peer(number, token, more=""):
     return f'{{"do":"peer","number":{number},"token":"{token}"{more}}}\n'
 
 
-def bad(name, text, line, **more):
-    """The line of this number is at fault: nothing is served, and the message names the line."""
-    message = f"pad_server: 500 BadAccounts line {line}\n"
+def bad(name, text, line, reason, **more):
+    """The line of this number is at fault: nothing is served, and the message names the line, the file and the reason."""
+    message = f"pad_server: 500 BadAccounts line {line}\npad_server: the accounts file accounts: {reason}\n"
     return Case(f"bad accounts: {name}", ARGS, HELLO, "", 2, message, (("accounts", text),), **more)
+
+
+# What is said of each kind of mistake.
+TAB = "the line has a tab; words are separated by one space"
+SPACE = "a space is at the start, at the end or after another space"
+WORD = "the first word is neither author nor peer"
+NO_NAME = "the name is missing: author NAME TOKEN"
+NO_NUMBER = "the number is missing: peer NUMBER TOKEN HOST:PORT"
+NO_TOKEN = "the token is missing"
+NO_ADDRESS = "the address is missing: peer NUMBER TOKEN HOST:PORT"
+EXTRA = "the line has too many words"
+LONG_NAME = "the name is longer than 32 bytes"
+NAME = "the name has a character other than a-z, 0-9 and -"
+DIGITS = "the number has a character that is not a digit"
+ZERO = "the number is 0 or begins with 0"
+LARGE = "the number is above 65535"
+LONG_TOKEN = "the token is longer than 64 bytes"
+TOKEN = "the token has a byte other than 0x21 to 0x7E"
+LONG_ADDRESS = "the address is longer than 255 bytes"
+ADDRESS = "the address has a byte other than 0x21 to 0x7E"
+COLON = "the address has no colon: HOST:PORT"
+NAME_TWICE = "an earlier line has this author's name"
+NUMBER_TWICE = "an earlier line has this peer's number"
+MANY = "there are more than 1000 accounts"
 
 
 def session(name, text, asked, answered, args=ARGS):
@@ -65,29 +89,60 @@ CASES = [
     session("a name of 32 characters", f"author {'a' * 32} t\n", hello("a" * 32, "t"), f'{{"author":"{"a" * 32}@1","ok":true}}\n'),
     session("a host of 255 bytes", f"author ann t1\npeer 2 p2 {'h' * 253}:1\n", HELLO, ANN),
     session("a thousand accounts", THOUSAND, hello("a998", "t"), '{"author":"a998@1","ok":true}\n'),
-    bad("one name twice", "author ann t1\nauthor ann t2\n", 2),
-    bad("one number twice", "peer 2 a h:1\npeer 2 b h:1\n", 2),
-    bad("a name with a capital", "# x\n\nauthor Ann t\n", 3),
-    bad("a name of 33 characters", f"author {'a' * 33} t\n", 1),
-    bad("number 0", "peer 0 t h:1\n", 1),
-    bad("number 65536", "author ann t1\npeer 65536 t h:1\n", 2),
-    bad("a leading zero", "peer 02 t h:1\n", 1),
-    bad("no host", "peer 2 t\n", 1),
-    bad("a host without a colon", "peer 2 t h\n", 1),
-    bad("a host of 256 bytes", f"peer 2 t {'h' * 254}:1\n", 1),
-    bad("no token", "author ann\n", 1),
-    bad("a token of 65 bytes", f"author ann {'~' * 65}\n", 1),
-    bad("a token beyond ASCII", "author ann é\n", 1),
-    bad("two spaces", "author  ann t1\n", 1),
-    bad("a space at the end", "author ann t1 \n", 1),
-    bad("a space in front", " author ann t1\n", 1),
-    bad("a space before a comment", "author ann t1\n # x\n", 2),
-    bad("a tab", "author\tann t1\n", 1),
-    bad("another word", "admin ann t1\n", 1),
-    bad("a CR at the end of a last line without LF", "author ann t1\r", 1),
-    bad("a thousand and one", THOUSAND + "author bob t\n", 1001),
-    bad("standard error closed", "x\n", 1, errors_to=CLOSED),
-    bad("standard error full", "x\n", 1, errors_to=FULL),
+    bad("one name twice", "author ann t1\nauthor ann t2\n", 2, NAME_TWICE),
+    bad("one number twice", "peer 2 a h:1\npeer 2 b h:1\n", 2, NUMBER_TWICE),
+    bad("a name with a capital", "# x\n\nauthor Ann t\n", 3, NAME),
+    bad("a name beyond ASCII", "author zoé t\n", 1, NAME),
+    bad("a name of 33 characters", f"author {'a' * 33} t\n", 1, LONG_NAME),
+    bad("a name of 33 capitals", f"author {'A' * 33} t\n", 1, LONG_NAME),
+    bad("no name", "author\n", 1, NO_NAME),
+    bad("no number", "peer\n", 1, NO_NUMBER),
+    bad("number 0", "peer 0 t h:1\n", 1, ZERO),
+    bad("number 65536", "author ann t1\npeer 65536 t h:1\n", 2, LARGE),
+    bad("a number past 64 bits", "peer 18446744073709551617 t h:1\n", 1, LARGE),
+    bad("a leading zero", "peer 02 t h:1\n", 1, ZERO),
+    bad("a number that is a word", "peer two t h:1\n", 1, DIGITS),
+    bad("a number with a sign", "peer +2 t h:1\n", 1, DIGITS),
+    bad("no host", "peer 2 t\n", 1, NO_ADDRESS),
+    bad("a host without a colon", "peer 2 t h\n", 1, COLON),
+    bad("a host of 256 bytes", f"peer 2 t {'h' * 254}:1\n", 1, LONG_ADDRESS),
+    bad("a host beyond ASCII", "peer 2 t é:1\n", 1, ADDRESS),
+    bad("no token", "author ann\n", 1, NO_TOKEN),
+    bad("no token of a peer", "peer 2\n", 1, NO_TOKEN),
+    bad("a token of 65 bytes", f"author ann {'~' * 65}\n", 1, LONG_TOKEN),
+    bad("a peer's token of 65 bytes", f"peer 2 {'~' * 65} h:1\n", 1, LONG_TOKEN),
+    bad("a token beyond ASCII", "author ann é\n", 1, TOKEN),
+    bad("four words of an author", "author ann t1 h:1\n", 1, EXTRA),
+    bad("five words of a peer", "peer 2 t h:1 x\n", 1, EXTRA),
+    bad("two spaces", "author  ann t1\n", 1, SPACE),
+    bad("a space at the end", "author ann t1 \n", 1, SPACE),
+    bad("a space in front", " author ann t1\n", 1, SPACE),
+    bad("a space before a comment", "author ann t1\n # x\n", 2, SPACE),
+    bad("a line of one space", " \n", 1, SPACE),
+    bad("a tab", "author\tann t1\n", 1, TAB),
+    bad("a tab before two spaces", "author\tann  t1\n", 1, TAB),
+    bad("another word", "admin ann t1\n", 1, WORD),
+    bad("a capital in the first word", "Author ann t1\n", 1, WORD),
+    bad("a CR at the end of a last line without LF", "author ann t1\r", 1, TOKEN),
+    bad("a thousand and one", THOUSAND + "author bob t\n", 1001, MANY),
+    bad("a thousand and one, the last one twice", THOUSAND + "author a1 t\n", 1001, MANY),
+    bad("a number and a token", f"peer 0 {'~' * 65} h\n", 1, ZERO),
+    bad("an extra word and a bad name", "author Ann t1 x\n", 1, EXTRA),
+    bad("the first of two", "author ann t1\nauthor bob\nadmin\n", 2, NO_TOKEN),
+    bad("standard error closed", "x\n", 1, WORD, errors_to=CLOSED),
+    bad("standard error full", "x\n", 1, WORD, errors_to=FULL),
+    *[
+        Case(
+            f"accounts: a peer whose port is {port or 'empty'}",
+            ARGS,
+            HELLO,
+            ANN,
+            0,
+            Has("the accounts file accounts: peer 2: the port of ", f"127.0.0.1:{port} is not a number from 0 to 65535\n"),
+            (("accounts", f"author ann t1\npeer 2 p2 127.0.0.1:{port}\n"),),
+        )
+        for port in ["http", "", "65536", "-1"]
+    ],
     Case(
         "no accounts file", ARGS, HELLO, "", 1, Has("pad_server: ", "accounts", "No such file or directory (os error 2)")
     ),

@@ -1,17 +1,21 @@
 """The command line of the server: what it takes, what it refuses, and the status."""
-from harness import CLOSED, FULL, Case, Has
+from harness import CLOSED, FULL, Case, Has, Starts
 
 CREATE = '{"do":"create","pad":"p"}\n'
 CREATED = '{"now":0,"ok":true,"visit":1}\n'
 INSERT = '{"do":"insert","pad":"p","rev":0,"at":0,"text":"hello"}\n'
 NO_SLOT = '{"code":302,"error":"NoSlot","ok":false}\n'
 NO_PAD = '{"code":300,"error":"NoPad","ok":false}\n'
-OPTIONS = Has("Usage: pad_server", "--stdin", "--replica <N>", "--accounts <PATH>", "--cells <N>", "--help")
+USAGE = """Usage: pad_server --stdin --replica <N> [--accounts <PATH>] [--cells <N>]
+       pad_server --listen <ADDR> --replica <N> --accounts <PATH> [OPTIONS]
+"""
+OPTIONS = Has(USAGE, "--workers <N>", "--idle <SECONDS>", "--store <DIR>", "--new-replica", "--help")
 
 
 def refused(name, args, *parts):
-    """A command line that asks for nothing that the server does: status 2, a reason, and nothing is served."""
-    return Case(name, args, stdin=CREATE, status=2, stderr=Has(*parts))
+    """A command line that asks for nothing that the server does: status 2, a message that names the mistake, and nothing
+    is served."""
+    return Case(name, args, stdin=CREATE, status=2, stderr=Starts("pad_server: ", *parts))
 
 
 def first_name(replica):
@@ -41,15 +45,27 @@ CASES = [
     Case("version by its short name, and nothing else is asked for", "-V --stdin --replica 1", stdout="pad_server 0.1.0\n"),
     Case("version that cannot be printed", "--version", status=1, to=FULL),
     Case("help that cannot be printed", "--help", status=1, to=FULL),
-    refused("no words", "", "--replica"),
-    refused("no --replica", "--stdin", "--replica"),
-    refused("no --stdin", "--replica 1", "--stdin"),
+    refused("no words", "", "required", "--replica <N>", USAGE),
+    refused("no --replica", "--stdin", "required", "--replica <N>", USAGE),
+    refused("neither --stdin nor --listen", "--replica 1", "either --stdin or --listen <ADDR> is needed, and not both\n"),
+    refused("both --stdin and --listen", "--stdin --listen 127.0.0.1:0 --replica 1", "either --stdin or --listen <ADDR> is needed, and not both\n"),
+    refused("--listen without accounts", "--listen 127.0.0.1:0 --replica 1", "--listen <ADDR> needs --accounts <PATH>\n"),
+    refused("--store with --stdin", "--stdin --replica 1 --store s", "--store <DIR> needs --listen <ADDR>\n"),
+    refused("--idle with --stdin", "--stdin --replica 1 --idle 5", "--idle <SECONDS> needs --listen <ADDR>\n"),
+    refused("--new-replica with --stdin", "--stdin --replica 1 --new-replica", "--new-replica needs --listen <ADDR>\n"),
+    refused("--store and --idle with --stdin", "--stdin --replica 1 --idle 5 --store s", "--store <DIR> needs --listen <ADDR>\n"),
+    refused("--idle with neither", "--replica 1 --idle 5", "either --stdin or --listen <ADDR> is needed"),
     refused("an unknown option", "--stdin --replica 1 --colour", "--colour"),
     refused("an unknown word", "--stdin --replica 1 serve", "serve"),
     refused("--stdin twice", "--stdin --stdin --replica 1", "--stdin"),
     refused("--stdin with a value", "--stdin=yes --replica 1", "--stdin"),
     refused("--replica twice", "--stdin --replica 1 --replica 2", "--replica"),
     refused("--cells twice", "--stdin --replica 1 --cells 1 --cells 2", "--cells"),
+    *[refused(f"--idle {text}", f"--stdin --replica 1 --idle={text}", "--idle") for text in ["0", "-1", "x", ""]],
+    *[refused(f"--workers {text}", f"--stdin --replica 1 --workers={text}", "--workers") for text in ["0", "64", "x"]],
+    *[refused(f"--connections {text}", f"--stdin --replica 1 --connections={text}", "--connections") for text in ["0", "x"]],
+    *[refused(f"--{name} without a value", f"--stdin --replica 1 --{name}", f"--{name}") for name in ["listen", "store", "idle", "workers"]],
+    refused("--new-replica twice", "--listen 127.0.0.1:0 --replica 1 --new-replica --new-replica", "--new-replica"),
     refused("--accounts twice", "--stdin --replica 1 --accounts a --accounts b", "--accounts"),
     refused("--replica without a number", "--stdin --replica", "--replica"),
     refused("--cells without a number", "--stdin --replica 1 --cells", "--cells"),
@@ -59,6 +75,14 @@ CASES = [
         for text in ["0", "65536", "70000", "-1", "1.0", "one", "0x1", "18446744073709551617", ""]
     ],
     *[refused(f"cells {text}", f"--stdin --replica 1 --cells={text}", "--cells") for text in ["0", "65", "-1", "two", "4294967297"]],
+    Case("--workers and --connections change nothing with --stdin", "--stdin --replica 1 --workers 2 --connections 1", CREATE, CREATED),
+    Case(
+        "an address without a host",
+        "--listen 7878 --replica 1 --accounts accounts",
+        status=1,
+        stderr="pad_server: cannot listen at 7878: HOST:PORT is needed, such as 127.0.0.1:7878\n",
+        files=(("accounts", "author ann t1\n"),),
+    ),
     numbered(1),
     numbered(255),
     numbered(300),

@@ -5,6 +5,7 @@
 #define _GNU_SOURCE
 #include <errno.h>
 #include <fcntl.h>
+#include <malloc.h>
 #include <stdatomic.h>
 #include <stdio.h>
 #include <stdlib.h>
@@ -24,13 +25,18 @@ struct faults {
     atomic_long error; /* of the write that fails; 0 is EIO */
     atomic_long room; /* the bytes that files have room for, and one more; 0 sets no bound */
     atomic_long syncs_made;
+    atomic_long large; /* the bytes of all blocks of at least LARGE bytes that are not freed */
 };
+
+#define LARGE (1 << 20)
 
 static struct faults *faults;
 static __thread int has_read __attribute__((tls_model("initial-exec")));
 
 void *__libc_malloc(size_t size);
 void *__libc_realloc(void *block, size_t size);
+void *__libc_calloc(size_t count, size_t size);
+void __libc_free(void *block);
 
 __attribute__((constructor)) static void open_faults(void)
 {
@@ -63,13 +69,41 @@ static int is_refused(void)
     return faults && (has_read || atomic_load(&faults->everywhere)) && fails(&faults->allocations);
 }
 
+/* The bytes of a block, if it is a large one. */
+static long large_size(void *block)
+{
+    long size = block ? malloc_usable_size(block) : 0;
+    return size >= LARGE ? size : 0;
+}
+
+static void *counted(void *block)
+{
+    long size = large_size(block);
+    if (faults && size > 0)
+        atomic_fetch_add(&faults->large, size);
+    return block;
+}
+
+void free(void *block)
+{
+    long size = large_size(block);
+    if (faults && size > 0)
+        atomic_fetch_sub(&faults->large, size);
+    __libc_free(block);
+}
+
+void *calloc(size_t count, size_t size)
+{
+    return counted(__libc_calloc(count, size));
+}
+
 void *malloc(size_t size)
 {
     if (is_refused()) {
         errno = ENOMEM;
         return NULL;
     }
-    return __libc_malloc(size);
+    return counted(__libc_malloc(size));
 }
 
 void *realloc(void *block, size_t size)
@@ -78,7 +112,13 @@ void *realloc(void *block, size_t size)
         errno = ENOMEM;
         return NULL;
     }
-    return __libc_realloc(block, size);
+    long before = large_size(block);
+    void *moved = __libc_realloc(block, size);
+    if (!moved && size > 0)
+        return NULL;
+    if (faults && before > 0)
+        atomic_fetch_sub(&faults->large, before);
+    return counted(moved);
 }
 
 ssize_t read(int file, void *to, size_t size)

@@ -44,6 +44,10 @@ class Has:
         object.__setattr__(self, "parts", parts)
 
 
+class Starts(Has):
+    """The same of a text that starts with the first of the parts."""
+
+
 # What standard input, output or error can be, beside bytes that are given or read.
 CLOSED = "closed"  # no such descriptor
 FULL = "/dev/full"  # a device with no room
@@ -153,10 +157,11 @@ def set_up(case):
 
 
 def differences(what, got, wanted):
-    """Says where bytes differ from those that are wanted, in no words where they don't."""
+    """Where bytes differ from those that are wanted; an empty list if they are equal."""
     if isinstance(wanted, Has):
         text = got.decode(errors="replace")
-        return [f"{what} lacks {part!r}" for part in wanted.parts if part not in text]
+        start = isinstance(wanted, Starts) and not text.startswith(wanted.parts[0])
+        return [f"{what} lacks {part!r}" for part in wanted.parts if part not in text] + [f"{what} starts otherwise"] * start
     got_lines, wanted_lines = got.split(b"\n"), as_bytes(wanted).split(b"\n")
     if got_lines == wanted_lines:
         return []

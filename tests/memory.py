@@ -6,13 +6,16 @@ the answer is 900 and the pads read as before, or as after the request where onl
 """
 import errno
 import itertools
+import json
 import subprocess
+import time
 
 from faults import Faults
 from harness import Failed, Test, put_files, start, want
 from sockets import Client
 
 NO_MEMORY = {"code": 900, "error": "Memory", "ok": False}
+NOT_JSON = {"code": 101, "error": "NotJson", "ok": False}
 LINE = '{"code":900,"error":"Memory","ok":false}\n'
 ACCOUNTS = (("accounts", "author ann tann\nauthor bob tbob\nauthor eve teve\npeer 2 secret 127.0.0.1:1\npeer 3 secret 127.0.0.1:1\n"),)
 LISTEN = "--listen 127.0.0.1:0 --replica 1 --accounts accounts"
@@ -282,6 +285,25 @@ def a_long_line_without_memory_is_told():
     ann.wants({"do": "text", "pad": "p"}, {"now": 0, "ok": True, "rev": 0, "text": ""})
 
 
+def the_room_of_a_long_line_is_given_back():
+    """Four connections send a line of 8 MiB each, are answered, and wait: no large block is left of those lines."""
+    server = Server()
+    served = server.served()
+    before = server.faults.get("large")
+    clients = []
+    for number in range(4):
+        client = server.connect()
+        client.send("x" * (8 * 1024 * 1024) + "\n")
+        want(json.loads(client.replies.readline()), NOT_JSON, f"the answer to long line {number}")
+        clients.append(client)
+    deadline = time.monotonic() + 10
+    while server.faults.get("large") > before and time.monotonic() < deadline:
+        time.sleep(0.05)
+    want(server.faults.get("large"), before, "the bytes of large blocks while all connections wait")
+    for client in [served, *clients]:
+        client.wants({"do": "text", "pad": "p"}, {"code": 200, "error": "NoSession", "ok": False})
+
+
 def standard_input_without_memory():
     """The first allocation of a run is refused, then the second: it says so and ends, or answers 900 and goes on."""
     asked = b'{"do":"create","pad":"p"}\n{"do":"text","pad":"p"}\n'
@@ -309,7 +331,7 @@ def standard_input_without_memory():
             break
         if process.returncode == 1:
             # While the command line is read, clap says it in its own words.
-            told = said.startswith("pad_server: 900 Memory") or said == "error: out of memory\n"
+            told = said.startswith("pad_server: 900 Memory") or said == "pad_server: out of memory\n"
             want(told, True, f"900 on standard error, which has {said!r}")
             want(wrote in ("", LINE, created + LINE), True, f"whole lines before the end, which are {wrote!r}")
         else:
@@ -326,5 +348,6 @@ TESTS = [
     Test("memory: allocations of each request are refused", allocations_of_each_request_are_refused, 120),
     Test("memory: a connection that finds none ends alone", a_connection_without_memory_ends_alone, 60),
     Test("memory: a long line that finds none", a_long_line_without_memory_is_told, 60),
+    Test("memory: the room of a long line is given back", the_room_of_a_long_line_is_given_back, 60),
     Test("memory: standard input and output", standard_input_without_memory, 60),
 ]

@@ -234,7 +234,7 @@ def a_silent_connection_ends_where_the_server_says_so():
         time.sleep(0.1)
     want(silent.replies.read(), b"", "what the silent connection reads")
     said = server.process.stderr.readline().decode()
-    want("connection 2 ended: it said nothing for too long" in said, True, f"what {said!r} says")
+    want("connection 2 ended: it was silent for too long" in said, True, f"what {said!r} says")
 
 
 def a_client_that_reads_nothing_is_not_waited_for():
@@ -258,6 +258,51 @@ def a_session_is_left_before_its_connection_ends():
         want(leaves.join("p"), visit, "the visit")
         want(leaves.finish(), "", "what is written at the end")
         want([entry["visit"] for entry in keeps.does(do="who", pad="p")["who"]], [1], "who is there")
+
+
+def a_session_leaves_all_its_pads():
+    """Who has joined two pads, in whatever order, is on neither once its connection has ended or was broken off."""
+    server = Server(stderr=subprocess.DEVNULL)
+    keeps = server.author("ann")
+    for pad in ["p", "q"]:
+        keeps.does(do="create", pad=pad)
+        keeps.does(do="grant", pad=pad, author="bob", right="read")
+    are_on = lambda pad: [entry["author"] for entry in keeps.does(do="who", pad=pad)["who"]]
+    for first, second in [("p", "q"), ("q", "p")]:
+        leaves = server.author("bob", first)
+        leaves.join(second)
+        want([are_on(pad) for pad in ["p", "q"]], [["ann@1", "bob@1"]] * 2, "who is on the pads before the end")
+        want(leaves.finish(), "", "what is written at the end")
+        want([are_on(pad) for pad in ["p", "q"]], [["ann@1"]] * 2, "who is on the pads after it")
+    breaks = server.author("bob", "p")
+    breaks.join("q")
+    breaks.reset()
+    end = time.monotonic() + WAIT
+    while [are_on(pad) for pad in ["p", "q"]] != [["ann@1"]] * 2:
+        if time.monotonic() > end:
+            raise Failed(f"a visit is there {WAIT} s after its connection was broken off")
+        time.sleep(0.1)
+
+
+def each_author_sees_the_pads_that_they_may_read():
+    """What `pads` and `changes` answer over connections, with several workers, of pads that two authors share in part."""
+    server = Server()
+    ann, bob = server.author("ann"), server.author("bob")
+    for pad in ["p", "q", "r"]:
+        ann.does(do="create", pad=pad)
+    bob.wants({"do": "pads"}, {"ok": True, "pads": []})
+    ann.does(do="grant", pad="r", author="bob", right="write")
+    ann.does(do="grant", pad="p", author="bob", right="read")
+    ann.does(do="insert", pad="p", rev=0, at=0, text="hello")
+    bob.wants({"do": "pads"}, {"ok": True, "pads": [["p", "read", 1], ["r", "write", 0]]})
+    ann.wants({"do": "pads"}, {"ok": True, "pads": [["p", "own", 1], ["q", "own", 0], ["r", "own", 0]]})
+    bob.join("p")
+    ann.does(do="delete", pad="p", rev=1, at=1, len=3)
+    pieces = [["keep", 1], ["drop", 3], ["keep", 1]]
+    bob.wants({"do": "changes", "pad": "p", "rev": 1}, {"changes": pieces, "notes": 0, "now": 2, "ok": True, "rev": 1, "to": 2})
+    ann.does(do="grant", pad="p", author="bob", right="none")
+    bob.wants({"do": "pads"}, {"ok": True, "pads": [["r", "write", 0]]})
+    server.connect().wants({"do": "pads"}, {"code": 200, "error": "NoSession", "ok": False})
 
 
 def a_line_that_is_too_long_ends_its_connection():
@@ -318,6 +363,8 @@ FUNCTIONS = [
     a_broken_connection_ends_alone,
     a_silent_connection_ends_where_the_server_says_so,
     a_session_is_left_before_its_connection_ends,
+    a_session_leaves_all_its_pads,
+    each_author_sees_the_pads_that_they_may_read,
     a_line_that_is_too_long_ends_its_connection,
     too_many_files,
     an_address_in_use,

@@ -103,8 +103,19 @@ def has_all(count):
     kill(server)
 
 
+def tear(synced, size, chance):
+    """Takes about half of the sectors behind what was synced, whichever they are: zeros stand there."""
+    with open("kept/p.pad", "r+b") as file:
+        for start in range(synced // 512 * 512, size, 512):
+            if chance.random() < 0.5:
+                start, end = max(start, synced), min(start + 512, size)
+                file.seek(start)
+                file.write(bytes(end - start))
+
+
 def a_crash_takes_what_was_not_synced():
-    """After a kill under eight writers the file is cut anywhere behind what was synced. What was answered is there."""
+    """After a kill under eight writers the file is torn behind what was synced, and cut anywhere there. What was answered is
+    there, and the server starts."""
     faults = Faults()
     server = Faulty(faults)
     ann = server.author("ann")
@@ -118,7 +129,9 @@ def a_crash_takes_what_was_not_synced():
         answered |= set(kill_under_writers(server, chance.uniform(0.02, 0.2)))
         size, synced = os.path.getsize("kept/p.pad"), faults.get("synced")
         length = chance.randint(synced, size)
-        os.truncate("kept/p.pad", length)
+        tear(synced, size, chance)
+        if chance.random() < 0.5:
+            os.truncate("kept/p.pad", length)
         taken += size - length
         faults.set("synced", 0)
         server = Faulty(faults)

@@ -47,6 +47,12 @@ def lines_of(pad):
     return texts
 
 
+def line_of(before, value):
+    """The line of a value behind a sum."""
+    text = json.dumps(value, separators=(",", ":"), sort_keys=True).encode()
+    return b"[" + text + b',"' + hashlib.sha256(before + text).hexdigest().encode() + b'"]\n'
+
+
 def entries_of(client):
     """What made each revision of the pad p, in order: name, author and kind."""
     found = []
@@ -88,6 +94,33 @@ def all_comes_back():
     answer = ann.does(do="insert", pad="p", rev=4, at=0, text="next")
     want(answer["name"], [1, 5], "the name of the next operation")
     kill(server)
+
+
+def times_and_batches():
+    """Each record has the time at which it was made. It says whether a line before it was not synced yet."""
+    began = int(time.time())
+    server = restarted()
+    ann = server.author("ann")
+    ann.does(do="create", pad="p")
+    ann.does(do="insert", pad="p", rev=0, at=0, text="one")
+    time.sleep(1.2)
+    between = int(time.time())
+    ann.does(do="insert", pad="p", rev=1, at=0, text="two")
+    kill(server)
+    texts = lines_of("p")
+    times = [text["at"] for text in texts[1:]]
+    want(times == sorted(times) and began <= times[0] and times[1] <= between <= times[2] <= time.time(), True, f"the times {times}")
+    want([text.get("together") for text in texts], [None, True, None, None], "which lines stand together with one before")
+
+
+def private_files():
+    """The folder and the files of a store are its server's user's alone."""
+    server = restarted()
+    server.author("ann").does(do="create", pad="p")
+    kill(server)
+    want(os.stat("kept").st_mode & 0o777, 0o700, "the mode of the folder")
+    for name in ("p.pad", "lock", "reserve"):
+        want(os.stat(f"kept/{name}").st_mode & 0o777, 0o600, f"the mode of {name}")
 
 
 def several_pads():
@@ -203,13 +236,20 @@ def copied():
         refused(1, f"{name}.pad: {told}", "is damaged")
         with open(f"kept/{name}.pad", "rb") as file:
             want(file.read(), copy, "the copy")
-    for front in (b"", b"[{", b'[{"format":1,"pad":"q"'):
+    first = content[: content.index(b"\n") + 1]
+    fronts = (b"", b"[{", b'[{"format":1,"pad":"q"', bytes(300), b'[{"format":1,"pad":"q"' + bytes(200) + b"\n")
+    for number, front in enumerate((*fronts, line_of(b"", {"format": 1, "pad": "q", "replica": 1})), 1):
         with open("kept/q.pad", "wb") as file:
             file.write(front)
-        server = restarted()
+        server = restarted_told()
         server.author("ann", "p")
         kill(server)
-        want(os.path.exists("kept/q.pad"), False, "that a file whose first write was cut off is taken away")
+        want(os.path.exists("kept/q.pad"), False, "that a file in which no pad was named stays")
+        with open(f"kept/q.pad.unnamed-{number}", "rb") as file:
+            want(file.read(), front, "what was moved aside")
+        told = server.process.stderr.read()
+        want(b"kept/q.pad.unnamed-%d" % number in told, True, f"that this is said: {told!r}")
+    want(line_of(b"", {"format": 1, "pad": "p", "replica": 1}), first, "a line that is made here")
 
 
 def in_use():
@@ -376,8 +416,10 @@ def killed_under_writers():
 
 
 TESTS = [
-    Case("a store needs connections", "--stdin --store kept --replica 1", status=2, stderr="error: --store <DIR> needs --listen <ADDR>\n").test(),
+    Case("a store needs connections", "--stdin --store kept --replica 1", status=2, stderr="pad_server: --store <DIR> needs --listen <ADDR>\n").test(),
     Test("store: all comes back", all_comes_back),
+    Test("store: times and batches", times_and_batches),
+    Test("store: private files", private_files),
     Test("store: several pads", several_pads),
     Test("store: a torn line", torn_line),
     Test("store: a front of the file", front_of_the_file, 60),

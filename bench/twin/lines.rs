@@ -1,7 +1,7 @@
-//! One pad behind the lines of `pad_server --stdin`, as far as `bench/piped.py` and `bench/reads.py` ask: `create`, `insert`, `delete`
-//! of one character, and the present `text`, of letters alone. Each reply is one write.
+//! One pad behind the lines of `pad_server --stdin`, as far as `bench/piped.py`, `bench/reads.py` and `bench/changes.py` ask:
+//! `create`, `insert`, `delete` of one character, the present `text`, and `changes`, of letters alone. Each reply is one write.
 use crate::json::{read, Value};
-use crate::typing::Row;
+use crate::typing::{Piece, Row};
 use std::io::{self, BufRead, Write};
 
 /// What the log keeps of an operation.
@@ -36,6 +36,14 @@ impl Pad {
                 let text = self.row.shown();
                 Some(format!("{{\"now\":{number},\"ok\":true,\"rev\":{number},\"text\":\"{text}\"}}\n"))
             }
+            "changes" => {
+                let now = self.log.last().map_or(0, |last| last.number);
+                let rev = request.number("rev")?;
+                let to = request.number("to").unwrap_or(now);
+                let pieces: Vec<String> = self.row.changes(rev, to).iter().map(spelled).collect();
+                let pieces = pieces.join(",");
+                Some(format!("{{\"changes\":[{pieces}],\"notes\":0,\"now\":{now},\"ok\":true,\"rev\":{rev},\"to\":{to}}}\n"))
+            }
             _ => None,
         }
     }
@@ -45,6 +53,14 @@ impl Pad {
         let author = self.log.last().map_or_else(|| String::from("solo"), |last| last.author.clone());
         self.log.push(Kept { number, author, text: text.to_string() });
         number
+    }
+}
+
+fn spelled(piece: &Piece) -> String {
+    match piece {
+        Piece::Keep(len) => format!("[\"keep\",{len}]"),
+        Piece::Drop(len) => format!("[\"drop\",{len}]"),
+        Piece::Insert(text) => format!("[\"insert\",\"{text}\",\"solo@1\"]"),
     }
 }
 

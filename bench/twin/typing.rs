@@ -13,6 +13,7 @@ const LAST_LABEL: u64 = u64::MAX;
 struct Block {
     first: Stamp,
     parent: Option<Stamp>,
+    born: u64,
     died: Option<u64>,
     label: u64,
     start: usize,
@@ -26,6 +27,29 @@ impl Weigh for Block {
         } else {
             self.len
         }
+    }
+}
+
+impl Block {
+    fn is_shown(&self, rev: u64) -> bool {
+        self.born <= rev && self.died.is_none_or(|died| rev < died)
+    }
+}
+
+/// A stretch of the difference between two revisions.
+pub enum Piece {
+    Keep(u64),
+    Drop(u64),
+    Insert(String),
+}
+
+/// Adds a piece, to the last one where that does the same.
+fn add(pieces: &mut Vec<Piece>, piece: Piece) {
+    match (pieces.last_mut(), piece) {
+        (_, Piece::Keep(0)) => {}
+        (Some(Piece::Keep(last)), Piece::Keep(more)) | (Some(Piece::Drop(last)), Piece::Drop(more)) => *last += more,
+        (Some(Piece::Insert(last)), Piece::Insert(more)) => last.push_str(&more),
+        (_, piece) => pieces.push(piece),
     }
 }
 
@@ -219,6 +243,7 @@ impl Row {
         let block = Block {
             first,
             parent,
+            born: self.rev,
             died: None,
             label,
             start,
@@ -234,6 +259,51 @@ impl Row {
     pub fn shown(&self) -> String {
         let visible = self.tree.iter().filter(|block| block.died.is_none());
         visible.flat_map(|block| &self.text[block.start..block.start + block.len as usize]).collect()
+    }
+
+    /// The ranks of the blocks that hold what came or went after a revision, in order, some twice.
+    fn touched(&self, rev: u64) -> Vec<usize> {
+        let mut ranks = Vec::new();
+        for slide in since(&self.slides, rev) {
+            let mut offset = 0;
+            while offset < slide.len {
+                let (rank, inside) = self.find(slide.first.plus(offset)).expect("it is there");
+                ranks.push(rank);
+                offset += self.tree.get(rank).len - inside;
+            }
+        }
+        ranks.sort();
+        ranks
+    }
+
+    /// What leads from one revision to another, in the fewest pieces, by the same slides as `crates/block_seq`.
+    pub fn changes(&self, rev: u64, to: u64) -> Vec<Piece> {
+        let mut pieces = Vec::new();
+        if since(&self.slides, rev).len() >= self.tree.len() / 8 {
+            for block in self.tree.iter() {
+                self.add_block(&mut pieces, block, rev, to);
+            }
+            return pieces;
+        }
+        let mut next = 0;
+        for rank in self.touched(rev) {
+            if next <= rank {
+                add(&mut pieces, Piece::Keep(self.tree.before(rank) - self.tree.before(next)));
+                self.add_block(&mut pieces, self.tree.get(rank), rev, to);
+                next = rank + 1;
+            }
+        }
+        add(&mut pieces, Piece::Keep(self.tree.weight() - self.tree.before(next)));
+        pieces
+    }
+
+    fn add_block(&self, pieces: &mut Vec<Piece>, block: &Block, rev: u64, to: u64) {
+        match (block.is_shown(rev), block.is_shown(to)) {
+            (true, true) => add(pieces, Piece::Keep(block.len)),
+            (true, false) => add(pieces, Piece::Drop(block.len)),
+            (false, true) => add(pieces, Piece::Insert(self.text[block.start..block.start + block.len as usize].iter().collect())),
+            (false, false) => {}
+        }
     }
 
     pub fn erase_at(&mut self, at: u64) {

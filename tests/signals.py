@@ -29,9 +29,15 @@ class Writer(threading.Thread):
             pass
 
 
+def hear_signals():
+    """A shell that starts something in the background has it ignore SIGINT, and so all that this starts."""
+    for number in [signal.SIGTERM, signal.SIGINT]:
+        signal.signal(number, signal.SIG_DFL)
+
+
 def begin():
     """A server whose pad p the writers may edit."""
-    server = Server(STORE)
+    server = Server(STORE, preexec_fn=hear_signals)
     owner = server.author("hal")
     owner.does(do="create", pad="p")
     for name in WRITERS:

@@ -3,13 +3,12 @@ use Rattle.std.proofs.Common.{◌≡◌, ℕ, ◌+◌, ◌-◌, ◌<◌, ◌≤�
 use Rattle.std.proofs.Common.{take, drop, refl, ap, ◌∙◌, sym, subst, arith, length-drop, drop-drop}
 use Rattle.std.proofs.lemmas.List.{take-append-le, drop-append-le}
 use Rattle.std.specs.Prelude.{slice_range}
-use Rattle.wire_lines.specs.Lines.{line_end, first_line, without_return}
-use Rattle.wire_lines.specs.Buffer.{Shows, ShowsBefore}
+use Rattle.wire_lines.specs.Lines.{line_end, first_line, behind_line, without_return}
+use Rattle.wire_lines.specs.Buffer.{ShowsBefore}
 use Rattle.wire_lines.specs.declared.buffer.Found.TheVariants.{Text, TooLong}
 use Rattle.wire_lines.specs.declared.feed.TheConstants.{MAX_LINE}
-use Rattle.wire_lines.specs.Inside.{IsBuffer}
-use Rattle.wire_lines.specs.declared.buffer.TheConstants.{MAX_READS, CHUNK}
-use Rattle.wire_lines.proofs.Feeds.{line_end-found, line_end-behind, line_end-more}
+use Rattle.wire_lines.specs.Inside.{IsSplit}
+use Rattle.wire_lines.proofs.Feeds.{line_end-found, line_end-more, line_end-from, further}
 
 -- the first line of bytes that have a line feed
 pub first-of : (bytes : List ℕ) → line_end bytes < length bytes → first_line bytes
@@ -45,78 +44,60 @@ shows_text bytes lt few more =
       sym (ap (λ n. drop (n + 1) (bytes ++ more)) same ∙ drop-append-le (line_end bytes + 1) bytes more (omega arith)),
     )
 
--- a line feed was found too far behind
-pub shows_far : (bytes : List ℕ) → line_end bytes < length bytes → MAX_LINE < line_end bytes → (line : List ℕ) →
-    ShowsBefore TooLong bytes line bytes
-shows_far bytes lt many line more = (
-  ap (ltb MAX_LINE) (line_end-found bytes more lt)
-      ∙ above (line_end bytes) MAX_LINE many,
-  refl,
-)
+-- too much of the first line is there, with its line feed or without
+pub shows_too_long : (bytes line : List ℕ) → MAX_LINE < line_end bytes → ShowsBefore TooLong bytes line bytes
+shows_too_long bytes line many more =
+    let longer : line_end bytes ≤ line_end (bytes ++ more) = line_end-more bytes more in
+    (above (line_end (bytes ++ more)) MAX_LINE (omega arith), refl)
 
--- no line feed was found in too many bytes
-pub shows_long : (bytes : List ℕ) → line_end bytes ≡ length bytes → MAX_LINE < length bytes → (line : List ℕ) →
-    ShowsBefore TooLong bytes line bytes
-shows_long bytes is many line more = (
-  ap (ltb MAX_LINE) (line_end-behind bytes more is) ∙ above (length bytes + line_end more) MAX_LINE (omega arith),
-  refl,
-)
+-- what is held up to the end of the first line is that line
+pub held_line : (held waiting : List ℕ) (start end to : ℕ) → drop start held ≡ waiting
+    → end ≡ start + line_end (drop start held)
+    → slice_range held start to ≡ without_return (slice_range held start end)
+    → without_return (take (line_end waiting) waiting) ≡ slice_range held start to
+held_line held waiting start end to is at line =
+    let so : end - start ≡ line_end waiting = omega (arith, ap line_end is) in
+    sym (line ∙ ap (λ n. without_return (take n (drop start held))) so
+    ∙ ap (λ w. without_return (take (line_end waiting) w)) is)
 
--- a line is taken off what is held
-pub taken : (held waiting : List ℕ) (start feed to : ℕ) → drop start held ≡ waiting → start ≤ length held
-    → feed ≡ start + line_end (drop start held) → feed < length held → feed - start ≤ MAX_LINE
-    → slice_range held start to ≡ without_return (slice_range held start feed)
-    → ShowsBefore Text waiting (slice_range held start to) (drop (feed + 1) held)
-taken held waiting start feed to is start_in at in_range few line =
-    let end : feed - start ≡ line_end waiting = omega (arith, ap line_end is) in
-    let longer : line_end waiting < length waiting = omega (arith, length-drop start held, ap length is) in
-    let shown : ShowsBefore Text waiting (without_return (take (line_end waiting) waiting))
-    (drop (line_end waiting + 1) waiting) = shows_text waiting longer (omega arith) in
-    let text : slice_range held start to ≡ without_return (take (line_end waiting) waiting) =
-    line ∙ ap (λ n. without_return (take n (drop start held))) end
-    ∙ ap (λ w. without_return (take (line_end waiting) w)) is in
-    let rest : drop (feed + 1) held ≡ drop (line_end waiting + 1) waiting =
-    ap (λ n. drop n held) (omega arith) ∙ sym (drop-drop (line_end waiting + 1) start held)
-    ∙ ap (drop (line_end waiting + 1)) is in
-    λ more. subst (λ l. Shows Text (waiting ++ more) l (drop (feed + 1) held ++ more)) (sym text)
-    (subst (λ r. Shows Text (waiting ++ more) (without_return (take (line_end waiting) waiting)) (r ++ more)) (sym rest)
-    (shown more))
+-- what is held behind the end of the first line is the rest
+pub held_rest : (held waiting : List ℕ) (start end : ℕ) → drop start held ≡ waiting
+    → end ≡ start + line_end (drop start held) → drop (line_end waiting + 1) waiting ≡ drop (end + 1) held
+held_rest held waiting start end is at =
+    let so : end + 1 ≡ start + (line_end waiting + 1) = omega (arith, ap line_end is) in
+    ap (drop (line_end waiting + 1)) (sym is) ∙ drop-drop (line_end waiting + 1) start held
+    ∙ ap (λ n. drop n held) (omega arith)
 
--- the line feed of what is held comes too late
-pub taken_far : (held waiting line : List ℕ) (start feed : ℕ) → drop start held ≡ waiting → start ≤ length held
-    → feed ≡ start + line_end (drop start held) → feed < length held → MAX_LINE < feed - start →
-    ShowsBefore TooLong waiting line (drop start held)
-taken_far held waiting line start feed is start_in at in_range many =
-    rw is (shows_far waiting (omega (arith, length-drop start held, ap length is, ap line_end is))
-    (omega (arith, ap line_end is)) line)
+-- the first line of what is held shows, whatever follows
+pub first_shows : (held waiting : List ℕ) (start end to : ℕ) → drop start held ≡ waiting → start ≤ length held
+    → end ≡ start + line_end (drop start held) → end < length held → end - start ≤ MAX_LINE
+    → slice_range held start to ≡ without_return (slice_range held start end)
+    → ShowsBefore Text waiting (slice_range held start to) (behind_line waiting)
+first_shows held waiting start end to is start_in at in_range few line =
+    let there : line_end waiting < length waiting = omega (arith, length-drop start held, ap length is, ap line_end is) in
+    let short : line_end waiting ≤ MAX_LINE = omega (arith, ap line_end is) in
+    subst (λ l. ShowsBefore Text waiting l (behind_line waiting)) (held_line held waiting start end to is at line)
+    (shows_text waiting there short)
 
--- too much is held without a line feed
-pub taken_long : (held waiting line : List ℕ) (start : ℕ) → drop start held ≡ waiting → start ≤ length held
-    → start + line_end (drop start held) ≡ length held → MAX_LINE < length held - start →
-    ShowsBefore TooLong waiting line waiting
-taken_long held waiting line start is start_in at many =
-    shows_long waiting (omega (arith, length-drop start held, ap length is, ap line_end is))
-    (omega (arith, length-drop start held, ap length is)) line
-
--- after a read the fields are in order
-pub after_read : (held new more : List ℕ) (start searched from to reads room later : ℕ) →
-    IsBuffer held start searched from to reads room
-    → new ≡ drop start held ++ more → reads < MAX_READS → later ≡ CHUNK →
-    IsBuffer new 0 (searched - start) 0 0 (reads + 1) later
-after_read held new more start searched from to reads room later kept is few whole =
-    let len : length new ≡ length held - start + length more = ap length is ∙ length-append (drop start held) more
-    ∙ ap (λ n. n + length more) (length-drop start held) in
-    let end : line_end (drop start held) ≤ line_end new = subst (λ l. line_end (drop start held) ≤ line_end l) (sym is)
-    (line_end-more (drop start held) more) in
-    let in_range : searched ≤ length held = kept.searched_in in
-    let not_passed : searched ≤ start + line_end (drop start held) = kept.not_passed in
+-- after more bytes came the fields are in order
+pub after_more : (held new more : List ℕ) (start end later from to : ℕ) → IsSplit held start end from to
+    → new ≡ held ++ more → later ≡ end + line_end (drop end new) → later ≤ length new → IsSplit new start later from to
+after_more held new more start end later from to kept is at later_in =
+    let start_in : start ≤ length held = kept.start_in in
+    let ends : end ≡ start + line_end (drop start held) = kept.ends in
+    let line_in : to ≤ length held = kept.line_in in
+    let longer : length new ≡ length held + length more = ap length is ∙ length-append held more in
+    let parts : drop start new ≡ drop start held ++ more = ap (drop start) is ∙ drop-append-le start held more start_in in
+    let most : line_end (drop start held) ≤ line_end (drop start new) =
+    subst (λ l. line_end (drop start held) ≤ line_end l) (sym parts) (line_end-more (drop start held) more) in
+    let on : line_end (drop start new) ≡ (end - start) + line_end (drop (end - start) (drop start new)) =
+    line_end-from (drop start new) (end - start) (omega arith) in
+    let same : line_end (drop (end - start) (drop start new)) ≡ line_end (drop end new) =
+    ap line_end (further new start end (omega arith)) in
     record {
       start_in = omega arith;
-      begun = omega arith;
-      searched_in = omega arith;
-      not_passed = omega arith;
-      line_ordered = omega arith;
+      ends = omega arith;
+      end_in = later_in;
+      line_ordered = kept.line_ordered;
       line_in = omega arith;
-      whole_chunk = whole;
-      few = omega arith;
     }

@@ -5,7 +5,7 @@ use Rattle.std.specs.Io.KnownBytes.{prepend_known}
 use Rattle.wire_lines.specs.declared.fault.Fault.{Fault}
 use Rattle.wire_lines.specs.declared.buffer.Found.{Found}
 use Rattle.wire_lines.specs.declared.buffer.Found.TheVariants.{Text, TooLong, End}
-use Rattle.wire_lines.specs.declared.buffer.TheConstants.{MAX_READS, CHUNK}
+use Rattle.wire_lines.specs.declared.inlet.TheConstants.{MAX_READS, CHUNK}
 use Rattle.wire_lines.specs.declared.feed.TheConstants.{MAX_LINE}
 use Rattle.wire_lines.specs.Lines.{line_end, first_line, behind_line, is_too_long}
 

@@ -8,3 +8,4 @@ pub mod Inside
 pub mod Lines
 pub mod Reader
 pub mod Served
+pub mod Splitter

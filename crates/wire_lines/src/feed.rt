@@ -1,22 +1,20 @@
 //! Where a line ends, and whether a carriage return comes before its end.
-ghost use Rattle.std.specs.Prelude.{◌≡◌, ◌+◌, ◌≤◌, ◌<◌, length, drop, slice_range, IfNone, IfSome};
+ghost use Rattle.std.specs.Prelude.{◌≡◌, ◌+◌, ◌≤◌, length, drop, slice_range};
 ghost use Rattle.std.specs.List.{position};
 ghost use Rattle.wire_lines.specs.Lines.{is_feed, line_end, without_return};
 
 /// The most bytes of a line: 8 MiB. Its line feed is not counted, a carriage return is.
 pub const MAX_LINE: usize = 8_388_608;
 
-/// The place of the first line feed from `start` on. There is none before `searched`.
-pub fn first_feed(held: &[u8], start: usize, searched: usize) -> Option<usize>
-    requires in_range { searched ≤ length held.now }
-    requires begun { start ≤ searched }
-    requires not_passed { searched ≤ start + line_end (drop start held.now) }
-    ensures found { IfSome result (λ feed. (feed ≡ start + line_end (drop start held.now)) × (feed < length held.now)) }
-    ensures none { IfNone result (start + line_end (drop start held.now) ≡ length held.now) }
+/// Where the line that `from` lies in ends: at the first line feed from there on, or where the bytes end.
+pub fn end_from(held: &[u8], from: usize) -> usize
+    requires { from ≤ length held.now }
+    ensures end { result ≡ from + line_end (drop from held.now) }
+    ensures bound { result ≤ length held.now }
 {
-    match find_feed(&held[searched..]) {
-        Some(offset) => Some(searched + offset),
-        None => None,
+    match find_feed(&held[from..]) {
+        Some(offset) => from + offset,
+        None => held.len(),
     }
 }
 

@@ -1,0 +1,247 @@
+//! Bytes that came in pieces, and the lines in them. Nothing is read here: the caller brings the bytes, or an inlet.
+ghost use Rattle.std.specs.Prelude.{◌≡◌, ◌+◌, ◌≤◌, ◌<◌, true, false, ◌≢◌, nat_lt, [], ◌++◌, length, drop, IfErr, IfNone, IfOk, IfSome, OnOk, OnErr, IsOk, Some, vec_len, vec_capacity};
+ghost use Rattle.std.specs.Bool.{OnTrue};
+ghost use Rattle.std.specs.Io.KnownBytes.{Keeps, IsAtEnd, prepend_known};
+ghost use Rattle.wire_lines.specs.Lines.{behind_line, line_end};
+ghost use Rattle.wire_lines.specs.Buffer.{Shows, ShowsBefore, IsPart};
+ghost use Rattle.wire_lines.specs.Splitter.{has_line};
+ghost use Rattle.wire_lines.specs.Causes.{AreCounted, HasCause, most_reads};
+ghost use Rattle.wire_lines.specs.declared.fault.Fault.TheVariants.{Memory};
+
+use crate::buffer::Found;
+use crate::device::Source;
+use crate::fault::Fault;
+use crate::feed::{MAX_LINE, end_from, end_without_return};
+use crate::inlet::{CHUNK, Inlet};
+use std::alloc::Global;
+use std::marker::Model;
+
+// The room that is kept for waiting bytes. What a longer line took is given back when more bytes come.
+const KEPT: usize = 2 * CHUNK;
+
+// The room that is kept while nothing comes, so that a short line needs no memory.
+const KEPT_IDLE: usize = 1_024;
+
+/// Bytes that came and were not used yet, and the line that was found last.
+#[derive(Drop)]
+pub struct LineSplitter {
+    held: Vec<u8>,
+    start: usize,
+    // Where the first line ends: at its line feed, or where the held bytes end. So no byte is searched twice.
+    end: usize,
+    line_from: usize,
+    line_to: usize,
+}
+
+impl Model for LineSplitter {
+    ghost use Rattle.std.specs.Prelude.{drop, slice_range};
+    ghost use Rattle.wire_lines.specs.Splitter.{Split};
+    ghost use Rattle.wire_lines.specs.Inside.{IsSplit};
+
+    ghost Value = { Split };
+
+    ghost view = { λ s. record {
+      waiting = drop s.start s.held.items;
+      line = slice_range s.held.items s.line_from s.line_to;
+    } };
+
+    ghost invariant = { λ s. IsSplit s.held.items s.start s.end s.line_from s.line_to };
+}
+
+impl LineSplitter {
+    /// A splitter to which nothing came. It takes no memory.
+    pub fn new(alloc: Global) -> LineSplitter
+        ensures { result ≡ record { waiting = []; line = [] } }
+    {
+        LineSplitter {
+            held: Vec::new(alloc),
+            start: 0,
+            end: 0,
+            line_from: 0,
+            line_to: 0,
+        }
+    }
+
+    /// The line that was found last, without its end. There is none after `receive`, `receive_from` and `release`.
+    pub fn line(&self) -> &[u8]
+        ensures { result.now ≡ self.now.line }
+    {
+        let (from, to) = (self.line_from, self.line_to);
+        &self.held[from..to]
+    }
+
+    /// How many bytes wait.
+    pub fn len(&self) -> usize
+        ensures { result ≡ length self.now.waiting }
+    {
+        self.held.len() - self.start
+    }
+
+    /// Whether no byte waits.
+    pub fn is_empty(&self) -> bool
+        ensures empty { result ≡ true → self.now.waiting ≡ [] }
+        ensures some { result ≡ false → 0 < length self.now.waiting }
+    {
+        self.start == self.held.len()
+    }
+
+    /// The first line, without its end, if its line feed has come and it is not too long. It stays.
+    pub fn first_line(&self) -> Option<&[u8]>
+        ensures some { IfSome result (λ line. ShowsBefore Found.Text self.now.waiting line.now (behind_line self.now.waiting)) }
+        ensures none { IfNone result (has_line self.now.waiting ≡ false) }
+    {
+        let (start, end) = (self.start, self.end);
+        let has_feed = end < self.held.len();
+        let fits = end - start <= MAX_LINE;
+        if has_feed && fits {
+            let to = end_without_return(&self.held, start, end);
+            return Some(&self.held[start..to]);
+        }
+        None
+    }
+
+    /// Whether any byte has come behind the line feed of the first line.
+    pub fn has_second(&self) -> bool
+        ensures { result ≡ nat_lt 0 (length (behind_line self.now.waiting)) }
+    {
+        self.end + 1 < self.held.len()
+    }
+
+    /// Puts bytes behind those that wait, or none of them.
+    pub fn receive(&mut self, bytes: &[u8]) -> Result<(), Fault>
+        ensures bytes { OnOk result (self.new.waiting ≡ self.old.waiting ++ bytes.now) }
+        ensures err { OnErr result (self.new.waiting ≡ self.old.waiting) }
+        ensures fault { IfErr result (λ fault. fault ≡ Memory) }
+        ensures line { self.new.line ≡ [] }
+    {
+        self.make_space();
+        let missing = KEPT_IDLE.saturating_sub(self.held.len());
+        self.held.reserve(missing)?;
+        self.end = append(&mut self.held, self.end, bytes)?;
+        Ok(())
+    }
+
+    /// Reads once, and puts what the read gave behind the bytes that wait. Out of memory, nothing is read.
+    pub fn receive_from<R: Source>(
+        &mut self,
+        inlet: &mut Inlet,
+        source: &mut R,
+    ) -> Result<(), Fault>
+        requires going { inlet.old.ended ≡ false }
+        ensures bytes { Keeps (prepend_known self.old.waiting (R.remaining source.old))
+            (prepend_known self.new.waiting (R.remaining source.new)) }
+        ensures most { length self.new.waiting ≤ length self.old.waiting + CHUNK }
+        ensures end { OnTrue inlet.new.ended (IsAtEnd (R.remaining source.new)) }
+        ensures err { OnErr result ((self.new.waiting ≡ self.old.waiting) × (inlet.new.ended ≡ false)) }
+        ensures line { self.new.line ≡ [] }
+        ensures few { OnOk result (inlet.new.reads ≤ most_reads) }
+        ensures one { OnOk result (inlet.new.reads ≡ inlet.old.reads + 1) }
+        ensures cause { HasCause result (R.failures source.old) (R.failures source.new) inlet.new.reads }
+        ensures counted { AreCounted result (R.reads source.old) (R.reads source.new) inlet.old.reads inlet.new.reads }
+    {
+        self.make_space();
+        self.held.reserve(CHUNK)?;
+        inlet.read(source)?;
+        self.end = append(&mut self.held, self.end, inlet.bytes())?;
+        Ok(())
+    }
+
+    /// Takes the first line off, if its line feed has come. One that is too long stays.
+    pub fn next_line(&mut self) -> Option<Found>
+        ensures found { IfSome result (λ found. ShowsBefore found self.old.waiting self.new.line self.new.waiting) }
+        ensures none { IfNone result (IsPart self.new.waiting) }
+        ensures not_end { result ≢ Some Found.End }
+        ensures shorter { result ≡ Some Found.Text → length self.new.waiting < length self.old.waiting }
+        ensures stays { IfNone result (self.new.waiting ≡ self.old.waiting) }
+    {
+        let (start, end) = (self.start, self.end);
+        let is_long = end - start > MAX_LINE;
+        if is_long {
+            return Some(Found::TooLong);
+        }
+        let is_part = end == self.held.len();
+        if is_part {
+            return None;
+        }
+        self.line_from = start;
+        self.line_to = end_without_return(&self.held, start, end);
+        self.start = end + 1;
+        self.end = end_from(&self.held, end + 1);
+        Some(Found::Text)
+    }
+
+    /// Takes all that waits as the last line. False: nothing waits.
+    pub fn last_line(&mut self) -> bool
+        requires { IsPart self.old.waiting }
+        ensures text { result ≡ true → Shows Found.Text self.old.waiting self.new.line self.new.waiting }
+        ensures none { result ≡ false → self.old.waiting ≡ [] }
+        ensures rest { self.new.waiting ≡ [] }
+    {
+        let end = self.held.len();
+        if self.start == end {
+            return false;
+        }
+        self.line_from = self.start;
+        self.line_to = end;
+        self.start = end;
+        self.end = end;
+        true
+    }
+
+    /// Gives back the room that waiting bytes do not need, but for 1 KiB. It moves them, so call it while nothing comes.
+    pub fn release(&mut self)
+        ensures { self.new ≡ record { waiting = self.old.waiting; line = [] } }
+    {
+        self.drop_used();
+        self.held.shrink_to(KEPT_IDLE);
+    }
+
+    // Drops the used bytes once they are half of those held, so that bytes are moved no more often than they come.
+    fn make_space(&mut self)
+        ensures { self.new ≡ record { waiting = self.old.waiting; line = [] } }
+    {
+        self.line_from = 0;
+        self.line_to = 0;
+        if self.start >= self.held.len() - self.start {
+            self.drop_used();
+            self.held.shrink_to(KEPT);
+        }
+    }
+
+    // Drops the used bytes.
+    fn drop_used(&mut self)
+        ensures { self.new ≡ record { waiting = self.old.waiting; line = [] } }
+    {
+        drop_front(&mut self.held, self.start);
+        self.end -= self.start;
+        self.start = 0;
+        self.line_from = 0;
+        self.line_to = 0;
+    }
+}
+
+// Appends bytes. Returns where the line ends then that did not end before `end`.
+fn append(held: &mut Vec<u8>, end: usize, bytes: &[u8]) -> Result<usize, Fault>
+    requires { end ≤ vec_len held.old }
+    ensures bytes { OnOk result (held.new.items ≡ held.old.items ++ bytes.now) }
+    ensures end { IfOk result (λ new. (new ≡ end + line_end (drop end held.new.items)) × (new ≤ length held.new.items)) }
+    ensures err { OnErr result (held.new.items ≡ held.old.items) }
+    ensures room { vec_len held.old + length bytes.now ≤ vec_capacity held.old → IsOk result }
+    ensures fault { IfErr result (λ fault. fault ≡ Memory) }
+{
+    held.extend_from_slice(bytes)?;
+    Ok(end_from(held, end))
+}
+
+// Drops the first bytes.
+fn drop_front(held: &mut Vec<u8>, count: usize)
+    requires { count ≤ vec_len held.old }
+    ensures { held.new.items ≡ drop count held.old.items }
+{
+    if count == 0 {
+        return;
+    }
+    let rest = held.len() - count;
+    held.copy_within(count.., 0);
+    held.truncate(rest);
+}

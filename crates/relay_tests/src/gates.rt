@@ -25,13 +25,11 @@ const LINES: &str = concat!(
     "\n",
 );
 
-// Notes of which replies it was told that they tell of a delivered operation, and before how many long lines are read.
+// Notes of which replies it was told that they tell of a delivered operation.
 #[derive(Drop)]
 struct Heard {
     replies: AtomicU64,
     delivered: AtomicU64,
-    long_lines: AtomicU64,
-    long_lines_read: AtomicU64,
 }
 
 impl Heard {
@@ -39,8 +37,6 @@ impl Heard {
         Heard {
             replies: AtomicU64::new(0),
             delivered: AtomicU64::new(0),
-            long_lines: AtomicU64::new(0),
-            long_lines_read: AtomicU64::new(0),
         }
     }
 }
@@ -54,14 +50,6 @@ impl Gate for Heard {
             self.delivered
                 .fetch_or(1u64 << (reply % 64), Ordering::SeqCst);
         }
-    }
-
-    fn before_long_line(&self, _connection: u64) {
-        self.long_lines.fetch_add(1, Ordering::SeqCst);
-    }
-
-    fn after_long_line(&self, _connection: u64) {
-        self.long_lines_read.fetch_add(1, Ordering::SeqCst);
     }
 
     fn done(&self, _connection: u64) {}
@@ -138,30 +126,5 @@ fn a_gate_is_told_before_each_reply_is_written(rt: HostRuntime) -> Result<(), Fa
     serve(alloc, LINES, &mut writer, &gate)?;
     assert_eq!(rt; writer.writes, 6);
     assert_eq!(rt; writer.early, 0);
-    Ok(())
-}
-
-// A line of so many bytes, without its line feed, which no server takes.
-fn spaces(alloc: Global, count: usize) -> Result<String, Fail> {
-    let mut line = String::new(alloc);
-    for _ in 0..count {
-        line.push(' ')?;
-    }
-    line.push('\n')?;
-    Ok(line)
-}
-
-#[test]
-fn a_line_of_more_than_64_kib_is_told_before_it_is_read_and_after(
-    rt: HostRuntime,
-) -> Result<(), Fail> {
-    let alloc = rt.alloc();
-    let gate = Heard::new();
-    serve_unseen(alloc, &spaces(alloc, 65_536)?, &gate)?;
-    assert_eq!(rt; gate.long_lines.load(Ordering::SeqCst), 0);
-    serve_unseen(alloc, &spaces(alloc, 65_537)?, &gate)?;
-    assert_eq!(rt; gate.long_lines.load(Ordering::SeqCst), 1);
-    assert_eq!(rt; gate.long_lines_read.load(Ordering::SeqCst), 1);
-    assert_eq!(rt; gate.replies.load(Ordering::SeqCst), 2);
     Ok(())
 }

@@ -1,4 +1,6 @@
 //! Where a server may be held up, for tests and for wake-ups, and what is told to whoever keeps the pads.
+ghost use Rattle.std.specs.Prelude.{◌≡◌, ◌⊎◌, IfErr};
+
 use pad_core::{Reply, Request};
 use pad_model::{Op, Refusal, Who};
 use std::alloc::Global;
@@ -19,10 +21,12 @@ pub trait Gate {
     /// A request was answered at a cell, whose lock is still held: what is told of a cell comes in the order of its steps.
     fn answered(&self, _alloc: Global, _told: &Answered<'_>) {}
 
-    /// Whether what a request leaves can be kept. Where it can't, one that may leave something is refused as 901, before
-    /// its step.
-    fn keeps(&self, _alloc: Global, _request: &Request) -> bool {
-        true
+    /// Whether what a request leaves can be kept. Where it can't, one that may leave something is refused before its step:
+    /// as 901, or as 900 where it is memory that is missing.
+    fn keeps(&self, _alloc: Global, _request: &Request) -> Result<(), Refusal>
+        ensures { IfErr result (λ e. (e ≡ Refusal.StoreFull) ⊎ (e ≡ Refusal.Memory)) }
+    {
+        Ok(())
     }
 
     /// A step was made at a cell, whose lock is still held.
@@ -30,13 +34,6 @@ pub trait Gate {
 
     /// A reply is about to be written; whether it tells of a delivered operation.
     fn before_reply(&self, connection: u64, delivered: bool);
-
-    /// A line of more than 64 KiB is about to be read as a request, which may take a hundred times its memory. A gate can
-    /// wait here until no other one is read.
-    fn before_long_line(&self, _connection: u64) {}
-
-    /// That line was read.
-    fn after_long_line(&self, _connection: u64) {}
 
     /// A connection has ended.
     fn done(&self, connection: u64);

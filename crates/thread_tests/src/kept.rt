@@ -18,8 +18,12 @@ struct Disk {
 }
 
 impl Gate for Disk {
-    fn keeps(&self, _alloc: Global, _request: &Request) -> bool {
-        self.has_room.load(Ordering::SeqCst)
+    fn keeps(&self, _alloc: Global, _request: &Request) -> Result<(), Refusal> {
+        if self.has_room.load(Ordering::SeqCst) {
+            Ok(())
+        } else {
+            Err(Refusal::StoreFull)
+        }
     }
 
     fn inside(&self, _cell: u32) {}

@@ -1,9 +1,11 @@
-//! Tests of threads at shared pads: four that write, cells and connections that do not hold one another up, seats, audits, and
-//! what is refused while nothing can be kept.
+//! Tests of threads at shared pads: four that write, cells and connections that do not hold one another up, conversations in
+//! pieces, seats, audits, and what is refused while nothing can be kept.
 #![tactic(auto)]
 
 #[cfg(test)]
 mod audits;
+#[cfg(test)]
+mod conversations;
 #[cfg(test)]
 mod held;
 #[cfg(test)]

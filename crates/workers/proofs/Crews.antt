@@ -6,7 +6,7 @@ use Rattle.wire_lines.specs.declared.fault.Fault.{Fault}
 use Rattle.workers.specs.Connection.{BreaksOff, ServesAll, ThenEnds}
 use Rattle.workers.specs.Crew.{ServesConnection}
 use Rattle.workers.specs.Session.{Answer}
-use Rattle.workers.specs.declared.connection.Served.{Served}
+use Rattle.workers.specs.declared.served.Served.{Served}
 
 -- lines were answered, and the session was ended, whatever the bytes are
 pub was_served : {P : Type 0} (calls : P → Request → Answer → P → Type 0) (ends : P → P → Type 0) (old new : P)

@@ -20,7 +20,7 @@ use Rattle.workers.specs.Connection.{ServesOne, ServesAll, BreaksOff, RunsOut, S
 use Rattle.std.specs.Prelude.{sum_by}
 use Rattle.std.proofs.lemmas.List.Sums.{sum_by-append}
 use Rattle.workers.specs.Delivered.{IsCount, Tells, counted, delivered_of, up_to}
-use Rattle.workers.specs.declared.connection.Served.{Served}
+use Rattle.workers.specs.declared.served.Served.{Served}
 use Rattle.workers.proofs.Turns.{serves_then, texts-append, text_of_one}
 
 -- the lines so far were answered, the answers written, and these bytes are still to come
@@ -43,7 +43,7 @@ sum_one : (answer : Answer) → sum_by delivered_of (answer ∷ []) ≡ delivere
 sum_one answer = omega arith
 
 -- one more answer is counted
-count_more : (served : Served) (told : Option ℕ) (answers others : List Answer) → IsCount served answers →
+pub count_more : (served : Served) (told : Option ℕ) (answers others : List Answer) → IsCount served answers →
     Tells told others → IsCount (counted served told) (answers ++ others)
 count_more served None answers others count none = subst (λ l. IsCount served (answers ++ l)) (sym none)
     (subst (IsCount served) (sym (append-nil answers)) count)
@@ -95,7 +95,7 @@ line_left (Some bytes) (Some more) (Some rest) asked line stays finds =
     (stays.0 ∙ ap (λ l. asked ++ l) law.0 ∙ sym (append_assoc asked (line ∷ []) (lines rest)), stays.1 ∙ law.1)
 
 -- what stays is kept
-kept_left : (known left rest : Option (List ℕ)) (asked : List (List ℕ)) → IsBefore known asked left → Keeps left rest →
+pub kept_left : (known left rest : Option (List ℕ)) (asked : List (List ℕ)) → IsBefore known asked left → Keeps left rest →
     IsBefore known asked rest
 kept_left None left rest asked stays keeps = tt
 kept_left (Some bytes) None rest asked stays keeps = absurd stays

@@ -10,7 +10,7 @@ use Rattle.wire_lines.specs.declared.fault.Fault.{Fault}
 use Rattle.wire_lines.specs.declared.fault.Fault.TheVariants.{ReadFault, WriteFault, PeerReply, Memory}
 use Rattle.wire_lines.specs.Lines.{line_end}
 use Rattle.workers.specs.Delivered.{IsCount, Tells, delivered_of}
-use Rattle.workers.specs.declared.connection.Served.{Served}
+use Rattle.workers.specs.declared.served.Served.{Served}
 use Rattle.workers.specs.Session.{Answer, IsTold, texts, Serves, IsWhole, IsFront, IsBefore, no_memory}
 
 -- a writer failed where the fault is its, and else it has not

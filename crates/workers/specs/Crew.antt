@@ -6,6 +6,7 @@ use Rattle.pad_model.specs.declared.who.Who.{Who}
 use Rattle.pad_model.specs.declared.who.Who.TheVariants.{Nobody}
 use Rattle.sessions.specs.declared.session.Room.{Room}
 use Rattle.pad_core.specs.declared.request.Request.{Request}
+use Rattle.sessions.specs.Session.{Session}
 use Rattle.shared_pads.specs.Kept.{Departs}
 use Rattle.shared_pads.specs.declared.seat.Seat.{Seat}
 use Rattle.workers.specs.Row.{RowAsked}
@@ -58,6 +59,14 @@ module _ {S R G : Type 0} where
   EndsRow old new =
       (new.row ≡ old.row) × (new.session.who ≡ Nobody) × (new.session.rooms ≡ [])
       × LeavesRooms (cells_in old.row.now.cells.now) old.session.who old.session.rooms old.seats.items new.seats.items
+
+  -- a thread's row and seats, with another session in the place of its own
+  abbrev pub lent : Shared S R G → Session → Shared S R G
+  lent shared session = record { row = shared.row; seats = shared.seats; session = session }
+
+  -- a thread's seats served another session: its row and its own session are as they were
+  abbrev pub KeepsSession : Shared S R G → Shared S R G → Type 0
+  KeepsSession old new = (new.row ≡ old.row) × (new.session ≡ old.session)
 
   -- a thread's part of a pool: with these seats and a session that is nobody's it served some connections of the row,
   -- one after the other

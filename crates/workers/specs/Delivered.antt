@@ -6,7 +6,7 @@ use Rattle.pad_core.specs.declared.reply.PadReply.{PadReply}
 use Rattle.pad_core.specs.declared.reply.PadReply.TheVariants as pad
 use Rattle.pad_core.specs.declared.reply.Reply.TheVariants as reply
 use Rattle.workers.specs.Session.{Answer}
-use Rattle.workers.specs.declared.connection.Served.{Served}
+use Rattle.workers.specs.declared.served.Served.{Served}
 
 -- a count, as far as a u64 counts
 abbrev pub up_to : ℕ → ℕ

@@ -4,6 +4,8 @@ pub mod Connection
 pub mod Crew
 pub mod Delivered
 pub mod Fuel
+pub mod Laws
 pub mod Row
 pub mod Seating
 pub mod Session
+pub mod Talk

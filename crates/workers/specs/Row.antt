@@ -51,10 +51,11 @@ Scans row cell who request old answer new =
     × (VisitsAt who request (cell + count) mid (of_cell answer) new
     ⊎ ((row ≤ cell + count) × (answer ≡ Err (past_row request)) × (new ≡ mid)))
 
--- a scan, or the refusal of a request that may leave records, where they cannot be kept
+-- a scan, or the refusal of a request that may leave records, where they cannot be kept or there is no memory to find out
 abbrev pub Seeks : ℕ → ℕ → Who → Request → Seated → Result Reply Refusal → Seated → Type 0
 Seeks row cell who request old answer new =
-    ((may_leave request ≡ true) × (answer ≡ Err StoreFull) × (new ≡ old)) ⊎ Scans row cell who request old answer new
+    ((may_leave request ≡ true) × ((answer ≡ Err StoreFull) ⊎ (answer ≡ Err Memory)) × (new ≡ old))
+    ⊎ Scans row cell who request old answer new
 
 -- a request on a pad, where nothing speaks against it
 abbrev pub Searches : Option Refusal → ℕ → ℕ → Who → Request → Seated → Result Reply Refusal → Seated → Type 0

@@ -1,9 +1,10 @@
 //! The threads that serve connections: each has seats of its own at the pads, and serves one connection at a time.
 ghost use Rattle.workers.specs.Crew.{AllWork, ServesConnection, ServesInTurn, Works};
 
-use crate::connection::{Served, serve_connection};
+use crate::connection::serve_connection;
 use crate::pads::Pads;
 use crate::row::Row;
+use crate::served::Served;
 use crate::shared::Shared;
 use crossbeam_channel::Receiver;
 use pad_model::Sequence;

@@ -5,20 +5,26 @@
 
 mod alone;
 mod connection;
+mod conversation;
 mod crew;
 mod delivered;
+pub mod laws;
 mod pads;
+mod reply;
 mod row;
 mod seating;
+mod served;
 mod settle;
 mod shared;
 
 pub use alone::Alone;
-pub use connection::{Served, serve_connection};
+pub use connection::serve_connection;
+pub use conversation::{Conversation, Turn};
 pub use crew::{Connection, pool, serve_all, serve_client};
 pub use delivered::delivered_by;
 pub use pads::Pads;
 pub use row::{Row, open_row};
 pub use seating::{take_all_seats, take_seats};
+pub use served::Served;
 pub use shared::Shared;
 pub use shared_pads::{Gate, Open};

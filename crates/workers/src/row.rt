@@ -118,8 +118,8 @@ impl<'a, S: Sequence, R: Wait, G: Gate> Row<'a, S, R, G> {
         ensures who { session.new.who ≡ session.old.who }
         ensures seeks { Seeks (length self.now.cells.now) start session.old.who request.now (record { rooms = session.old.rooms; seats = seats.old.items }) result (record { rooms = session.new.rooms; seats = seats.new.items }) }
     {
-        if leaves_records(request) && !self.gate.keeps(alloc, request) {
-            return Err(Refusal::StoreFull);
+        if leaves_records(request) {
+            self.gate.keeps(alloc, request)?;
         }
         self.scan(alloc, seats, session, start, request)
     }

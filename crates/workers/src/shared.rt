@@ -1,10 +1,14 @@
 //! A thread's seats at a row of shared pads, with one session at a time.
-ghost use Rattle.std.specs.Prelude.{◌≡◌, ◌-◌, ◌^◌, length, min, IsTrue, IfErr, IfOk, IfSome};
+ghost use Rattle.std.specs.Prelude.{◌≡◌, ◌≢◌, ◌<◌, ◌-◌, ◌^◌, true, false, [], length, min, Ok, IsTrue, IfErr, IfOk, IfSome, OnErr};
 ghost use Rattle.pad_model.specs.Checked.{is_name};
 ghost use Rattle.pad_model.specs.declared.refusal.Refusal.TheVariants as refusal;
 ghost use Rattle.server_core.specs.Opening.{relay as relay_opened};
-ghost use Rattle.workers.specs.Crew.{CallsRow, EndsRow};
+ghost use Rattle.wire_lines.specs.Buffer.{IsPart};
+ghost use Rattle.wire_lines.specs.declared.fault.Fault.TheVariants.{Memory};
+ghost use Rattle.workers.specs.Crew.{CallsRow, EndsRow, KeepsSession, lent};
+ghost use Rattle.workers.specs.Talk.{AnswersFirst, AnswersLast, TellsLong};
 
+use crate::conversation::{Conversation, Turn};
 use crate::pads::Pads;
 use crate::row::Row;
 use pad_core::{Reply, Request};
@@ -13,7 +17,9 @@ use server_core::relay;
 use sessions::Session;
 use shared_pads::{Gate, Seat};
 use std::alloc::Global;
+use std::mem;
 use std::sync::Wait;
+use wire_lines::Fault;
 
 /// A row of shared pads as one thread sees it: it has a seat at each, and a session.
 #[derive(Drop)]
@@ -35,6 +41,74 @@ impl<'a, S: Sequence, R: Wait, G: Gate> Shared<'a, S, R, G> {
             seats,
             session,
         }
+    }
+
+    /// Answers the first line of a conversation for its session, as `Conversation::answer` does. The thread's own session
+    /// takes no part in it.
+    pub fn answer(
+        &mut self,
+        alloc: Global,
+        session: &mut Session,
+        conversation: &mut Conversation,
+        connection: u64,
+    ) -> Result<Turn, Fault>
+        requires open { conversation.old.cut ≡ false }
+        ensures own { KeepsSession self.old self.new }
+        ensures answered { result ≡ Ok Turn.Answered →
+            AnswersFirst CallsRow (lent self.old session.old) conversation.old (lent self.new session.new) conversation.new }
+        ensures shorter { result ≡ Ok Turn.Answered → length conversation.new.waiting < length conversation.old.waiting }
+        ensures long { result ≡ Ok Turn.Cut → TellsLong conversation.old conversation.new × (lent self.new session.new ≡ lent self.old session.old) }
+        ensures waits { result ≡ Ok Turn.Waits → (conversation.new ≡ conversation.old) × (lent self.new session.new ≡ lent self.old session.old) × IsPart conversation.new.waiting }
+        ensures full { result ≡ Ok Turn.Full → (conversation.new ≡ conversation.old) × (lent self.new session.new ≡ lent self.old session.old) × (conversation.old.replies ≢ []) }
+        ensures err { OnErr result ((conversation.new ≡ conversation.old) × (lent self.new session.new ≡ lent self.old session.old)) }
+        ensures fault { IfErr result (λ fault. fault ≡ Memory) }
+    {
+        let gate = self.row.gate;
+        self.swap(session);
+        let turn = conversation.answer(alloc, self, connection, gate);
+        self.swap(session);
+        turn
+    }
+
+    /// Answers what waits as the last line of a conversation for its session, as `Conversation::answer_last` does.
+    pub fn answer_last(
+        &mut self,
+        alloc: Global,
+        session: &mut Session,
+        conversation: &mut Conversation,
+        connection: u64,
+    ) -> Result<bool, Fault>
+        requires part { IsPart conversation.old.waiting }
+        requires written { conversation.old.replies ≡ [] }
+        ensures own { KeepsSession self.old self.new }
+        ensures last { result ≡ Ok true →
+            AnswersLast CallsRow (lent self.old session.old) conversation.old (lent self.new session.new) conversation.new }
+        ensures none { result ≡ Ok false → (conversation.new ≡ conversation.old) × (conversation.old.waiting ≡ []) × (lent self.new session.new ≡ lent self.old session.old) }
+        ensures err { OnErr result ((conversation.new ≡ conversation.old) × (lent self.new session.new ≡ lent self.old session.old)) }
+        ensures fault { IfErr result (λ fault. fault ≡ Memory) }
+    {
+        let gate = self.row.gate;
+        self.swap(session);
+        let told = conversation.answer_last(alloc, self, connection, gate);
+        self.swap(session);
+        told
+    }
+
+    /// Ends a session: it leaves its pads, and is unauthenticated then. The thread's own session takes no part in it.
+    pub fn end_session(&mut self, session: &mut Session)
+        ensures own { KeepsSession self.old self.new }
+        ensures ended { EndsRow (lent self.old session.old) (lent self.new session.new) }
+    {
+        self.row.leave_all(&mut self.seats, session);
+        session.set(Who::Nobody);
+    }
+
+    // Puts another session in the place of its own, which is handed out.
+    fn swap(&mut self, session: &mut Session)
+        ensures other { self.new ≡ lent self.old session.old }
+        ensures own { session.new ≡ self.old.session }
+    {
+        mem::swap(&mut self.session, session);
     }
 
     /// Its seats, when it is not used any more.

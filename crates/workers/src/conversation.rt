@@ -1,0 +1,255 @@
+//! A connection without its devices: bytes come in, lines are answered, and the replies wait to be written.
+ghost use Rattle.std.specs.Prelude.{◌≡◌, ◌≢◌, ◌⊎◌, ◌+◌, ◌<◌, ◌≤◌, true, false, nat_lt, [], drop, length, Err, Ok, IfErr, IfNone, IfSome, OnErr, OnOk};
+ghost use Rattle.std.specs.Io.KnownBytes.{Keeps};
+ghost use Rattle.wire_lines.specs.Buffer.{IsPart, ShowsBefore};
+ghost use Rattle.wire_lines.specs.Causes.{AreCounted, HasCause, most_reads};
+ghost use Rattle.wire_lines.specs.Lines.{behind_line};
+ghost use Rattle.wire_lines.specs.Splitter.{has_line};
+ghost use Rattle.wire_lines.specs.declared.fault.Fault.TheVariants.{Memory};
+ghost use Rattle.wire_lines.specs.declared.inlet.TheConstants.{CHUNK};
+ghost use Rattle.workers.specs.Talk.{AnswersFirst, AnswersLast, TellsLong, ahead, heard, silent, unwritten, waits};
+
+use crate::pads::Pads;
+use crate::reply::{make_room, put, tell};
+use crate::served::Served;
+use shared_pads::Gate;
+use std::alloc::Global;
+use std::marker::Model;
+use wire_json::too_long_line;
+use wire_lines::{Fault, Found, Inlet, LineSplitter, Source};
+
+// The room that is kept for replies between two lines: what a longer one took is given back when it was written.
+const KEPT: usize = 65_536;
+
+// The room that is kept for a reply while nothing comes.
+const KEPT_IDLE: usize = 128;
+
+/// What came of a call of `Conversation::answer`.
+#[derive(Clone, Copy, Debug, PartialEq, Eq)]
+pub enum Turn {
+    /// The first line was answered; an empty line has no reply.
+    Answered,
+    /// No whole line waits.
+    Waits,
+    /// There is no memory for one more reply: some have to be written first.
+    Full,
+    /// The first line is too long, and the reply says so. Nothing is answered any more.
+    Cut,
+}
+
+/// The lines of one client and the replies to them. It reads and writes nothing itself, and it knows no session.
+#[derive(Drop)]
+pub struct Conversation {
+    lines: LineSplitter,
+    replies: Vec<u8>,
+    sent: usize,
+    served: Served,
+    cut: bool,
+}
+
+impl Model for Conversation {
+    ghost use Rattle.std.specs.Prelude.{◌≤◌, drop, length};
+    ghost use Rattle.workers.specs.Talk.{Talk};
+
+    ghost Value = { Talk };
+
+    ghost view = { λ c. record {
+      waiting = c.lines.waiting;
+      replies = drop c.sent c.replies.items;
+      served = c.served;
+      cut = c.cut;
+    } };
+
+    ghost invariant = { λ c. c.sent ≤ length c.replies.items };
+}
+
+impl Conversation {
+    /// One in which nothing came yet. It takes no memory.
+    pub fn new(alloc: Global) -> Conversation
+        ensures { result ≡ silent }
+    {
+        Conversation {
+            lines: LineSplitter::new(alloc),
+            replies: Vec::new(alloc),
+            sent: 0,
+            served: Served {
+                lines: 0,
+                delivered: 0,
+            },
+            cut: false,
+        }
+    }
+
+    /// Appends bytes to those that wait; out of memory, none of them.
+    pub fn receive(&mut self, bytes: &[u8]) -> Result<(), Fault>
+        ensures bytes { OnOk result (self.new ≡ heard self.old bytes.now) }
+        ensures err { OnErr result (self.new ≡ self.old) }
+        ensures fault { IfErr result (λ fault. fault ≡ Memory) }
+    {
+        self.lines.receive(bytes)
+    }
+
+    /// Reads once, and appends what the read gave; out of memory, nothing is read.
+    pub fn receive_from<R: Source>(
+        &mut self,
+        inlet: &mut Inlet,
+        source: &mut R,
+    ) -> Result<(), Fault>
+        requires going { inlet.old.ended ≡ false }
+        ensures only { self.new ≡ waits self.old self.new.waiting }
+        ensures bytes { Keeps (ahead self.old false (R.remaining source.old)) (ahead self.new inlet.new.ended (R.remaining source.new)) }
+        ensures most { length self.new.waiting ≤ length self.old.waiting + CHUNK }
+        ensures err { OnErr result ((self.new ≡ self.old) × (inlet.new.ended ≡ false)) }
+        ensures few { OnOk result (inlet.new.reads ≤ most_reads) }
+        ensures one { OnOk result (inlet.new.reads ≡ inlet.old.reads + 1) }
+        ensures cause { HasCause result (R.failures source.old) (R.failures source.new) inlet.new.reads }
+        ensures counted { AreCounted result (R.reads source.old) (R.reads source.new) inlet.old.reads inlet.new.reads }
+    {
+        self.lines.receive_from(inlet, source)
+    }
+
+    /// The first line, without its end, if it is whole and not too long: for a caller that holds a line back.
+    pub fn first_line(&self) -> Option<&[u8]>
+        ensures some { IfSome result (λ line. ShowsBefore Found.Text self.now.waiting line.now (behind_line self.now.waiting)) }
+        ensures none { IfNone result (has_line self.now.waiting ≡ false) }
+    {
+        self.lines.first_line()
+    }
+
+    /// Whether any byte has come behind the first line.
+    pub fn has_second(&self) -> bool
+        ensures { result ≡ nat_lt 0 (length (behind_line self.now.waiting)) }
+    {
+        self.lines.has_second()
+    }
+
+    /// Answers the first line, if a whole one waits and there is memory for a reply. The caller decides when.
+    ///
+    /// Out of memory for even the shortest reply, while none waits to be written: nothing was asked.
+    pub fn answer<P: Pads, G: Gate>(
+        &mut self,
+        alloc: Global,
+        pads: &mut P,
+        connection: u64,
+        gate: &G,
+    ) -> Result<Turn, Fault>
+        requires open { self.old.cut ≡ false }
+        ensures answered { result ≡ Ok Turn.Answered → AnswersFirst P.calls pads.old self.old pads.new self.new }
+        ensures shorter { result ≡ Ok Turn.Answered → length self.new.waiting < length self.old.waiting }
+        ensures long { result ≡ Ok Turn.Cut → TellsLong self.old self.new × (pads.new ≡ pads.old) }
+        ensures waits { result ≡ Ok Turn.Waits → (self.new ≡ self.old) × (pads.new ≡ pads.old) × IsPart self.new.waiting }
+        ensures full { result ≡ Ok Turn.Full → (self.new ≡ self.old) × (pads.new ≡ pads.old) × (self.old.replies ≢ []) }
+        ensures err { OnErr result ((self.new ≡ self.old) × (pads.new ≡ pads.old)) }
+        ensures fault { IfErr result (λ fault. fault ≡ Memory) }
+    {
+        if !make_room(&mut self.replies) {
+            return without_room(self.replies().is_empty());
+        }
+        match self.lines.next_line() {
+            None => Ok(Turn::Waits),
+            Some(Found::Text) => {
+                let line = self.lines.line();
+                let told = tell(alloc, pads, line, &mut self.replies, connection, gate);
+                self.served = self.served.with(told);
+                Ok(Turn::Answered)
+            }
+            Some(Found::TooLong) => {
+                gate.before_reply(connection, false);
+                put(&mut self.replies, too_long_line());
+                self.served = self.served.with(Some(0));
+                self.cut = true;
+                Ok(Turn::Cut)
+            }
+            Some(Found::End) => unreachable!(),
+        }
+    }
+
+    /// Answers what waits as the last line, once no more bytes come. False if nothing waits.
+    pub fn answer_last<P: Pads, G: Gate>(
+        &mut self,
+        alloc: Global,
+        pads: &mut P,
+        connection: u64,
+        gate: &G,
+    ) -> Result<bool, Fault>
+        requires part { IsPart self.old.waiting }
+        requires written { self.old.replies ≡ [] }
+        ensures last { result ≡ Ok true → AnswersLast P.calls pads.old self.old pads.new self.new }
+        ensures none { result ≡ Ok false → (self.new ≡ self.old) × (self.old.waiting ≡ []) × (pads.new ≡ pads.old) }
+        ensures err { OnErr result ((self.new ≡ self.old) × (pads.new ≡ pads.old)) }
+        ensures fault { IfErr result (λ fault. fault ≡ Memory) }
+    {
+        if !make_room(&mut self.replies) {
+            return Err(Fault::Memory);
+        }
+        if !self.lines.last_line() {
+            return Ok(false);
+        }
+        let line = self.lines.line();
+        let told = tell(alloc, pads, line, &mut self.replies, connection, gate);
+        self.served = self.served.with(told);
+        Ok(true)
+    }
+
+    /// The bytes that are to be written.
+    pub fn replies(&self) -> &[u8]
+        ensures { result.now ≡ self.now.replies }
+    {
+        let sent = self.sent;
+        &self.replies[sent..]
+    }
+
+    /// Notes that a count of these bytes was written.
+    pub fn sent(&mut self, count: usize)
+        requires { count ≤ length self.old.replies }
+        ensures { self.new ≡ unwritten self.old (drop count self.old.replies) }
+    {
+        self.sent += count;
+        if self.sent == self.replies.len() {
+            self.replies.clear();
+            self.sent = 0;
+            self.replies.shrink_to(KEPT);
+        }
+    }
+
+    /// How many bytes wait for an answer.
+    pub fn waiting(&self) -> usize
+        ensures { result ≡ length self.now.waiting }
+    {
+        self.lines.len()
+    }
+
+    /// Whether a line was too long, so that nothing more is answered.
+    pub fn is_cut(&self) -> bool
+        ensures { result ≡ self.now.cut }
+    {
+        self.cut
+    }
+
+    /// What was answered so far.
+    pub fn served(&self) -> Served
+        ensures { result ≡ self.now.served }
+    {
+        self.served
+    }
+
+    /// Gives back the memory that is not needed while nothing comes.
+    pub fn rest(&mut self)
+        ensures { self.new ≡ self.old }
+    {
+        self.lines.release();
+        self.replies.shrink_to(KEPT_IDLE);
+    }
+}
+
+// What a turn comes to that has no room for a reply.
+fn without_room(all_written: bool) -> Result<Turn, Fault>
+    ensures full { result ≡ Ok Turn.Full → all_written ≡ false }
+    ensures only { (result ≡ Ok Turn.Full) ⊎ (result ≡ Err Memory) }
+{
+    if all_written {
+        Err(Fault::Memory)
+    } else {
+        Ok(Turn::Full)
+    }
+}

@@ -5,7 +5,7 @@ use Rattle.command_line.specs.Options.{Gives, IsFlag, accounts_rule, cells_rule,
 use Rattle.command_line.specs.Options.{replica_rule, text_given, versioned}
 use Rattle.server_core.specs.declared.limits.TheConstants.{MAX_CELLS}
 use Rattle.pad_server.specs.declared.args.Asked.{Asked}
-use Rattle.pad_server.specs.declared.options.TheConstants.{MAX_WORKERS, DEFAULT_WORKERS}
+use Rattle.pad_server.specs.declared.options.TheConstants.{MAX_WORKERS, DEFAULT_CLIENTS}
 
 -- `--stdin`
 abbrev pub stdin_rule : Rule
@@ -22,6 +22,10 @@ workers_rule = number_rule (codes "workers") 1 MAX_WORKERS
 -- `--connections N`, a number that a u32 holds
 abbrev pub connections_rule : Rule
 connections_rule = number_rule (codes "connections") 1 4294967295
+
+-- `--clients N`, a number that a u32 holds
+abbrev pub clients_rule : Rule
+clients_rule = number_rule (codes "clients") 1 4294967295
 
 -- `--idle SECONDS`, a number that a u32 holds
 abbrev pub idle_rule : Rule
@@ -40,9 +44,9 @@ abbrev pub first_line : App
 first_line = with_rule (with_rule (with_rule (with_rule (versioned (new_app (codes "pad_server"))) stdin_rule)
     listen_rule) replica_rule) accounts_rule
 
--- with those that say how many pads and connections there are
+-- with those that say how many pads, threads, connections and clients there are
 abbrev pub second_line : App
-second_line = with_rule (with_rule (with_rule first_line cells_rule) workers_rule) connections_rule
+second_line = with_rule (with_rule (with_rule (with_rule first_line cells_rule) workers_rule) connections_rule) clients_rule
 
 -- the command line: clap's words say which words it takes, and what they give under a name
 abbrev pub line : App
@@ -55,9 +59,10 @@ pub record AsksFor (words : List (List ℕ)) (asked : Asked) : Type 0 where
   pub accounts : option_map (λ path. path.now) asked.accounts ≡ text_given line words (codes "accounts")
   pub stdin : IsFlag (one_of (codes "stdin") (matches_of line words)) asked.stdin
   pub listen : option_map (λ address. address.now) asked.listen ≡ text_given line words (codes "listen")
-  pub workers : Gives line words (codes "workers") 0 MAX_WORKERS DEFAULT_WORKERS asked.workers
+  pub workers : (other : ℕ) → Gives line words (codes "workers") 0 4294967295 other (unwrap_or asked.workers other)
   pub connections : (other : ℕ) → Gives line words (codes "connections") 0 4294967295 other
       (unwrap_or asked.connections other)
+  pub clients : Gives line words (codes "clients") 0 4294967295 DEFAULT_CLIENTS asked.clients
   pub idle : (other : ℕ) → Gives line words (codes "idle") 0 4294967295 other (unwrap_or asked.idle other)
   pub store : option_map (λ folder. folder.now) asked.store ≡ text_given line words (codes "store")
   pub new_replica : IsFlag (one_of (codes "new-replica") (matches_of line words)) asked.new_replica

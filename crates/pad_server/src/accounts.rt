@@ -1,12 +1,14 @@
 //! Who may log in.
 use crate::failure::Failure;
-use log::{Log, warn};
+use journal::Journal;
+use log::warn;
 use sessions::{Accounts, Mistake};
 use std::fs;
 use std::rt::Files;
+use std::time::Clock;
 
 /// The accounts of a file. A peer whose port is no number is warned of: no round with it can succeed.
-pub fn read_accounts<'a, R: AllocGlobal + Files + Log>(
+pub fn read_accounts<'a, R: AllocGlobal + Files + Clock + Eprint>(
     rt: &R,
     path: &'a str,
 ) -> Result<Accounts, Failure<'a>> {
@@ -21,7 +23,7 @@ pub fn read_accounts<'a, R: AllocGlobal + Files + Log>(
     for peer in accounts.peers() {
         let (number, address) = (peer.number, peer.address.as_str());
         if !has_port(address) {
-            warn!(rt; "the accounts file {path}: peer {number}: the port of {address} is not a number from 0 to 65535");
+            warn!(Journal(rt); "the accounts file {path}: peer {number}: the port of {address} is not a number from 0 to 65535");
         }
     }
     Ok(accounts)

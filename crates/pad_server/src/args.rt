@@ -4,11 +4,10 @@ ghost use Rattle.clap.specs.Faults.{fault_of};
 ghost use Rattle.clap.specs.Words.{FailsBy, app_of};
 ghost use Rattle.server_core.specs.declared.limits.TheConstants.{MAX_CELLS};
 ghost use Rattle.pad_server.specs.CommandLine.{AsksFor, first_line, line, second_line};
-ghost use Rattle.pad_server.specs.declared.options.TheConstants.{MAX_WORKERS};
 
 use crate::options::{
-    connections_of, connections_option, idle_of, idle_option, listen_option, new_replica_flag,
-    stdin_flag, store_option, workers_of, workers_option,
+    clients_of, clients_option, connections_of, connections_option, idle_of, idle_option,
+    listen_option, new_replica_flag, stdin_flag, store_option, workers_of, workers_option,
 };
 use clap::{Command, Error};
 use command_line::{VERSION, accounts_option, cells_of, cells_option, replica_of, replica_option};
@@ -27,10 +26,12 @@ pub struct Asked<'a> {
     pub stdin: bool,
     /// The address where connections are served.
     pub listen: Option<&'a str>,
-    /// How many connections are served at once, 1 to 63.
-    pub workers: u32,
+    /// How many threads serve connections, 1 to 63. None: one for each processor.
+    pub workers: Option<u32>,
     /// After how many connections the server ends. None: it does not.
     pub connections: Option<u32>,
+    /// How many clients may be connected at once, at least 1.
+    pub clients: u32,
     /// After how many seconds of silence a connection is closed. None: never.
     pub idle: Option<u32>,
     /// The directory where pads are kept. None: they are lost when the server ends.
@@ -68,7 +69,8 @@ fn second_options<'a>(alloc: Global) -> Result<Command<'a>, AllocError>
     first_options(alloc)?
         .arg(cells_option(alloc, cells_help))?
         .arg(workers_option(alloc))?
-        .arg(connections_option(alloc))
+        .arg(connections_option(alloc))?
+        .arg(clients_option(alloc))
 }
 
 fn command<'a>(alloc: Global) -> Result<Command<'a>, AllocError>
@@ -84,7 +86,7 @@ fn command<'a>(alloc: Global) -> Result<Command<'a>, AllocError>
 pub fn parse<'a>(alloc: Global, words: &'a [String]) -> Result<Asked<'a>, Error>
     ensures asked { IfOk result (AsksFor (map string_bytes words.now)) }
     ensures refused { FailsBy (fault_of line (map string_bytes words.now)) result }
-    ensures limits { IfOk result (λ asked. (1 ≤ asked.replica) × (asked.cells ≤ MAX_CELLS) × (asked.workers ≤ MAX_WORKERS)) }
+    ensures limits { IfOk result (λ asked. (1 ≤ asked.replica) × (asked.cells ≤ MAX_CELLS)) }
 {
     let matches = match command(alloc)?.try_get_matches_from(words) {
         Ok(matches) => matches,
@@ -98,6 +100,7 @@ pub fn parse<'a>(alloc: Global, words: &'a [String]) -> Result<Asked<'a>, Error>
         listen: matches.get_str("listen"),
         workers: workers_of(&matches),
         connections: connections_of(&matches),
+        clients: clients_of(&matches),
         idle: idle_of(&matches),
         store: matches.get_str("store"),
         new_replica: matches.get_flag("new-replica"),

@@ -4,7 +4,8 @@ use crate::keeper::Keeper;
 use crate::settled::Settled;
 use crate::stop::Guard;
 use crate::watched::Watched;
-use log::{Log, warn};
+use journal::Journal;
+use log::warn;
 use relay::{Link, Relayed, relay_round};
 use sessions::Peer;
 use std::alloc::Global;
@@ -24,9 +25,6 @@ const TURN: u64 = 3;
 
 /// The pause after a failed round, in seconds. After each further one it is twice as long.
 const FIRST_PAUSE: u64 = 1;
-
-/// The number under which the socket to a peer is entered; accepted connections are counted from 1.
-const RELAYING: u64 = 0;
 
 /// The longest pause, in seconds.
 const LONGEST_PAUSE: u64 = 60;
@@ -107,7 +105,7 @@ impl<'a> Contact<'a> {
     /// Makes a round. A failure is logged with its cause, and not again until the cause changes or a round succeeds.
     pub fn exchange<P: Pads, R>(&mut self, rt: &R, alloc: Global, pads: &mut P, own: u16) -> Brought
     where
-        R: Net<Listener = TcpListener, Stream = TcpStream> + Clock + Wait + Log,
+        R: Net<Listener = TcpListener, Stream = TcpStream> + Clock + Wait + Eprint,
     {
         match make_round(rt, alloc, pads, own, self.peer, self.guard) {
             Ok(relayed) => {
@@ -131,7 +129,7 @@ impl<'a> Contact<'a> {
     }
 
     // Sets the pause before the next round, and logs a new cause.
-    fn note<R: Clock + Log>(&mut self, rt: &R, broken: Broken) {
+    fn note<R: Clock + Eprint>(&mut self, rt: &R, broken: Broken) {
         self.pause = match self.pause {
             0 => FIRST_PAUSE,
             pause => pause.saturating_mul(2).min(LONGEST_PAUSE),
@@ -144,10 +142,10 @@ impl<'a> Contact<'a> {
         self.told = Some(kind);
         let number = self.peer.number;
         match broken {
-            Broken::Apart(error) => warn!(rt; "peer {number}: no connection: {error}"),
+            Broken::Apart(error) => warn!(Journal(rt); "peer {number}: no connection: {error}"),
             Broken::Off { fault, cause } => {
                 let failure = Failure::of(fault, cause, cause);
-                warn!(rt; "peer {number}: {failure}");
+                warn!(Journal(rt); "peer {number}: {failure}");
             }
         }
     }
@@ -163,20 +161,20 @@ fn make_round<'s, P: Pads, R>(
     guard: Option<Guard<'s>>,
 ) -> Result<Relayed, Broken>
 where
-    R: Net<Listener = TcpListener, Stream = TcpStream> + Wait + Log,
+    R: Net<Listener = TcpListener, Stream = TcpStream> + Wait + Clock + Eprint,
 {
     let stream = connect(rt, peer.address.as_str(), guard).map_err(Broken::Apart)?;
     let Some(guard) = guard else {
         return exchange_over(rt, &stream, None, alloc, pads, own, peer);
     };
-    guard.enter(rt, RELAYING, &stream);
+    guard.enter(rt, &stream);
     let relayed = exchange_over(rt, &stream, Some(guard.keeper), alloc, pads, own, peer);
-    guard.leave(rt, RELAYING);
+    guard.leave(rt);
     relayed
 }
 
 // Makes a round over a connection.
-fn exchange_over<'s, P: Pads, R: Wait + Log>(
+fn exchange_over<'s, P: Pads, R: Wait + Clock + Eprint>(
     rt: &'s R,
     stream: &'s TcpStream,
     keeper: Option<&'s Keeper>,
@@ -242,7 +240,7 @@ where
     R: Net<Listener = TcpListener, Stream = TcpStream> + Wait,
 {
     for _turn in 0..PATIENCE / TURN {
-        if guard.is_some_and(|guard| guard.has_stopped(rt)) {
+        if guard.is_some_and(|guard| guard.has_stopped()) {
             return Err(io::Error::from(ErrorKind::ConnectionAborted));
         }
         match TcpStream::connect_timeout(rt, address, Duration::from_secs(TURN)) {

@@ -1,37 +1,32 @@
 //! What the server does in the course of its connections.
 use crate::keeper::Keeper;
-use crate::turnstile::Turnstile;
 use crate::wake::Waker;
+use event_loop::Hub;
 use pad_core::Request;
+use pad_model::Refusal;
 use shared_pads::Answered;
 use std::alloc::Global;
 use std::sync::Wait;
 use workers::Gate;
 
-/// Wakes the relay thread before each reply that tells of a delivered operation, and lets one long line at a time be read as
-/// a request: that can take a hundred times the line's memory, and it takes none of other connections while it waits. What
-/// was answered at a pad is noted in the store, under the pad's lock.
+/// Wakes the relay thread before each reply that tells of a delivered operation. What was answered at a pad is noted in the
+/// store, and its revision is told to the workers, under the pad's lock.
 #[derive(Drop)]
 pub struct Course<'a, R> {
     rt: &'a R,
     waker: Waker,
-    long_lines: Turnstile,
     keeper: Option<&'a Keeper>,
+    hub: &'a Hub,
 }
 
 impl<'a, R> Course<'a, R> {
     /// Of connections whose threads wait by a runtime.
-    pub fn new(
-        rt: &'a R,
-        waker: Waker,
-        long_lines: Turnstile,
-        keeper: Option<&'a Keeper>,
-    ) -> Course<'a, R> {
+    pub fn new(rt: &'a R, waker: Waker, keeper: Option<&'a Keeper>, hub: &'a Hub) -> Course<'a, R> {
         Course {
             rt,
             waker,
-            long_lines,
             keeper,
+            hub,
         }
     }
 }
@@ -41,12 +36,15 @@ impl<R: Wait> Gate for Course<'_, R> {
         if let Some(keeper) = self.keeper {
             keeper.note(self.rt, alloc, told);
         }
+        if !told.more.is_empty() {
+            self.hub.publish(told.cell, told.more.len() as u64);
+        }
     }
 
-    fn keeps(&self, alloc: Global, request: &Request) -> bool {
+    fn keeps(&self, alloc: Global, request: &Request) -> Result<(), Refusal> {
         match self.keeper {
             Some(keeper) => keeper.keeps(self.rt, alloc, request),
-            None => true,
+            None => Ok(()),
         }
     }
 
@@ -56,14 +54,6 @@ impl<R: Wait> Gate for Course<'_, R> {
         if delivered {
             self.waker.wake(self.rt);
         }
-    }
-
-    fn before_long_line(&self, _connection: u64) {
-        self.long_lines.enter(self.rt);
-    }
-
-    fn after_long_line(&self, _connection: u64) {
-        self.long_lines.leave(self.rt);
     }
 
     fn done(&self, _connection: u64) {}

@@ -3,7 +3,6 @@ use crate::contact::{Brought, Contact};
 use crate::stop::Guard;
 use crate::wake::Wake;
 use crossbeam_channel::{Receiver, RecvTimeoutError};
-use log::Log;
 use pad_model::Sequence;
 use sessions::{Peer, Session};
 use shared_pads::{Gate, Seat};
@@ -58,7 +57,7 @@ pub fn exchange_all<S: Sequence, R, G: Gate>(
     guard: Option<Guard<'_>>,
 )
 where
-    R: AllocGlobal + Net<Listener = TcpListener, Stream = TcpStream> + Clock + Wait + Log,
+    R: AllocGlobal + Net<Listener = TcpListener, Stream = TcpStream> + Clock + Wait + Eprint,
 {
     let rt = row.rt;
     let mut pads = Shared::new(row, seats, Session::new(rt.alloc()));
@@ -73,7 +72,7 @@ where
         } else {
             wait(rt, wakes, contacts.iter().any(Contact::has_failed))
         };
-        if guard.is_some_and(|guard| guard.has_stopped(rt)) {
+        if guard.is_some_and(|guard| guard.has_stopped()) {
             return;
         }
         is_last = is_last || matches!(turn, Turn::Last | Turn::Gone);
@@ -94,7 +93,7 @@ fn rounds<P: Pads, R>(
     turn: Turn,
 ) -> Brought
 where
-    R: AllocGlobal + Net<Listener = TcpListener, Stream = TcpStream> + Clock + Wait + Log,
+    R: AllocGlobal + Net<Listener = TcpListener, Stream = TcpStream> + Clock + Wait + Eprint,
 {
     let mut all = Brought::Nothing;
     for contact in contacts.iter_mut() {

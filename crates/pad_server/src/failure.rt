@@ -70,6 +70,10 @@ pub enum Failure<'a> {
     },
     #[error("the system makes no thread")]
     Alone,
+    #[error("the threads that serve connections cannot be set up: {0}")]
+    NotSetUp(io::Error),
+    #[error("a thread that serves connections failed")]
+    Halted,
     #[error("standard output: {0}")]
     Untold(io::Error),
     #[error("{code} {name}")]

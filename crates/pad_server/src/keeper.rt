@@ -1,10 +1,14 @@
 //! The files of a server's pads while it runs: what was answered is noted under the pad's lock, and synced before a reply is
 //! written.
+ghost use Rattle.std.specs.Prelude.{◌≡◌, ◌⊎◌, IfErr};
+
 use crate::progress::{Progress, Turn};
 use crate::reserve::{Reserve, is_full};
 use crate::spares::{Spare, Spares};
+use journal::Journal;
 use log::{error, warn};
 use pad_core::Request;
+use pad_model::Refusal;
 use records::{Record, records_of};
 use shared_pads::Answered;
 use std::alloc::Global;
@@ -139,7 +143,7 @@ impl Keeper {
             Ok(true) => self.progress.note(),
             Err(cause) => {
                 self.progress.fail();
-                error!(&self.files; "the store {} cannot be written: {cause}", self.folder);
+                error!(Journal(&self.files); "the store {} cannot be written: {cause}", self.folder);
             }
         }
         if self.has_named_nothing(told) {
@@ -218,32 +222,40 @@ impl Keeper {
     // Spends the reserve.
     fn make_room<R: Wait>(&self, rt: &R) -> io::Result<()> {
         if self.reserve.spend(rt)? {
-            warn!(&self.files; "the disk of the store {} is full: nothing more is taken that has to be kept", self.folder);
+            warn!(Journal(&self.files); "the disk of the store {} is full: nothing more is taken that has to be kept", self.folder);
         }
         Ok(())
     }
 
-    /// Whether what a request leaves can be kept, as far as that is known. A creation is promised a file.
-    pub fn keeps<R: Wait>(&self, rt: &R, alloc: Global, request: &Request) -> bool {
-        self.has_room(rt, alloc)
-            && match request {
-                Request::Create { .. } => self.has_file(rt),
-                _ => true,
-            }
+    /// Whether what a request leaves can be kept, as far as that is known: 901 where it can't, 900 where there is no memory
+    /// to make a file with. A creation is promised a file.
+    pub fn keeps<R: Wait>(&self, rt: &R, alloc: Global, request: &Request) -> Result<(), Refusal>
+        ensures { IfErr result (λ e. (e ≡ Refusal.StoreFull) ⊎ (e ≡ Refusal.Memory)) }
+    {
+        if !self.has_room(rt, alloc) {
+            return Err(Refusal::StoreFull);
+        }
+        match request {
+            Request::Create { .. } => self.promise_file(rt),
+            _ => Ok(()),
+        }
     }
 
     // Promises a file to a creation. Where none can be made, that is said, once until one can be made again.
-    fn has_file<R: Wait>(&self, rt: &R) -> bool {
+    fn promise_file<R: Wait>(&self, rt: &R) -> Result<(), Refusal>
+        ensures { IfErr result (λ e. (e ≡ Refusal.StoreFull) ⊎ (e ≡ Refusal.Memory)) }
+    {
         match self.spares.promise(rt, &self.files, self.folder.as_str()) {
             Ok(()) => {
                 self.is_short.store(false, Ordering::SeqCst);
-                true
+                Ok(())
             }
+            Err(cause) if cause.kind() == ErrorKind::OutOfMemory => Err(Refusal::Memory),
             Err(cause) => {
                 if !self.is_short.swap(true, Ordering::SeqCst) {
-                    warn!(&self.files; "the store {} has no file for a new pad: {cause}", self.folder);
+                    warn!(Journal(&self.files); "the store {} has no file for a new pad: {cause}", self.folder);
                 }
-                false
+                Err(Refusal::StoreFull)
             }
         }
     }
@@ -255,7 +267,7 @@ impl Keeper {
         }
         let has_room = self.reserve.renew(rt, alloc, self.seconds());
         if has_room {
-            warn!(&self.files; "the disk of the store {} has room again", self.folder);
+            warn!(Journal(&self.files); "the disk of the store {} has room again", self.folder);
         }
         has_room
     }
@@ -363,7 +375,7 @@ impl Keeper {
     fn sync<R: Wait>(&self, rt: &R) -> io::Result<()> {
         for handle in &self.handles {
             if let Err(cause) = handle.sync(rt) {
-                error!(&self.files; "the store {} cannot be synced: {cause}", self.folder);
+                error!(Journal(&self.files); "the store {} cannot be synced: {cause}", self.folder);
                 return Err(cause);
             }
         }

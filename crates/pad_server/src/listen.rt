@@ -2,32 +2,33 @@
 ghost use Rattle.std.specs.Prelude.{◌≤◌};
 ghost use Rattle.server_core.specs.declared.limits.TheConstants.{MAX_CELLS};
 
-use crate::accept::{Limits, accept_all};
 use crate::accounts::{has_port, read_accounts};
 use crate::args::Asked;
-use crate::client::Client;
 use crate::contact::Contact;
 use crate::course::Course;
 use crate::exchange::{contacts, exchange_all};
 use crate::failure::Failure;
+use crate::keeper::Keeper;
+use crate::options::{DEFAULT_WORKERS, MAX_WORKERS};
+use crate::room::warn_of_room;
+use crate::settled::Settling;
 use crate::stop::{Guard, Stop};
 use crate::stored::{Owner, Stored, restore};
-use crate::turnstile::Turnstile;
 use crate::wake::{Wake, Waker};
 use block_seq::BlockSeq;
 use crossbeam_channel::{Receiver, Sender};
-use log::Log;
+use event_loop::{Acceptor, Hub, Limits, Service, SetUp, Worker, accept_all, serve_all, set_up};
 use sessions::Accounts;
 use shared_pads::{Seat, SharedPad};
 use std::alloc::{AllocError, Global};
 use std::fs::File;
-use std::net::{Net, SocketAddr, TcpListener, TcpStream};
+use std::net::{Net, TcpListener, TcpStream};
 use std::rt::Runtime;
 use std::sync::Wait;
 use std::thread::Threads;
 use std::time::Clock;
 use std::{io, thread};
-use workers::{Row, open_row, pool, take_all_seats, take_seats};
+use workers::{Row, open_row, take_all_seats, take_seats};
 
 /// Serves connections at an address, until as many have ended as the command line says. With a store, the pads come from
 /// it, each reply waits until everything that it reveals is synced, and the server stops if the store fails.
@@ -44,73 +45,141 @@ where
         + Threads
         + Wait
         + Sync
-        + Log,
+        + Eprint,
+    requires { (1 ≤ asked.replica) × (asked.cells ≤ MAX_CELLS) }
+{
+    let opened = open_pads(rt, files, asked, path)?;
+    let listener = bind(rt, address)?;
+    let SetUp {
+        hub,
+        acceptor,
+        workers,
+    } = make_threads(rt, &opened, asked, listener)?;
+    serve_row(rt, &opened, &hub, asked, acceptor, workers)?;
+    match asked.store {
+        Some(folder) if opened.has_failed() => Err(Failure::Failed { folder }),
+        _ if hub.has_stopped() => Err(Failure::Halted),
+        _ => Ok(()),
+    }
+}
+
+/// The pads of a server, their revisions, who keeps them and who may use them.
+#[derive(Drop)]
+struct Opened {
+    cells: Vec<SharedPad<BlockSeq>>,
+    revisions: Vec<u64>,
+    keeper: Option<Keeper>,
+    accounts: Accounts,
+    stop: Stop,
+}
+
+impl Opened {
+    /// Whether the store has failed, if there is one.
+    fn has_failed(&self) -> bool {
+        match &self.keeper {
+            Some(keeper) => keeper.has_failed(),
+            None => false,
+        }
+    }
+}
+
+/// The pads of the command line's store, or empty ones without it, and the accounts of a file.
+fn open_pads<'a, R>(
+    rt: &R,
+    files: HostRuntime,
+    asked: Asked<'a>,
+    path: &'a str,
+) -> Result<Opened, Failure<'a>>
+where
+    R: Runtime<A = Global, File = File> + Wait + Eprint,
     requires { (1 ≤ asked.replica) × (asked.cells ≤ MAX_CELLS) }
 {
     let accounts = read_accounts(rt, path)?;
     let Some(folder) = asked.store else {
         let cells = open_row(rt.alloc(), asked.replica, asked.cells)?;
-        let (listener, _) = bind(rt, address)?;
-        return serve_row(rt, cells, None, asked, listener, &accounts);
+        let mut revisions = Vec::new(rt.alloc());
+        revisions.resize(cells.len(), 0)?;
+        return Ok(Opened {
+            cells,
+            revisions,
+            keeper: None,
+            accounts,
+            stop: Stop::new(),
+        });
     };
     let owner = Owner {
         replica: asked.replica,
         is_new: asked.new_replica,
     };
-    let Stored { cells, keeper } = restore(rt, files, folder, owner, asked.cells)?;
-    let (listener, local) = bind(rt, address)?;
-    let stop = Stop::new(rt.alloc(), local);
-    let guard = Guard {
-        keeper: &keeper,
-        stop: &stop,
-    };
-    serve_row(rt, cells, Some(guard), asked, listener, &accounts)?;
-    if keeper.has_failed() {
-        return Err(Failure::Failed { folder });
-    }
-    Ok(())
+    let Stored {
+        cells,
+        revisions,
+        keeper,
+    } = restore(rt, files, folder, owner, asked.cells)?;
+    Ok(Opened {
+        cells,
+        revisions,
+        keeper: Some(keeper),
+        accounts,
+        stop: Stop::new(),
+    })
 }
 
 /// Serves connections with the pads of a row.
-fn serve_row<'a, 's, R>(
+fn serve_row<'s, R>(
     rt: &'s R,
-    cells: Vec<SharedPad<BlockSeq>>,
-    guard: Option<Guard<'s>>,
-    asked: Asked<'a>,
-    listener: TcpListener,
-    accounts: &Accounts,
-) -> Result<(), Failure<'a>>
+    opened: &'s Opened,
+    hub: &'s Hub,
+    asked: Asked<'_>,
+    acceptor: Acceptor,
+    workers: Vec<Worker>,
+) -> Result<(), Failure<'static>>
 where
     R: Runtime<A = Global, File = File>
         + Net<Listener = TcpListener, Stream = TcpStream>
         + Threads
         + Wait
         + Sync
-        + Log,
+        + Eprint,
 {
     let alloc = rt.alloc();
-    let mut crew = Vec::new(alloc);
-    take_all_seats(rt, alloc, cells.as_slice(), asked.workers, &mut crew)?;
+    let cells = opened.cells.as_slice();
+    let keeper = opened.keeper.as_ref();
+    let guard = match keeper {
+        Some(keeper) => Some(Guard {
+            keeper,
+            stop: &opened.stop,
+            hub,
+        }),
+        None => None,
+    };
     let mut seats = Vec::new(alloc);
-    take_seats(rt, cells.as_slice(), &mut seats)?;
-    let contacts = contacts(alloc, accounts.peers(), asked.replica, guard)?;
+    take_seats(rt, cells, &mut seats)?;
+    let contacts = contacts(alloc, opened.accounts.peers(), asked.replica, guard)?;
     let (to, wakes) = crossbeam_channel::bounded(alloc, 1)?;
     let waker = Waker::new(if contacts.is_empty() {
         None
     } else {
         Some(to.clone()?)
     });
-    let keeper = match guard {
-        Some(guard) => Some(guard.keeper),
-        None => None,
-    };
-    let gate = Course::new(rt, waker, Turnstile::new(alloc)?, keeper);
+    let gate = Course::new(rt, waker, keeper, hub);
     let row = Row {
         rt,
-        cells: cells.as_slice(),
+        cells,
         replica: asked.replica,
-        accounts,
+        accounts: &opened.accounts,
         gate: &gate,
+    };
+    let settle = Settling::new(rt, keeper);
+    let service = Service {
+        row: &row,
+        hub,
+        limits: Limits {
+            connections: asked.connections,
+            clients: asked.clients,
+            idle: asked.idle,
+        },
+        settle: &settle,
     };
     let relaying = Relaying {
         contacts,
@@ -119,20 +188,54 @@ where
         wakes,
         guard,
     };
-    serve(
-        &row,
-        listener,
-        Limits {
-            connections: asked.connections,
-            idle: asked.idle,
-        },
-        crew.as_mut_slice(),
-        relaying,
-    )
+    serve(&service, acceptor, workers, relaying)
 }
 
-/// Binds the address, prints it with the real port, and returns both.
-fn bind<'a, R>(rt: &R, address: &'a str) -> Result<(TcpListener, SocketAddr), Failure<'a>>
+/// The threads that serve connections, with a seat for each at each pad. It warns if they can't serve as many clients as may
+/// be connected.
+fn make_threads<R>(
+    rt: &R,
+    opened: &Opened,
+    asked: Asked<'_>,
+    listener: TcpListener,
+) -> Result<SetUp, Failure<'static>>
+where
+    R: AllocGlobal
+        + Net<Listener = TcpListener, Stream = TcpStream>
+        + Clock
+        + Threads
+        + Wait
+        + Eprint,
+{
+    let mut crew = Vec::new(rt.alloc());
+    let threads = threads_for(rt, asked);
+    take_all_seats(rt, rt.alloc(), opened.cells.as_slice(), threads, &mut crew)?;
+    warn_of_room(rt, asked, crew.len());
+    match set_up(rt, listener, crew, opened.revisions.as_slice()) {
+        Ok(made) => Ok(made),
+        Err(cause) => Err(Failure::NotSetUp(cause)),
+    }
+}
+
+/// How many threads serve connections: as many as the command line asks for, or as there are processors, and one for long
+/// lines. Each needs a seat at each pad, and so does the exchange with other servers.
+fn threads_for<R: Threads>(rt: &R, asked: Asked<'_>) -> u32 {
+    let workers = match asked.workers {
+        Some(workers) => workers,
+        None => processors(rt),
+    };
+    workers.clamp(1, MAX_WORKERS - 1) + 1
+}
+
+fn processors<R: Threads>(rt: &R) -> u32 {
+    match thread::available_parallelism(rt) {
+        Ok(count) => u32::try_from(count.get()).unwrap_or(MAX_WORKERS),
+        Err(_) => DEFAULT_WORKERS,
+    }
+}
+
+/// Binds the address, and prints it with the real port.
+fn bind<'a, R>(rt: &R, address: &'a str) -> Result<TcpListener, Failure<'a>>
 where
     R: Net<Listener = TcpListener, Stream = TcpStream> + Print,
 {
@@ -142,15 +245,14 @@ where
         Err(_) => return Err(Failure::NoPort { address }),
     };
     match announce(rt, &listener) {
-        Ok(local) => Ok((listener, local)),
+        Ok(()) => Ok(listener),
         Err(cause) => Err(Failure::Untold(cause)),
     }
 }
 
-fn announce<R: Print>(rt: &R, listener: &TcpListener) -> io::Result<SocketAddr> {
+fn announce<R: Print>(rt: &R, listener: &TcpListener) -> io::Result<()> {
     let local = listener.local_addr()?;
-    println!(rt; "listening on {local}")?;
-    Ok(local)
+    println!(rt; "listening on {local}")
 }
 
 /// What the thread that exchanges with peers owns, and the sender that tells it of the last connection's end.
@@ -163,13 +265,12 @@ struct Relaying<'a> {
     guard: Option<Guard<'a>>,
 }
 
-/// Accepts connections in one thread, and serves them in as many as there are seats for. Another one exchanges with the
-/// peers, and once more after the last connection.
+/// Accepts connections in one thread, and serves them in the workers' threads. Another one exchanges with the peers, and once
+/// more after the last connection.
 fn serve<R>(
-    row: &Row<'_, BlockSeq, R, Course<'_, R>>,
-    listener: TcpListener,
-    limits: Limits,
-    crew: &mut [Vec<Seat>],
+    service: &Service<'_, BlockSeq, R, Course<'_, R>, Settling<'_, R>>,
+    acceptor: Acceptor,
+    mut workers: Vec<Worker>,
     relaying: Relaying<'_>,
 ) -> Result<(), Failure<'static>>
 where
@@ -179,10 +280,10 @@ where
         + Threads
         + Wait
         + Sync
-        + Log,
+        + Eprint,
 {
-    let (rt, alloc) = (row.rt, row.rt.alloc());
-    let (to, from) = crossbeam_channel::bounded(alloc, crew.len())?;
+    let (row, hub, limits) = (service.row, service.hub, service.limits);
+    let rt = row.rt;
     let Relaying {
         contacts,
         seats,
@@ -195,12 +296,15 @@ where
         if relay.is_err() {
             return Err(Failure::Alone);
         }
-        let acceptor = scope.spawn(move || accept_all(rt, &listener, limits, &to, guard));
-        if acceptor.is_err() {
+        let accepting = scope.spawn(move || accept_all(rt, acceptor, hub, limits));
+        if accepting.is_err() {
             let _ended = last.send(rt, Wake::Last);
             return Err(Failure::Alone);
         }
-        pool(alloc, row, &from, crew);
+        serve_all(service, workers.as_mut_slice());
+        if let Some(guard) = guard {
+            guard.end(rt);
+        }
         let _ended = last.send(rt, Wake::Last);
         Ok(())
     })

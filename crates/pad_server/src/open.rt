@@ -6,13 +6,13 @@ use crate::accounts::read_accounts;
 use crate::args::Asked;
 use crate::failure::Failure;
 use block_seq::BlockSeq;
-use log::Log;
 use pad_core::Request;
 use pad_model::{Name, Refusal};
 use server_core::Server;
 use sessions::{Accounts, Word};
 use std::alloc::Global;
 use std::rt::Files;
+use std::time::Clock;
 use workers::{Alone, Pads};
 
 /// The author of a server without accounts, and its token.
@@ -21,7 +21,7 @@ const SOLO: &str = "solo";
 /// The server of the command line. Its actor is the author `solo` if there is no accounts file, otherwise nobody.
 pub fn open<'a, R>(rt: &R, asked: Asked<'a>) -> Result<Alone<BlockSeq>, Failure<'a>>
 where
-    R: AllocGlobal + Files + Log,
+    R: AllocGlobal + Files + Clock + Eprint,
     requires { (1 ≤ asked.replica) × (asked.cells ≤ MAX_CELLS) }
 {
     let alloc = rt.alloc();

@@ -2,7 +2,7 @@
 ghost use Rattle.std.specs.Prelude.{◌≡◌, ◌≤◌, ℕ, codes, false, unwrap_or};
 ghost use Rattle.clap.specs.Words.{rule_of};
 ghost use Rattle.command_line.specs.Options.{Holds};
-ghost use Rattle.pad_server.specs.CommandLine.{connections_rule, idle_rule, listen_rule, new_replica_rule, stdin_rule, store_rule, workers_rule};
+ghost use Rattle.pad_server.specs.CommandLine.{clients_rule, connections_rule, idle_rule, listen_rule, new_replica_rule, stdin_rule, store_rule, workers_rule};
 
 use clap::{Arg, ArgAction, ArgMatches, value_parser};
 use std::alloc::Global;
@@ -10,8 +10,11 @@ use std::alloc::Global;
 /// The most workers. A pad has 64 seats: one for each worker, and one for the exchange with other servers.
 pub const MAX_WORKERS: u32 = 63;
 
-/// The number of workers without `--workers`.
+/// The number of workers without `--workers`, where the system does not tell how many processors there are.
 pub const DEFAULT_WORKERS: u32 = 16;
+
+/// How many clients may be connected without `--clients`.
+pub const DEFAULT_CLIENTS: u32 = 10_000;
 
 /// `--stdin`.
 pub fn stdin_flag<'a>(alloc: Global) -> Arg<'a>
@@ -43,7 +46,7 @@ pub fn workers_option<'a>(alloc: Global) -> Arg<'a>
         .long("workers")
         .value_name("N")
         .value_parser(value_parser!(u32).range(1..=i64::from(MAX_WORKERS)))
-        .help("How many connections are served at once, 1 to 63 [default: 16]")
+        .help("How many threads serve connections, 1 to 63 [default: one for each processor]")
 }
 
 /// `--connections N`.
@@ -55,6 +58,17 @@ pub fn connections_option<'a>(alloc: Global) -> Arg<'a>
         .value_name("N")
         .value_parser(value_parser!(u32).range(1..))
         .help("Ends the server after its Nth connection [default: never]")
+}
+
+/// `--clients N`.
+pub fn clients_option<'a>(alloc: Global) -> Arg<'a>
+    ensures { (rule_of result ≡ clients_rule) × (result.global ≡ false) }
+{
+    Arg::new(alloc, "clients")
+        .long("clients")
+        .value_name("N")
+        .value_parser(value_parser!(u32).range(1..))
+        .help("How many clients may be connected at once [default: 10000]")
 }
 
 /// `--idle SECONDS`.
@@ -88,14 +102,20 @@ pub fn new_replica_flag<'a>(alloc: Global) -> Arg<'a>
         .help("Continues a store under a replica number that no server has used")
 }
 
-/// The number of `--workers`, or 16 without one.
-pub fn workers_of(matches: &ArgMatches<'_>) -> u32
-    ensures value { Holds (codes "workers") 0 MAX_WORKERS DEFAULT_WORKERS matches.now result }
-    ensures most { result ≤ MAX_WORKERS }
+/// The number of `--workers`, if there is one.
+pub fn workers_of(matches: &ArgMatches<'_>) -> Option<u32>
+    ensures { (other : ℕ) → Holds (codes "workers") 0 4294967295 other matches.now (unwrap_or result other) }
 {
-    match matches.get_one::<u32>("workers") {
-        Some(workers) if workers <= MAX_WORKERS => workers,
-        _ => DEFAULT_WORKERS,
+    matches.get_one::<u32>("workers")
+}
+
+/// The number of `--clients`, or 10,000 without one.
+pub fn clients_of(matches: &ArgMatches<'_>) -> u32
+    ensures { Holds (codes "clients") 0 4294967295 DEFAULT_CLIENTS matches.now result }
+{
+    match matches.get_one::<u32>("clients") {
+        Some(clients) => clients,
+        None => DEFAULT_CLIENTS,
     }
 }
 

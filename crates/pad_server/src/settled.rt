@@ -1,5 +1,6 @@
-//! A writer that writes nothing before the store is synced.
+//! Replies that wait until the store is synced.
 use crate::keeper::Keeper;
+use event_loop::Settle;
 use std::io;
 use std::io::Write;
 use std::sync::Wait;
@@ -29,5 +30,35 @@ impl<W: Write, R: Wait> Write for Settled<'_, W, R> {
 
     fn flush(&mut self) -> io::Result<()> {
         self.inner.flush()
+    }
+}
+
+/// What the replies of the workers wait for: the sync of the store, if there is one.
+#[derive(Drop)]
+pub struct Settling<'a, R> {
+    rt: &'a R,
+    keeper: Option<&'a Keeper>,
+}
+
+impl<'a, R> Settling<'a, R> {
+    /// Replies that wait for this keeper; None: they wait for nothing.
+    pub fn new(rt: &'a R, keeper: Option<&'a Keeper>) -> Settling<'a, R> {
+        Settling { rt, keeper }
+    }
+}
+
+impl<R: Wait> Settle for Settling<'_, R> {
+    fn settle(&self) -> io::Result<()> {
+        match self.keeper {
+            Some(keeper) => keeper.settle(self.rt),
+            None => Ok(()),
+        }
+    }
+
+    fn has_failed(&self) -> bool {
+        match self.keeper {
+            Some(keeper) => keeper.has_failed(),
+            None => false,
+        }
     }
 }

@@ -6,7 +6,8 @@ use crate::keeper::{Book, Books, Handle, Held, Keeper};
 use crate::reserve::Reserve;
 use crate::spares::PRIVATE;
 use block_seq::BlockSeq;
-use log::{Log, warn};
+use journal::Journal;
+use log::warn;
 use pad_core::Pad;
 use pad_model::Refusal;
 use shared_pads::SharedPad;
@@ -37,6 +38,8 @@ pub struct Owner {
 #[derive(Drop)]
 pub struct Stored {
     pub cells: Vec<SharedPad<BlockSeq>>,
+    /// The revision of the pad at each cell.
+    pub revisions: Vec<u64>,
     pub keeper: Keeper,
 }
 
@@ -49,22 +52,27 @@ pub fn restore<'f, R>(
     count: u32,
 ) -> Result<Stored, Failure<'f>>
 where
-    R: Runtime<A = Global, File = File> + Log + Wait,
+    R: Runtime<A = Global, File = File> + Wait,
     requires { 1 ≤ owner.replica }
 {
     let kept_in = String::from_str(rt.alloc(), folder)?;
     let (held, names) = open_folder(rt, folder)?;
-    let Loading { cells, books } = load_row(rt, folder, names.as_slice(), owner, count)?;
+    let Loading {
+        cells,
+        revisions,
+        books,
+    } = load_row(rt, folder, names.as_slice(), owner, count)?;
     let path = format!(in rt.alloc(); "{folder}/reserve")?;
     let reserve = match Reserve::open(&files, path.as_str()) {
         Ok(reserve) => reserve,
         Err(cause) => return Err(Failure::Unopened { folder, cause }),
     };
     if !reserve.is_whole(rt) {
-        warn!(rt; "the disk of the store {folder} is full: nothing is taken that has to be kept");
+        warn!(Journal(rt); "the disk of the store {folder} is full: nothing is taken that has to be kept");
     }
     Ok(Stored {
         cells,
+        revisions,
         keeper: Keeper::new(files, kept_in, owner.replica, books, reserve, held),
     })
 }
@@ -94,12 +102,13 @@ fn load_row<'f, R>(
     count: u32,
 ) -> Result<Loading, Failure<'f>>
 where
-    R: Runtime<A = Global, File = File> + Log,
+    R: Runtime<A = Global, File = File>,
     requires { 1 ≤ owner.replica }
 {
     let alloc = rt.alloc();
     let mut row = Loading {
         cells: Vec::new(alloc),
+        revisions: Vec::new(alloc),
         books: Books {
             all: Vec::new(alloc),
             handles: Vec::new(alloc),
@@ -124,6 +133,7 @@ where
 #[derive(Drop)]
 struct Loading {
     cells: Vec<SharedPad<BlockSeq>>,
+    revisions: Vec<u64>,
     books: Books,
 }
 
@@ -137,6 +147,7 @@ impl Loading {
             file,
             handle,
         } = opened;
+        self.revisions.push(pad.since(0).len() as u64)?;
         let Ok(pad) = SharedPad::new(alloc, pad, cell) else {
             return Err(AllocError);
         };
@@ -157,6 +168,7 @@ impl Loading {
             return Err(Refusal::Memory);
         };
         self.cells.push(pad)?;
+        self.revisions.push(0)?;
         self.books.all.push(Mutex::new(Book {
             file: None,
             sum: String::new(alloc),
@@ -217,7 +229,7 @@ fn load_file<'f, R>(
     owner: Owner,
 ) -> Result<Option<Opened>, Failure<'f>>
 where
-    R: Runtime<A = Global, File = File> + Log,
+    R: Runtime<A = Global, File = File>,
     requires { 1 ≤ owner.replica }
 {
     let path = format!(in rt.alloc(); "{folder}/{name}")?;
@@ -274,11 +286,11 @@ fn refuse<'f, R: Eprint>(rt: &R, folder: &'f str, path: &str, damage: Damage) ->
 }
 
 // Moves a file aside whose pad was never named, to a name that no file has.
-fn move_aside<R: Runtime<A = Global, File = File> + Log>(rt: &R, path: &str) -> io::Result<()> {
+fn move_aside<R: Runtime<A = Global, File = File>>(rt: &R, path: &str) -> io::Result<()> {
     for number in 1..=MOST_ASIDE {
         let aside = format!(in rt.alloc(); "{path}.unnamed-{number}")?;
         if !fs::exists(rt, aside.as_str())? {
-            warn!(rt; "{path}: no pad was named in it, and it is moved to {aside}");
+            warn!(Journal(rt); "{path}: no pad was named in it, and it is moved to {aside}");
             return fs::rename(rt, path, aside.as_str());
         }
     }
@@ -288,7 +300,7 @@ fn move_aside<R: Runtime<A = Global, File = File> + Log>(rt: &R, path: &str) -> 
 // A pad with its file, which is cut behind the last line that was read. A server with a new number begins with a header.
 fn open_loaded<R>(rt: &R, path: &str, replica: u16, loaded: Loaded<BlockSeq>) -> io::Result<Opened>
 where
-    R: Runtime<A = Global, File = File> + Log,
+    R: Runtime<A = Global, File = File>,
 {
     let Loaded {
         pad,
@@ -298,7 +310,7 @@ where
         cut,
     } = loaded;
     if cut > 0 {
-        warn!(rt; "{path}: the last {cut} bytes are no whole lines that were synced, and are cut off");
+        warn!(Journal(rt); "{path}: the last {cut} bytes are no whole lines that were synced, and are cut off");
     }
     let (mut file, handle) = open_file(rt, path, whole)?;
     let sum = if header.replica == u64::from(replica) {

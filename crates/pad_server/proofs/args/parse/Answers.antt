@@ -4,7 +4,7 @@ use Rattle.clap.specs.Words.{App, HasKind, found_of, is_simple, one_of, one_text
 use Rattle.clap.proofs.WalkLemmas.{one_text-rows}
 use Rattle.command_line.proofs.CallerLemmas.{gives_number, gives_text, rows_found}
 use Rattle.server_core.specs.declared.limits.TheConstants.{MAX_CELLS}
-use Rattle.pad_server.specs.declared.options.TheConstants.{MAX_WORKERS, DEFAULT_WORKERS}
+use Rattle.pad_server.specs.declared.options.TheConstants.{DEFAULT_CLIENTS}
 use Rattle.pad_server.specs.CommandLine.{line}
 use Rattle.pad_server.proofs.args.parse.Goals as goal
 
@@ -34,10 +34,12 @@ returns-clause-asked c =
         unset = λ e. c.get_flag.ensures.other (flag ∙ e);
       };
       listen = c.get_str-2.ensures ∙ gives_text line words m (codes "listen") rows;
-      workers = gives_number line words m (codes "workers") 0 MAX_WORKERS DEFAULT_WORKERS c.workers_of.result rows
-          c.workers_of.ensures.value;
+      workers = λ other. gives_number line words m (codes "workers") 0 4294967295 other _ rows
+          (c.workers_of.ensures other);
       connections = λ other. gives_number line words m (codes "connections") 0 4294967295 other _ rows
           (c.connections_of.ensures other);
+      clients = gives_number line words m (codes "clients") 0 4294967295 DEFAULT_CLIENTS c.clients_of.result rows
+          c.clients_of.ensures;
       idle = λ other. gives_number line words m (codes "idle") 0 4294967295 other _ rows (c.idle_of.ensures other);
       store = c.get_str-3.ensures ∙ gives_text line words m (codes "store") rows;
       new_replica = record {

@@ -1,0 +1,183 @@
+//! Connections are accepted, and handed to the workers.
+use crate::arrivals::Arrival;
+use crate::clients::WAKING;
+use crate::hub::Hub;
+use crate::limits::Limits;
+use crate::rarely::Rarely;
+use crate::ticker::Ticker;
+use journal::Journal;
+use log::warn;
+use mio::net::{TcpListener, TcpStream};
+use mio::{Events, Interest, Poll, Token, Waker};
+use std::alloc::Global;
+use std::io::{ErrorKind, Write};
+use std::net::Net;
+use std::sync::Wait;
+use std::time::{Clock, Duration};
+use std::{io, net};
+
+/// What a client is told that is one too many.
+pub const FULL: &[u8] = b"{\"code\":902,\"error\":\"Full\",\"ok\":false}\n";
+
+/// The pause after the system refused a connection, in milliseconds: mostly it would refuse the next one too.
+const PAUSE: u64 = 50;
+
+/// How often it is logged that clients are refused, or that the system refuses connections, in milliseconds.
+const EVERY: u64 = 60_000;
+
+/// How many events are taken at once.
+const EVENTS: usize = 8;
+
+/// How many connections are accepted before it is looked whether the server has stopped.
+const AT_ONCE: u32 = 256;
+
+/// Who accepts connections.
+#[derive(Drop)]
+pub struct Acceptor {
+    poll: Poll,
+    events: Events,
+    listener: TcpListener,
+}
+
+impl Acceptor {
+    /// An acceptor at a listener, and what wakes it.
+    pub(crate) fn new<R: Net>(
+        rt: &R,
+        alloc: Global,
+        listener: net::TcpListener,
+    ) -> io::Result<(Acceptor, Waker)> {
+        let poll = Poll::new(rt)?;
+        let waker = Waker::new(poll.registry(), WAKING)?;
+        listener.set_nonblocking(true)?;
+        let mut listener = TcpListener::from_std(listener);
+        poll.registry()
+            .register(&mut listener, Token(0), Interest::READABLE)?;
+        let acceptor = Acceptor {
+            poll,
+            events: Events::with_capacity(alloc, EVENTS)?,
+            listener,
+        };
+        Ok((acceptor, waker))
+    }
+}
+
+/// What came of a round of accepting.
+#[derive(Clone, Copy, Debug, PartialEq, Eq)]
+enum Round {
+    /// No further connection waits.
+    Done,
+    /// Others may wait.
+    More,
+    /// The system refused one.
+    Refused,
+    /// As many were accepted as were to be.
+    Last,
+}
+
+/// What is counted and logged while connections are accepted.
+#[derive(Drop)]
+struct Count {
+    accepted: u64,
+    ticker: Ticker,
+    full: Rarely,
+    refused: Rarely,
+}
+
+/// Accepts connections and hands each to the worker with the fewest clients, until as many were accepted as the limits say or
+/// the server has stopped. One client too many is told so, and counts as accepted. A connection that the system refuses does
+/// not count.
+pub fn accept_all<R: Clock + Wait + Eprint>(
+    rt: &R,
+    mut acceptor: Acceptor,
+    hub: &Hub,
+    limits: Limits,
+) {
+    let mut count = Count {
+        accepted: 0,
+        ticker: Ticker::new(hub.began()),
+        full: Rarely::new(EVERY),
+        refused: Rarely::new(EVERY),
+    };
+    let mut round = Round::Done;
+    for _ in rt.forever() {
+        let timeout = match round {
+            Round::Done => None,
+            Round::More => Some(Duration::from_millis(0)),
+            Round::Refused => Some(Duration::from_millis(PAUSE)),
+            Round::Last => break,
+        };
+        if let Err(cause) = acceptor.poll.poll(&mut acceptor.events, timeout) {
+            warn!(Journal(rt); "no more connections are accepted: {cause}");
+            break;
+        }
+        if hub.has_stopped() {
+            break;
+        }
+        round = accept_some(rt, &acceptor.listener, hub, limits, &mut count);
+    }
+    hub.close();
+}
+
+// Accepts the connections that wait.
+fn accept_some<R: Clock + Wait + Eprint>(
+    rt: &R,
+    listener: &TcpListener,
+    hub: &Hub,
+    limits: Limits,
+    count: &mut Count,
+) -> Round {
+    for _ in 0..AT_ONCE {
+        match listener.accept() {
+            Ok((stream, _address)) => {
+                count.accepted = count.accepted.saturating_add(1);
+                take(rt, stream, hub, limits, count);
+            }
+            Err(error) => match error.kind() {
+                ErrorKind::WouldBlock => return Round::Done,
+                ErrorKind::Interrupted | ErrorKind::ConnectionAborted => {}
+                _ => {
+                    if count.refused.is_due(count.ticker.look(rt)) {
+                        warn!(Journal(rt); "no connection is accepted: {error}");
+                    }
+                    return Round::Refused;
+                }
+            },
+        }
+        let accepted = count.accepted;
+        if limits
+            .connections
+            .is_some_and(|most| accepted >= u64::from(most))
+        {
+            return Round::Last;
+        }
+    }
+    Round::More
+}
+
+// Hands a connection to a worker, unless there are too many.
+fn take<R: Clock + Wait + Eprint>(
+    rt: &R,
+    mut stream: TcpStream,
+    hub: &Hub,
+    limits: Limits,
+    count: &mut Count,
+) {
+    let number = count.accepted;
+    if hub.connected() >= u64::from(limits.clients) {
+        let most = limits.clients;
+        if count.full.is_due(count.ticker.look(rt)) {
+            warn!(Journal(rt); "connection {number} is refused: {most} clients are connected");
+        }
+        let _told = stream.write(FULL);
+        return;
+    }
+    if let Err(cause) = stream.set_nodelay(true) {
+        warn!(Journal(rt); "connection {number}: cannot set its socket options: {cause}");
+    }
+    let home = hub.least_busy();
+    hub.enter(home);
+    if !hub.send(rt, home, Arrival::Accepted { number, stream }) {
+        warn!(Journal(rt); "connection {number} is not served: out of memory");
+        hub.leave(home);
+    }
+}

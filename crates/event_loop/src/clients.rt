@@ -1,0 +1,158 @@
+//! The clients of a worker, and what is to be done for them in a turn.
+use crate::client::Client;
+use crate::hub::Hub;
+use crate::limits::CHUNK;
+use mio::net::TcpStream;
+use mio::{Events, Interest, Registry, Token};
+use slab::Slab;
+use std::alloc::{AllocError, Global};
+use std::{io, mem};
+
+/// Under which token a worker is woken.
+pub const WAKING: Token = Token(usize::MAX);
+
+/// The clients of a worker. A client is named by its key.
+#[derive(Drop)]
+pub struct Clients {
+    pub all: Slab<Client>,
+    /// Who is served in this turn, and in the next.
+    pub queue: Vec<usize>,
+    pub later: Vec<usize>,
+    /// Who may have replies to take.
+    pub owed: Vec<usize>,
+    /// Who is held back, and when the first of them is to be released, in milliseconds.
+    pub held: Vec<usize>,
+    pub deadline: Option<u64>,
+    /// What a read gives.
+    pub chunk: Vec<u8>,
+    /// Whether replies were made that are not settled.
+    pub has_spoken: bool,
+}
+
+impl Clients {
+    /// No clients.
+    pub fn new(alloc: Global) -> Result<Clients, AllocError> {
+        let mut chunk = Vec::new(alloc);
+        chunk.resize(CHUNK, 0)?;
+        Ok(Clients {
+            all: Slab::new(alloc),
+            queue: Vec::new(alloc),
+            later: Vec::new(alloc),
+            owed: Vec::new(alloc),
+            held: Vec::new(alloc),
+            deadline: None,
+            chunk,
+            has_spoken: false,
+        })
+    }
+
+    /// Takes a connection in that was accepted.
+    pub fn accept(
+        &mut self,
+        alloc: Global,
+        registry: &Registry,
+        number: u64,
+        home: usize,
+        stream: TcpStream,
+    ) -> io::Result<()> {
+        self.insert(registry, Client::new(alloc, number, home, stream))
+    }
+
+    /// Takes a client in, which is served in this turn.
+    pub fn insert(&mut self, registry: &Registry, mut client: Client) -> io::Result<()> {
+        client.settle_in();
+        self.reserve()?;
+        let key = self.all.vacant_key();
+        let both = Interest::READABLE | Interest::WRITABLE;
+        registry.register(client.stream(), Token(key), both)?;
+        let key = self.all.insert(client)?;
+        self.queue.push(key)?;
+        Ok(())
+    }
+
+    // Makes room for one more client in each list, so that none of them fails in a turn.
+    fn reserve(&mut self) -> Result<(), AllocError> {
+        self.all.reserve(1)?;
+        let most = self.all.len().saturating_add(1).min(1 << 32);
+        self.queue.reserve(2 * most)?;
+        self.later.reserve(2 * most)?;
+        self.owed.reserve(4 * most)?;
+        self.held.reserve(2 * most)
+    }
+
+    /// Notes what sockets are ready for. Whether the worker was woken.
+    pub fn note(&mut self, events: &Events) -> Result<bool, AllocError> {
+        let mut is_woken = false;
+        for event in events {
+            let token = event.token();
+            if token == WAKING {
+                is_woken = true;
+                continue;
+            }
+            let Some(client) = self.all.get_mut(token.0) else {
+                continue;
+            };
+            if event.is_writable() && client.owes() {
+                self.owed.push(token.0)?;
+            }
+            let ends = event.is_read_closed() || event.is_error();
+            if (event.is_readable() || ends) && client.note_readable() {
+                self.queue.push(token.0)?;
+            }
+        }
+        Ok(is_woken)
+    }
+
+    /// Holds a client back until this time.
+    pub fn hold(&mut self, key: usize, until: u64) -> Result<(), AllocError> {
+        self.deadline = Some(self.deadline.map_or(until, |first| first.min(until)));
+        if let Some(client) = self.all.get_mut(key) {
+            if client.list() {
+                self.held.push(key)?;
+            }
+        }
+        Ok(())
+    }
+
+    /// Releases those whose time is over, or whose pad has the revision that they want; finds out when the next is due.
+    pub fn release(&mut self, hub: &Hub, place: usize, now: u64) -> Result<(), AllocError> {
+        let mut kept = 0;
+        let mut deadline: Option<u64> = None;
+        for index in 0..self.held.len() {
+            let Some(key) = self.held.get(index).copied() else {
+                break;
+            };
+            let Some(client) = self.all.get_mut(key) else {
+                continue;
+            };
+            let hold = client.hold();
+            let Some(until) = hold.until() else {
+                client.unlist();
+                continue;
+            };
+            if until <= now || !hub.holds(place, hold) {
+                client.unlist();
+                if client.release() {
+                    self.owed.push(key)?;
+                } else if client.queue() {
+                    self.queue.push(key)?;
+                }
+                continue;
+            }
+            deadline = Some(deadline.map_or(until, |first| first.min(until)));
+            if let Some(slot) = self.held.get_mut(kept) {
+                *slot = key;
+                kept += 1;
+            }
+        }
+        self.held.truncate(kept);
+        self.deadline = deadline;
+        Ok(())
+    }
+
+    /// The next turn begins.
+    pub fn turn_over(&mut self) {
+        self.owed.clear();
+        mem::swap(&mut self.queue, &mut self.later);
+    }
+}

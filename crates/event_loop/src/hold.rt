@@ -1,0 +1,129 @@
+//! Clients that are held back: by a pause after wrong tokens, or because they wait for a pad to change.
+use pad_core::{Act, Request};
+use pad_model::Name;
+use sessions::Session;
+use std::alloc::Global;
+use std::fmt::Formatter;
+use std::{fmt, str};
+use wire_json::read_request;
+
+/// The reply to a wrong token.
+pub const BAD_TOKEN: &[u8] = b"{\"code\":201,\"error\":\"BadToken\",\"ok\":false}\n";
+
+/// From which wrong token of a connection on its reply is held back.
+const PATIENT: u32 = 3;
+
+/// For how many milliseconds the first such reply is held back, and for how many at most.
+const FIRST_PAUSE: u64 = 100;
+
+const LONGEST_PAUSE: u64 = 3_000;
+
+/// The most seconds that a request can ask to wait.
+const MOST_SECONDS: u64 = 60;
+
+/// A longer line is never held back.
+const LONGEST_LINE: usize = 1_024;
+
+/// Whether a client is held back. Times are in milliseconds of a `Ticker`.
+#[derive(Clone, Copy, Debug, PartialEq, Eq)]
+pub enum Hold {
+    /// It is not.
+    Free,
+    /// The reply to a wrong token, the last `bytes` of its replies, is held back.
+    Pause { until: u64, bytes: usize },
+    /// Its first line waits for a revision of the pad at a cell.
+    Change { wanted: Wanted, until: u64 },
+    /// Its first line has waited long enough.
+    Over,
+}
+
+impl Hold {
+    /// When it is over at the latest.
+    pub fn until(self) -> Option<u64> {
+        match self {
+            Hold::Pause { until, .. } | Hold::Change { until, .. } => Some(until),
+            Hold::Free | Hold::Over => None,
+        }
+    }
+}
+
+/// What a request waits for: a revision past this one of the pad at a cell, for so many seconds at most.
+#[derive(Clone, Copy, Debug, PartialEq, Eq)]
+pub struct Wanted {
+    pub cell: u32,
+    pub rev: u64,
+    pub seconds: u64,
+}
+
+/// How long the reply to a connection's nth wrong token is held back, in milliseconds. None: it is not.
+pub fn pause_after(failures: u32) -> Option<u64> {
+    if failures < PATIENT {
+        return None;
+    }
+    let mut pause = FIRST_PAUSE;
+    for _failure in PATIENT..failures.min(PATIENT + 8) {
+        pause = pause.saturating_mul(2);
+    }
+    Some(pause.min(LONGEST_PAUSE))
+}
+
+/// Whether a connection with so many wrong tokens is logged at the next one.
+pub fn is_suspect(failures: u32) -> bool {
+    failures >= PATIENT - 1
+}
+
+/// As whom a line logs in.
+#[derive(Drop)]
+pub enum Claim {
+    Author(Name),
+    Peer(u64),
+}
+
+impl fmt::Display for Claim {
+    fn fmt<W: fmt::Write>(&self, f: &mut Formatter<W>) -> fmt::Result {
+        match self {
+            Claim::Author(name) => f.write_str(name.as_str()),
+            Claim::Peer(number) => write!(f, "peer {number}"),
+        }
+    }
+}
+
+/// As whom a line logs in, if it does.
+pub fn claim_in(alloc: Global, line: &[u8]) -> Option<Claim> {
+    match read_request(alloc, line) {
+        Ok(Request::Hello { name, .. }) => Some(Claim::Author(name)),
+        Ok(Request::Peer { number, .. }) => Some(Claim::Peer(number)),
+        _ => None,
+    }
+}
+
+/// What a line waits for, if it is a request that may be held back.
+pub fn wanted_by(alloc: Global, line: &[u8], session: &Session) -> Option<Wanted> {
+    if line.len() > LONGEST_LINE || !mentions_wait(line) {
+        return None;
+    }
+    match read_request(alloc, line) {
+        Ok(
+            Request::On {
+                pad,
+                act: Act::Changes { rev, wait, .. },
+            },
+        ) if wait > 0 && wait <= MOST_SECONDS => {
+            let room = session.room(pad.as_str())?;
+            Some(Wanted {
+                cell: room.cell,
+                rev,
+                seconds: wait,
+            })
+        }
+        _ => None,
+    }
+}
+
+// Whether a line has the field at all, so that other lines are not parsed twice.
+fn mentions_wait(line: &[u8]) -> bool {
+    match str::from_utf8(line) {
+        Ok(text) => text.contains("\"wait\""),
+        Err(_) => false,
+    }
+}

@@ -1,0 +1,249 @@
+//! What the threads of a server share: how each worker is reached, how many clients there are, and whether the server ends.
+use crate::arrivals::Arrival;
+use crate::hold::{Hold, Wanted};
+use crossbeam_channel::Sender;
+use mio::Waker;
+use std::sync::Wait;
+use std::sync::atomic::{AtomicBool, AtomicU64, Ordering};
+use std::time::Instant;
+
+/// How a worker is reached.
+#[derive(Drop)]
+pub struct Door {
+    to: Sender<Arrival>,
+    waker: Waker,
+    /// How many clients it has, with those that are on their way or with the worker for long lines.
+    clients: AtomicU64,
+    /// Whether it is at work: the system may make no thread for it.
+    is_open: AtomicBool,
+    /// A bit for each cell: those of whose pads it wants to know, and those whose pads have moved since it was told last.
+    wanted: AtomicU64,
+    moved: AtomicU64,
+}
+
+impl Door {
+    /// To a worker that is not at work yet.
+    pub fn new(to: Sender<Arrival>, waker: Waker) -> Door {
+        Door {
+            to,
+            waker,
+            clients: AtomicU64::new(0),
+            is_open: AtomicBool::new(false),
+            wanted: AtomicU64::new(0),
+            moved: AtomicU64::new(0),
+        }
+    }
+}
+
+/// What the threads of a server share.
+#[derive(Drop)]
+pub struct Hub {
+    /// The last is that of the worker for long lines.
+    doors: Vec<Door>,
+    acceptor: Waker,
+    /// When the server began. None: the clock did not tell.
+    began: Option<Instant>,
+    connected: AtomicU64,
+    /// Whether no more connections are accepted.
+    is_closed: AtomicBool,
+    has_stopped: AtomicBool,
+    /// The revision of the pad at each cell.
+    revisions: Vec<AtomicU64>,
+    /// From when on wrong tokens may be reported again, in milliseconds of a `Ticker`.
+    report_from: AtomicU64,
+}
+
+/// How often wrong tokens are reported at most, in milliseconds.
+const REPORTS: u64 = 1_000;
+
+impl Hub {
+    /// Of a server without clients, whose pads have these revisions.
+    pub fn new(
+        doors: Vec<Door>,
+        acceptor: Waker,
+        began: Option<Instant>,
+        revisions: Vec<AtomicU64>,
+    ) -> Hub {
+        Hub {
+            doors,
+            acceptor,
+            began,
+            connected: AtomicU64::new(0),
+            is_closed: AtomicBool::new(false),
+            has_stopped: AtomicBool::new(false),
+            revisions,
+            report_from: AtomicU64::new(0),
+        }
+    }
+
+    /// When the server began.
+    pub fn began(&self) -> Option<Instant> {
+        self.began
+    }
+
+    /// How many clients are connected.
+    pub fn connected(&self) -> u64 {
+        self.connected.load(Ordering::SeqCst)
+    }
+
+    /// A worker has begun its work.
+    pub fn open(&self, place: usize) {
+        if let Some(door) = self.doors.get(place) {
+            door.is_open.store(true, Ordering::SeqCst);
+        }
+    }
+
+    /// Whether a worker has begun its work.
+    pub fn is_open(&self, place: usize) -> bool {
+        match self.doors.get(place) {
+            Some(door) => door.is_open.load(Ordering::SeqCst),
+            None => false,
+        }
+    }
+
+    /// The place of the worker for long lines.
+    pub fn long_lines(&self) -> usize {
+        self.doors.len().saturating_sub(1)
+    }
+
+    /// The worker with the fewest clients of those that are at work, not counting the one for long lines.
+    pub fn least_busy(&self) -> usize {
+        let mut best = 0;
+        let mut fewest = None;
+        for place in 0..self.long_lines() {
+            let Some(door) = self.doors.get(place) else {
+                break;
+            };
+            if !door.is_open.load(Ordering::SeqCst) {
+                continue;
+            }
+            let clients = door.clients.load(Ordering::SeqCst);
+            if fewest.is_none_or(|fewest| clients < fewest) {
+                best = place;
+                fewest = Some(clients);
+            }
+        }
+        best
+    }
+
+    /// One more client is connected, who belongs to a worker.
+    pub fn enter(&self, home: usize) {
+        self.connected.fetch_add(1, Ordering::SeqCst);
+        if let Some(door) = self.doors.get(home) {
+            door.clients.fetch_add(1, Ordering::SeqCst);
+        }
+    }
+
+    /// A client of a worker has ended. After the last one the workers end.
+    pub fn leave(&self, home: usize) {
+        if let Some(door) = self.doors.get(home) {
+            door.clients.fetch_sub(1, Ordering::SeqCst);
+        }
+        if self.connected.fetch_sub(1, Ordering::SeqCst) == 1 && self.is_over() {
+            self.ring_all();
+        }
+    }
+
+    /// Sends a client to a worker. False: out of memory.
+    pub fn send<R: Wait>(&self, rt: &R, place: usize, arrival: Arrival) -> bool {
+        match self.doors.get(place) {
+            Some(door) => door.to.send(rt, arrival).is_ok() && door.waker.wake().is_ok(),
+            None => false,
+        }
+    }
+
+    /// No more connections are accepted.
+    pub fn close(&self) {
+        self.is_closed.store(true, Ordering::SeqCst);
+        self.ring_all();
+    }
+
+    /// Ends the server: no connection is accepted, and no line is answered any more.
+    pub fn stop(&self) {
+        self.has_stopped.store(true, Ordering::SeqCst);
+        self.ring_all();
+        let _woken = self.acceptor.wake();
+    }
+
+    /// Whether the server was ended.
+    pub fn has_stopped(&self) -> bool {
+        self.has_stopped.load(Ordering::SeqCst)
+    }
+
+    /// Whether nothing is left to do for the workers.
+    pub fn is_over(&self) -> bool {
+        self.has_stopped() || self.is_closed.load(Ordering::SeqCst) && self.connected() == 0
+    }
+
+    /// Operations were delivered at a cell, whose lock is still held. Each worker that wants to know is woken, once until it
+    /// has looked.
+    pub fn publish(&self, cell: u32, operations: u64) {
+        if let Some(revision) = self.revisions.get(cell as usize) {
+            revision.fetch_add(operations, Ordering::SeqCst);
+        }
+        let bit = bit_of(cell);
+        for door in &self.doors {
+            if door.wanted.load(Ordering::SeqCst) & bit != 0
+                && door.moved.fetch_or(bit, Ordering::SeqCst) == 0
+            {
+                let _woken = door.waker.wake();
+            }
+        }
+    }
+
+    /// Whether pads have moved of which a worker wanted to know. It is told again of those that it asks for from now on.
+    pub fn take_moved(&self, place: usize) -> bool {
+        let Some(door) = self.doors.get(place) else {
+            return false;
+        };
+        let moved = door.moved.swap(0, Ordering::SeqCst);
+        door.wanted.fetch_and(!moved, Ordering::SeqCst);
+        moved != 0
+    }
+
+    /// Whether a request has to wait: the pad is at the revision that it names. The worker is told when the pad moves.
+    ///
+    /// The worker asks to be told before it compares, and a pad's revision grows before its workers are looked up: so one of
+    /// the two sees the other.
+    pub fn has_to_wait(&self, place: usize, wanted: Wanted) -> bool {
+        if let Some(door) = self.doors.get(place) {
+            door.wanted.fetch_or(bit_of(wanted.cell), Ordering::SeqCst);
+        }
+        match self.revisions.get(wanted.cell as usize) {
+            Some(revision) => revision.load(Ordering::SeqCst) == wanted.rev,
+            None => false,
+        }
+    }
+
+    /// Whether wrong tokens may be reported now: once a second. If so, they count as reported.
+    pub fn may_report(&self, now: u64) -> bool {
+        let from = self.report_from.load(Ordering::SeqCst);
+        let next = now.saturating_add(REPORTS);
+        now >= from
+            && self
+                .report_from
+                .compare_exchange(from, next, Ordering::SeqCst, Ordering::SeqCst)
+                .is_ok()
+    }
+
+    /// Whether a client stays held back, as far as pads go.
+    pub fn holds(&self, place: usize, hold: Hold) -> bool {
+        match hold {
+            Hold::Pause { .. } => true,
+            Hold::Change { wanted, .. } => self.has_to_wait(place, wanted),
+            Hold::Free | Hold::Over => false,
+        }
+    }
+
+    // Wakes all workers.
+    fn ring_all(&self) {
+        for door in &self.doors {
+            let _woken = door.waker.wake();
+        }
+    }
+}
+
+// The bit of a cell, of which there are at most 64.
+fn bit_of(cell: u32) -> u64 {
+    1 << (cell % 64)
+}

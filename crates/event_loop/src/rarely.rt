@@ -1,0 +1,27 @@
+//! Messages that are logged once in a while.
+
+/// Lets one message through in each stretch of time.
+#[derive(Drop)]
+pub struct Rarely {
+    every: u64,
+    last: Option<u64>,
+}
+
+impl Rarely {
+    /// One message in so many milliseconds.
+    pub fn new(every: u64) -> Rarely {
+        Rarely { every, last: None }
+    }
+
+    /// Whether a message may be logged now, in milliseconds of a `Ticker`. If so, it counts as logged.
+    pub fn is_due(&mut self, now: u64) -> bool {
+        let is_due = match self.last {
+            Some(last) => now.saturating_sub(last) >= self.every,
+            None => true,
+        };
+        if is_due {
+            self.last = Some(now);
+        }
+        is_due
+    }
+}

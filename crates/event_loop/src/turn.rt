@@ -1,0 +1,303 @@
+//! One turn of a worker.
+use crate::arrivals::Arrival;
+use crate::client::Client;
+use crate::clients::Clients;
+use crate::hold::Claim;
+use crate::limits::CHECK;
+use crate::serve::Step;
+use crate::settle::Settle;
+use crate::ticker::Ticker;
+use crate::times::Late;
+use crate::work::{Service, Worker};
+use crossbeam_channel::TryRecvError;
+use journal::Journal;
+use log::warn;
+use pad_model::Sequence;
+use std::io;
+use std::sync::Wait;
+use std::time::{Clock, Duration};
+use workers::{Gate, Shared};
+
+/// How many arrivals are taken in at once.
+const ARRIVALS: u32 = 4_096;
+
+/// Waits until something is ready; then serves each client that can be read, settles once for all replies, and writes them.
+pub fn take_turn<S, R, G, T>(
+    service: &Service<'_, S, R, G, T>,
+    worker: &mut Worker,
+    clients: &mut Clients,
+    pads: &mut Shared<'_, S, R, G>,
+    ticker: &mut Ticker,
+    checked: &mut u64,
+) -> io::Result<()>
+where
+    S: Sequence,
+    R: AllocGlobal + Clock + Wait + Eprint,
+    G: Gate,
+    T: Settle,
+{
+    let rt = service.row.rt;
+    let timeout = timeout_of(rt, clients, ticker);
+    worker.poll.poll(&mut worker.events, timeout)?;
+    if clients.note(&worker.events)? {
+        receive(service, worker, clients);
+        if service.hub.take_moved(worker.place) {
+            clients.release(service.hub, worker.place, ticker.look(rt))?;
+        }
+    }
+    if ticker.is_due(worker.events.is_empty()) {
+        let now = ticker.look(rt);
+        if clients.deadline.is_some_and(|deadline| deadline <= now) {
+            clients.release(service.hub, worker.place, now)?;
+        }
+        if now.saturating_sub(*checked) >= CHECK {
+            *checked = now;
+            check_times(service, clients, pads, now);
+        }
+    }
+    serve(service, worker.place, clients, pads, ticker)?;
+    if clients.has_spoken && service.settle.settle().is_err() {
+        service.hub.stop();
+        return Ok(());
+    }
+    clients.has_spoken = false;
+    write(service, worker, clients, pads)
+}
+
+// How long to wait for events. None: without end, since there is nobody whose time could pass.
+fn timeout_of<C: Clock>(rt: &C, clients: &Clients, ticker: &mut Ticker) -> Option<Duration> {
+    if !clients.queue.is_empty() || !clients.owed.is_empty() {
+        return Some(Duration::from_millis(0));
+    }
+    let most = match clients.deadline {
+        Some(deadline) => deadline.saturating_sub(ticker.look(rt)).min(CHECK),
+        None if clients.all.is_empty() => return None,
+        None => CHECK,
+    };
+    Some(Duration::from_millis(most))
+}
+
+// Takes in who has come.
+fn receive<S, R, G, T>(
+    service: &Service<'_, S, R, G, T>,
+    worker: &mut Worker,
+    clients: &mut Clients,
+)
+where
+    S: Sequence,
+    R: AllocGlobal + Wait + Clock + Eprint,
+    G: Gate,
+    T: Settle,
+{
+    let rt = service.row.rt;
+    for _ in 0..ARRIVALS {
+        let (number, home, taken) = match worker.arrivals.try_recv(rt) {
+            Ok(Arrival::Accepted { number, stream }) => {
+                let home = worker.place;
+                let registry = worker.poll.registry();
+                (
+                    number,
+                    home,
+                    clients.accept(rt.alloc(), registry, number, home, stream),
+                )
+            }
+            Ok(Arrival::Moved(client)) => {
+                let registry = worker.poll.registry();
+                (
+                    client.number(),
+                    client.home(),
+                    clients.insert(registry, client),
+                )
+            }
+            Err(TryRecvError::Empty | TryRecvError::Disconnected) => return,
+        };
+        if let Err(cause) = taken {
+            warn!(Journal(rt); "connection {number} is not served: {cause}");
+            service.hub.leave(home);
+        }
+    }
+}
+
+// Serves each client that is queued, once.
+fn serve<S, R, G, T>(
+    service: &Service<'_, S, R, G, T>,
+    place: usize,
+    clients: &mut Clients,
+    pads: &mut Shared<'_, S, R, G>,
+    ticker: &mut Ticker,
+) -> io::Result<()>
+where
+    S: Sequence,
+    R: AllocGlobal + Clock + Wait + Eprint,
+    G: Gate,
+    T: Settle,
+{
+    let rt = service.row.rt;
+    for index in 0..clients.queue.len() {
+        let Some(key) = clients.queue.get(index).copied() else {
+            break;
+        };
+        let Some(client) = clients.all.get_mut(key) else {
+            continue;
+        };
+        let until = match client.serve(service, place, pads, clients.chunk.as_mut_slice()) {
+            Step::Goes | Step::Rests | Step::Moves => None,
+            Step::Fails(claim) => {
+                let now = ticker.look(rt);
+                if let Some(claim) = claim {
+                    if service.hub.may_report(now) {
+                        log_failure(rt, client, &claim);
+                    }
+                }
+                Some(client.pause(now))
+            }
+            Step::Waits(wanted) => Some(client.wait(ticker.look(rt), wanted)),
+        };
+        clients.has_spoken = clients.has_spoken || client.owes();
+        clients.owed.push(key)?;
+        if let Some(until) = until {
+            clients.hold(key, until)?;
+        }
+    }
+    clients.queue.clear();
+    Ok(())
+}
+
+// Logs who has sent wrong tokens, and as whom.
+fn log_failure<R: Clock + Eprint>(rt: &R, client: &mut Client, claim: &Claim) {
+    let number = client.number();
+    match client.stream().peer_addr() {
+        Ok(address) =>
+            warn!(Journal(rt); "connection {number} from {address}: wrong tokens, the last for {claim}"),
+        Err(_) => warn!(Journal(rt); "connection {number}: wrong tokens, the last for {claim}"),
+    }
+}
+
+// Writes the replies, and ends who has nothing left.
+fn write<S, R, G, T>(
+    service: &Service<'_, S, R, G, T>,
+    worker: &Worker,
+    clients: &mut Clients,
+    pads: &mut Shared<'_, S, R, G>,
+) -> io::Result<()>
+where
+    S: Sequence,
+    R: AllocGlobal + Wait + Clock + Eprint,
+    G: Gate,
+    T: Settle,
+{
+    for index in 0..clients.owed.len() {
+        let Some(key) = clients.owed.get(index).copied() else {
+            break;
+        };
+        let Some(client) = clients.all.get_mut(key) else {
+            continue;
+        };
+        client.write();
+        if client.is_gone() {
+            end(service, clients, pads, key);
+        } else if client.moves() {
+            move_away(service, worker, clients, pads, key);
+        } else if client.queue_again() {
+            clients.later.push(key)?;
+        }
+    }
+    clients.turn_over();
+    Ok(())
+}
+
+// Sends a client to the worker for long lines, or back.
+fn move_away<S, R, G, T>(
+    service: &Service<'_, S, R, G, T>,
+    worker: &Worker,
+    clients: &mut Clients,
+    pads: &mut Shared<'_, S, R, G>,
+    key: usize,
+)
+where
+    S: Sequence,
+    R: AllocGlobal + Wait + Clock + Eprint,
+    G: Gate,
+    T: Settle,
+{
+    let rt = service.row.rt;
+    let Some(mut client) = clients.all.try_remove(key) else {
+        return;
+    };
+    let (number, home) = (client.number(), client.home());
+    let to = if worker.place == service.hub.long_lines() {
+        home
+    } else {
+        service.hub.long_lines()
+    };
+    let _registered = worker.poll.registry().deregister(client.stream());
+    if !service.hub.send(rt, to, Arrival::Moved(client)) {
+        warn!(Journal(rt); "connection {number} ended: out of memory");
+        service.hub.leave(home);
+    }
+}
+
+// Ends a client's session, and closes its socket.
+fn end<S, R, G, T>(
+    service: &Service<'_, S, R, G, T>,
+    clients: &mut Clients,
+    pads: &mut Shared<'_, S, R, G>,
+    key: usize,
+)
+where
+    S: Sequence,
+    R: AllocGlobal + Wait + Clock + Eprint,
+    G: Gate,
+    T: Settle,
+{
+    let rt = service.row.rt;
+    let Some(mut client) = clients.all.try_remove(key) else {
+        return;
+    };
+    client.end_session(pads);
+    let number = client.number();
+    match client.fault() {
+        Some((fault, Some(cause))) =>
+            warn!(Journal(rt); "connection {number} ended: {fault}: {cause}"),
+        Some((fault, None)) => warn!(Journal(rt); "connection {number} ended: {fault}"),
+        None => {}
+    }
+    let home = client.home();
+    drop(client);
+    service.hub.leave(home);
+}
+
+// Ends who has passed a limit of time.
+fn check_times<S, R, G, T>(
+    service: &Service<'_, S, R, G, T>,
+    clients: &mut Clients,
+    pads: &mut Shared<'_, S, R, G>,
+    now: u64,
+)
+where
+    S: Sequence,
+    R: AllocGlobal + Wait + Clock + Eprint,
+    G: Gate,
+    T: Settle,
+{
+    let idle = service
+        .limits
+        .idle
+        .map(|seconds| u64::from(seconds).saturating_mul(1_000));
+    for key in 0..clients.all.capacity() {
+        let Some(client) = clients.all.get_mut(key) else {
+            continue;
+        };
+        let Some(late) = client.check(now, idle) else {
+            continue;
+        };
+        let number = client.number();
+        let why = match late {
+            Late::Silent => "it was silent for too long",
+            Late::Unread => "it did not read its replies",
+            Late::Nobody => "it did not log in",
+        };
+        warn!(Journal(service.row.rt); "connection {number} ended: {why}");
+        end(service, clients, pads, key);
+    }
+}

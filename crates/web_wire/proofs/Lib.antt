@@ -1,0 +1,7 @@
+-- The lemmas, by topic.
+pub mod Courses
+pub mod Fronts
+pub mod Pieces
+pub mod Roles
+pub mod Steps
+pub mod Visits

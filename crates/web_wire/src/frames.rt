@@ -1,0 +1,255 @@
+//! The server's side of a WebSocket after its handshake: bytes come in pieces, and each text message is a line.
+ghost use Rattle.std.specs.Prelude.{◌≡◌, ◌⊎◌, ◌<◌, true, false, [], ◌++◌, length, nat_eq, Ok, Err, IfOk, OnOk, OnErr};
+ghost use Rattle.websocket.specs.declared.protocol.config.Role.TheVariants.{Server};
+ghost use Rattle.web_wire.specs.Course.{close_code, farewell, waits};
+ghost use Rattle.web_wire.specs.Socket.{GivesLine, GoesOn, course, fed, fresh, opened};
+
+use crate::front::{Front, read_from};
+use crate::heard::Heard;
+use crate::held::drop_front;
+use std::alloc::{AllocError, Global};
+use std::marker::Model;
+use websocket::error::Error;
+use websocket::protocol::{CloseCode, CloseFrame, NoMask, Role, WebSocketConfig, WebSocketContext};
+
+/// The most bytes of a message, and of a frame: those of a line.
+pub const LONGEST_MESSAGE: usize = 8_388_608;
+
+// The room that a pong or a close frame takes at most.
+const LONGEST_REPLY: usize = 139;
+
+// The room that is kept for waiting bytes. What a longer message took is given back when more bytes come.
+const KEPT: usize = 131_072;
+
+// The room that is kept while nothing comes, so that a short message needs no memory.
+const KEPT_IDLE: usize = 1_024;
+
+/// What comes next.
+#[derive(Clone, Copy, Debug, PartialEq, Eq)]
+pub enum Turn {
+    /// No whole message waits: more bytes have to come.
+    Read,
+    /// A line was appended, with its line feed.
+    Line,
+    /// The output has to be sent, and then the connection closed.
+    Close,
+}
+
+// What one frame came to.
+#[derive(Clone, Copy, Debug, PartialEq, Eq)]
+enum Step {
+    Waits,
+    Quiet,
+    Line,
+    Closes,
+}
+
+/// The bytes of a socket that came and were not used, and what is known of the message that they go on with.
+#[derive(Drop)]
+pub struct Frames {
+    context: WebSocketContext,
+    input: Vec<u8>,
+    used: usize,
+    ended: bool,
+}
+
+impl Model for Frames {
+    ghost use Rattle.std.specs.Prelude.{◌≡◌, ◌≤◌, false, drop, length};
+    ghost use Rattle.websocket.specs.declared.protocol.config.Role.TheVariants.{Server};
+    ghost use Rattle.web_wire.specs.Socket.{Socket};
+
+    ghost Value = { Socket };
+
+    ghost view = { λ f. record { conn = f.context; waiting = drop f.used f.input.items; ended = f.ended } };
+
+    ghost invariant = { λ f. (f.used ≤ length f.input.items) × (f.ended ≡ false → f.context.role ≡ Server) };
+}
+
+impl Frames {
+    /// A socket after its handshake. `input` is what came behind the request.
+    pub fn new(alloc: Global, input: Vec<u8>) -> Frames
+        ensures { result ≡ fresh input.items }
+    {
+        Frames {
+            context: WebSocketContext::new(alloc, Role::Server, config()),
+            input,
+            used: 0,
+            ended: false,
+        }
+    }
+
+    /// Puts bytes behind those that wait, or none of them.
+    pub fn feed(&mut self, bytes: &[u8]) -> Result<(), AllocError>
+        ensures ok { OnOk result (self.new ≡ fed self.old bytes.now) }
+        ensures err { OnErr result (self.new ≡ self.old) }
+    {
+        self.make_space();
+        self.input.extend_from_slice(bytes)
+    }
+
+    /// Takes frames up to the next message, and appends its line to `line`. The pongs and the close that frames ask for
+    /// are appended to `output`, which has to be sent after each call.
+    ///
+    /// Out of memory, what the socket comes to is unchanged, or it has ended: that is so if memory is lacking for a
+    /// message in fragments or for the close.
+    pub fn next_line(
+        &mut self,
+        line: &mut Vec<u8>,
+        output: &mut Vec<u8>,
+    ) -> Result<Turn, AllocError>
+        ensures line { result ≡ Ok Turn.Line → GivesLine self.old line.old.items output.old.items
+            self.new line.new.items output.new.items }
+        ensures none { result ≡ Ok Turn.Read → GoesOn [] self.old output.old.items self.new output.new.items
+            × (course self.new [] ≡ waits) }
+        ensures end { result ≡ Ok Turn.Close → GoesOn [] self.old output.old.items self.new output.new.items
+            × (self.new.ended ≡ true) }
+        ensures err { OnErr result (GoesOn [] self.old output.old.items self.new output.new.items
+            ⊎ (self.new.ended ≡ true)) }
+        ensures lines { (result ≡ Ok Turn.Line) ⊎ (line.new.items ≡ line.old.items) }
+    {
+        if self.ended {
+            return Ok(Turn::Close);
+        }
+        loop {
+            match self.step(line, output)? {
+                Step::Quiet => {}
+                Step::Waits => return Ok(Turn::Read),
+                Step::Line => return Ok(Turn::Line),
+                Step::Closes => return Ok(Turn::Close),
+            }
+        }
+    }
+
+    /// How many bytes wait.
+    pub fn len(&self) -> usize
+        ensures { result ≡ length self.now.waiting }
+    {
+        self.input.len() - self.used
+    }
+
+    /// Whether no byte waits.
+    pub fn is_empty(&self) -> bool
+        ensures { result ≡ nat_eq 0 (length self.now.waiting) }
+    {
+        self.input.len() == self.used
+    }
+
+    /// Gives back the room that waiting bytes do not need, but for 1 KiB. It moves them, so call it while nothing comes.
+    pub fn release(&mut self)
+        ensures { self.new ≡ self.old }
+    {
+        self.drop_used();
+        self.input.shrink_to(KEPT_IDLE);
+    }
+
+    // Takes one frame.
+    fn step(&mut self, line: &mut Vec<u8>, output: &mut Vec<u8>) -> Result<Step, AllocError>
+        requires { self.old.ended ≡ false }
+        ensures quiet { result ≡ Ok Step.Quiet → GoesOn [] self.old output.old.items self.new output.new.items
+            × (length self.new.waiting < length self.old.waiting) × (self.new.ended ≡ false) }
+        ensures line { result ≡ Ok Step.Line → GivesLine self.old line.old.items output.old.items
+            self.new line.new.items output.new.items }
+        ensures waits { result ≡ Ok Step.Waits → GoesOn [] self.old output.old.items self.new output.new.items
+            × (course self.new [] ≡ waits) }
+        ensures closes { result ≡ Ok Step.Closes → GoesOn [] self.old output.old.items self.new output.new.items
+            × (self.new.ended ≡ true) }
+        ensures err { OnErr result (GoesOn [] self.old output.old.items self.new output.new.items
+            ⊎ (self.new.ended ≡ true)) }
+        ensures lines { (result ≡ Ok Step.Line) ⊎ (line.new.items ≡ line.old.items) }
+    {
+        let used = self.used;
+        // Room is found before a frame is read: behind that, only a message in fragments can lack it.
+        output.reserve(LONGEST_REPLY)?;
+        line.reserve((self.input.len() - used).min(LONGEST_MESSAGE) + 1)?;
+        match read_from(&mut self.context, &mut self.input, used, line, output) {
+            Ok(Front::Cut) => Ok(Step::Waits),
+            Ok(Front::Whole(count, heard)) => {
+                self.used = used + count;
+                match heard {
+                    Heard::Nothing => Ok(Step::Quiet),
+                    Heard::Line => Ok(Step::Line),
+                    Heard::Closed => {
+                        self.ended = true;
+                        Ok(Step::Closes)
+                    }
+                    Heard::Refused(code) => self.end(code, output),
+                }
+            }
+            Err(error) => self.fail(error, output),
+        }
+    }
+
+    // Ends the socket after a read that failed.
+    fn fail(&mut self, error: Error, output: &mut Vec<u8>) -> Result<Step, AllocError>
+        requires { self.old.conn.role ≡ Server }
+        ensures ok { OnOk result (output.new.items ≡ output.old.items ++ farewell self.old.conn (close_code error)) }
+        ensures step { IfOk result (λ step. step ≡ Step.Closes) }
+        ensures ended { self.new.ended ≡ true }
+        ensures memory { error ≡ Error.OutOfMemory → result ≡ Err (record {}) }
+    {
+        match error {
+            Error::OutOfMemory => {
+                self.ended = true;
+                Err(AllocError)
+            }
+            error => self.end(code_of(error), output),
+        }
+    }
+
+    // Ends the socket, and says why.
+    fn end(&mut self, code: CloseCode, output: &mut Vec<u8>) -> Result<Step, AllocError>
+        requires { self.old.conn.role ≡ Server }
+        ensures ok { OnOk result (output.new.items ≡ output.old.items ++ farewell self.old.conn code) }
+        ensures step { IfOk result (λ step. step ≡ Step.Closes) }
+        ensures ended { self.new.ended ≡ true }
+    {
+        let frame = CloseFrame { code, reason: "" };
+        let told = self.context.close(Some(frame), output, &mut NoMask);
+        self.ended = true;
+        // The codes are ones that may be sent, so only memory can be short.
+        match told {
+            Ok(()) => Ok(Step::Closes),
+            Err(_) => Err(AllocError),
+        }
+    }
+
+    // Drops the used bytes once they are half of those held, so that bytes are moved no more often than they come.
+    fn make_space(&mut self)
+        ensures { self.new ≡ self.old }
+    {
+        if self.used >= self.input.len() - self.used {
+            self.drop_used();
+            self.input.shrink_to(KEPT);
+        }
+    }
+
+    // Drops the used bytes.
+    fn drop_used(&mut self)
+        ensures { self.new ≡ self.old }
+    {
+        drop_front(&mut self.input, self.used);
+        self.used = 0;
+    }
+}
+
+// The limits of a socket. A client masks its frames.
+fn config() -> WebSocketConfig
+    ensures { result ≡ opened.config }
+{
+    WebSocketConfig {
+        max_message_size: Some(LONGEST_MESSAGE),
+        max_frame_size: Some(LONGEST_MESSAGE),
+        accept_unmasked_frames: false,
+    }
+}
+
+// With which code a socket ends after a read that failed.
+fn code_of(error: Error) -> CloseCode
+    ensures { result ≡ close_code error }
+{
+    match error {
+        Error::Capacity(_) => CloseCode::Size,
+        Error::Utf8 => CloseCode::Invalid,
+        _ => CloseCode::Protocol,
+    }
+}

@@ -1,0 +1,58 @@
+//! The frame at the front of the bytes.
+ghost use Rattle.std.specs.Prelude.{◌≡◌, ◌≤◌, drop, length, vec_len};
+ghost use Rattle.websocket.specs.declared.protocol.config.Role.TheVariants.{Server};
+ghost use Rattle.web_wire.specs.Front.{Reads};
+
+use crate::heard::{Heard, hear};
+use websocket::error::Error;
+use websocket::protocol::{FrameStatus, NoMask, WebSocketContext};
+
+/// What is at the front of the bytes.
+pub(crate) enum Front {
+    /// No whole frame.
+    Cut,
+    /// A frame of so many bytes, and what it is to a server of lines.
+    Whole(usize, Heard),
+}
+
+/// Reads the frame at the front of the bytes, and unmasks it there. Its line is appended to `line`, and what it asks to
+/// send to `output`.
+pub(crate) fn read_front(
+    context: &mut WebSocketContext,
+    bytes: &mut [u8],
+    line: &mut Vec<u8>,
+    output: &mut Vec<u8>,
+) -> Result<Front, Error>
+    requires { context.old.role ≡ Server }
+    ensures reads { Reads result
+        (record { conn = context.old; bytes = bytes.old; line = line.old.items; output = output.old.items })
+        (record { conn = context.new; bytes = bytes.new; line = line.new.items; output = output.new.items }) }
+    ensures role { context.new.role ≡ Server }
+{
+    match context.read(bytes, output, &mut NoMask)? {
+        FrameStatus::Partial(_) => Ok(Front::Cut),
+        FrameStatus::Complete(step) => {
+            let heard = hear(&step.message, bytes, line)?;
+            Ok(Front::Whole(step.consumed, heard))
+        }
+    }
+}
+
+/// Reads the frame at the front of the bytes from `used` on.
+pub(crate) fn read_from(
+    context: &mut WebSocketContext,
+    input: &mut Vec<u8>,
+    used: usize,
+    line: &mut Vec<u8>,
+    output: &mut Vec<u8>,
+) -> Result<Front, Error>
+    requires role { context.old.role ≡ Server }
+    requires inside { used ≤ vec_len input.old }
+    ensures reads { Reads result
+        (record { conn = context.old; bytes = drop used input.old.items; line = line.old.items; output = output.old.items })
+        (record { conn = context.new; bytes = drop used input.new.items; line = line.new.items; output = output.new.items }) }
+    ensures role { context.new.role ≡ Server }
+    ensures len { length input.new.items ≡ length input.old.items }
+{
+    read_front(context, &mut input.as_mut_slice()[used..], line, output)
+}

@@ -1,0 +1,24 @@
+//! HTTP and WebSocket from bytes to bytes: one request for a page or for the socket, and the messages of the socket as
+//! lines.
+//!
+//! It reads no device and no clock, so that threads that block and threads that poll can both drive it. It depends on
+//! `http1`, `httparse`, `websocket` and `bytes`. It knows no JSON: a line is bytes.
+#![tactic(auto)]
+
+mod field;
+mod frames;
+mod front;
+mod heard;
+mod held;
+pub mod laws;
+mod message;
+mod origin;
+mod page;
+mod plan;
+mod reply;
+mod visit;
+
+pub use frames::{Frames, LONGEST_MESSAGE, Turn};
+pub use message::put_message;
+pub use page::{Page, Site};
+pub use visit::{LONGEST_HEAD, Next, Visit};

@@ -1,0 +1,362 @@
+#!/usr/bin/env python3
+"""The page in two windows of headless Chromium, before a real server that is killed and started again on the way.
+
+    tests/web/browser_test.py PROGRAM [FOLDER]
+
+PROGRAM is crates/pad_server/out/pad_server. Screenshots go into FOLDER, if it is given. The last line is `N passed, M failed`.
+"""
+import os
+import random
+import sys
+import tempfile
+
+from page_checks import contrasts, control_names, drawn_lines
+from windows import Keys, Line, Server, Window, units, until
+
+BOB_MAY = "Can write"
+HUES = """
+return [...new Set([...document.querySelectorAll('#text .run')].map(run => run.dataset.author + ' ' + getComputedStyle(run).backgroundColor))].sort()
+"""
+MARKED = "return [...document.querySelectorAll('#text .marked')].map(node => node.textContent).join('')"
+CARETS = "return [...document.querySelectorAll('#carets .caret')].map(node => node.dataset.author)"
+PAST = "return [...document.querySelectorAll('#past .line')].map(line => line.textContent).join('\\n')"
+OPENING = "Minutes of the harbour council\n\nPresent: Ann, Bob, Cyd.\n\n1. The crane on the east quay is to be painted before June.\n2. "
+
+
+class Test:
+    """Two windows of two authors on one pad, and the counts."""
+
+    def __init__(self, server, folder):
+        self.server, self.folder = server, folder
+        self.ann, self.bob = Window(server.url), Window(server.url)
+        self.passed = self.failed = 0
+
+    def check(self, name, holds, seen=None):
+        if holds:
+            self.passed += 1
+            print("ok     ", name, flush=True)
+        else:
+            self.failed += 1
+            print("FAILED ", name, "" if seen is None else repr(seen)[:600], flush=True)
+
+    def agree(self, name):
+        ann, bob = self.ann, self.bob
+        same = until(lambda: ann.is_saved(1) and bob.is_saved(1) and ann.text == bob.text)
+        self.check(name, same, (ann.text, ann.state, bob.text, bob.state))
+
+    def shot(self, window, name):
+        if self.folder:
+            window.shot(self.folder, name)
+
+
+def plain(test, window, where):
+    """What is shown now can be named and read, in both modes."""
+    bare, poor = control_names(window), []
+    for is_dark in (True, False):
+        window.dark(is_dark)
+        poor += contrasts(window)
+    test.check(f"{where}: every control has a name, and all words a contrast of at least 4.5", not bare and not poor, (bare, poor))
+
+
+def way_in(test):
+    ann, bob, check = test.ann, test.bob, test.check
+    ann.driver.get(ann.url)
+    plain(test, ann, "log in")
+    ann.get("name").send_keys("ann")
+    ann.get("token").send_keys("wrong" + Keys.ENTER)
+    check("a wrong token is refused in words", until(lambda: "wrong" in ann.get("log-in-error").text), ann.get("log-in-error").text)
+    ann.log_in("ann", "t1")
+    check("an author without pads is told so", until(lambda: ann.get("no-pads").is_displayed()))
+    ann.open("absent")
+    check("an unknown pad is refused in words", until(lambda: "Create" in ann.get("open-error").text), ann.get("open-error").text)
+    check("a pad is created", ann.open("minutes", "create") and ann.is_saved())
+    ann.click("rights")
+    ann.get("grant-name").send_keys("bob" + Keys.ENTER)
+    check("bob gets a right", until(lambda: "bob" in ann.get("rights-list").text), ann.get("rights-list").text)
+    test.shot(ann, "rights")
+    plain(test, ann, "rights")
+    ann.keys(Keys.ESCAPE)
+    bob.log_in("bob", "t2")
+    check("bob's list has the pad and the right", until(lambda: BOB_MAY in bob.get("pads").text and "minutes" in bob.get("pads").text), bob.get("pads").text)
+    test.shot(bob, "pads")
+    plain(test, bob, "pads")
+    bob.all("#pads button")[0].click()
+    check("bob opens it", until(lambda: bob.get("text").is_displayed()))
+    check("ann is told that bob came", until(lambda: ann.get("news").get_property("textContent") == "bob is here."))
+    check("both are shown as here", until(lambda: "ann" in bob.get("here").text and "bob" in ann.get("here").text))
+
+
+def typing(test):
+    ann, bob, check = test.ann, test.bob, test.check
+    ann.type(OPENING, 0)
+    check("bob sees what ann types", until(lambda: bob.text == OPENING), bob.text)
+    bob.type(" Excused: Dora.", bob.text.index("Cyd.") + 4)
+    check("ann sees bob's words", until(lambda: "Excused: Dora." in ann.text), ann.text)
+    ann.select(len(ann.text))
+    bob.select(len("Minutes of the harbour council"))
+    a, b = "The ferry leaves at 7:40 from Monday on; notices go up. ", ", 25 November, in the old customs house"
+    for k in range(max(len(a), len(b))):
+        ann.keys(a[k : k + 1] or Keys.NULL)
+        bob.keys(b[k : k + 1] or Keys.NULL)
+    test.agree("both type at once, and see the same")
+    check("the words of each are whole", a in ann.text and b in ann.text, ann.text)
+    end = units(ann.text)
+    ann.select(end)
+    bob.select(end)
+    dice = random.Random(5)
+    for k in range(30):
+        dice.choice((ann, bob)).keys("ab"[k % 2])
+    test.agree("both type at one place, and see the same")
+    check("nothing of it is lost", units(ann.text) == end + 30, ann.text[end:])
+    ann.select(end, end + 30)
+    ann.keys(Keys.BACKSPACE)
+    check("a selection is erased", until(lambda: units(bob.text) == end), bob.text)
+    ann.keys("z", held=[Keys.CONTROL])
+    check("undo brings it back", until(lambda: units(bob.text) == end + 30), bob.text)
+    ann.keys("z", held=[Keys.CONTROL, Keys.SHIFT])
+    check("redo erases it again", until(lambda: units(bob.text) == end), bob.text)
+
+
+def unusual_typing(test):
+    ann, bob, check = test.ann, test.bob, test.check
+    ann.select(units(ann.text))
+    ann.insert("3. Tea: 茶 🙂👩‍🚀 done.")
+    check("characters beyond 16 bits arrive", until(lambda: "茶 🙂👩‍🚀 done." in bob.text), bob.text)
+    bob.type("x", units(bob.text[: bob.text.index("🙂")]))
+    check("and so does a letter before them", until(lambda: "茶 x🙂👩‍🚀" in ann.text), ann.text)
+    bob.keys(Keys.BACKSPACE)
+    ann.select(units(ann.text))
+    ann.keys(Keys.ENTER, Keys.ENTER, "4. Line", Keys.HOME, Keys.BACKSPACE)
+    check("lines are split and joined", until(lambda: bob.text.endswith("done.\n4. Line")), bob.text[-30:])
+    ann.keys(Keys.END, "s", Keys.LEFT, Keys.DELETE)
+    ann.keys(Keys.LEFT, held=[Keys.CONTROL])
+    ann.keys("x", held=[Keys.CONTROL])
+    ann.keys(Keys.END, held=[Keys.SHIFT])
+    ann.keys("c", held=[Keys.CONTROL])
+    ann.keys(Keys.END)
+    ann.keys("v", held=[Keys.CONTROL])
+    check("words are copied and pasted", until(lambda: bob.text.endswith("4. LineLine")), bob.text[-30:])
+    ann.keys(Keys.BACKSPACE, held=[Keys.CONTROL])
+    check("a word is erased", until(lambda: bob.text.endswith("done.\n4. ")), bob.text[-30:])
+    composing(test)
+
+
+def composing(test):
+    """An input method composes while another author types before and behind it."""
+    ann, bob, check = test.ann, test.bob, test.check
+    ann.select(units(ann.text))
+    ann.driver.execute_cdp_cmd("Input.imeSetComposition", {"text": "nih", "selectionStart": 3, "selectionEnd": 3})
+    bob.type("Q", 0)
+    bob.type("R", units(bob.text))
+    ann.driver.execute_cdp_cmd("Input.imeSetComposition", {"text": "nihao", "selectionStart": 5, "selectionEnd": 5})
+    check("a composition is not broken by others", until(lambda: ann.text.endswith("4. nihao")), ann.text[-20:])
+    ann.driver.execute_cdp_cmd("Input.insertText", {"text": "你好"})
+    test.agree("what was composed arrives")
+    check("and it arrives once", sorted(ann.text.split("4. ")[1]) == sorted("R你好") and ann.text.startswith("Q"), ann.text)
+    bob.select(0, 1)
+    bob.keys(Keys.DELETE)
+    bob.select(units(bob.text) - 3, units(bob.text))
+    bob.keys("Quorum: שלום עולם")
+    test.agree("bob replaces it")
+    directions = ann.run("return [...document.querySelectorAll('#text .line')].map(line => getComputedStyle(line).direction)")
+    ann.type("\nשלום עולם", units(ann.text))
+    check("right-to-left lines run from the right", until(lambda: ann.run("return getComputedStyle(document.querySelector('#text .line:last-child')).direction") == "rtl"))
+    check("and others do not", set(directions) == {"ltr"}, directions)
+    test.agree("they agree about it")
+
+
+def comments(test):
+    ann, bob, check = test.ann, test.bob, test.check
+    at = ann.text.index("painted")
+    ann.select(at, at + len("painted before June"))
+    ann.keys("m", held=[Keys.CONTROL, Keys.ALT])
+    check("the comment's box opens by the keyboard", until(lambda: ann.get("comment-text").is_displayed()))
+    ann.keys("Which colour? The harbour master wants grey.")
+    plain(test, ann, "a comment is written")
+    bob.type("DRAFT. ", 0)
+    until(lambda: ann.text.startswith("DRAFT"))
+    ann.all("#comment-box button[value=send]")[0].click()
+    check("bob sees the comment", until(lambda: "Which colour?" in bob.get("margin").text), bob.get("margin").text)
+    check("it is on its words, though others typed meanwhile", until(lambda: bob.run(MARKED) == "painted before June"), bob.run(MARKED))
+    bob.type("2026: ", 0)
+    check("and stays on them", until(lambda: ann.text.startswith("2026") and ann.run(MARKED) == "painted before June"), ann.run(MARKED))
+    card, mark = (ann.run("return document.querySelector(arguments[0]).getBoundingClientRect().top", one) for one in ("#margin .card", "#text .marked"))
+    check("its card is beside them", abs(card - mark) < 12, (card, mark))
+    bob.select(bob.text.index("old customs") + 3)
+    check("ann sees bob's caret", until(lambda: ann.run(CARETS) == ["bob@1"]), ann.run(CARETS))
+    test.agree("they agree")
+    check("two authors have two colours", len({hue.split(" ", 1)[1] for hue in ann.run(HUES)}) == 2, ann.run(HUES))
+    check("the same ones in both windows", until(lambda: ann.run(HUES) == bob.run(HUES)), (ann.run(HUES), bob.run(HUES)))
+    check("the legend names both", until(lambda: "ann@1" in ann.get("authors").text and "bob@1" in ann.get("authors").text), ann.get("authors").text)
+    check("who wrote at the caret is said", until(lambda: bob.get("writer").text == "Written by bob@1"), bob.get("writer").text)
+    test.shot(ann, "two-authors")
+    test.shot(bob, "the-other-window")
+
+
+def history(test):
+    ann, bob, check = test.ann, test.bob, test.check
+    made = lambda: ann.get("rev-made").text
+    ann.click("history")
+    until(made)
+    now = int(ann.get("rev").get_property("max"))
+    check("the slider begins at the present", now > 20 and made().startswith(f"Revision {now} of"), made())
+    check("and knows when it was seen", "seen " in made(), made())
+    bob.type("!", units(bob.text))
+    ann.run("const rev = document.getElementById('rev'); rev.value = arguments[0]; rev.dispatchEvent(new Event('input'))", int(now * 0.6))
+    check("an earlier revision is shown", until(lambda: made().startswith(f"Revision {int(now * 0.6)} of")), made())
+    check("with who made it", "ann@1" in made() or "bob@1" in made(), made())
+    test.shot(ann, "history")
+    middle = ann.run(PAST)
+    ann.get("compare-rev").clear()
+    ann.get("compare-rev").send_keys("2" + Keys.ENTER)
+    check("two revisions are compared", until(lambda: made().startswith("From revision 2 to ")), made())
+    kept = ann.run("return [...document.querySelectorAll('#past .line')].map(line => [...line.childNodes].filter(node => node.nodeName !== 'DEL').map(node => node.textContent).join('')).join('\\n')")
+    check("what was inserted is marked, and what is kept is there", kept.replace("\n", "") == middle.replace("\n", "") and ann.all("#past ins"), (kept, middle))
+    test.shot(ann, "comparison")
+    plain(test, ann, "comparison")
+    ann.get("compare-go").click()
+    ann.get("rev").send_keys(Keys.HOME)
+    check("revision 0 is empty, by the keyboard", until(lambda: ann.run(PAST) == "" and made().startswith("Revision 0 of")), made())
+    ann.get("rev").send_keys(Keys.ARROW_RIGHT)
+    check("revision 1 is ann's first words", until(lambda: made().startswith("Revision 1 of") and ann.run(PAST) == "M"), (made(), ann.run(PAST)))
+    ann.click("play")
+    check("play goes to the present", until(lambda: made().startswith(f"Revision {now + 1} of") and ann.get("play").text == "Play", 60), made())
+    ann.click("back")
+    check("and back, with what came meanwhile", until(lambda: ann.text == bob.text and ann.text.endswith("!")), (ann.text, bob.text))
+    bob.all("#margin .card button")[0].click()
+    check("a comment is resolved", until(lambda: not ann.all("#margin .card") and ann.get("resolved").is_displayed()))
+    ann.click("resolved")
+    check("and can still be read", until(lambda: "Resolved" in ann.get("margin").text), ann.get("margin").text)
+
+
+def rights(test):
+    ann, bob, check = test.ann, test.bob, test.check
+    ann.click("rights")
+    choose = "const select = document.querySelector('#rights-list select'); select.value = arguments[0]; select.dispatchEvent(new Event('change'))"
+    until(lambda: ann.all("#rights-list select"))
+    ann.run(choose, "read")
+    check("bob may only read now", until(lambda: not bob.run("return document.getElementById('text').isContentEditable") and "read" in bob.state, 20), bob.state)
+    check("and cannot comment", bob.get("comment").get_property("disabled"))
+    ann.run(choose, "write")
+    check("bob may write again", until(lambda: bob.run("return document.getElementById('text').isContentEditable") and bob.is_saved(1), 20), bob.state)
+    ann.keys(Keys.ESCAPE)
+
+
+def broken(test):
+    ann, bob, check = test.ann, test.bob, test.check
+    before = ann.text
+    test.server.kill()
+    check("ann is told that she is offline", until(lambda: "Offline" in ann.state), ann.state)
+    ann.type(" typed while the server was away", units(ann.text))
+    bob.type("[bob, offline] ", 0)
+    test.shot(ann, "offline")
+    test.server.start()
+    check("both connect again", ann.is_saved(40) and bob.is_saved(40), (ann.state, bob.state))
+    wanted = "[bob, offline] " + before + " typed while the server was away"
+    check("nothing is lost or doubled", until(lambda: ann.text == bob.text == wanted), (ann.text, bob.text))
+    line = Line(test.server.port, "ann", "t1")
+    line.ask(do="join", pad="minutes")
+    check("the server has the same", line.ask(do="text", pad="minutes")["text"] == wanted)
+
+
+def random_keys(test):
+    """Both press keys at random places of the text."""
+    dice, presses = random.Random(11), 0
+    for _ in range(70):
+        window = dice.choice((test.ann, test.bob))
+        length = units(window.text)
+        at = dice.randrange(length + 1)
+        window.select(at, min(length, at + dice.choice((0, 0, 0, 5, 30))))
+        for key in dice.choice(("ab", "x", Keys.ENTER, Keys.BACKSPACE * 2, Keys.DELETE, Keys.ENTER + "z", Keys.UP + "u", Keys.END + Keys.DELETE, Keys.HOME + Keys.BACKSPACE)):
+            window.keys(key)
+            presses += 1
+        if dice.randrange(9) == 0:
+            window.keys("z", held=[Keys.CONTROL])
+    test.agree(f"they agree after {presses} keys at random places")
+    line = Line(test.server.port, "ann", "t1")
+    line.ask(do="join", pad="minutes")
+    server = line.ask(do="text", pad="minutes")["text"]
+    test.check("and with the server", server == test.ann.text, (server, test.ann.text))
+
+
+def exports(test, downloads):
+    ann, check = test.ann, test.check
+    ann.driver.execute_cdp_cmd("Browser.setDownloadBehavior", {"behavior": "allow", "downloadPath": downloads})
+    for button, ending in (("as-text", ".txt"), ("as-markdown", ".md")):
+        ann.all("#exports summary")[0].click()
+        ann.click(button)
+        name = until(lambda: next((name for name in os.listdir(downloads) if name.endswith(ending)), None))
+        text = ""
+        if name:
+            with open(os.path.join(downloads, name), encoding="utf-8", newline="") as file:
+                text = file.read()
+        check(f"{ending}: the pad is exported", text == ann.text if ending == ".txt" else "[^1]: **ann**" in text and "<sup>bob</sup>" in text, text)
+
+
+def looks(test):
+    ann, bob, check = test.ann, test.bob, test.check
+    plain(test, ann, "the pad")
+    ann.dark()
+    test.shot(ann, "dark")
+    ann.dark(False)
+    check("lines are drawn like those of a new page", drawn_lines(ann) == "", drawn_lines(ann))
+    bob.driver.execute_cdp_cmd("Emulation.setDeviceMetricsOverride", {"width": 375, "height": 740, "deviceScaleFactor": 2, "mobile": True})
+    check("a phone's width is enough", until(lambda: bob.run("return document.documentElement.scrollWidth <= innerWidth")), bob.run("return [document.documentElement.scrollWidth, innerWidth]"))
+    test.shot(bob, "phone")
+    bob.driver.execute_cdp_cmd("Emulation.clearDeviceMetricsOverride", {})
+    bob.driver.execute_cdp_cmd("Emulation.setEmulatedMedia", {"media": "print"})
+    bob.run("dispatchEvent(new Event('beforeprint'))")
+    seen = [name for name in ("bar", "keys", "text", "print-head") if bob.get(name).is_displayed()]
+    check("a print has a head and the text only", seen == ["text", "print-head"], seen)
+    test.shot(bob, "print")
+    bob.driver.execute_cdp_cmd("Emulation.setEmulatedMedia", {"media": ""})
+    for window in (ann, bob):
+        faults = window.faults()
+        check("the browser reports no fault", not faults, faults)
+
+
+def full_pad(test, folder):
+    """A page that believes in smaller limits."""
+    with open(os.path.join(folder, "limits.js"), "w", encoding="utf-8") as file:
+        file.write("export const LIMITS = { operations: 40, characters: 4e6, comments: 1e4, edit: 1e4, parts: 16, comment: 2e3, entries: 100 };\n")
+    ann, check = test.ann, test.check
+    ann.log_in("ann", "t1", "#minutes")
+    check("an address opens its pad", until(lambda: ann.get("pad-name").text == "minutes" and ann.is_saved(1)))
+    ann.click("close")
+    check("a pad is closed", until(lambda: ann.get("choose").is_displayed()))
+    ann.open("small", "create")
+    line = Line(test.server.port, "ann", "t1")
+    line.ask(do="join", pad="small")
+    for rev in range(37):
+        line.ask(do="insert", pad="small", rev=rev, at=rev, text="x")
+    check("from 90 % on the page says so", until(lambda: "% full" in ann.get("notice-text").text), ann.get("notice-text").text)
+    test.shot(ann, "nearly-full")
+    ann.click("notice-go-on")
+    ann.get("go-on-name").send_keys(Keys.ENTER)
+    wanted = "Continues the pad “small” after its revision 37.\n\n" + "x" * 37
+    check("and the pad goes on in a new one", until(lambda: ann.get("pad-name").text == "small-2" and ann.text == wanted), (ann.get("pad-name").text, ann.text))
+    faults = ann.faults()
+    check("without a fault", not faults, faults)
+
+
+def main(program, folder=None):
+    if folder:
+        os.makedirs(folder, exist_ok=True)
+    with tempfile.TemporaryDirectory() as home, tempfile.TemporaryDirectory() as pages, tempfile.TemporaryDirectory() as downloads:
+        server = Server(program, home, pages)
+        test = Test(server, folder)
+        try:
+            for part in (way_in, typing, unusual_typing, comments, history, rights, broken, random_keys, looks):
+                part(test)
+            exports(test, downloads)
+            full_pad(test, pages)
+        finally:
+            test.ann.quit()
+            test.bob.quit()
+            server.end()
+    print(f"{test.passed} passed, {test.failed} failed")
+    return int(test.failed > 0)
+
+
+if __name__ == "__main__":
+    sys.exit(main(os.path.realpath(sys.argv[1]), *sys.argv[2:]))

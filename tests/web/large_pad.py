@@ -1,0 +1,93 @@
+#!/usr/bin/env python3
+"""How fast the page is on a pad of 105,000 characters with some 2,000 author runs.
+
+    tests/web/large_pad.py PROGRAM
+
+PROGRAM is crates/pad_server/out/pad_server. Prints milliseconds, and fails if a letter takes more than 50 to the next frame.
+"""
+import os
+import random
+import sys
+import tempfile
+import time
+
+from windows import Line, Server, Window, until
+
+WATCH = """
+window.took = [];
+document.getElementById('text').addEventListener('keydown', () => {
+  const start = performance.now();
+  let made = 0;
+  setTimeout(() => { made = performance.now() - start; });
+  requestAnimationFrame(() => { const { port1, port2 } = new MessageChannel(); port1.onmessage = () => window.took.push([made, performance.now() - start]); port2.postMessage(0); });
+}, true);
+"""
+WORDS = "the council notes that quays and cranes are to be painted before the ships return from the northern harbours".split()
+
+
+def fill(ann, bob, pad):
+    ann.ask(do="create", pad=pad)
+    ann.ask(do="grant", pad=pad, author="bob", right="write")
+    bob.ask(do="join", pad=pad)
+    dice, rev = random.Random(1), 0
+    for _ in range(10):
+        text = ""
+        while len(text) < 9900:
+            text += dice.choice(WORDS) + (" " if dice.random() > 0.06 else ".\n\n")
+        rev = ann.ask(do="insert", pad=pad, rev=rev, at=0, text=text[:10000])["now"]
+    for _ in range(63):
+        parts = [{"at": dice.randrange(90000), "text": "(bob) "} for _ in range(16)]
+        rev = bob.ask(do="edit", pad=pad, rev=rev, parts=parts)["now"]
+    ann.ask(do="comment", pad=pad, rev=rev, at=50000, len=20, text="here")
+    return rev + 1
+
+
+def letters(window):
+    """Types 30 letters: for each, when it was handled and when its frame was drawn, in milliseconds after the key."""
+    window.run(WATCH)
+    for _ in range(30):
+        window.keys("x")
+        time.sleep(0.1)
+    return window.run("return window.took")
+
+
+def main(program):
+    with tempfile.TemporaryDirectory() as folder:
+        server = Server(program, folder)
+        window = Window(server.url)
+        try:
+            ann, bob = Line(server.port, "ann", "t1"), Line(server.port, "bob", "t2")
+            rev = fill(ann, bob, "large")
+            runs = ann.ask(do="runs", pad="large")["runs"]
+            print(f"{sum(length for _, length in runs)} characters, {len(runs)} runs")
+            window.log_in("ann", "t1")
+            start = time.time()
+            window.open("large")
+            window.is_saved()
+            print(f"opened after {1000 * (time.time() - start):.0f} ms")
+            time.sleep(3)
+            window.select(50000)
+            took = letters(window)
+            handler, frame = (sorted(one[k] for one in took) for k in (0, 1))
+            print(f"a letter: handled in {handler[15]:.1f} ms, next frame after {frame[15]:.1f} ms (median), {frame[-1]:.1f} ms (worst of 30)")
+            window.is_saved()
+            rev = ann.ask(do="revs", pad="large")["now"]
+            start = time.time()
+            bob.ask(do="insert", pad="large", rev=rev, at=10, text="LIVE ")
+            until(lambda: window.run("return document.querySelector('#text').textContent.slice(0, 60).includes('LIVE ')"))
+            print(f"another's edit is shown after {1000 * (time.time() - start):.0f} ms")
+            window.click("history")
+            until(lambda: window.get("rev-made").text)
+            start = time.time()
+            window.run("const rev = document.getElementById('rev'); rev.value = 20; rev.dispatchEvent(new Event('input'))")
+            until(lambda: window.get("rev-made").text.startswith("Revision 20 "))
+            print(f"the slider shows another revision after {1000 * (time.time() - start):.0f} ms")
+            print(f"{int(frame[15] <= 50)} passed, {int(frame[15] > 50)} failed")
+            return int(frame[15] > 50)
+        finally:
+            window.quit()
+            server.end()
+
+
+if __name__ == "__main__":
+    sys.exit(main(os.path.realpath(sys.argv[1])))

@@ -1,0 +1,89 @@
+// The client algorithm of web/ against a reference model of the server, at random, with seeds:
+//
+//     node tests/web/model_test.mjs [ROUNDS]
+//
+// Then the same with planted faults, each of which has to be found. The last line is `N passed, M failed`.
+import fs from "node:fs";
+import os from "node:os";
+import path from "node:path";
+import { fileURLToPath, pathToFileURL } from "node:url";
+import { ModelPad } from "./model.mjs";
+import { round } from "./simulation.mjs";
+
+const WEB = path.join(path.dirname(fileURLToPath(import.meta.url)), "..", "..", "web");
+const rounds = Number(process.argv[2] ?? 300);
+let passed = 0, failed = 0;
+
+function tell(name, isPassed, said = "") {
+  if (isPassed) passed++; else failed++;
+  console.log(`${isPassed ? "ok    " : "FAILED"} ${name}${said && `: ${said}`}`);
+}
+
+// The modules of a folder.
+async function load(folder) {
+  const of = (name) => import(pathToFileURL(path.join(folder, name)));
+  return { ...(await of("sync.js")), delta: await of("delta.js") };
+}
+
+// A copy of web/ with one passage replaced.
+async function planted(file, passage, other) {
+  const folder = fs.mkdtempSync(path.join(os.tmpdir(), "planted-"));
+  for (const name of fs.readdirSync(WEB)) fs.copyFileSync(path.join(WEB, name), path.join(folder, name));
+  fs.writeFileSync(path.join(folder, "package.json"), '{"type":"module"}');
+  const whole = fs.readFileSync(path.join(folder, file), "utf8");
+  if (whole.split(passage).length !== 2) throw new Error(`${file} has no single ${passage}`);
+  fs.writeFileSync(path.join(folder, file), whole.replace(passage, other));
+  return load(folder);
+}
+
+// A model that lists insertions before a drop beside them.
+class InsertionsFirst extends ModelPad {
+  changes(rev, to) {
+    const out = super.changes(rev, to);
+    for (let at = 1; at < out.length; at++) {
+      for (let k = at; k > 0 && out[k][0] === "insert" && out[k - 1][0] === "drop"; k--) [out[k - 1], out[k]] = [out[k], out[k - 1]];
+    }
+    return out;
+  }
+}
+
+async function findsFault(name, modules, Model) {
+  for (let number = 1; number <= rounds; number++) {
+    try {
+      await round(number, modules, Model, false);
+    } catch (error) {
+      tell(name, error.isFound, error.isFound ? `round ${number}` : error.stack);
+      return;
+    }
+  }
+  tell(name, false, `not found in ${rounds} rounds`);
+}
+
+const sums = { edits: 0, checks: 0, breaks: 0, undone: 0, typed: 0 };
+try {
+  const modules = await load(WEB);
+  for (let number = 1; number <= rounds; number++) {
+    const seen = await round(number, modules);
+    for (const key in sums) sums[key] += seen[key];
+  }
+  tell("the pages show what the model has", true, `${rounds} rounds, ${Object.entries(sums).map(([key, n]) => `${n} ${key}`).join(", ")}`);
+} catch (error) {
+  tell("the pages show what the model has", false, error.stack);
+}
+const isVaried = sums.edits > 20 * rounds && sums.checks > 40 * rounds && sums.breaks > rounds && sums.undone > rounds;
+tell("the rounds have edits, breaks and undone changes", isVaried);
+
+const swapped = "if (right.inserts) {\n      const step = right.takeInsertion();\n      add(theirsAfter, step);\n      add(mineAfter, { keep: step.insert.length });\n      continue;\n    }";
+await findsFault("theirs first where both insert at one place",
+  await planted("delta.js", "    if (left.inserts) {", `    ${swapped}\n    if (left.inserts) {`));
+await findsFault("changes that are taken while an edit is in flight", await planted("sync.js",
+  "const [held, n] = await Promise.all([told, this.send()]);\n    await this.landAt(n, held);",
+  `const sent = this.send(), early = await told, theirs = deltaOf(early.changes, this.base);
+    const [mine, over] = transform(this.flight, theirs), [pending, shown] = transform(this.pending, over);
+    this.moveBase(theirs, early.to); this.flight = mine; this.pending = pending; this.receive(shown);
+    await this.landAt(await sent);`));
+await findsFault("what a wait brought, used for a later revision",
+  await planted("sync.js", "held?.to === n - 1 ? held", "held ? held"));
+await findsFault("insertions listed before the drop beside them", await load(WEB), InsertionsFirst);
+console.log(`${passed} passed, ${failed} failed`);
+process.exit(failed ? 1 : 0);

@@ -1,0 +1,130 @@
+// The parts of the page that need neither a server nor a display:
+//
+//     node tests/web/parts_test.mjs
+//
+// The last line is `N passed, M failed`.
+import fs from "node:fs";
+import path from "node:path";
+import { fileURLToPath } from "node:url";
+import { apply, applyRuns, compose, invert, move, splice, split, transform, typed } from "../../web/delta.js";
+import { toMarkdown } from "../../web/exports.js";
+import { History, merged } from "../../web/history.js";
+import { Undo } from "../../web/undo.js";
+import { count, deltaOf, partsOf, unit } from "../../web/units.js";
+import { LABELS, REFUSALS, WORDS } from "../../web/words.js";
+import { dice as makeDice } from "./dice.mjs";
+
+const WEB = path.join(path.dirname(fileURLToPath(import.meta.url)), "..", "..", "web");
+let passed = 0, failed = 0;
+
+function tell(name, have, want) {
+  const [a, b] = [JSON.stringify(have), JSON.stringify(want)];
+  if (a === b) passed++; else failed++;
+  console.log(a === b ? `ok     ${name}` : `FAILED ${name}: ${a}, not ${b}`);
+}
+
+function randomDelta(dice, length, author) {
+  let delta = [], size = length;
+  for (let k = dice(4); k >= 0; k--) {
+    const at = dice(size + 1), dropped = Math.min(dice(4), size - at), text = "abcdef".slice(0, dice(4));
+    delta = compose(delta, splice(at, dropped, text, author));
+    size += text.length - dropped;
+  }
+  return delta;
+}
+
+// Laws of deltas, on random ones.
+function deltas() {
+  const dice = makeDice(3), broken = { transform: 0, invert: 0, compose: 0, runs: 0, split: 0, typed: 0, move: 0 };
+  for (let round = 0; round < 5000; round++) {
+    const text = Array.from({ length: dice(12) }, () => "xyz\n"[dice(4)]).join("");
+    const mine = randomDelta(dice, text.length, "a"), theirs = randomDelta(dice, text.length, "b"), [left, right] = transform(mine, theirs);
+    const next = apply(text, mine), second = randomDelta(dice, next.length, "a");
+    if (apply(next, right) !== apply(apply(text, theirs), left)) broken.transform++;
+    if (apply(next, invert(mine, text, "a")) !== text) broken.invert++;
+    if (apply(text, compose(mine, second)) !== apply(next, second)) broken.compose++;
+    if (applyRuns([["o", text.length]], mine).reduce((sum, [, units]) => sum + units, 0) !== next.length) broken.runs++;
+    const [first, rest] = split(mine, 1 + dice(3), 1 + dice(5));
+    if (apply(apply(text, first), rest) !== next) broken.split++;
+    if (apply(text, typed(text, next, next.length, "a")) !== next) broken.typed++;
+    if (move(text.length, mine, true) !== next.length) broken.move++;
+  }
+  tell("deltas keep their laws in 5,000 rounds", broken, { transform: 0, invert: 0, compose: 0, runs: 0, split: 0, typed: 0, move: 0 });
+  const [mine, theirs] = transform(splice(1, 0, "M", "a"), splice(1, 0, "T", "b"));
+  tell("mine comes first where both insert", [apply("xTy", mine), apply("xMy", theirs)], ["xMTy", "xMTy"]);
+  tell("a pair of units is not split by typing", typed("a🙂b", "a🙃b", 3, "a"), [{ keep: 1 }, { drop: 2 }, { insert: "🙃", author: "a" }]);
+  tell("nor by an edit that is too long", split(splice(0, 0, "a🙂b", "a"), 16, 2)[0], [{ insert: "a", author: "a" }]);
+}
+
+function units() {
+  tell("characters are counted", [count("a🙂b"), count("a🙂b", 1, 3), unit("a🙂b", 2), unit("ab", 2)], [3, 1, 3, 2]);
+  const delta = [{ keep: 3 }, { drop: 1 }, { insert: "é", author: "a" }];
+  tell("an edit's parts count characters", partsOf(delta, "a🙂bc"), [{ at: 2, len: 1 }, { at: 3, text: "é" }]);
+  tell("and an answer's changes, too", deltaOf([["keep", 2], ["drop", 1], ["insert", "é", "a"], ["keep", 1]], "a🙂bc"), delta);
+}
+
+function undo() {
+  let time = 0, text = "";
+  const steps = new Undo("a", { now: () => time });
+  const type = (delta) => { steps.typed(delta, text); text = apply(text, delta); };
+  for (const letter of "one") { type(splice(text.length, 0, letter, "a")); time += 100; }
+  time += 5000;
+  for (const letter of " two") { type(splice(text.length, 0, letter, "a")); time += 100; }
+  text = apply(text, splice(0, 0, "other ", "b"));
+  steps.received(splice(0, 0, "other ", "b"));
+  const back = () => { text = apply(text, steps.undo(text)); return text; }, again = () => { text = apply(text, steps.redo(text)); return text; };
+  tell("undo goes back by bursts, and keeps others' words", [back(), back(), steps.undo(text)], ["other one", "other ", null]);
+  tell("redo brings them again", [again(), again(), steps.redo(text)], ["other one", "other one two", null]);
+}
+
+async function history() {
+  const storage = { getItem: () => null, setItem: () => {} }, asked = [];
+  const past = new History(async (request) => {
+    asked.push([request.rev, request.to]);
+    return { changes: [...(request.rev ? [["keep", request.rev]] : []), ["insert", "abcdef".slice(request.rev, request.to), "a@1"]] };
+  }, "p", storage);
+  tell("a revision is read by what changed since one that is known", [(await past.at(2)).text, (await past.at(5)).text, (await past.at(5)).text, asked], ["ab", "abcde", "abcde", [[0, 2], [2, 5]]]);
+  past.note(0, 3, 1000);
+  past.note(3, 4, 2000);
+  past.note(6, 7, 90000);
+  const at = [past.when(2), past.when(4), past.when(6), past.when(7), past.when(9)];
+  tell("the page knows when it saw a revision", at.map((one) => one && [one.at, one.isBefore]), [[1000, false], [1000, false], [90000, true], [90000, false], null]);
+  const old = { text: "one two", runs: [["a@1", 4], ["b@1", 3]] };
+  const both = merged(old, [["keep", 2], ["drop", 3], ["insert", "X", "c@1"], ["keep", 2]]);
+  tell("a comparison has what was dropped, with its authors", both, {
+    text: "one tXwo", runs: [["a@1", 2, undefined], ["a@1", 2, "drop"], ["b@1", 1, "drop"], ["c@1", 1, "insert"], ["b@1", 2, undefined]], inserted: 1, dropped: 3,
+  });
+}
+
+function exported() {
+  const comments = [{ author: "bob@1", from: 4, to: 7, text: "which\ntwo?", isResolved: false }, { author: "ann@1", from: 2, to: 2, text: "gone", isResolved: true }];
+  const have = toMarkdown({ name: "p", rev: 7, text: "one two <b>\n& more", runs: [["ann@1", 4], ["bob@1", 14]], comments });
+  tell("Markdown has authors and comments", have, [
+    "# p (revision 7)", "", "*ann@1, bob@1*", "",
+    "<sup>ann</sup>on[^1]e <sup>bob</sup>two[^2] &lt;b>", "&amp; more", "",
+    "[^1]: **ann** (resolved): gone", "[^2]: **bob**: “two”: which two?", "",
+  ].join("\n"));
+}
+
+// What the modules and index.html say comes from words.js, and nothing in it is left over.
+function words() {
+  const files = fs.readdirSync(WEB).filter((name) => name !== "words.js").map((name) => fs.readFileSync(path.join(WEB, name), "utf8")).join("\n");
+  const used = [...files.matchAll(/data-(?:text|label|hint)="(\w+)"/g), ...files.matchAll(/LABELS\.(\w+)/g)].map(([, key]) => key);
+  tell("each label has its word", used.filter((key) => !LABELS[key]), []);
+  tell("each label is used", Object.keys(LABELS).filter((key) => !used.includes(key)), []);
+  const said = [...files.matchAll(/WORDS\.(\w+)/g)].map(([, key]) => key);
+  tell("each word is there", said.filter((key) => !WORDS[key]), []);
+  tell("and used", Object.keys(WORDS).filter((key) => !said.includes(key)), []);
+  const html = fs.readFileSync(path.join(WEB, "index.html"), "utf8");
+  tell("the document has no script, style or handler of its own", html.match(/<script(?! type="module" src=)|<style| style=| on\w+=/g), null);
+  tell("each refusal says what to do", Object.values(REFUSALS).filter((text) => text.split(/[.:;]/).length < 2), []);
+}
+
+deltas();
+units();
+undo();
+await history();
+exported();
+words();
+console.log(`${passed} passed, ${failed} failed`);
+process.exit(failed ? 1 : 0);

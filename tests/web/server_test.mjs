@@ -1,0 +1,177 @@
+// The page's modules against a real server over TCP, with connections that break:
+//
+//     node tests/web/server_test.mjs PORT [SECONDS]
+//
+// The server's accounts are `author ann t1`, `author bob t2` and `author cyd t3`. The last line is `N passed, M failed`.
+import { apply, splice } from "../../web/delta.js";
+import { pause } from "../../web/clock.js";
+import { PACE } from "../../web/sync.js";
+import { Session } from "../../web/session.js";
+import { count } from "../../web/units.js";
+import { dice as makeDice } from "./dice.mjs";
+import { connections, tcp } from "./tcp.mjs";
+
+const [port, seconds = "15"] = process.argv.slice(2);
+const WHO = [["ann", "t1"], ["bob", "t2"], ["cyd", "t3"]], FAST = { gather: 30, rest: 0, wait: 25 };
+let passed = 0, failed = 0;
+
+function tell(name, isPassed, said = "") {
+  if (isPassed) passed++; else failed++;
+  console.log(`${isPassed ? "ok    " : "FAILED"} ${name}${said && `: ${said}`}`);
+}
+
+async function until(what, milliseconds = 20000) {
+  for (const end = Date.now() + milliseconds; Date.now() < end;) {
+    if (await what()) return true;
+    await pause(20);
+  }
+  return false;
+}
+
+// A session with what its editor would show.
+async function page(k, pad, how, pace = FAST) {
+  const out = { shown: "", faults: [], refusals: [], said: [] };
+  const session = new Session({
+    open: tcp(port), pace,
+    view: {
+      onReceive: (delta) => { out.shown = apply(out.shown, delta); },
+      onOver: (error) => out.faults.push(error),
+      onRefused: (reply, kept) => out.refusals.push([reply.code, kept]),
+      onCome: (author) => out.said.push(`${author} came`),
+      onGo: (author) => out.said.push(`${author} went`),
+    },
+  });
+  await session.logIn(...WHO[k % 3]);
+  await session[how](pad);
+  out.session = session;
+  out.shown = session.pad.text;
+  out.type = (at, dropped, text) => {
+    const delta = splice(at, dropped, text, session.me);
+    out.shown = apply(out.shown, delta);
+    session.pad.type(delta);
+  };
+  return out;
+}
+
+async function grantAll(owner) {
+  for (const [name] of WHO) if (name !== owner.session.name) await owner.session.grant(name, "write");
+}
+
+// The spots between the characters of a text, in units.
+function spotsOf(text) {
+  const spots = [0];
+  for (const character of text) spots.push(spots[spots.length - 1] + character.length);
+  return spots;
+}
+
+// Six windows of three authors type, and their connections break.
+async function crowd(name, seed, isErasing) {
+  const dice = makeDice(seed), pad = `crowd-${process.pid}-${seed}`, typed = [], stats = { edits: 0, breaks: 0 };
+  let next = 0;
+  const fresh = () => String.fromCodePoint(next % 3 ? 0x4e00 + next++ : 0x20000 + next++);
+  const pages = [await page(0, pad, "create")];
+  await grantAll(pages[0]);
+  for (let k = 1; k < 6; k++) pages.push(await page(k, pad, "join"));
+  const end = Date.now() + 1000 * Number(seconds);
+  await Promise.all(pages.map(async (one) => {
+    while (Date.now() < end) {
+      await pause(dice(80));
+      const spots = spotsOf(one.session.pad.text), from = dice(3) ? Math.min(spots.length - 1, dice(12)) : dice(spots.length);
+      const to = isErasing && !dice(3) ? Math.min(spots.length - 1, from + dice(5)) : from;
+      let text = "";
+      if (from === to || dice(2)) for (let n = dice(4); n >= 0; n--) text += fresh();
+      typed.push(...text);
+      one.type(spots[from], spots[to] - spots[from], text);
+      if (dice(25) === 0) { stats.breaks++; one.session.wire?.channel?.socket.destroy(); }
+    }
+  }));
+  const isSettled = () => {
+    const now = Math.max(...pages.map(({ session }) => session.pad.now));
+    return pages.every(({ session }) => session.state === "saved" && session.pad.rev === now);
+  };
+  const settled = await until(isSettled, 30000), { session } = pages[0];
+  const { text, now } = await session.pad.call({ do: "text" }), { cells } = await session.pad.call({ do: "revs" });
+  const { runs } = await session.pad.call({ do: "runs", rev: now });
+  const authors = runs.map(([author, length]) => `${author} ${length}`).join();
+  const ofPage = (one) => {
+    let at = 0;
+    return one.session.pad.runs.map(([author, units]) => `${author} ${count(one.session.pad.text, at, (at += units))}`).join();
+  };
+  tell(`${name}: all pages end`, settled && pages.every(({ faults }) => !faults.length), `${now} edits, ${stats.breaks} broken connections`);
+  tell(`${name}: all pages show the server's text`, pages.every((one) => one.shown === text && one.session.pad.text === text), `${text.length} units`);
+  tell(`${name}: with its authors`, pages.every((one) => ofPage(one) === authors), `${runs.length} runs`);
+  if (isErasing) tell(`${name}: no character is there twice`, new Set(text).size === [...text].length);
+  else {
+    const isSame = [...text].sort().join("") === typed.sort().join("");
+    tell(`${name}: each typed character was made exactly once`, cells === typed.length && isSame, `${typed.length} typed, ${cells} made`);
+  }
+  tell(`${name}: there were enough breaks and edits`, stats.breaks >= 5 && now >= 50);
+  for (const one of pages) one.session.logOut();
+}
+
+async function comments() {
+  const pad = `comments-${process.pid}`, ann = await page(0, pad, "create");
+  await grantAll(ann);
+  const bob = await page(1, pad, "join");
+  ann.type(0, 0, "one 🙂 two three");
+  await ann.session.comment(() => ({ from: 7, to: 10 }), "which two?");
+  const words = ({ session }) => session.comments.list.map(({ from, to, isResolved }) => `${session.pad.text.slice(from, to)} ${isResolved}`).join();
+  tell("a comment is on its words in another window", await until(() => words(bob) === "two false"), words(bob));
+  bob.type(0, 0, "🙂 zero ");
+  tell("and stays there while others type before it", words(bob) === "two false" && await until(() => ann.shown.startsWith("🙂") && words(ann) === "two false"), words(ann));
+  await bob.session.resolve(bob.session.comments.list[0].name);
+  tell("it is resolved", await until(() => words(ann) === "two true"), words(ann));
+  ann.session.moveCaret(3);
+  bob.session.moveCaret(11);
+  const caretOf = (one) => one.session.presence.others[0]?.at;
+  tell("carets are seen, in units", await until(() => caretOf(ann) === 11 && caretOf(bob) === 3), `${caretOf(ann)}, ${caretOf(bob)}`);
+  bob.type(0, 0, "ab");
+  tell("and move with the text at once", caretOf(bob) === 5 && await until(() => caretOf(ann) === 13, 1500), `${caretOf(ann)}, ${caretOf(bob)}`);
+  const undone = ann.session.pad.stepBack();
+  tell("undo takes back one's own words only", undone && await until(() => bob.shown === "ab🙂 zero "), bob.shown);
+  bob.session.logOut();
+  tell("coming and going is told", await until(() => ann.said.join() === "bob@1 came,bob@1 went"), ann.said.join());
+  ann.session.logOut();
+}
+
+async function rights() {
+  const pad = `rights-${process.pid}`, ann = await page(0, pad, "create");
+  await ann.session.grant("bob", "write");
+  const bob = await page(1, pad, "join");
+  tell("pads lists the pad with its right", (await bob.session.pads()).some(({ name, right }) => name === pad && right === "write"));
+  ann.type(0, 0, "kept");
+  await until(() => bob.shown === "kept");
+  await ann.session.grant("bob", "read");
+  bob.type(4, 0, " lost");
+  tell("words without a right come back to their author", await until(() => bob.refusals.join() === "312, lost" && bob.shown === "kept"), `${bob.refusals.join()} ${bob.shown}`);
+  tell("and the page knows its right", await until(() => bob.session.right === "read"), bob.session.right);
+  await ann.session.goOnIn(`${pad}-2`, `Continues ${pad}.`);
+  tell("a pad goes on in a new one", ann.session.pad.text === `Continues ${pad}.\n\nkept` && ann.session.rights.join() === "ann,own,bob,read", ann.session.pad.text);
+  bob.session.logOut();
+  ann.session.logOut();
+}
+
+async function quiet() {
+  const pad = `quiet-${process.pid}`, pages = [await page(0, pad, "create", PACE)];
+  await grantAll(pages[0]);
+  for (let k = 1; k < 3; k++) pages.push(await page(k, pad, "join", PACE));
+  await pause(5000);
+  const before = connections.lines, from = Date.now();
+  await pause(12000);
+  const rate = (connections.lines - before) / 3 / ((Date.now() - from) / 1000);
+  tell("a page sends at most three lines a second while nobody types", rate <= 3, `${rate.toFixed(2)} a second`);
+  const rev = pages[0].session.pad.rev, start = Date.now();
+  for (let k = 0; k < 60; k++) { pages[0].type(k, 0, "x"); await pause(50); }
+  await until(() => pages[0].session.state === "saved");
+  const edits = pages[0].session.pad.rev - rev, most = Math.ceil((Date.now() - start) / 500) + 1;
+  tell("typing sends at most two edits a second", edits <= most && edits > 2, `${edits} edits for 60 letters in ${Date.now() - start} ms`);
+  for (const one of pages) one.session.logOut();
+}
+
+await comments();
+await rights();
+await crowd("insertions", 1, false);
+await crowd("with erasing", 2, true);
+await quiet();
+console.log(`${passed} passed, ${failed} failed`);
+process.exit(failed ? 1 : 0);

@@ -1,0 +1,179 @@
+// Several pages type at random into one pad of the model, over connections that keep their order, delay, and break. Time
+// is simulated, so a round of minutes takes milliseconds.
+import { dice as makeDice } from "./dice.mjs";
+import { ModelPad } from "./model.mjs";
+
+const LETTERS = ["a", "b", "c", "d", "\n", "é", "🙂", "👩‍🚀", "語"];
+
+// A clock that goes on when it is told to.
+class Clock {
+  constructor() { this.time = 0; this.events = []; this.next = 1; }
+  now = () => this.time;
+  after = (milliseconds, act) => {
+    const event = { at: this.time + milliseconds, id: this.next++, act };
+    this.events.push(event);
+    return event.id;
+  };
+  cancel = (id) => { this.events = this.events.filter((event) => event.id !== id); };
+  async step() {
+    const event = this.events.reduce((a, b) => (b.at < a.at || (b.at === a.at && b.id < a.id) ? b : a));
+    this.events.splice(this.events.indexOf(event), 1);
+    this.time = event.at;
+    event.act();
+    await new Promise((done) => setImmediate(done));
+  }
+}
+
+// One connection to the model. Each direction delays at random and keeps its order.
+class Connection {
+  constructor(clock, dice, model, author, seen) {
+    Object.assign(this, { clock, dice, model, author, seen });
+    this.inbox = []; this.isBroken = false; this.isCut = false; this.lastIn = 0; this.lastOut = 0;
+    this.failures = new Set();
+  }
+  ask = (request) => new Promise((done, failed) => {
+    if (this.isBroken) { failed(new Error("lost")); return; }
+    this.failures.add(failed);
+    const line = { request: structuredClone(request), done: (reply) => { this.failures.delete(failed); done(reply); } };
+    this.lastIn = Math.max(this.lastIn, this.clock.now() + 1 + this.dice(200));
+    this.clock.after(this.lastIn - this.clock.now(), () => { if (!this.isCut) { this.inbox.push(line); this.serve(); } });
+  });
+  // Answers lines in order. A wait is over when the pad moves, when another line is there, or after its time.
+  serve(isTimeOver = false) {
+    while (this.inbox.length) {
+      const { request, done } = this.inbox[0];
+      if (request.wait && this.model.now === request.rev && this.inbox.length === 1 && !isTimeOver && !this.isBroken) {
+        const line = this.inbox[0];
+        this.clock.after(request.wait * 1000, () => { if (this.inbox[0] === line) this.serve(true); });
+        return;
+      }
+      this.inbox.shift();
+      if (["insert", "delete", "edit"].includes(request.do)) this.seen.edits++;
+      const before = this.model.now, reply = structuredClone(this.model.reply(this.author, request));
+      this.lastOut = Math.max(this.lastOut, this.clock.now() + 1 + this.dice(200));
+      this.clock.after(this.lastOut - this.clock.now(), () => { if (!this.isBroken) done(reply); });
+      if (this.model.now > before) for (const other of this.seen.connections) if (other !== this) other.serve();
+    }
+  }
+  // The page sees the end at once. Lines on their way may be lost, or still be served.
+  break() {
+    this.isBroken = true;
+    this.isCut = this.dice(2) === 0;
+    for (const failed of this.failures) failed(new Error("lost"));
+  }
+}
+
+// One round: the pages, what they type, and what has to hold.
+class Round {
+  constructor(number, { Pad, delta }, Model) {
+    Object.assign(this, { number, Pad, delta, dice: makeDice(number), clock: new Clock(), model: new Model(), pages: [] });
+    this.seen = { edits: 0, checks: 0, breaks: 0, undone: 0, typed: 0, connections: [] };
+    this.insertsOnly = this.dice(3) === 0;
+  }
+
+  fault(text) { throw Object.assign(new Error(`round ${this.number}: ${text}`), { isFound: true }); }
+
+  // What a page believes of its revision is what the model has there, with the same authors.
+  check({ pad }) {
+    const { model, delta: { apply } } = this;
+    this.seen.checks++;
+    if (pad.base !== model.text(pad.rev)) this.fault(`revision ${pad.rev}: ${JSON.stringify([pad.base, model.text(pad.rev)])}`);
+    let at = 0;
+    const authors = pad.baseRuns.flatMap(([author, units]) => Array.from(pad.base.slice(at, (at += units)), () => author)).join();
+    if (authors !== model.authors(pad.rev)) this.fault(`the authors of revision ${pad.rev}`);
+    if (apply(apply(pad.base, pad.flight ?? []), pad.pending) !== pad.text) this.fault("what is shown");
+  }
+
+  connect(page) {
+    page.connection = new Connection(this.clock, this.dice, this.model, page.author, this.seen);
+    this.seen.connections.push(page.connection);
+  }
+
+  // Now and then a page is another window of the first author.
+  addPage(k) {
+    const { clock, dice } = this, page = { author: dice(4) || this.insertsOnly ? `u${k}@1` : "u0@1", shown: "", failure: null };
+    this.connect(page);
+    page.pad = new this.Pad({
+      name: "p", me: page.author, clock, ask: (request) => page.connection.ask(request),
+      pace: { gather: [20, 500][dice(2)], rest: [0, 100][dice(2)], wait: 25 },
+      onReceive: (delta) => { page.shown = this.delta.apply(page.shown, delta); },
+      onMove: () => this.check(page),
+    });
+    this.pages.push(page);
+    this.keepGoing(page).catch((error) => { page.failure = error; });
+  }
+
+  async keepGoing(page) {
+    for (let isNew = true; ; isNew = false) {
+      try {
+        if (!isNew) await page.pad.resume(undefined);
+        await page.pad.run();
+        return;
+      } catch (error) {
+        if (error.message !== "lost") throw error;
+        // Lines that are still on their way are served before the page looks whether its edit was made.
+        await new Promise((done) => { this.clock.after(500, done); });
+        this.connect(page);
+      }
+    }
+  }
+
+  typeAt(page) {
+    const { dice } = this, spots = [0];
+    for (const character of page.pad.text) spots.push(spots[spots.length - 1] + character.length);
+    const from = dice(spots.length), to = this.insertsOnly || dice(3) ? from : Math.min(spots.length - 1, from + dice(6));
+    let text = "";
+    if (from === to || dice(2)) for (let k = dice(4); k >= 0; k--) text += LETTERS[dice(LETTERS.length)];
+    this.seen.typed += Array.from(text).length;
+    const delta = this.delta.splice(spots[from], spots[to] - spots[from], text, page.author);
+    page.shown = this.delta.apply(page.shown, delta);
+    page.pad.type(delta);
+  }
+
+  undoAt(page, isRedo) {
+    const delta = page.pad.stepBack(isRedo);
+    if (!delta) return;
+    this.seen.undone++;
+    page.shown = this.delta.apply(page.shown, delta);
+  }
+
+  async advanceTo(time) {
+    let isReached = false;
+    this.clock.after(time - this.clock.now(), () => { isReached = true; });
+    while (!isReached) {
+      await this.clock.step();
+      for (const { failure } of this.pages) if (failure) throw failure;
+    }
+  }
+
+  async play(breaks) {
+    const { dice, pages, clock } = this;
+    for (let k = 2 + dice(3); k > 0; k--) this.addPage(k);
+    for (let step = 0; step < 50; step++) {
+      for (const page of pages) {
+        if (dice(3) === 0) this.typeAt(page);
+        if (!this.insertsOnly && dice(20) === 0) this.undoAt(page, dice(3) === 0);
+        if (breaks && dice(60) === 0) { this.seen.breaks++; page.connection.break(); }
+        if (dice(80) === 0) this.model.remark("u9@1");
+      }
+      await this.advanceTo(clock.now() + dice(300));
+    }
+    for (let tries = 0; tries < 100 && pages.some(({ pad }) => pad.isUnsent || pad.rev !== this.model.now); tries++) {
+      await this.advanceTo(clock.now() + 1000);
+    }
+    this.checkEnd();
+    return this.seen;
+  }
+
+  // All pages show the model's text. Where nothing is erased, each typed character was made once.
+  checkEnd() {
+    const end = this.model.text(this.model.now), made = this.model.order().length;
+    for (const { pad, shown } of this.pages) {
+      if (pad.text !== end || shown !== end) this.fault(`at the end: ${JSON.stringify([pad.text, shown, end])}`);
+      pad.stop();
+    }
+    if (this.insertsOnly && made !== this.seen.typed) this.fault(`${this.seen.typed} characters were typed, and ${made} were made`);
+  }
+}
+
+export const round = (number, modules, Model = ModelPad, breaks = true) => new Round(number, modules, Model).play(breaks);

@@ -1,0 +1,186 @@
+"""Windows of headless Chromium on the page, and plain connections to its server. Debian: chromium chromium-driver python3-selenium."""
+import json
+import os
+import socket
+import subprocess
+import time
+
+from selenium import webdriver
+from selenium.webdriver.chrome.service import Service
+from selenium.webdriver.common.action_chains import ActionChains
+from selenium.webdriver.common.by import By
+from selenium.webdriver.common.keys import Keys
+
+HERE = os.path.dirname(os.path.realpath(__file__))
+ACCOUNTS = "author ann t1\nauthor bob t2\nauthor cyd t3\n"
+FLAGS = ("--headless=new", "--no-sandbox", "--disable-gpu", "--disable-dev-shm-usage", "--force-color-profile=srgb")
+TEXT = "return [...document.querySelectorAll('#text .line')].map(line => line.textContent).join('\\n')"
+SELECT = """
+const [from, to] = arguments, root = document.getElementById('text'), places = [];
+root.focus();
+for (const unit of [from, to]) {
+  let left = unit;
+  for (const line of root.children) {
+    if (left > line.textContent.length) { left -= line.textContent.length + 1; continue; }
+    let place = [line, 0];
+    for (const run of line.childNodes) {
+      if (run.firstChild && left <= run.textContent.length) { place = [run.firstChild, left]; break; }
+      left -= run.textContent.length;
+    }
+    places.push(place);
+    break;
+  }
+}
+getSelection().setBaseAndExtent(...places[0], ...places[1]);
+"""
+
+
+def until(what, seconds=15):
+    """What `what` answers once that is true, or its last answer."""
+    end = time.time() + seconds
+    while True:
+        answer = None
+        try:
+            answer = what()
+        except Exception:  # an element that is not there yet, or was just replaced
+            pass
+        if answer or time.time() > end:
+            return answer
+        time.sleep(0.05)
+
+
+def units(text):
+    return len(text.encode("utf-16-le")) // 2
+
+
+class Window:
+    """One window, of one author."""
+
+    def __init__(self, url, width=1280, height=860):
+        options = webdriver.ChromeOptions()
+        for flag in (*FLAGS, f"--window-size={width},{height}"):
+            options.add_argument(flag)
+        options.set_capability("goog:loggingPrefs", {"browser": "ALL"})
+        self.driver = webdriver.Chrome(service=Service("/usr/bin/chromedriver"), options=options)
+        self.driver.set_script_timeout(120)
+        self.url = url
+
+    def get(self, name):
+        return self.driver.find_element(By.ID, name)
+
+    def all(self, selector):
+        return self.driver.find_elements(By.CSS_SELECTOR, selector)
+
+    def run(self, script, *given):
+        return self.driver.execute_script(script, *given)
+
+    def click(self, name):
+        self.get(name).click()
+
+    def keys(self, *keys, held=()):
+        """Presses keys while others are held, wherever the focus is."""
+        chain = ActionChains(self.driver)
+        for key in held:
+            chain.key_down(key)
+        chain.send_keys(*keys)
+        for key in held:
+            chain.key_up(key)
+        chain.perform()
+
+    def log_in(self, name, token, address=""):
+        self.driver.get("about:blank")
+        self.driver.get(self.url + address)
+        self.get("name").send_keys(name)
+        self.get("token").send_keys(token + Keys.ENTER)
+        return until(lambda: not self.get("choose").get_property("hidden"))
+
+    def open(self, pad, how="join"):
+        self.get("pad").clear()
+        self.get("pad").send_keys(pad)
+        self.click(how)
+        return until(lambda: self.get("text").is_displayed())
+
+    @property
+    def text(self):
+        return self.run(TEXT)
+
+    @property
+    def state(self):
+        return self.get("state").text
+
+    def is_saved(self, seconds=15):
+        return until(lambda: self.state == "All changes are saved", seconds)
+
+    def select(self, start, end=None):
+        self.run(SELECT, start, start if end is None else end)
+
+    def type(self, text, at=None):
+        if at is not None:
+            self.select(at)
+        self.keys(text)
+
+    def insert(self, text):
+        """Inserts a text as a keyboard for it would. (The driver cannot type characters beyond 16 bits.)"""
+        self.run("document.execCommand('insertText', false, arguments[0])", text)
+
+    def shot(self, folder, name):
+        time.sleep(0.4)
+        self.driver.save_screenshot(os.path.join(folder, f"{name}.png"))
+
+    def dark(self, is_dark=True):
+        scheme = "dark" if is_dark else "light"
+        self.driver.execute_cdp_cmd("Emulation.setEmulatedMedia", {"features": [{"name": "prefers-color-scheme", "value": scheme}]})
+
+    def faults(self):
+        """What the browser logged as a fault, other than a connection that broke."""
+        return [line["message"] for line in self.driver.get_log("browser") if line["level"] == "SEVERE" and "WebSocket" not in line["message"]]
+
+    def quit(self):
+        self.driver.quit()
+
+
+class Line:
+    """An author's connection over TCP."""
+
+    def __init__(self, port, name, token):
+        self.file = socket.create_connection(("127.0.0.1", port)).makefile("rw", encoding="utf-8", newline="\n")
+        self.ask(do="hello", name=name, token=token)
+
+    def ask(self, **request):
+        self.file.write(json.dumps(request) + "\n")
+        self.file.flush()
+        return json.loads(self.file.readline())
+
+
+class Server:
+    """The program and dev.mjs before it, in a folder of their own. The program can be killed and started again."""
+
+    def __init__(self, program, folder, pages=None):
+        self.program, self.folder, self.port = program, folder, free_port()
+        with open(os.path.join(folder, "accounts"), "w", encoding="utf-8") as file:
+            file.write(ACCOUNTS)
+        self.start()
+        port = free_port()
+        words = ["node", os.path.join(HERE, "dev.mjs"), str(port), str(self.port), *([pages] if pages else [])]
+        self.pages = subprocess.Popen(words, stdout=subprocess.PIPE)
+        self.pages.stdout.readline()
+        self.url = f"http://127.0.0.1:{port}/"
+
+    def start(self):
+        words = ["--listen", f"127.0.0.1:{self.port}", "--replica", "1", "--accounts", "accounts", "--store", "store"]
+        self.process = subprocess.Popen([self.program, *words], cwd=self.folder, stdout=subprocess.PIPE)
+        self.process.stdout.readline()
+
+    def kill(self):
+        self.process.kill()
+        self.process.wait()
+
+    def end(self):
+        self.kill()
+        self.pages.kill()
+        self.pages.wait()
+
+
+def free_port():
+    with socket.create_server(("127.0.0.1", 0)) as one:
+        return one.getsockname()[1]

@@ -1,0 +1,8 @@
+// The time, apart from everything that needs it, so that tests can run on a clock of their own.
+export const clock = {
+  now: () => Date.now(),
+  after: (milliseconds, act) => setTimeout(act, milliseconds),
+  cancel: (timer) => clearTimeout(timer),
+};
+
+export const pause = (milliseconds, { after } = clock) => new Promise((done) => { after(milliseconds, done); });

@@ -1,0 +1,341 @@
+// An open pad: its text, who is here, comments, the slider, and what the buttons do.
+import { Carets } from "./carets.js";
+import { colourOf, forgetColours, giveColours } from "./colours.js";
+import { Editor } from "./editor.js";
+import { reason } from "./enter.js";
+import { save, toMarkdown } from "./exports.js";
+import { Margin } from "./margin.js";
+import { Notice } from "./notice.js";
+import { $, element, gather, say } from "./page.js";
+import { Past } from "./past.js";
+import { RightsBox } from "./rights.js";
+import { LANGUAGE, WORDS, refusal } from "./words.js";
+
+const NEARLY_FULL = 0.9, LISTED = 300;
+// Refusals that say that a pad can take no more.
+const FULL = [314, 324, 325, 327, 328];
+
+const short = (author) => author.split("@")[0];
+
+export class Desk {
+  constructor(session, onClose) {
+    Object.assign(this, { session, onClose, isOpen: false, litId: null, showsResolved: false, percent: 0 });
+    this.place = gather(() => this.placeAll());
+    this.list = gather(() => this.listAuthors(), (act) => setTimeout(act, LISTED));
+    this.editor = new Editor($("text"), {
+      author: () => session.me, runs: () => session.pad.runs,
+      onType: (delta) => { session.pad.type(delta); this.showState(); },
+      onUndo: () => this.undo(false), onRedo: () => this.undo(true),
+      onCaret: (at) => { session.moveCaret(at); this.sayWriter(at); },
+      onDrawn: () => { this.place(); this.list(); },
+    });
+    this.margin = new Margin($("margin"), {
+      onResolve: (name) => this.resolve(name), onLit: (id) => this.light(id), onGo: (id) => this.goTo(id),
+    });
+    this.carets = new Carets($("carets"));
+    this.past = new Past(session, () => { this.showEditable(); this.showComments(); this.place(); this.list(); });
+    this.notice = new Notice(() => this.askName());
+    this.rights = new RightsBox(session, (text) => say($("news"), text));
+    this.listen();
+  }
+
+  listen() {
+    const on = (id, act, kind = "click") => $(id).addEventListener(kind, act);
+    on("undo", () => this.undo(false));
+    on("redo", () => this.undo(true));
+    on("comment", () => this.askComment());
+    on("comment", (event) => event.preventDefault(), "mousedown");
+    on("comment-box", () => this.sendComment(), "close");
+    on("resolved", () => { this.showsResolved = !this.showsResolved; this.showComments(); });
+    on("as-text", () => this.exportAs("txt"));
+    on("as-markdown", () => this.exportAs("md"));
+    on("print", () => { $("exports").open = false; print(); });
+    on("close", () => this.close());
+    on("go-on", (event) => { event.preventDefault(); this.goOn(); }, "submit");
+    on("go-on-cancel", () => $("go-on-box").close());
+    addEventListener("keydown", (event) => {
+      if (event.ctrlKey && event.altKey && event.key.toLowerCase() === "m" && this.isOpen) {
+        event.preventDefault();
+        this.askComment();
+      }
+      if (event.key === "Escape") $("exports").open = false;
+    });
+    addEventListener("pointerdown", (event) => { if (!$("exports").contains(event.target)) $("exports").open = false; });
+    addEventListener("beforeprint", () => this.preparePrint());
+    addEventListener("beforeunload", (event) => { if (this.session.pad?.isUnsent) event.preventDefault(); });
+    new ResizeObserver(() => this.place()).observe($("paper"));
+  }
+
+  // ---- opening and closing
+
+  open() {
+    const { pad } = this.session;
+    this.isOpen = true;
+    history.replaceState(null, "", `#${pad.name}`);
+    document.title = WORDS.title(pad.name);
+    say($("pad-name"), pad.name);
+    for (const id of ["enter", "log-out"]) $(id).hidden = true;
+    for (const id of ["work", "tools", "here", "pad-name"]) $(id).hidden = false;
+    forgetColours();
+    this.giveColours();
+    this.carets.clear();
+    this.past.start(pad);
+    this.notice.hide();
+    Object.assign(this, { litId: null, percent: 0 });
+    this.editor.show(pad.text);
+    this.showAll();
+    this.warnWhenFull();
+    say($("keys"), WORDS.keys);
+    $("text").focus();
+    this.editor.select(0);
+  }
+
+  giveColours() {
+    const { me, pad, presence, rights } = this.session, origin = me.slice(me.indexOf("@"));
+    giveColours(rights.map(([name]) => name + origin));
+    giveColours([...pad.runs.map(([author]) => author), ...presence.people.map(({ author }) => author)].sort());
+  }
+
+  showAll() {
+    this.showRights();
+    this.showPeople();
+    this.showComments();
+    this.listAuthors();
+    this.showState();
+  }
+
+  async close() {
+    if (this.past.isOpen) this.past.close();
+    this.isOpen = false;
+    await this.session.leave();
+    history.replaceState(null, "", location.pathname);
+    this.notice.hide();
+    this.onClose();
+  }
+
+  // ---- what the session tells
+
+  showState() {
+    const { session } = this, { state } = session;
+    if (!this.isOpen) return;
+    const idle = session.mayWrite ? WORDS.saved : WORDS.reading(session.right);
+    const held = session.heldBy && WORDS.held(refusal(session.heldBy));
+    const text = { over: WORDS.over, lost: WORDS.lost, held, saving: WORDS.saving, saved: idle }[state];
+    say($("state"), text);
+    $("state").className = ["over", "lost", "held"].includes(state) ? "is-bad" : `is-${state}`;
+  }
+
+  showRights() {
+    const { session } = this;
+    if (!this.isOpen) return;
+    this.giveColours();
+    this.showEditable();
+    this.rights.draw();
+    this.showComments();
+    this.showState();
+  }
+
+  showEditable() {
+    const { session } = this, isEditable = session.mayWrite && !this.past.isOpen;
+    this.editor.isEditable = isEditable;
+    $("undo").disabled = $("redo").disabled = !isEditable;
+    $("comment").disabled = !session.mayComment || this.past.isOpen;
+  }
+
+  receive(delta) { this.editor.receive(delta); }
+
+  moved({ from, to }) {
+    this.past.note(from, to);
+    this.warnWhenFull();
+  }
+
+  showPeople() {
+    const { presence } = this.session;
+    this.giveColours();
+    const authors = new Map(presence.people.map((person) => [person.author, person]));
+    const key = JSON.stringify([...authors.keys()]);
+    if (key !== this.peopleKey) {
+      this.peopleKey = key;
+      $("here").replaceChildren(...[...authors.values()].map(({ author, isMe }) => {
+        const title = isMe ? WORDS.you(author) : author;
+        return element("li", { className: colourOf(author), textContent: short(author), title });
+      }));
+    }
+    this.place();
+  }
+
+  came(author) { say($("news"), WORDS.came(short(author))); }
+  went(author) { say($("news"), WORDS.went(short(author))); }
+
+  // The session cannot go on. What was typed and not sent is shown, to be copied.
+  over(text) {
+    this.session.right = "none";
+    this.showEditable();
+    this.notice.show(text, { words: this.session.pad.unsentWords });
+    this.showState();
+  }
+
+  refused(reply, words) { this.notice.show(refusal(reply), { words, canGoOn: FULL.includes(reply.code) }); }
+  warnWhenFull() {
+    const { used, left } = this.session.room, percent = Math.floor(used * 100);
+    if (used < NEARLY_FULL || percent === this.percent) return;
+    this.percent = percent;
+    this.notice.show(used >= 1 ? WORDS.full : WORDS.nearlyFull(percent, left), { canGoOn: true });
+  }
+
+  // ---- comments
+
+  // The comments that are seen: of the shown revision, resolved ones only if they are asked for.
+  get comments() {
+    const all = this.past.compared ? [] : this.past.shown?.comments ?? this.session.comments.list;
+    return all.filter(({ isResolved }) => this.showsResolved || !isResolved);
+  }
+
+  // What is marked in the text: the words of comments, and those that the author is about to comment on.
+  get marks() {
+    const marks = this.comments.map(({ id, from, to }) => ({ id, from, to, isLit: id === this.litId }));
+    const { asked } = this.session.comments;
+    return asked && !this.past.shown ? [...marks, asked] : marks;
+  }
+
+  showComments() {
+    const { past, session } = this, all = past.shown?.comments ?? session.comments.list;
+    const resolved = all.filter(({ isResolved }) => isResolved).length, { comments } = this;
+    $("resolved").hidden = !resolved;
+    $("resolved").setAttribute("aria-pressed", String(this.showsResolved));
+    say($("resolved"), WORDS.resolvedCount(resolved));
+    this.margin.draw(comments, past.shown ? past.shown.text : session.pad.text, session.mayComment && !past.isOpen);
+    if (!past.shown) this.editor.setMarks(this.marks);
+    this.place();
+  }
+
+  light(id) {
+    if (id === this.litId) return;
+    this.litId = id;
+    this.margin.light(id);
+    if (this.past.compared) return;
+    if (this.past.shown) this.past.lines.setMarks(this.marks);
+    else this.editor.setMarks(this.marks);
+  }
+
+  // Selects the words of a comment.
+  goTo(id) {
+    const comment = this.comments.find((one) => one.id === id);
+    if (!comment || this.past.isOpen) return;
+    $("text").focus();
+    this.editor.select(comment.from, comment.to);
+    this.editor.reveal();
+  }
+
+  askComment() {
+    const selected = this.editor.selection(), { session } = this;
+    if ($("comment").disabled) return;
+    if (!selected || selected.from === selected.to) { this.notice.show(WORDS.selectFirst); return; }
+    session.comments.asked = { id: "asked", from: selected.from, to: selected.to, isLit: true };
+    this.showComments();
+    say($("comment-words"), session.pad.text.slice(selected.from, selected.to));
+    $("comment-text").value = "";
+    $("comment-box").returnValue = "";
+    $("comment-box").showModal();
+  }
+
+  async sendComment() {
+    const { comments } = this.session, { asked } = comments, text = $("comment-text").value;
+    this.editor.root.focus();
+    if ($("comment-box").returnValue === "send" && text.trim()) {
+      try { await this.session.comment(() => asked, text); } catch (error) { this.notice.show(reason(error), { words: text }); }
+    }
+    comments.asked = null;
+    this.showComments();
+  }
+
+  async resolve(name) { try { await this.session.resolve(name); } catch (error) { this.notice.show(reason(error)); } }
+
+  // ---- places on the screen
+
+  // Once a frame at most: carets and cards go beside their words.
+  placeAll() {
+    const { session, past } = this;
+    if (!this.isOpen) return;
+    const lines = past.shown ? past.lines : this.editor.lines;
+    const rectAt = (unit) => lines.rectAt(Math.min(unit, lines.text.length));
+    if (past.shown) this.carets.clear();
+    else if (!this.editor.isComposing) this.carets.draw(session.presence.others, rectAt);
+    if (!past.compared) this.margin.place(this.comments, rectAt);
+  }
+
+  // The legend: who wrote how much of the shown text.
+  listAuthors() {
+    const { past, session } = this;
+    if (!this.isOpen) return;
+    const shown = past.shown ?? session.pad, sizes = new Map();
+    for (const [author, units] of shown.runs) sizes.set(author, (sizes.get(author) ?? 0) + units);
+    const list = [...sizes].sort((a, b) => b[1] - a[1]), whole = shown.text.length;
+    const key = JSON.stringify(list.map(([author, units]) => [author, Math.round((100 * units) / whole)]));
+    if (key === this.authorsKey) return;
+    this.authorsKey = key;
+    $("authors").replaceChildren(...list.map(([author, units]) =>
+      element("li", { className: colourOf(author), textContent: WORDS.share(author, Math.round((100 * units) / whole)) })));
+    if (!list.length) $("authors").append(element("li", { className: "quiet", textContent: WORDS.emptyPad }));
+  }
+
+  // Colour alone does not say to everybody who wrote the words at the caret.
+  sayWriter(at) {
+    let end = 0;
+    for (const [author, units] of this.session.pad.runs) {
+      end += units;
+      if (at <= end) { say($("writer"), WORDS.atCaret(author)); return; }
+    }
+  }
+
+  undo(isRedo) {
+    const { pad } = this.session;
+    if (!this.editor.isEditable || this.editor.isComposing) return;
+    const delta = pad.stepBack(isRedo);
+    if (delta) this.editor.made(delta);
+    this.showState();
+  }
+
+  // ---- exports
+
+  // The shown revision, with its comments.
+  get revision() {
+    const { pad, comments } = this.session, { shown } = this.past;
+    const { rev, text, runs } = shown ?? pad;
+    return { name: pad.name, rev, text, runs, comments: shown?.comments ?? comments.list };
+  }
+
+  exportAs(ending) {
+    const { revision } = this, name = `${revision.name}-${revision.rev}.${ending}`;
+    $("exports").open = false;
+    if (ending === "md") save(name, "text/markdown", toMarkdown(revision));
+    else save(name, "text/plain", revision.text);
+  }
+
+  preparePrint() {
+    if (!this.session.pad) return;
+    const { name, rev } = this.revision;
+    say($("print-head"), WORDS.printed(name, rev, new Intl.DateTimeFormat(LANGUAGE, { dateStyle: "long" }).format(new Date())));
+  }
+
+  // ---- a new pad for a full one
+
+  askName() {
+    const [, stem, last] = this.session.pad.name.match(/^(.*?)(?:-(\d+))?$/);
+    $("go-on-name").value = `${stem.slice(0, 28)}-${Number(last ?? 1) + 1}`;
+    say($("go-on-error"), "");
+    $("go-on-box").showModal();
+  }
+
+  async goOn() {
+    const { pad } = this.session;
+    try {
+      await this.session.goOnIn($("go-on-name").value, WORDS.continues(pad.name, pad.rev));
+    } catch (error) {
+      say($("go-on-error"), reason(error));
+      return;
+    }
+    $("go-on-box").close();
+    this.open();
+  }
+}

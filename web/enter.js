@@ -1,0 +1,89 @@
+// The way in: log in, then choose a pad or create one.
+import { $, element, say } from "./page.js";
+import { Lost } from "./wire.js";
+import { WORDS, refusal } from "./words.js";
+
+export const NAME = /^[a-z0-9-]{1,32}$/;
+
+// What an error means, in words.
+export function reason(error) {
+  if (error.reply) return refusal(error.reply);
+  if (error instanceof Lost) return WORDS.noServer;
+  console.error(error);
+  return WORDS.fault(error.message);
+}
+
+export class Enter {
+  // `onPad` is called once a pad is open, and `onLeave` closes it.
+  constructor(session, { onPad, onLeave }) {
+    Object.assign(this, { session, onPad, onLeave });
+    $("log-in").addEventListener("submit", (event) => { event.preventDefault(); this.logIn(); });
+    $("open").addEventListener("submit", (event) => { event.preventDefault(); this.enter("join", $("pad").value); });
+    $("create").addEventListener("click", () => { if ($("open").reportValidity()) this.enter("create", $("pad").value); });
+    $("log-out").addEventListener("click", () => location.reload());
+    addEventListener("hashchange", () => this.follow());
+  }
+
+  async logIn() {
+    const { session } = this;
+    say($("log-in-error"), "");
+    say($("state"), WORDS.connecting);
+    try {
+      await session.logIn($("name").value, $("token").value);
+    } catch (error) {
+      say($("log-in-error"), reason(error));
+      $("token").select();
+      return;
+    } finally { say($("state"), ""); }
+    $("token").value = "";
+    await this.show();
+    this.enterNamed();
+  }
+
+  // The list of pads.
+  async show() {
+    for (const id of ["log-in", "work", "tools", "here", "pad-name"]) $(id).hidden = true;
+    for (const id of ["enter", "choose", "log-out"]) $(id).hidden = false;
+    document.title = WORDS.unnamed;
+    $("state").className = "";
+    say($("state"), WORDS.loggedIn(this.session.me));
+    try { this.list(await this.session.pads()); } catch (error) { say($("open-error"), reason(error)); }
+    $("pad").focus();
+  }
+
+  list(pads) {
+    $("no-pads").hidden = pads.length > 0;
+    $("pads").replaceChildren(...pads.map(({ name, right, now }) => {
+      const said = element("span", { textContent: WORDS.padLine(right, now) });
+      const button = element("button", { type: "button" }, element("b", { textContent: name }), said);
+      button.addEventListener("click", () => this.enter("join", name));
+      return element("li", {}, button);
+    }));
+  }
+
+  // The pad that the address names, if it names one.
+  enterNamed() {
+    const name = location.hash.slice(1);
+    if (!NAME.test(name)) return;
+    $("pad").value = name;
+    this.enter("join", name);
+  }
+
+  // The address names another pad now.
+  async follow() {
+    const { login, pad } = this.session, { hash } = location;
+    if (!login || hash.slice(1) === pad?.name) return;
+    if (pad) await this.onLeave();
+    location.hash = hash;
+    this.enterNamed();
+  }
+
+  async enter(how, name) {
+    say($("open-error"), "");
+    try { await this.session[how](name); } catch (error) {
+      say($("open-error"), reason(error));
+      return;
+    }
+    this.onPad();
+  }
+}

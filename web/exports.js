@@ -1,0 +1,47 @@
+// A revision as a file: its text alone, or Markdown with authors and comments.
+import { WORDS } from "./words.js";
+
+const safe = (text) => text.replaceAll("&", "&amp;").replaceAll("<", "&lt;");
+const short = (author) => author.split("@")[0];
+const oneLine = (text) => safe(text).replace(/\s+/g, " ").trim();
+
+// Markdown: each stretch begins with its author's name where the author changes, and each comment is a footnote behind its
+// words. The text's own Markdown stays; only `<` and `&` are escaped.
+export function toMarkdown({ name, rev, text, runs, comments }) {
+  const notes = [...comments].sort((a, b) => a.to - b.to || a.from - b.from), out = [];
+  let at = 0, next = 0, last = "";
+  const put = (to) => {
+    for (; next < notes.length && notes[next].to <= to; next++) {
+      out.push(safe(text.slice(at, notes[next].to)), `[^${next + 1}]`);
+      at = notes[next].to;
+    }
+    out.push(safe(text.slice(at, to)));
+    at = to;
+  };
+  for (const [author, units] of runs) {
+    const end = at + units, blank = text.slice(at, end).match(/^\s*/)[0].length;
+    if (author !== last && blank < units) {
+      put(at + blank);
+      out.push(`<sup>${short(author)}</sup>`);
+      last = author;
+    }
+    put(end);
+  }
+  const footnotes = notes.map(({ author, from, to, text: words, isResolved }, k) => {
+    const quote = from < to ? `“${oneLine(text.slice(from, to))}”: ` : "";
+    const state = isResolved ? ` (${WORDS.resolved.toLowerCase()})` : "";
+    return `[^${k + 1}]: **${short(author)}**${state}: ${quote}${oneLine(words)}`;
+  });
+  const authors = [...new Set(runs.map(([author]) => author))].join(", ");
+  const head = `# ${WORDS.markdownTitle(name, rev)}\n\n${authors && `*${authors}*\n\n`}`;
+  return `${head}${out.join("")}\n${footnotes.length ? `\n${footnotes.join("\n")}\n` : ""}`;
+}
+
+// Offers a file to the browser.
+export function save(name, kind, text) {
+  const url = URL.createObjectURL(new Blob([text], { type: `${kind};charset=utf-8` })), link = document.createElement("a");
+  link.href = url;
+  link.download = name;
+  link.click();
+  setTimeout(() => URL.revokeObjectURL(url), 10000);
+}

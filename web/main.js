@@ -1,0 +1,43 @@
+// The page begins here.
+import { Desk } from "./desk.js";
+import { Enter, reason } from "./enter.js";
+import { $, label } from "./page.js";
+import { Session } from "./session.js";
+import { LostRevisions } from "./sync.js";
+import { webSocket } from "./wire.js";
+import { WORDS } from "./words.js";
+
+label();
+
+let desk = null;
+const whenOpen = (act) => (...given) => { if (desk?.isOpen) act(...given); };
+
+const session = new Session({
+  open: webSocket(`${location.protocol === "https:" ? "wss" : "ws"}://${location.host}/socket`),
+  view: {
+    onState: whenOpen(() => desk.showState()),
+    onReceive: whenOpen((delta) => desk.receive(delta)),
+    onMove: whenOpen((step) => desk.moved(step)),
+    onPeople: whenOpen(() => desk.showPeople()),
+    onCome: whenOpen((author) => desk.came(author)),
+    onGo: whenOpen((author) => desk.went(author)),
+    onComments: whenOpen(() => desk.showComments()),
+    onRights: whenOpen(() => desk.showRights()),
+    onRefused: whenOpen((reply, words) => desk.refused(reply, words)),
+    onOver: whenOpen((error) => desk.over(error instanceof LostRevisions ? WORDS.gone : reason(error))),
+  },
+});
+
+const enter = new Enter(session, { onPad: () => desk.open(), onLeave: () => desk.close() });
+desk = new Desk(session, () => enter.show());
+
+document.addEventListener("visibilitychange", () => {
+  session.isHidden = document.hidden;
+  if (session.pad && !document.hidden) session.refresh();
+});
+addEventListener("online", () => session.hurry?.());
+$("skip").addEventListener("click", (event) => {
+  event.preventDefault();
+  $("text").focus();
+});
+$("name").focus();

@@ -1,0 +1,32 @@
+// Small helpers for the document, which everything that is seen uses.
+import { LABELS, LANGUAGE } from "./words.js";
+
+export const $ = (id) => document.getElementById(id);
+
+// An element with properties and children.
+export function element(kind, properties = {}, ...children) {
+  const node = Object.assign(document.createElement(kind), properties);
+  node.append(...children);
+  return node;
+}
+
+// Writes a text only where it differs, so that a screen reader says it once.
+export function say(node, text) { if (node.textContent !== text) node.textContent = text; }
+
+// Fills in the labels of index.html.
+export function label() {
+  document.documentElement.lang = LANGUAGE;
+  for (const node of document.querySelectorAll("[data-text]")) node.textContent = LABELS[node.dataset.text];
+  for (const node of document.querySelectorAll("[data-label]")) node.setAttribute("aria-label", LABELS[node.dataset.label]);
+  for (const node of document.querySelectorAll("[data-hint]")) node.title = LABELS[node.dataset.hint];
+}
+
+// Runs an act soon, and once for all calls until then.
+export function gather(act, later = requestAnimationFrame) {
+  let isWaiting = false;
+  return () => {
+    if (isWaiting) return;
+    isWaiting = true;
+    later(() => { isWaiting = false; act(); });
+  };
+}

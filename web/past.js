@@ -1,0 +1,149 @@
+// The slider: earlier revisions, who made them and when this page saw them, and what differs between two of them.
+import { placed } from "./comments.js";
+import { reason } from "./enter.js";
+import { History } from "./history.js";
+import { Lines } from "./lines.js";
+import { $, say } from "./page.js";
+import { pause } from "./clock.js";
+import { LANGUAGE, LABELS, WORDS } from "./words.js";
+
+const STEP = 90, MOST_STEPS = 300, SAVE_EVERY = 5000;
+
+const clockTime = new Intl.DateTimeFormat(LANGUAGE, { dateStyle: "medium", timeStyle: "short" });
+
+export class Past {
+  // `onShow` is called when another revision is shown, or none.
+  constructor(session, onShow) {
+    Object.assign(this, { session, onShow, lines: new Lines($("past")) });
+    Object.assign(this, { shown: null, compared: null, wanted: null, isPlaying: false, isOpen: false });
+    const on = (id, kind, act) => $(id).addEventListener(kind, act);
+    on("history", "click", () => { if (this.isOpen) this.close(); else this.open(); });
+    on("back", "click", () => this.close());
+    on("rev", "input", () => { this.stop(); this.go(Number($("rev").value)); });
+    on("older", "click", () => { this.stop(); this.step(-1); });
+    on("newer", "click", () => { this.stop(); this.step(1); });
+    on("play", "click", () => { if (this.isPlaying) this.stop(); else this.play(); });
+    on("compare", "submit", (event) => { event.preventDefault(); this.compare(); });
+    setInterval(() => this.history?.save(), SAVE_EVERY);
+  }
+
+  // Another pad is open.
+  start(pad) {
+    this.history = new History((request) => pad.call(request), pad.name, localStorage);
+    this.pad = pad;
+    if (this.isOpen) this.close();
+  }
+
+  // The page has seen further revisions.
+  note(from, to) {
+    this.history.note(from, to, Date.now());
+    if (!this.isOpen) return;
+    $("rev").max = this.pad.now;
+    this.describe();
+  }
+
+  async open() {
+    this.isOpen = true;
+    $("slider").hidden = false;
+    $("history").setAttribute("aria-pressed", "true");
+    $("rev").max = $("compare-rev").max = this.pad.rev;
+    $("compare-rev").value = Math.max(0, this.pad.rev - 1);
+    await this.go(this.pad.rev);
+    $("rev").focus();
+  }
+
+  close() {
+    this.stop();
+    Object.assign(this, { isOpen: false, shown: null, compared: null, wanted: null });
+    $("slider").hidden = $("past").hidden = true;
+    $("text").hidden = false;
+    $("paper").classList.remove("is-old");
+    $("history").setAttribute("aria-pressed", "false");
+    this.onShow();
+    $("text").focus();
+  }
+
+  // Shows a revision. While one is fetched, only the last one that is wanted is kept.
+  async go(rev) {
+    $("rev").value = rev;
+    const isBusy = this.wanted !== null;
+    this.wanted = rev;
+    if (isBusy) return;
+    try {
+      while (this.isOpen && this.wanted !== null) {
+        const next = this.wanted, text = await this.history.at(next), entry = await this.history.entry(next);
+        const comments = this.isPlaying ? [] : placed((await this.pad.call({ do: "comments", rev: next })).comments, text.text);
+        if (!this.isOpen) return;
+        this.show({ ...text, entry, comments });
+        if (this.wanted === next) this.wanted = null;
+      }
+    } catch (error) { say($("rev-made"), reason(error)); }
+    this.wanted = null;
+  }
+
+  show(shown) {
+    this.shown = shown;
+    this.compared = null;
+    say($("compare-go"), LABELS.compare);
+    $("past").classList.remove("is-compared");
+    this.draw(shown.text, shown.runs, shown.comments);
+    this.describe();
+  }
+
+  draw(text, runs, marks) {
+    $("past").hidden = false;
+    $("text").hidden = true;
+    $("paper").classList.add("is-old");
+    this.lines.show(text, runs, marks);
+    this.onShow();
+  }
+
+  // Says which revision it is, who made it, and when the page saw it.
+  describe() {
+    const { shown, compared, pad } = this;
+    if (!shown) return;
+    if (compared) {
+      const { from, to, inserted, dropped } = compared;
+      say($("rev-made"), [WORDS.comparing(from, to), WORDS.inserted(inserted), WORDS.dropped(dropped)].join(" · "));
+      return;
+    }
+    const { rev, entry } = shown, seen = this.history.when(rev), parts = [WORDS.old(rev, pad.now)];
+    parts.push(entry ? WORDS.madeBy(entry.kind, entry.author) : WORDS.start);
+    if (seen && rev) parts.push((seen.isBefore ? WORDS.seenBefore : WORDS.seenAt)(clockTime.format(seen.at)));
+    say($("rev-made"), parts.join(" · "));
+    $("rev").setAttribute("aria-valuetext", parts.slice(0, 2).join(", "));
+  }
+
+  // Compares the shown revision with another one, or ends that.
+  async compare() {
+    if (this.compared) { await this.go(this.shown.rev); return; }
+    this.stop();
+    const other = Number($("compare-rev").value), { rev } = this.shown;
+    try {
+      this.compared = await this.history.compare(Math.min(other, rev), Math.max(other, rev));
+    } catch (error) { say($("rev-made"), reason(error)); return; }
+    say($("compare-go"), LABELS.endCompare);
+    $("past").classList.add("is-compared");
+    this.draw(this.compared.text, this.compared.runs, []);
+    this.describe();
+  }
+
+  step(by) { return this.go(Math.max(0, Math.min(Number($("rev").max), Number($("rev").value) + by))); }
+
+  async play() {
+    const last = Number($("rev").max), stride = Math.max(1, Math.ceil(last / MOST_STEPS));
+    this.isPlaying = true;
+    this.drawPlay();
+    if (Number($("rev").value) >= last) await this.go(0);
+    while (this.isPlaying && Number($("rev").value) < last) {
+      await Promise.all([this.step(stride), pause(STEP)]);
+    }
+    if (this.isPlaying) { this.stop(); await this.step(0); }
+  }
+
+  stop() {
+    this.isPlaying = false;
+    this.drawPlay();
+  }
+  drawPlay() { say($("play"), this.isPlaying ? LABELS.pauseIt : LABELS.play); }
+}

@@ -1,0 +1,65 @@
+// The dialog of rights: who has which, and, for owners, giving and taking them.
+import { reason } from "./enter.js";
+import { $, element, say } from "./page.js";
+import { RIGHT_HELP, WORDS } from "./words.js";
+
+const ORDER = ["own", "write", "comment", "read", "none"];
+
+function choices(select, chosen) {
+  select.replaceChildren(...ORDER.map((right) => element("option", { value: right, textContent: RIGHT_HELP[right] })));
+  select.value = chosen;
+}
+
+export class RightsBox {
+  constructor(session, onGranted) {
+    Object.assign(this, { session, onGranted, drawn: "" });
+    choices($("grant-right"), "write");
+    $("rights").addEventListener("click", () => this.open());
+    $("grant").addEventListener("submit", (event) => {
+      event.preventDefault();
+      this.give($("grant-name").value, $("grant-right").value);
+    });
+  }
+
+  async open() {
+    say($("grant-error"), "");
+    this.draw();
+    $("rights-box").showModal();
+    try { await this.session.readRights(); } catch (error) { say($("grant-error"), reason(error)); }
+  }
+
+  draw() {
+    const { rights, right } = this.session, key = JSON.stringify([rights, right]);
+    if (key === this.drawn) return;
+    this.drawn = key;
+    $("grant").hidden = right !== "own";
+    $("rights-list").replaceChildren(...rights.map((entry, k) => this.row(entry, k === 0)));
+  }
+
+  // The creator's right stays. A right of another author can be changed by an owner.
+  row([name, right], isCreator) {
+    const cell = element("td");
+    if (isCreator || this.session.right !== "own") cell.append(RIGHT_HELP[right], isCreator ? ` (${WORDS.creator})` : "");
+    else {
+      const select = element("select");
+      choices(select, right);
+      select.setAttribute("aria-label", WORDS.rightOf(name));
+      select.addEventListener("change", () => this.give(name, select.value));
+      cell.append(select);
+    }
+    return element("tr", {}, element("td", { textContent: name }), cell);
+  }
+
+  async give(name, right) {
+    say($("grant-error"), "");
+    try {
+      await this.session.grant(name, right);
+      $("grant-name").value = "";
+      this.onGranted(WORDS.granted(name, right));
+    } catch (error) {
+      say($("grant-error"), reason(error));
+      this.drawn = "";
+      this.draw();
+    }
+  }
+}

@@ -1,0 +1,283 @@
+// One pad as a page edits it, without any display.
+//
+// `base` is the text of revision `rev`, as the server has it. `flight` is the one edit that was sent and is not answered, a
+// delta over base. `pending` is what was typed since, a delta over base and flight. `text` is what the page shows: base,
+// then flight, then pending.
+//
+// The answer to an edit says that it is revision n. Others made the revisions between. The page asks for their changes, C,
+// and transforms flight over C; where both insert at one place, flight's text comes first. Why the result is the server's
+// text at n, character by character: the server puts an insertion of an older revision directly after the character that
+// stood before it, and before all that came there since. In C that character is kept or dropped, and everything that came
+// after it stands behind it. The transform puts flight's text right there, before C's next insertion.
+//
+// While an edit is in flight, base does not move. If it did, and another author erased the character before flight's text,
+// the place would be known only by a neighbour, and a later insertion could land on its wrong side. So what a wait brings
+// meanwhile is held back, and used only if it ends exactly at revision n - 1.
+import { apply, applyRuns, compose, isEmpty, move, split, transform } from "./delta.js";
+import { clock as realClock, pause } from "./clock.js";
+import { deltaOf, partsOf } from "./units.js";
+import { LIMITS } from "./limits.js";
+import { Undo } from "./undo.js";
+
+export class Refused extends Error {
+  constructor(reply) { super(`${reply.code} ${reply.error}`); this.reply = reply; }
+}
+
+export const PACE = { gather: 500, rest: 100, wait: 25 };
+const EDITS = ["insert", "delete", "edit"], TRAIL = 8;
+
+export class Pad {
+  // `ask` sends a request and resolves to its reply. `me` is the author as others see it, `name@origin`. `onReceive` gets
+  // others' changes over what is shown, `onShow` these and the author's own, and `onMove` is told when `rev` has moved.
+  // An edit goes at most each `gather` milliseconds, and changes are asked for at most each `rest` milliseconds.
+  constructor({ name, me, ask, clock = realClock, onReceive = () => {}, onShow = () => {}, onMove = () => {}, pace = PACE }) {
+    Object.assign(this, { name, me, ask, clock, onReceive, onShow, onMove, pace });
+    this.base = ""; this.baseRuns = []; this.rev = 0; this.now = 0;
+    this.flight = null; this.pending = [];
+    this.text = ""; this.runs = [];
+    this.trail = [];
+    this.undo = new Undo(me, clock);
+    this.turn = 0; this.wake = null; this.sentAt = -Infinity; this.askedAt = -Infinity; this.isHurried = false;
+  }
+
+  get isUnsent() { return this.flight !== null || !isEmpty(this.pending); }
+
+  async call(request) {
+    const reply = await this.ask({ ...request, pad: this.name });
+    if (!reply.ok) throw new Refused(reply);
+    this.now = Math.max(this.now, reply.now);
+    return reply;
+  }
+
+  changes(more) { return this.call({ do: "changes", rev: this.rev, ...more }); }
+
+  // The whole text with its authors, in one answer.
+  async load() {
+    const { changes, to } = await this.call({ do: "changes", rev: 0 }), delta = deltaOf(changes, "");
+    this.base = this.text = apply("", delta);
+    this.baseRuns = this.runs = applyRuns([], delta);
+    this.rev = to;
+  }
+
+  // The author changed what is shown. A step of undo is not remembered again.
+  type(delta, isRemembered = true) {
+    if (isEmpty(delta)) return;
+    if (isRemembered) this.undo.typed(delta, this.text);
+    this.pending = compose(this.pending, delta);
+    this.show(delta);
+    this.wake?.();
+  }
+
+  show(delta) {
+    this.text = apply(this.text, delta);
+    this.runs = applyRuns(this.runs, delta);
+    this.onShow(delta);
+  }
+
+  // Undoes or redoes the author's last change: the delta over what is shown, or null.
+  stepBack(isRedo = false) {
+    const delta = isRedo ? this.undo.redo(this.text) : this.undo.undo(this.text);
+    if (delta) this.type(delta, false);
+    return delta;
+  }
+
+  receive(delta) {
+    if (isEmpty(delta)) return;
+    this.show(delta);
+    this.undo.received(delta);
+    this.onReceive(delta);
+  }
+
+  // Base moves by a delta to a revision.
+  moveBase(delta, rev) {
+    this.trail.push({ rev: this.rev, base: this.base, delta });
+    if (this.trail.length > TRAIL) this.trail.shift();
+    this.base = apply(this.base, delta);
+    this.baseRuns = applyRuns(this.baseRuns, delta);
+    this.rev = rev;
+    this.now = Math.max(this.now, rev);
+  }
+
+  // Nothing is in flight: others' changes lead from `rev` to another revision.
+  advance({ changes, to, notes }) {
+    if (to === this.rev) return;
+    const theirs = deltaOf(changes, this.base), [pending, shown] = transform(this.pending, theirs), from = this.rev;
+    this.moveBase(theirs, to);
+    this.pending = pending;
+    this.receive(shown);
+    this.onMove({ from, to, notes, isOwn: false });
+  }
+
+  // The flight is revision n; `theirs` is what others changed from `rev` to n - 1.
+  land(theirs, n, notes) {
+    const [mine, over] = transform(this.flight, theirs), [pending, shown] = transform(this.pending, over), from = this.rev;
+    this.moveBase(compose(theirs, mine), n);
+    this.flight = null;
+    this.pending = pending;
+    this.receive(shown);
+    this.onMove({ from, to: n, notes, isOwn: true });
+  }
+
+  async landAt(n, held) {
+    if (n === this.rev + 1) { this.land([], n, 0); return; }
+    const told = held?.to === n - 1 ? held : await this.changes({ to: n - 1 });
+    this.land(deltaOf(told.changes, this.base), n, told.notes);
+  }
+
+  // Sends as much of what is pending as one edit can take. Resolves to its revision.
+  async send() {
+    [this.flight, this.pending] = split(this.pending, LIMITS.parts, LIMITS.edit);
+    this.sentAt = this.clock.now();
+    const parts = partsOf(this.flight, this.base), rev = this.rev;
+    const kind = parts[0].text === undefined ? "delete" : "insert";
+    try {
+      const { now } = await this.call(parts.length === 1 ? { do: kind, rev, ...parts[0] } : { do: "edit", rev, parts });
+      return now;
+    } catch (error) {
+      if (error instanceof Refused) this.unsend();
+      throw error;
+    }
+  }
+
+  unsend() {
+    this.pending = compose(this.flight, this.pending);
+    this.flight = null;
+  }
+
+  // Sends what is typed and takes what others do, until `stop` or a lost connection. A refusal is thrown, too.
+  async run() {
+    const turn = ++this.turn;
+    while (this.turn === turn) {
+      if (this.untilDue() <= 0) await this.landAt(await this.send());
+      else await this.follow(turn);
+    }
+  }
+
+  stop() {
+    this.turn++;
+    this.wake?.();
+  }
+
+  // Milliseconds until what is pending should be sent.
+  untilDue() {
+    if (isEmpty(this.pending)) return Infinity;
+    return this.isHurried ? 0 : this.sentAt + this.pace.gather - this.clock.now();
+  }
+
+  // Resolves when something is due, or the turn is over.
+  due(turn) {
+    return new Promise((done) => {
+      let timer;
+      this.wake = () => {
+        this.clock.cancel(timer);
+        const left = this.untilDue();
+        if (left <= 0 || this.turn !== turn) done(null);
+        else if (left < Infinity) timer = this.clock.after(left, this.wake);
+      };
+      this.wake();
+    });
+  }
+
+  // Waits for others' changes. When something of the author's is due first, it is sent at the same revision. The server
+  // then ends the wait, and what the wait brought is held back until the edit is answered.
+  async follow(turn) {
+    const due = this.due(turn), rest = this.askedAt + this.pace.rest - this.clock.now();
+    if (rest > 0) await Promise.race([due, pause(rest, this.clock)]);
+    if (this.turn !== turn || this.untilDue() <= 0) return;
+    this.askedAt = this.clock.now();
+    const told = this.changes({ wait: this.pace.wait });
+    let first = await Promise.race([told, due]);
+    while (!first && this.turn === turn && isEmpty(this.pending)) first = await Promise.race([told, this.due(turn)]);
+    if (first || this.turn !== turn) {
+      const reply = await told;
+      if (this.turn === turn) this.advance(reply);
+      return;
+    }
+    const [held, n] = await Promise.all([told, this.send()]);
+    await this.landAt(n, held);
+  }
+
+  // After a new connection: decides whether the edit that was not answered was made, and takes what came since. The old
+  // connection could still deliver the edit, so first its visit has to be gone.
+  async resume(visit, patience = 100) {
+    this.stop();
+    for (let tries = 0; this.flight && this.visit && tries < patience; tries++) {
+      const { who } = await this.call({ do: "who" });
+      if (!who.some((one) => one.visit === this.visit)) break;
+      await pause(100, this.clock);
+    }
+    this.visit = visit;
+    const { now } = await this.call({ do: "revs" });
+    if (now < this.rev) throw new LostRevisions(this.name);
+    if (this.flight && !(await this.find(now))) this.unsend();
+    this.advance(await this.changes());
+  }
+
+  // Looks for the revision that the flight made: one of this author that changes just what the flight changes there.
+  async find(now) {
+    for (let from = this.rev + 1; from <= now; from += LIMITS.entries) {
+      const { entries } = await this.call({ do: "entries", from, count: LIMITS.entries });
+      for (const { author, kind, rev } of entries) {
+        if (author !== this.me || !EDITS.includes(kind)) continue;
+        const before = await this.changes({ to: rev - 1 }), made = await this.call({ do: "changes", rev: rev - 1, to: rev });
+        const theirs = deltaOf(before.changes, this.base), text = apply(this.base, theirs);
+        const [mine] = transform(this.flight, theirs), same = apply(text, deltaOf(made.changes, text));
+        if (apply(text, mine) !== same) continue;
+        this.land(theirs, rev, before.notes);
+        return true;
+      }
+    }
+    return false;
+  }
+
+  // Resolves once everything is sent and answered.
+  async flush() {
+    this.isHurried = true;
+    this.wake?.();
+    while (this.isUnsent) await pause(20, this.clock);
+    this.isHurried = false;
+  }
+
+  // What was typed and is not known to be made.
+  get unsentWords() {
+    return compose(this.flight ?? [], this.pending).map((step) => step.insert ?? "").filter((text) => text.trim()).join("\n");
+  }
+
+  // Takes back what cannot be sent: what it inserted, for the author to keep.
+  giveUp() {
+    const kept = this.unsentWords, inverse = restoring(this.pending, this.base, this.baseRuns);
+    this.pending = [];
+    this.receive(inverse);
+    return kept;
+  }
+
+  // Where a unit of base is in what is shown; and where a unit of an earlier revision's base is, if it is still known.
+  shown(position, after = false) { return move(move(position, this.flight ?? [], after), this.pending, after); }
+  carried(position, rev, after = false) {
+    const steps = this.trail.filter((step) => step.rev >= rev);
+    return this.shown(steps.reduce((at, { delta }) => move(at, delta, after), position), after);
+  }
+
+  // The text of a revision that the page held lately, or null.
+  baseAt(rev) { return rev === this.rev ? this.base : this.trail.find((step) => step.rev === rev)?.base ?? null; }
+}
+
+export class LostRevisions extends Error {}
+
+// What undoes a delta over a text with its authors: what it dropped comes back with them.
+function restoring(delta, text, runs) {
+  const out = [];
+  let at = 0;
+  for (const step of delta) {
+    if (step.insert) { out.push({ drop: step.insert.length }); continue; }
+    if (step.keep) { out.push({ keep: step.keep }); at += step.keep; continue; }
+    let end = 0;
+    for (const [author, units] of runs) {
+      const from = Math.max(at, end), to = Math.min(at + step.drop, end + units);
+      if (from < to) out.push({ insert: text.slice(from, to), author });
+      end += units;
+    }
+    at += step.drop;
+  }
+  return out;
+}

@@ -1,0 +1,61 @@
+// An author's own changes, to be undone and redone. Each step is a delta over the text that is shown once all steps above
+// it are made, so what others change is carried down through the steps.
+import { compose, extent, invert, isEmpty, transform } from "./delta.js";
+
+const MOST_STEPS = 500, BURST = 1000;
+
+export class Undo {
+  constructor(author, clock) {
+    this.author = author;
+    this.clock = clock;
+    this.undos = [];
+    this.redos = [];
+    this.typedAt = -Infinity;
+    this.caret = null;
+  }
+
+  // The author changed this text. What is typed on at once, without a new line, is one step.
+  typed(delta, text) {
+    const back = invert(delta, text, this.author), { from, before, after } = extent(delta);
+    const now = this.clock.now(), goesOn = now - this.typedAt < BURST && (from === this.caret || before === this.caret);
+    const startsLine = delta.some((step) => step.insert?.includes("\n"));
+    if (goesOn && !startsLine && this.undos.length) this.undos.push(compose(back, this.undos.pop()));
+    else this.push(this.undos, back);
+    this.redos = [];
+    this.typedAt = now;
+    this.caret = startsLine ? null : after;
+  }
+
+  push(steps, delta) {
+    steps.push(delta);
+    if (steps.length > MOST_STEPS) steps.shift();
+  }
+
+  // The delta over this text that takes back the last change, or null; the change itself can then be made again.
+  step(text, from, to) {
+    this.caret = null;
+    while (from.length) {
+      const delta = from.pop();
+      if (isEmpty(delta)) continue;
+      this.push(to, invert(delta, text, this.author));
+      return delta;
+    }
+    return null;
+  }
+  undo(text) { return this.step(text, this.undos, this.redos); }
+  redo(text) { return this.step(text, this.redos, this.undos); }
+
+  // Others changed the text.
+  received(delta) {
+    this.caret = null;
+    this.undos = carried(this.undos, delta);
+    this.redos = carried(this.redos, delta);
+  }
+}
+
+function carried(steps, delta) {
+  const out = new Array(steps.length);
+  let theirs = delta;
+  for (let at = steps.length - 1; at >= 0; at--) [out[at], theirs] = transform(steps[at], theirs);
+  return out;
+}

@@ -18,7 +18,7 @@ EDITS_AIM, RATE_AIM, P50_AIM = 4, 3, 1.5
 
 
 def serve(accounts, folder, writers, requests, variables=None):
-    words = ["--listen", "127.0.0.1:0", "--replica", "1", "--cells", "16", "--workers", "16", "--store", folder]
+    words = ["--listen", "127.0.0.1:0", "--replica", "1", "--cells", "16", "--store", folder]
     words += ["--connections", str(writers + 1), "--accounts", accounts]
     environment = {**os.environ, **(variables or {})}
     return drive(subprocess.Popen([SERVER, *words], stdout=subprocess.PIPE, env=environment), "pads", writers, 1, requests)

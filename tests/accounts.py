@@ -1,5 +1,10 @@
 """The accounts file, and who may log in."""
-from harness import CLOSED, FULL, Case, Has
+import calendar
+import re
+import subprocess
+import time
+
+from harness import CLOSED, FULL, Case, Failed, Has, Test, put_files, start, want
 
 ARGS = "--stdin --replica 1 --accounts accounts"
 TWO = "author ann t1\npeer 2 p2 127.0.0.1:7402\n"
@@ -24,6 +29,22 @@ def bad(name, text, line, reason, **more):
     """The line of this number is at fault: nothing is served, and the message names the line, the file and the reason."""
     message = f"pad_server: 500 BadAccounts line {line}\npad_server: the accounts file accounts: {reason}\n"
     return Case(f"bad accounts: {name}", ARGS, HELLO, "", 2, message, (("accounts", text),), **more)
+
+
+def a_warning_begins_with_the_time():
+    """In UTC, wherever the server stands."""
+    put_files([("accounts", "author ann t1\npeer 2 p2 127.0.0.1:http\n")])
+    streams = dict(stdin=subprocess.DEVNULL, stdout=subprocess.PIPE, stderr=subprocess.PIPE)
+    before = int(time.time())
+    process = start("pad_server", ARGS, {"TZ": "Pacific/Auckland"}, **streams)
+    said = process.communicate()[1].decode()
+    after = time.time()
+    form = r"(\d{4}-\d\d-\d\dT\d\d:\d\d:\d\dZ) pad_server: warning: the accounts file accounts: peer 2: .*\n"
+    found = re.fullmatch(form, said)
+    if found is None:
+        raise Failed(f"no line of the log, but {said!r}")
+    told = calendar.timegm(time.strptime(found.group(1), "%Y-%m-%dT%H:%M:%SZ"))
+    want(before <= told <= after, True, f"that {found.group(1)} lies between {before} and {after}")
 
 
 # What is said of each kind of mistake.
@@ -167,4 +188,7 @@ CASES = [
     Case("no accounts file, standard error closed", ARGS, HELLO, "", 1, errors_to=CLOSED),
 ]
 
-TESTS = [case.test() for case in CASES]
+TESTS = [
+    *[case.test() for case in CASES],
+    Test("accounts: a warning begins with the time", a_warning_begins_with_the_time),
+]

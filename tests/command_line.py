@@ -9,7 +9,7 @@ NO_PAD = '{"code":300,"error":"NoPad","ok":false}\n'
 USAGE = """Usage: pad_server --stdin --replica <N> [--accounts <PATH>] [--cells <N>]
        pad_server --listen <ADDR> --replica <N> --accounts <PATH> [OPTIONS]
 """
-OPTIONS = Has(USAGE, "--workers <N>", "--idle <SECONDS>", "--store <DIR>", "--new-replica", "--help")
+OPTIONS = Has(USAGE, "--workers <N>", "--clients <N>", "--idle <SECONDS>", "--store <DIR>", "--new-replica", "--help")
 
 
 def refused(name, args, *parts):
@@ -64,7 +64,7 @@ CASES = [
     *[refused(f"--idle {text}", f"--stdin --replica 1 --idle={text}", "--idle") for text in ["0", "-1", "x", ""]],
     *[refused(f"--workers {text}", f"--stdin --replica 1 --workers={text}", "--workers") for text in ["0", "64", "x"]],
     *[refused(f"--connections {text}", f"--stdin --replica 1 --connections={text}", "--connections") for text in ["0", "x"]],
-    *[refused(f"--{name} without a value", f"--stdin --replica 1 --{name}", f"--{name}") for name in ["listen", "store", "idle", "workers"]],
+    *[refused(f"--{name} without a value", f"--stdin --replica 1 --{name}", f"--{name}") for name in ["listen", "store", "idle", "workers", "clients"]],
     refused("--new-replica twice", "--listen 127.0.0.1:0 --replica 1 --new-replica --new-replica", "--new-replica"),
     refused("--accounts twice", "--stdin --replica 1 --accounts a --accounts b", "--accounts"),
     refused("--replica without a number", "--stdin --replica", "--replica"),
@@ -75,7 +75,7 @@ CASES = [
         for text in ["0", "65536", "70000", "-1", "1.0", "one", "0x1", "18446744073709551617", ""]
     ],
     *[refused(f"cells {text}", f"--stdin --replica 1 --cells={text}", "--cells") for text in ["0", "65", "-1", "two", "4294967297"]],
-    Case("--workers and --connections change nothing with --stdin", "--stdin --replica 1 --workers 2 --connections 1", CREATE, CREATED),
+    Case("--workers, --clients and --connections change nothing with --stdin", "--stdin --replica 1 --workers 2 --clients 1 --connections 1", CREATE, CREATED),
     Case(
         "an address without a host",
         "--listen 7878 --replica 1 --accounts accounts",

@@ -211,6 +211,8 @@ def run_child(test, folder, writer):
     try:
         os.setsid()
         resource.setrlimit(resource.RLIMIT_CORE, (0, 0))
+        most = resource.getrlimit(resource.RLIMIT_NOFILE)[1]
+        resource.setrlimit(resource.RLIMIT_NOFILE, (most, most))
         os.chdir(folder)
         test.function()
     except Failed as failed:

@@ -33,7 +33,7 @@ def use_up(server):
 
 def a_creation_without_a_file_is_refused():
     """Nothing has changed then, all else goes on, and the pad is created when there are files again."""
-    server = Server(f"{STORE} --workers 40", stderr=subprocess.PIPE, preexec_fn=limited(FILES))
+    server = Server(f"{STORE} --workers 2", stderr=subprocess.PIPE, preexec_fn=limited(FILES))
     ann = server.author("ann")
     ann.does(do="create", pad="p")
     idle = use_up(server)
@@ -110,9 +110,26 @@ def the_server_ends_whatever_waits():
     fails_in_time(server, ann)
 
 
+def the_server_ends_while_clients_wait_for_changes():
+    """The same while 120 clients wait for two pads to change. None of them is answered."""
+    server = restarted("--workers 4")
+    ann = server.author("ann")
+    waiting = []
+    for pad in ("p", "s"):
+        ann.does(do="create", pad=pad)
+        ann.does(do="grant", pad=pad, author="bob", right="read")
+        waiting += [server.author("bob", pad) for _ in range(60)]
+        for client in waiting[-60:]:
+            client.send(f'{{"do":"changes","pad":"{pad}","rev":0,"wait":60}}\n')
+    time.sleep(0.5)
+    fails_in_time(server, ann)
+    for client in waiting:
+        want(client.replies.read(), b"", "what a client is told that waits")
+
+
 def the_server_ends_without_open_files():
     """The same where no more files can be opened, and the accept waits."""
-    server = Server(f"{STORE} --workers 40", preexec_fn=limited(FILES))
+    server = Server(f"{STORE} --workers 2", preexec_fn=limited(FILES))
     ann = server.author("ann")
     ann.does(do="create", pad="p")
     ann.wants({"do": "create", "pad": "p"}, {"code": 301, "error": "PadExists", "ok": False})
@@ -155,6 +172,7 @@ TESTS = [
     Test("open files: a creation without one is refused", a_creation_without_a_file_is_refused, 60),
     Test("open files: refused creations use up none", refused_creations_use_up_no_file),
     Test("open files: a failed store ends the server whatever waits", the_server_ends_whatever_waits, 90),
+    Test("open files: a failed store ends a server whose clients wait for changes", the_server_ends_while_clients_wait_for_changes, 90),
     Test("open files: a failed store ends a server that has none left", the_server_ends_without_open_files, 90),
     Test("open files: a failed store ends a server that connects to a peer", the_server_ends_while_it_connects, 90),
 ]

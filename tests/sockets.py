@@ -237,16 +237,20 @@ def a_silent_connection_ends_where_the_server_says_so():
     want("connection 2 ended: it was silent for too long" in said, True, f"what {said!r} says")
 
 
-def a_client_that_reads_nothing_is_not_waited_for():
-    """Its replies fill the socket; the one worker is free again when the time limit for taking them is over."""
+def a_client_that_reads_nothing_is_ended():
+    """Its replies fill the socket; the others of the one worker are answered meanwhile."""
     server = Server("--workers 1", stderr=subprocess.PIPE)
     greedy = server.author("ann")
     greedy.does(do="create", pad="p")
     for rev in range(20):
         greedy.does(do="insert", pad="p", rev=rev, at=0, text="x" * 10_000)
+    began = time.monotonic()
     threading.Thread(target=lambda: greedy.overwhelm('{"do":"text","pad":"p"}\n' * 1_000), daemon=True).start()
-    server.process.stderr.readline()
     want(server.author("ann", "p").does(do="revs", pad="p")["now"], 20, "the revision")
+    want(time.monotonic() - began < 10, True, "an answer to another within ten seconds")
+    said = server.process.stderr.readline().decode()
+    want("connection 1 ended: it did not read its replies" in said, True, f"what {said!r} says")
+    want(25 < time.monotonic() - began < 40, True, "an end after 30 seconds")
 
 
 def a_session_is_left_before_its_connection_ends():
@@ -316,9 +320,13 @@ def a_line_that_is_too_long_ends_its_connection():
 
 def too_many_files():
     """The system lets the server open so few files that it can't accept each connection."""
-    limit = lambda: resource.setrlimit(resource.RLIMIT_NOFILE, (10, 10))
-    server = Server(stderr=subprocess.PIPE, preexec_fn=limit)
+    limit = lambda: resource.setrlimit(resource.RLIMIT_NOFILE, (16, 16))
+    server = Server("--workers 1 --clients 4", stderr=subprocess.PIPE, preexec_fn=limit)
+    said = server.process.stderr.readline().decode()
+    want("the limit of 16 open files has room for 0 clients" in said, True, f"what {said!r} says")
+    server = Server("--workers 1", stderr=subprocess.PIPE, preexec_fn=limit)
     clients = [server.connect() for _ in range(12)]
+    server.process.stderr.readline()
     said = server.process.stderr.readline().decode()
     want("no connection is accepted" in said, True, f"what {said!r} says")
     for client in clients:
@@ -372,5 +380,5 @@ FUNCTIONS = [
 
 TESTS = [case.test() for case in CASES]
 TESTS += [Test(f"pad_server: listen: {function.__name__.replace('_', ' ')}", function) for function in FUNCTIONS]
-# The server waits for 30 seconds at each part of a reply that is taken.
-TESTS += [Test("pad_server: listen: a client that reads nothing is not waited for", a_client_that_reads_nothing_is_not_waited_for, 200)]
+# The server waits for 30 seconds until some of a reply is taken.
+TESTS += [Test("pad_server: listen: a client that reads nothing is ended", a_client_that_reads_nothing_is_ended, 200)]

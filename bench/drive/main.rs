@@ -1,11 +1,12 @@
 //! Writers that each send one request at a time over TCP, and how long the replies took.
 //!
-//! drive ADDRESS pads|echo WRITERS PADS SIZE REQUESTS
+//! drive ADDRESS pads|echo|refused WRITERS PADS SIZE REQUESTS
 //!
 //! An author first makes the pads, types SIZE characters into each, a hundred at a time, and lets the writers write. Then each writer inserts a
 //! character at a random place of the revision that its last reply told, REQUESTS times. With `echo` the same lines are
-//! written to a server that echoes them. It prints replies a second, and the median, the 99th of 100 and the 999th of 1,000
-//! times from a line to its reply, in microseconds. A refusal ends it with a failure.
+//! written to a server that echoes them; with `refused` each has a letter before it, so that it is no JSON from its first
+//! byte on. It prints replies a second, and the median, the 99th of 100 and the 999th of 1,000 times from a line to its
+//! reply, in microseconds. With `pads` a refusal ends it with a failure.
 use std::io::{BufRead, BufReader, Write};
 use std::net::TcpStream;
 use std::sync::{Arc, Barrier};
@@ -88,9 +89,26 @@ impl Dice {
     }
 }
 
+#[derive(Clone, Copy, PartialEq)]
+enum Kind {
+    Pads,
+    Echo,
+    Refused,
+}
+
+impl Kind {
+    fn of(word: &str) -> Kind {
+        match word {
+            "echo" => Kind::Echo,
+            "refused" => Kind::Refused,
+            _ => Kind::Pads,
+        }
+    }
+}
+
 struct Task {
     address: String,
-    is_echo: bool,
+    kind: Kind,
     writer: u64,
     pad: u64,
     size: u64,
@@ -102,7 +120,7 @@ struct Task {
 fn write(task: Task, start: &Barrier) -> (Instant, Instant, Vec<u64>) {
     let mut client = Client::connect(&task.address);
     let (writer, pad) = (task.writer, task.pad);
-    if !task.is_echo {
+    if task.kind == Kind::Pads {
         client.does(&format!("{{\"do\":\"hello\",\"name\":\"w{writer}\",\"token\":\"t\"}}\n"));
         client.does(&format!("{{\"do\":\"join\",\"pad\":\"p{pad}\"}}\n"));
     }
@@ -113,13 +131,14 @@ fn write(task: Task, start: &Barrier) -> (Instant, Instant, Vec<u64>) {
     let begun = Instant::now();
     for _ in 0..task.requests {
         let at = dice.below(task.size);
-        let line = format!("{{\"at\":{at},\"do\":\"insert\",\"pad\":\"p{pad}\",\"rev\":{rev},\"text\":\"x\"}}\n");
+        let first = if task.kind == Kind::Refused { "x" } else { "" };
+        let line = format!("{first}{{\"at\":{at},\"do\":\"insert\",\"pad\":\"p{pad}\",\"rev\":{rev},\"text\":\"x\"}}\n");
         let asked = Instant::now();
-        if task.is_echo {
+        if task.kind == Kind::Pads {
+            rev = client.does(&line);
+        } else {
             client.ask(&line);
             rev += 1;
-        } else {
-            rev = client.does(&line);
         }
         times.push(asked.elapsed().as_nanos() as u64);
     }
@@ -129,19 +148,19 @@ fn write(task: Task, start: &Barrier) -> (Instant, Instant, Vec<u64>) {
 fn main() {
     let words: Vec<String> = env::args().collect();
     let [_, address, kind, numbers @ ..] = words.as_slice() else {
-        panic!("drive ADDRESS pads|echo WRITERS PADS SIZE REQUESTS");
+        panic!("drive ADDRESS pads|echo|refused WRITERS PADS SIZE REQUESTS");
     };
     let numbers: Vec<u64> = numbers.iter().map(|word| word.parse().expect("a number")).collect();
     let [writers, pads, size, requests] = numbers[..] else {
-        panic!("drive ADDRESS pads|echo WRITERS PADS SIZE REQUESTS");
+        panic!("drive ADDRESS pads|echo|refused WRITERS PADS SIZE REQUESTS");
     };
-    let is_echo = kind == "echo";
-    let rev = if is_echo { 1 } else { prepare(address, writers, pads, size) };
+    let kind = Kind::of(kind);
+    let rev = if kind == Kind::Pads { prepare(address, writers, pads, size) } else { 1 };
     let start = Arc::new(Barrier::new(writers as usize));
     let threads: Vec<_> = (0..writers)
         .map(|writer| {
             let (start, address) = (start.clone(), address.clone());
-            let task = Task { address, is_echo, writer, pad: writer % pads, size, requests, rev };
+            let task = Task { address, kind, writer, pad: writer % pads, size, requests, rev };
             thread::spawn(move || write(task, &start))
         })
         .collect();

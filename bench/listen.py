@@ -11,9 +11,13 @@ DRIVE = OUT / "drive"
 SERVER = TOP / "crates" / "pad_server" / "out" / "pad_server"
 
 # Writers, how many pads they are spread over, and how many characters a pad has before they begin.
-CASES = [(1, 1, 5_000), (4, 1, 5_000), (15, 1, 5_000), (15, 15, 5_000), (15, 1, 100_000)]
+CASES = [(1, 1, 5_000), (4, 1, 5_000), (15, 1, 5_000), (15, 15, 5_000), (15, 1, 100_000), (500, 50, 5_000)]
 
-# Of the replies a second to lines that are no JSON from their first byte on, this part is aimed at, and so many microseconds for 99 of 100 replies, of 15 writers on one pad.
+# So many requests are made by all writers at most, for each that one writer is asked for.
+MOST = 15
+
+# Of the replies a second to lines that are no JSON from their first byte on, this part is aimed at, and so many microseconds
+# for 99 of 100 replies, of 15 writers on one pad.
 RATE_AIM, P99_AIM = 1 / 3, 5_000
 
 
@@ -35,7 +39,7 @@ def drive(process, kind, writers, pads, requests, size=5_000):
 
 
 def serve(accounts, kind, writers, pads, requests, size):
-    words = ["--listen", "127.0.0.1:0", "--replica", "1", "--cells", "16"]
+    words = ["--listen", "127.0.0.1:0", "--replica", "1"]
     # One more makes the pads.
     words += ["--connections", str(writers + (kind == "pads")), "--accounts", accounts]
     return drive(subprocess.Popen([SERVER, *words], stdout=subprocess.PIPE), kind, writers, pads, requests, size)
@@ -50,10 +54,11 @@ def measure(flags, requests):
     print(f"load {os.getloadavg()[0]:.1f} on {os.cpu_count()} processors, {requests} requests of each writer")
     print(f"{'':<12}{'writers':>8}{'pads':>6}{'size':>9}{'replies/s':>12}{'p50 us':>10}{'p99 us':>10}{'p99.9 us':>11}")
     with tempfile.NamedTemporaryFile("w", suffix=".accounts") as accounts:
-        accounts.write("author owner t\n" + "".join(f"author w{writer} t\n" for writer in range(15)))
+        accounts.write("author owner t\n" + "".join(f"author w{writer} t\n" for writer in range(500)))
         accounts.flush()
         for writers, pads, size in CASES:
-            bare, ours = (serve(accounts.name, kind, writers, pads, requests, size) for kind in ("refused", "pads"))
+            each = requests if writers <= MOST else requests * MOST // writers
+            bare, ours = (serve(accounts.name, kind, writers, pads, each, size) for kind in ("refused", "pads"))
             print_row("refused", writers, pads, bare, size)
             print_row("pads", writers, pads, ours, size)
             aims = f", aims {RATE_AIM:.2f} and a p99 below {P99_AIM} us" if (writers, pads) == (15, 1) else ""

@@ -70,7 +70,7 @@ fn prepare(address: &str, writers: u64, pads: u64, size: u64) -> u64 {
                 "{{\"at\":{at},\"do\":\"insert\",\"pad\":\"p{pad}\",\"rev\":{now},\"text\":\"{piece}\"}}\n"
             ));
         }
-        for writer in 0..writers {
+        for writer in (pad..writers).step_by(pads as usize) {
             owner.does(&format!(
                 "{{\"author\":\"w{writer}\",\"do\":\"grant\",\"pad\":\"p{pad}\",\"right\":\"write\"}}\n"
             ));

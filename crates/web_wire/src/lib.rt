@@ -22,5 +22,5 @@ mod visit;
 pub use frames::{Frames, LONGEST_MESSAGE, Turn};
 pub use message::put_message;
 pub use page::{Page, Site};
-pub use pages::PAGES;
+pub use pages::all_pages;
 pub use visit::{LONGEST_HEAD, Next, Visit};

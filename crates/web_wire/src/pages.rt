@@ -1,8 +1,42 @@
-//! The files of web/, the page at `/` first. `tests/pages` writes this module.
+//! The files of web/. `tests/pages` writes this module.
 
 use crate::page::Page;
 
-pub const PAGES: [Page; 28] = [
+/// The page at `/`, and then its files by their names.
+pub fn all_pages() -> [Page; 28] {
+    [
+        index_html(),
+        carets_js(),
+        clock_js(),
+        colours_js(),
+        comments_js(),
+        delta_js(),
+        desk_js(),
+        editor_js(),
+        enter_js(),
+        exports_js(),
+        history_js(),
+        icon_svg(),
+        limits_js(),
+        lines_js(),
+        main_js(),
+        margin_js(),
+        notice_js(),
+        page_js(),
+        past_js(),
+        presence_js(),
+        rights_js(),
+        session_js(),
+        style_css(),
+        sync_js(),
+        undo_js(),
+        units_js(),
+        wire_js(),
+        words_js(),
+    ]
+}
+
+fn index_html() -> Page {
     Page {
         path: "/",
         kind: "text/html; charset=utf-8",
@@ -165,7 +199,10 @@ pub const PAGES: [Page; 28] = [
 </body>
 </html>
 "####,
-    },
+    }
+}
+
+fn carets_js() -> Page {
     Page {
         path: "/carets.js",
         kind: "text/javascript; charset=utf-8",
@@ -216,7 +253,10 @@ export class Carets {
   }
 }
 "####,
-    },
+    }
+}
+
+fn clock_js() -> Page {
     Page {
         path: "/clock.js",
         kind: "text/javascript; charset=utf-8",
@@ -230,7 +270,10 @@ export const clock = {
 
 export const pause = (milliseconds, { after } = clock) => new Promise((done) => { after(milliseconds, done); });
 "####,
-    },
+    }
+}
+
+fn colours_js() -> Page {
     Page {
         path: "/colours.js",
         kind: "text/javascript; charset=utf-8",
@@ -257,7 +300,10 @@ export function colourOf(author) {
   return `colour-${given.get(author)}`;
 }
 "####,
-    },
+    }
+}
+
+fn comments_js() -> Page {
     Page {
         path: "/comments.js",
         kind: "text/javascript; charset=utf-8",
@@ -306,7 +352,10 @@ export class Comments {
   }
 }
 "####,
-    },
+    }
+}
+
+fn delta_js() -> Page {
     Page {
         path: "/delta.js",
         kind: "text/javascript; charset=utf-8",
@@ -538,7 +587,10 @@ export function typed(before, now, end, author) {
   return splice(front, before.length - front - back, now.slice(front, now.length - back), author);
 }
 "####,
-    },
+    }
+}
+
+fn desk_js() -> Page {
     Page {
         path: "/desk.js",
         kind: "text/javascript; charset=utf-8",
@@ -885,7 +937,10 @@ export class Desk {
   }
 }
 "####,
-    },
+    }
+}
+
+fn editor_js() -> Page {
     Page {
         path: "/editor.js",
         kind: "text/javascript; charset=utf-8",
@@ -1125,7 +1180,10 @@ function insertedBy(event) {
 
 function plainText(dataTransfer) { return (dataTransfer?.getData("text/plain") ?? "").replace(/\r\n?/g, "\n"); }
 "####,
-    },
+    }
+}
+
+fn enter_js() -> Page {
     Page {
         path: "/enter.js",
         kind: "text/javascript; charset=utf-8",
@@ -1220,7 +1278,10 @@ export class Enter {
   }
 }
 "####,
-    },
+    }
+}
+
+fn exports_js() -> Page {
     Page {
         path: "/exports.js",
         kind: "text/javascript; charset=utf-8",
@@ -1273,7 +1334,10 @@ export function save(name, kind, text) {
   setTimeout(() => URL.revokeObjectURL(url), 10000);
 }
 "####,
-    },
+    }
+}
+
+fn history_js() -> Page {
     Page {
         path: "/history.js",
         kind: "text/javascript; charset=utf-8",
@@ -1375,14 +1439,20 @@ export function merged({ text, runs }, changes) {
   return out;
 }
 "####,
-    },
+    }
+}
+
+fn icon_svg() -> Page {
     Page {
         path: "/icon.svg",
         kind: "image/svg+xml; charset=utf-8",
         tag: "\"6a27ec295bc88d327488cef1439613fc\"",
         text: r####"<svg xmlns="http://www.w3.org/2000/svg" viewBox="0 0 32 32"><rect width="32" height="32" rx="7" fill="#23527c"/><path d="M8 10h16M8 16h11M8 22h7" stroke="#fff" stroke-width="2.6" stroke-linecap="round"/><path d="M23.5 15v9" stroke="#f2c14e" stroke-width="2.6" stroke-linecap="round"/></svg>
 "####,
-    },
+    }
+}
+
+fn limits_js() -> Page {
     Page {
         path: "/limits.js",
         kind: "text/javascript; charset=utf-8",
@@ -1398,7 +1468,10 @@ export const LIMITS = {
   entries: 100, // in one answer
 };
 "####,
-    },
+    }
+}
+
+fn lines_js() -> Page {
     Page {
         path: "/lines.js",
         kind: "text/javascript; charset=utf-8",
@@ -1630,7 +1703,10 @@ export class Lines {
   }
 }
 "####,
-    },
+    }
+}
+
+fn main_js() -> Page {
     Page {
         path: "/main.js",
         kind: "text/javascript; charset=utf-8",
@@ -1679,7 +1755,10 @@ $("skip").addEventListener("click", (event) => {
 });
 $("name").focus();
 "####,
-    },
+    }
+}
+
+fn margin_js() -> Page {
     Page {
         path: "/margin.js",
         kind: "text/javascript; charset=utf-8",
@@ -1762,7 +1841,10 @@ export class Margin {
 }
 
 "####,
-    },
+    }
+}
+
+fn notice_js() -> Page {
     Page {
         path: "/notice.js",
         kind: "text/javascript; charset=utf-8",
@@ -1805,7 +1887,10 @@ export class Notice {
   }
 }
 "####,
-    },
+    }
+}
+
+fn page_js() -> Page {
     Page {
         path: "/page.js",
         kind: "text/javascript; charset=utf-8",
@@ -1843,7 +1928,10 @@ export function gather(act, later = requestAnimationFrame) {
   };
 }
 "####,
-    },
+    }
+}
+
+fn past_js() -> Page {
     Page {
         path: "/past.js",
         kind: "text/javascript; charset=utf-8",
@@ -1998,7 +2086,10 @@ export class Past {
   drawPlay() { say($("play"), this.isPlaying ? LABELS.pauseIt : LABELS.play); }
 }
 "####,
-    },
+    }
+}
+
+fn presence_js() -> Page {
     Page {
         path: "/presence.js",
         kind: "text/javascript; charset=utf-8",
@@ -2067,7 +2158,10 @@ export class Presence {
   }
 }
 "####,
-    },
+    }
+}
+
+fn rights_js() -> Page {
     Page {
         path: "/rights.js",
         kind: "text/javascript; charset=utf-8",
@@ -2138,7 +2232,10 @@ export class RightsBox {
   }
 }
 "####,
-    },
+    }
+}
+
+fn session_js() -> Page {
     Page {
         path: "/session.js",
         kind: "text/javascript; charset=utf-8",
@@ -2444,7 +2541,10 @@ export class Session {
   }
 }
 "####,
-    },
+    }
+}
+
+fn style_css() -> Page {
     Page {
         path: "/style.css",
         kind: "text/css; charset=utf-8",
@@ -2646,7 +2746,10 @@ td select { width: 100%; padding: .25rem .5rem; }
   #authors li::before { print-color-adjust: exact; }
 }
 "####,
-    },
+    }
+}
+
+fn sync_js() -> Page {
     Page {
         path: "/sync.js",
         kind: "text/javascript; charset=utf-8",
@@ -2935,7 +3038,10 @@ function restoring(delta, text, runs) {
   return out;
 }
 "####,
-    },
+    }
+}
+
+fn undo_js() -> Page {
     Page {
         path: "/undo.js",
         kind: "text/javascript; charset=utf-8",
@@ -3002,7 +3108,10 @@ function carried(steps, delta) {
   return out;
 }
 "####,
-    },
+    }
+}
+
+fn units_js() -> Page {
     Page {
         path: "/units.js",
         kind: "text/javascript; charset=utf-8",
@@ -3065,7 +3174,10 @@ export function deltaOf(changes, text) {
   return trim(delta);
 }
 "####,
-    },
+    }
+}
+
+fn wire_js() -> Page {
     Page {
         path: "/wire.js",
         kind: "text/javascript; charset=utf-8",
@@ -3149,7 +3261,10 @@ export class Wire {
   }
 }
 "####,
-    },
+    }
+}
+
+fn words_js() -> Page {
     Page {
         path: "/words.js",
         kind: "text/javascript; charset=utf-8",
@@ -3267,5 +3382,5 @@ export const REFUSALS = {
 };
 export const refusal = ({ code, error }) => REFUSALS[code] ?? `The server refused this (${code} ${error}). Try again, or load the page again.`;
 "####,
-    },
-];
+    }
+}

@@ -20,8 +20,8 @@ WAIT = 15  # seconds, for an answer
 class Server:
     """A server that listens at a free port of this machine. It is killed with the test, if it has not ended."""
 
-    def __init__(self, more="", number=1, **streams):
-        put_files(ACCOUNTS)
+    def __init__(self, more="", number=1, accounts=ACCOUNTS, **streams):
+        put_files(accounts)
         listen = LISTEN.replace("--replica 1", f"--replica {number}")
         self.process = start("pad_server", f"{listen} {more}", stdin=subprocess.DEVNULL, stdout=subprocess.PIPE, **streams)
         line = self.process.stdout.readline().decode()

@@ -10,8 +10,9 @@ import random
 import sys
 import tempfile
 
+from hostile import hostile
 from page_checks import contrasts, control_names, drawn_lines
-from windows import Keys, Line, Server, Window, units, until
+from windows import PAST, ChangedPage, Keys, Line, Server, Window, units, until
 
 BOB_MAY = "Can write"
 HUES = """
@@ -19,7 +20,6 @@ return [...new Set([...document.querySelectorAll('#text .run')].map(run => run.d
 """
 MARKED = "return [...document.querySelectorAll('#text .marked')].map(node => node.textContent).join('')"
 CARETS = "return [...document.querySelectorAll('#carets .caret')].map(node => node.dataset.author)"
-PAST = "return [...document.querySelectorAll('#past .line')].map(line => line.textContent).join('\\n')"
 OPENING = "Minutes of the harbour council\n\nPresent: Ann, Bob, Cyd.\n\n1. The crane on the east quay is to be painted before June.\n2. "
 
 
@@ -320,6 +320,8 @@ def full_pad(test, folder):
     with open(os.path.join(folder, "limits.js"), "w", encoding="utf-8") as file:
         file.write("export const LIMITS = { operations: 40, characters: 4e6, comments: 1e4, edit: 1e4, parts: 16, comment: 2e3, entries: 100 };\n")
     ann, check = test.ann, test.check
+    changed = ChangedPage(test.server, folder)
+    ann.url = changed.url
     ann.log_in("ann", "t1", "#minutes")
     check("an address opens its pad", until(lambda: ann.get("pad-name").text == "minutes" and ann.is_saved(1)))
     ann.click("close")
@@ -337,23 +339,25 @@ def full_pad(test, folder):
     check("and the pad goes on in a new one", until(lambda: ann.get("pad-name").text == "small-2" and ann.text == wanted), (ann.get("pad-name").text, ann.text))
     faults = ann.faults()
     check("without a fault", not faults, faults)
+    changed.end()
 
 
 def main(program, folder=None):
     if folder:
         os.makedirs(folder, exist_ok=True)
     with tempfile.TemporaryDirectory() as home, tempfile.TemporaryDirectory() as pages, tempfile.TemporaryDirectory() as downloads:
-        server = Server(program, home, pages)
+        server = Server(program, home)
         test = Test(server, folder)
         try:
             for part in (way_in, typing, unusual_typing, comments, history, rights, broken, random_keys, looks):
                 part(test)
             exports(test, downloads)
+            hostile(test)
             full_pad(test, pages)
         finally:
             test.ann.quit()
             test.bob.quit()
-            server.end()
+            server.kill()
     print(f"{test.passed} passed, {test.failed} failed")
     return int(test.failed > 0)
 

@@ -86,7 +86,7 @@ def main(program):
             return int(frame[15] > 50)
         finally:
             window.quit()
-            server.end()
+            server.kill()
 
 
 if __name__ == "__main__":

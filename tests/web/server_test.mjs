@@ -1,74 +1,33 @@
-// The page's modules against a real server over TCP, with connections that break:
+// The page's modules against a real server, with connections that break:
 //
-//     node tests/web/server_test.mjs PORT [SECONDS]
+//     node tests/web/server_test.mjs PORT|ws://ADDR/socket [SECONDS]
 //
-// The server's accounts are `author ann t1`, `author bob t2` and `author cyd t3`. The last line is `N passed, M failed`.
-import { apply, splice } from "../../web/delta.js";
+// They reach it over TCP, or over a WebSocket. The
+// server's accounts are `author ann tann`, `author bob tbob` and `author cid tcid`. The last line is `N passed, M failed`.
 import { pause } from "../../web/clock.js";
 import { PACE } from "../../web/sync.js";
-import { Session } from "../../web/session.js";
-import { count } from "../../web/units.js";
 import { dice as makeDice } from "./dice.mjs";
+import { Tally, areSettled, freshCharacters, openPage, runsOf, spotsOf, until } from "./pages.mjs";
 import { connections, tcp } from "./tcp.mjs";
+import { webSocket } from "./websocket.mjs";
 
-const [port, seconds = "15"] = process.argv.slice(2);
-const WHO = [["ann", "t1"], ["bob", "t2"], ["cyd", "t3"]], FAST = { gather: 30, rest: 0, wait: 25 };
-let passed = 0, failed = 0;
+const [address, seconds = "15"] = process.argv.slice(2), isSocket = address.startsWith("ws:");
+const sent = isSocket ? { lines: 0 } : connections, open = isSocket ? webSocket(address, sent) : tcp(address);
+const WHO = ["ann", "bob", "cid"], FAST = { gather: 30, rest: 0, wait: 25 };
+const tally = new Tally(), { tell } = tally;
 
-function tell(name, isPassed, said = "") {
-  if (isPassed) passed++; else failed++;
-  console.log(`${isPassed ? "ok    " : "FAILED"} ${name}${said && `: ${said}`}`);
-}
-
-async function until(what, milliseconds = 20000) {
-  for (const end = Date.now() + milliseconds; Date.now() < end;) {
-    if (await what()) return true;
-    await pause(20);
-  }
-  return false;
-}
-
-// A session with what its editor would show.
-async function page(k, pad, how, pace = FAST) {
-  const out = { shown: "", faults: [], refusals: [], said: [] };
-  const session = new Session({
-    open: tcp(port), pace,
-    view: {
-      onReceive: (delta) => { out.shown = apply(out.shown, delta); },
-      onOver: (error) => out.faults.push(error),
-      onRefused: (reply, kept) => out.refusals.push([reply.code, kept]),
-      onCome: (author) => out.said.push(`${author} came`),
-      onGo: (author) => out.said.push(`${author} went`),
-    },
-  });
-  await session.logIn(...WHO[k % 3]);
-  await session[how](pad);
-  out.session = session;
-  out.shown = session.pad.text;
-  out.type = (at, dropped, text) => {
-    const delta = splice(at, dropped, text, session.me);
-    out.shown = apply(out.shown, delta);
-    session.pad.type(delta);
-  };
-  return out;
+function page(k, pad, how, pace = FAST) {
+  const name = WHO[k % 3];
+  return openPage({ open, name, token: `t${name}`, pad, how, pace });
 }
 
 async function grantAll(owner) {
-  for (const [name] of WHO) if (name !== owner.session.name) await owner.session.grant(name, "write");
-}
-
-// The spots between the characters of a text, in units.
-function spotsOf(text) {
-  const spots = [0];
-  for (const character of text) spots.push(spots[spots.length - 1] + character.length);
-  return spots;
+  for (const name of WHO) if (name !== owner.session.name) await owner.session.grant(name, "write");
 }
 
 // Six windows of three authors type, and their connections break.
 async function crowd(name, seed, isErasing) {
-  const dice = makeDice(seed), pad = `crowd-${process.pid}-${seed}`, typed = [], stats = { edits: 0, breaks: 0 };
-  let next = 0;
-  const fresh = () => String.fromCodePoint(next % 3 ? 0x4e00 + next++ : 0x20000 + next++);
+  const dice = makeDice(seed), pad = `crowd-${process.pid}-${seed}`, typed = [], stats = { edits: 0, breaks: 0 }, fresh = freshCharacters();
   const pages = [await page(0, pad, "create")];
   await grantAll(pages[0]);
   for (let k = 1; k < 6; k++) pages.push(await page(k, pad, "join"));
@@ -85,21 +44,12 @@ async function crowd(name, seed, isErasing) {
       if (dice(25) === 0) { stats.breaks++; one.session.wire?.channel?.socket.destroy(); }
     }
   }));
-  const isSettled = () => {
-    const now = Math.max(...pages.map(({ session }) => session.pad.now));
-    return pages.every(({ session }) => session.state === "saved" && session.pad.rev === now);
-  };
-  const settled = await until(isSettled, 30000), { session } = pages[0];
+  const settled = await until(() => areSettled(pages), 30000), { session } = pages[0];
   const { text, now } = await session.pad.call({ do: "text" }), { cells } = await session.pad.call({ do: "revs" });
   const { runs } = await session.pad.call({ do: "runs", rev: now });
-  const authors = runs.map(([author, length]) => `${author} ${length}`).join();
-  const ofPage = (one) => {
-    let at = 0;
-    return one.session.pad.runs.map(([author, units]) => `${author} ${count(one.session.pad.text, at, (at += units))}`).join();
-  };
   tell(`${name}: all pages end`, settled && pages.every(({ faults }) => !faults.length), `${now} edits, ${stats.breaks} broken connections`);
   tell(`${name}: all pages show the server's text`, pages.every((one) => one.shown === text && one.session.pad.text === text), `${text.length} units`);
-  tell(`${name}: with its authors`, pages.every((one) => ofPage(one) === authors), `${runs.length} runs`);
+  tell(`${name}: with its authors`, pages.every((one) => JSON.stringify(runsOf(one)) === JSON.stringify(runs)), `${runs.length} runs`);
   if (isErasing) tell(`${name}: no character is there twice`, new Set(text).size === [...text].length);
   else {
     const isSame = [...text].sort().join("") === typed.sort().join("");
@@ -156,9 +106,9 @@ async function quiet() {
   await grantAll(pages[0]);
   for (let k = 1; k < 3; k++) pages.push(await page(k, pad, "join", PACE));
   await pause(5000);
-  const before = connections.lines, from = Date.now();
+  const before = sent.lines, from = Date.now();
   await pause(12000);
-  const rate = (connections.lines - before) / 3 / ((Date.now() - from) / 1000);
+  const rate = (sent.lines - before) / 3 / ((Date.now() - from) / 1000);
   tell("a page sends at most three lines a second while nobody types", rate <= 3, `${rate.toFixed(2)} a second`);
   const rev = pages[0].session.pad.rev, start = Date.now();
   for (let k = 0; k < 60; k++) { pages[0].type(k, 0, "x"); await pause(50); }
@@ -173,5 +123,4 @@ await rights();
 await crowd("insertions", 1, false);
 await crowd("with erasing", 2, true);
 await quiet();
-console.log(`${passed} passed, ${failed} failed`);
-process.exit(failed ? 1 : 0);
+tally.end();

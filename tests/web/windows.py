@@ -15,6 +15,7 @@ HERE = os.path.dirname(os.path.realpath(__file__))
 ACCOUNTS = "author ann t1\nauthor bob t2\nauthor cyd t3\n"
 FLAGS = ("--headless=new", "--no-sandbox", "--disable-gpu", "--disable-dev-shm-usage", "--force-color-profile=srgb")
 TEXT = "return [...document.querySelectorAll('#text .line')].map(line => line.textContent).join('\\n')"
+PAST = "return [...document.querySelectorAll('#past .line')].map(line => line.textContent).join('\\n')"
 SELECT = """
 const [from, to] = arguments, root = document.getElementById('text'), places = [];
 root.focus();
@@ -153,32 +154,39 @@ class Line:
 
 
 class Server:
-    """The program and dev.mjs before it, in a folder of their own. The program can be killed and started again."""
+    """The program in a folder of its own. It can be killed and started again, at the same addresses."""
 
-    def __init__(self, program, folder, pages=None):
-        self.program, self.folder, self.port = program, folder, free_port()
+    def __init__(self, program, folder):
+        self.program, self.folder, self.port, self.web = program, folder, free_port(), free_port()
+        self.url = f"http://127.0.0.1:{self.web}/"
         with open(os.path.join(folder, "accounts"), "w", encoding="utf-8") as file:
             file.write(ACCOUNTS)
         self.start()
-        port = free_port()
-        words = ["node", os.path.join(HERE, "dev.mjs"), str(port), str(self.port), *([pages] if pages else [])]
-        self.pages = subprocess.Popen(words, stdout=subprocess.PIPE)
-        self.pages.stdout.readline()
-        self.url = f"http://127.0.0.1:{port}/"
 
     def start(self):
-        words = ["--listen", f"127.0.0.1:{self.port}", "--replica", "1", "--accounts", "accounts", "--store", "store"]
+        words = ["--listen", f"127.0.0.1:{self.port}", "--web", f"127.0.0.1:{self.web}", "--replica", "1"]
+        words += ["--accounts", "accounts", "--store", "store"]
         self.process = subprocess.Popen([self.program, *words], cwd=self.folder, stdout=subprocess.PIPE)
-        self.process.stdout.readline()
+        for _ in range(2):
+            self.process.stdout.readline()
 
     def kill(self):
         self.process.kill()
         self.process.wait()
 
+
+class ChangedPage:
+    """dev.mjs before a server: it serves web/, and in place of some files those of a folder."""
+
+    def __init__(self, server, folder):
+        port = free_port()
+        self.url = f"http://127.0.0.1:{port}/"
+        self.process = subprocess.Popen(["node", os.path.join(HERE, "dev.mjs"), str(port), str(server.port), folder], stdout=subprocess.PIPE)
+        self.process.stdout.readline()
+
     def end(self):
-        self.kill()
-        self.pages.kill()
-        self.pages.wait()
+        self.process.kill()
+        self.process.wait()
 
 
 def free_port():

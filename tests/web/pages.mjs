@@ -1,0 +1,83 @@
+// Pages without a display: a session of the page's modules, and what its editor would show.
+import { pause } from "../../web/clock.js";
+import { apply, splice } from "../../web/delta.js";
+import { Session } from "../../web/session.js";
+import { count } from "../../web/units.js";
+
+export async function until(what, milliseconds = 20000) {
+  for (const end = Date.now() + milliseconds; Date.now() < end;) {
+    if (await what()) return true;
+    await pause(20);
+  }
+  return false;
+}
+
+// Prints each check, and counts them.
+export class Tally {
+  constructor() { this.passed = 0; this.failed = 0; }
+  tell = (name, isPassed, said = "") => {
+    if (isPassed) this.passed++; else this.failed++;
+    console.log(`${isPassed ? "ok    " : "FAILED"} ${name}${said && `: ${said}`}`);
+  };
+  end() {
+    console.log(`${this.passed} passed, ${this.failed} failed`);
+    process.exit(this.failed ? 1 : 0);
+  }
+}
+
+// Logs in over a connection that `open` opens, and creates or joins a pad.
+export async function openPage({ open, name, token, pad, how, pace }) {
+  const out = { shown: "", faults: [], refusals: [], said: [] };
+  const session = new Session({
+    open, pace,
+    view: {
+      onReceive: (delta) => { out.shown = apply(out.shown, delta); },
+      onOver: (error) => out.faults.push(error),
+      onRefused: (reply, kept) => out.refusals.push([reply.code, kept]),
+      onCome: (author) => out.said.push(`${author} came`),
+      onGo: (author) => out.said.push(`${author} went`),
+    },
+  });
+  await session.logIn(name, token);
+  await session[how](pad);
+  out.session = session;
+  out.shown = session.pad.text;
+  out.type = (at, dropped, text) => {
+    const delta = splice(at, dropped, text, session.me);
+    out.shown = apply(out.shown, delta);
+    session.pad.type(delta);
+  };
+  return out;
+}
+
+// The spots between the characters of a text, in units.
+export function spotsOf(text) {
+  const spots = [0];
+  for (const character of text) spots.push(spots[spots.length - 1] + character.length);
+  return spots;
+}
+
+// Characters that were not used before, every third of them beyond 16 bits.
+export function freshCharacters() {
+  let next = 0;
+  return () => String.fromCodePoint(next % 3 ? 0x4e00 + next++ : 0x20000 + next++);
+}
+
+// Who wrote what a page shows, as `runs` answers it.
+export function runsOf({ session: { pad } }) {
+  let at = 0;
+  return pad.runs.map(([author, units]) => [author, count(pad.text, at, (at += units))]);
+}
+
+// The comments that a page shows, as `comments` answers them.
+export function commentsOf({ session: { pad, comments } }) {
+  return comments.list.map(({ name, author, text, isResolved, from, to }) => (
+    { at: count(pad.text, 0, from), author, len: count(pad.text, from, to), name, resolved: isResolved, text }
+  ));
+}
+
+// All pages have sent what was typed, and have the newest revision that any of them knows.
+export function areSettled(pages) {
+  const now = Math.max(...pages.map(({ session }) => session.pad.now));
+  return pages.every(({ session }) => session.state === "saved" && session.pad.rev === now);
+}

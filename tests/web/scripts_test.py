@@ -1,0 +1,87 @@
+"""The tests of the page that are scripts: in node, and in Debian's Python, for which Chromium's driver is packaged."""
+import os
+import subprocess
+
+import peers
+from harness import Failed, Test, path_of
+from sockets import Server
+from web_server import WebServer, read_web
+
+HERE = os.path.dirname(os.path.realpath(__file__))
+NODE = "node"
+PYTHON = "/usr/bin/python3"  # Debian's, beside which its packages are
+PAGES = 40
+
+
+def script(runner, name, *words):
+    """Runs a script whose last line is `N passed, M failed`. What failed is told in its own words."""
+    try:
+        done = subprocess.run(
+            [runner, os.path.join(HERE, name), *map(str, words)], stdin=subprocess.DEVNULL,
+            stdout=subprocess.PIPE, stderr=subprocess.STDOUT, text=True, errors="replace",
+        )
+    except FileNotFoundError:
+        raise Failed(f"{runner} is not installed") from None
+    lines = done.stdout.splitlines()
+    failed = [line for line in lines if line.startswith("FAILED")]
+    if done.returncode or failed or not lines or not lines[-1].endswith(" passed, 0 failed") or lines[-1].startswith("0 "):
+        raise Failed("; ".join(failed + lines[-3:])[:3_000] + f" (status {done.returncode})")
+
+
+def the_pages_show_what_a_model_of_the_server_has(rounds=300):
+    script(NODE, "model_test.mjs", rounds)
+
+
+def the_parts_of_the_page_keep_their_laws():
+    script(NODE, "parts_test.mjs")
+
+
+def pages_whose_connections_break_make_each_character_once(seconds=6):
+    script(NODE, "server_test.mjs", f"ws://{WebServer().host}/socket", seconds)
+
+
+def the_same_over_tcp(seconds=6):
+    script(NODE, "server_test.mjs", Server().port, seconds)
+
+
+def forty_pages_type_beside_a_peer(seconds=15):
+    ports = dict(zip((1, 2), peers.free_ports(2)))
+    first = peers.Server(1, ports, [f"a{number}" for number in range(PAGES)], [2], "--web 127.0.0.1:0")
+    web = read_web(first.process)
+    peers.Server(2, ports, ["zed"], [1])
+    script(NODE, "crowd_test.mjs", f"ws://127.0.0.1:{web}/socket", ports[2], PAGES, seconds)
+
+
+def another_client_library_speaks_with_the_socket():
+    script(PYTHON, "websockets_test.py", WebServer("--web-origin https://pads.example").web)
+
+
+def two_windows_of_a_browser():
+    script(PYTHON, "browser_test.py", path_of("pad_server"))
+
+
+def a_large_pad_in_a_browser():
+    script(PYTHON, "large_pad.py", path_of("pad_server"))
+
+
+def named(function, seconds, name=None):
+    return Test(f"web: {name or function.__name__.replace('_', ' ')}", function, seconds)
+
+
+TESTS = [
+    named(the_parts_of_the_page_keep_their_laws, 60),
+    named(the_pages_show_what_a_model_of_the_server_has, 120),
+    named(pages_whose_connections_break_make_each_character_once, 150),
+    named(another_client_library_speaks_with_the_socket, 60),
+    named(forty_pages_type_beside_a_peer, 180),
+    named(two_windows_of_a_browser, 400),
+]
+
+# These take minutes: tests/run --long.
+LONG = [
+    named(lambda: the_pages_show_what_a_model_of_the_server_has(5_000), 600, "5,000 rounds with the model"),
+    named(lambda: pages_whose_connections_break_make_each_character_once(60), 400, "connections break for two minutes"),
+    named(lambda: the_same_over_tcp(30), 300, "connections over TCP break for a minute"),
+    named(lambda: forty_pages_type_beside_a_peer(60), 400, "forty pages type for a minute beside a peer"),
+    named(a_large_pad_in_a_browser, 400),
+]

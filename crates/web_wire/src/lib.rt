@@ -21,4 +21,4 @@ mod visit;
 pub use frames::{Frames, LONGEST_MESSAGE, Turn};
 pub use message::put_message;
 pub use page::{Page, Site};
-pub use visit::{LONGEST_HEAD, Next, Visit};
+pub use visit::{LONGEST_HEAD, Next, Parts, Visit};

@@ -15,7 +15,7 @@ pub struct Page {
 /// What is served.
 #[derive(Clone, Copy)]
 pub struct Site<'a> {
-    pub pages: &'static [Page],
+    pub pages: &'a [Page],
     /// The origins whose pages may open the socket beside those of the server itself. Each is a scheme and a host, as
     /// browsers name them: `https://pads.example`.
     pub origins: &'a [String],

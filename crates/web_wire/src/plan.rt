@@ -17,11 +17,11 @@ const SOCKET: &[u8] = b"/socket";
 
 /// What a request is answered.
 #[derive(Clone, Copy)]
-pub(crate) enum Plan {
+pub(crate) enum Plan<'a> {
     /// A page: whole, or its head alone.
-    Page(&'static Page, bool),
+    Page(&'a Page, bool),
     /// The client's copy of a page is the present one.
-    Unchanged(&'static Page),
+    Unchanged(&'a Page),
     /// The socket, with the key that answers the client's.
     Socket([u8; 28]),
     /// A refusal with this status: in words, or its head alone.
@@ -29,14 +29,14 @@ pub(crate) enum Plan {
 }
 
 /// What a request is answered.
-pub(crate) fn plan_of(
+pub(crate) fn plan_of<'a>(
     input: &[u8],
     head: &RequestSpans,
     spans: &[HeaderSpan],
-    site: Site<'_>,
+    site: Site<'a>,
     has_body: bool,
     has_room: bool,
-) -> Plan
+) -> Plan<'a>
     requires { IsRequestWithin input.now spans.now head.now }
     ensures { IsPlanned site.entry.pages.now (map string_bytes site.entry.origins.now) has_room has_body
         (span_bytes input.now head.now.method)
@@ -73,7 +73,7 @@ fn socket_plan(
     spans: &[HeaderSpan],
     allowed: &[String],
     has_room: bool,
-) -> Plan
+) -> Plan<'static>
     requires { IsRequestWithin input.now spans.now head.now }
     ensures socket { IfSocket result (λ key. (has_room ≡ true) × MayOpen (map string_bytes allowed.now)
         (span_bytes input.now head.now.method)
@@ -125,7 +125,7 @@ fn find_query(target: &[u8]) -> Option<usize>
 }
 
 // The first page with a path.
-fn find_page(pages: &'static [Page], path: &[u8]) -> Option<&'static Page>
+fn find_page<'a>(pages: &'a [Page], path: &[u8]) -> Option<&'a Page>
     ensures none { IfNone result (has_page pages.now path.now ≡ false) }
     ensures some { IfSome result (λ page. Contains pages.now page.now × (page.now.path.now ≡ path.now)) }
 {

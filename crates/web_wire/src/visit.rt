@@ -139,14 +139,14 @@ impl Visit {
     }
 
     // What a request is answered.
-    fn plan(
+    fn plan<'a>(
         &self,
         server: &Server,
         head: &RequestSpans,
         spans: &[HeaderSpan],
-        site: Site<'_>,
+        site: Site<'a>,
         has_room: bool,
-    ) -> Plan
+    ) -> Plan<'a>
         requires { IsRequestWithin self.now.input spans.now head.now }
         ensures { IsPlanned site.entry.pages.now (map string_bytes site.entry.origins.now) has_room
             (has_bytes (unread_size (reading server.now))) (span_bytes self.now.input head.now.method)
@@ -157,7 +157,7 @@ impl Visit {
     }
 
     // Appends the response.
-    fn respond(&mut self, server: &mut Server, plan: Plan) -> Result<Next, AllocError>
+    fn respond(&mut self, server: &mut Server, plan: Plan<'_>) -> Result<Next, AllocError>
         requires { IsRefused plan }
         ensures { Responds plan self.old result self.new }
     {

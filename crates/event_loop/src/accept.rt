@@ -1,5 +1,5 @@
 //! Connections are accepted, and handed to the workers.
-use crate::arrivals::Arrival;
+use crate::arrivals::{Arrival, Entrance};
 use crate::clients::WAKING;
 use crate::hub::Hub;
 use crate::limits::Limits;
@@ -19,6 +19,10 @@ use std::{io, net};
 /// What a client is told that is one too many.
 pub const FULL: &[u8] = b"{\"code\":902,\"error\":\"Full\",\"ok\":false}\n";
 
+/// What a browser is told that is one too many, or for whom there is no memory.
+pub const FULL_PAGE: &[u8] =
+    b"HTTP/1.1 503 Service Unavailable\r\nX-Content-Type-Options: nosniff\r\nContent-Type: text/plain; charset=utf-8\r\nRetry-After: 30\r\nConnection: close\r\n\r\nThe server is full. Please try again later.\n";
+
 /// The pause after the system refused a connection, in milliseconds: mostly it would refuse the next one too.
 const PAUSE: u64 = 50;
 
@@ -36,29 +40,42 @@ const AT_ONCE: u32 = 256;
 pub struct Acceptor {
     poll: Poll,
     events: Events,
-    listener: TcpListener,
+    lines: TcpListener,
+    web: Option<TcpListener>,
 }
 
 impl Acceptor {
-    /// An acceptor at a listener, and what wakes it.
+    /// An acceptor of clients that speak lines, and perhaps of browsers, and what wakes it.
     pub(crate) fn new<R: Net>(
         rt: &R,
         alloc: Global,
-        listener: net::TcpListener,
+        lines: net::TcpListener,
+        web: Option<net::TcpListener>,
     ) -> io::Result<(Acceptor, Waker)> {
         let poll = Poll::new(rt)?;
         let waker = Waker::new(poll.registry(), WAKING)?;
-        listener.set_nonblocking(true)?;
-        let mut listener = TcpListener::from_std(listener);
-        poll.registry()
-            .register(&mut listener, Token(0), Interest::READABLE)?;
+        let lines = listen_at(&poll, lines, Token(0))?;
+        let web = match web {
+            Some(web) => Some(listen_at(&poll, web, Token(1))?),
+            None => None,
+        };
         let acceptor = Acceptor {
             poll,
             events: Events::with_capacity(alloc, EVENTS)?,
-            listener,
+            lines,
+            web,
         };
         Ok((acceptor, waker))
     }
+}
+
+// Registers a listener.
+fn listen_at(poll: &Poll, listener: net::TcpListener, token: Token) -> io::Result<TcpListener> {
+    listener.set_nonblocking(true)?;
+    let mut listener = TcpListener::from_std(listener);
+    poll.registry()
+        .register(&mut listener, token, Interest::READABLE)?;
+    Ok(listener)
 }
 
 /// What came of a round of accepting.
@@ -72,6 +89,18 @@ enum Round {
     Refused,
     /// As many were accepted as were to be.
     Last,
+}
+
+impl Round {
+    /// What came of this round, and of another one at another listener.
+    fn and(self, other: Round) -> Round {
+        match (self, other) {
+            (Round::Last, _) | (_, Round::Last) => Round::Last,
+            (Round::Refused, _) | (_, Round::Refused) => Round::Refused,
+            (Round::More, _) | (_, Round::More) => Round::More,
+            (Round::Done, Round::Done) => Round::Done,
+        }
+    }
 }
 
 /// What is counted and logged while connections are accepted.
@@ -113,7 +142,18 @@ pub fn accept_all<R: Clock + Wait + Eprint>(
         if hub.has_stopped() {
             break;
         }
-        round = accept_some(rt, &acceptor.listener, hub, limits, &mut count);
+        round = accept_some(
+            rt,
+            &acceptor.lines,
+            Entrance::Lines,
+            hub,
+            limits,
+            &mut count,
+        );
+        if let (Some(web), true) = (&acceptor.web, round != Round::Last) {
+            let other = accept_some(rt, web, Entrance::Web, hub, limits, &mut count);
+            round = round.and(other);
+        }
     }
     hub.close();
 }
@@ -122,6 +162,7 @@ pub fn accept_all<R: Clock + Wait + Eprint>(
 fn accept_some<R: Clock + Wait + Eprint>(
     rt: &R,
     listener: &TcpListener,
+    entrance: Entrance,
     hub: &Hub,
     limits: Limits,
     count: &mut Count,
@@ -130,7 +171,7 @@ fn accept_some<R: Clock + Wait + Eprint>(
         match listener.accept() {
             Ok((stream, _address)) => {
                 count.accepted = count.accepted.saturating_add(1);
-                take(rt, stream, hub, limits, count);
+                take(rt, stream, entrance, hub, limits, count);
             }
             Err(error) => match error.kind() {
                 ErrorKind::WouldBlock => return Round::Done,
@@ -158,26 +199,35 @@ fn accept_some<R: Clock + Wait + Eprint>(
 fn take<R: Clock + Wait + Eprint>(
     rt: &R,
     mut stream: TcpStream,
+    entrance: Entrance,
     hub: &Hub,
     limits: Limits,
     count: &mut Count,
 ) {
     let number = count.accepted;
-    if hub.connected() >= u64::from(limits.clients) {
-        let most = limits.clients;
+    let (has_room, refusal) = match entrance {
+        Entrance::Lines => (hub.has_room(limits.clients), FULL),
+        Entrance::Web => (hub.has_room_for_visit(), FULL_PAGE),
+    };
+    if !has_room {
         if count.full.is_due(count.ticker.look(rt)) {
-            warn!(Journal(rt); "connection {number} is refused: {most} clients are connected");
+            warn!(Journal(rt); "connection {number} is refused: too many are connected");
         }
-        let _told = stream.write(FULL);
+        let _told = stream.write(refusal);
         return;
     }
     if let Err(cause) = stream.set_nodelay(true) {
         warn!(Journal(rt); "connection {number}: cannot set its socket options: {cause}");
     }
-    let home = hub.least_busy();
-    hub.enter(home);
-    if !hub.send(rt, home, Arrival::Accepted { number, stream }) {
+    let (home, connected) = (hub.least_busy(), entrance.connected());
+    hub.enter(home, connected);
+    let arrival = Arrival::Accepted {
+        number,
+        stream,
+        entrance,
+    };
+    if !hub.send(rt, home, arrival) {
         warn!(Journal(rt); "connection {number} is not served: out of memory");
-        hub.leave(home);
+        hub.leave(home, connected);
     }
 }

@@ -1,16 +1,19 @@
 //! One client of a worker: its socket, its conversation and its session.
+use crate::buffers::Buffers;
 use crate::hold::{BAD_TOKEN, Hold, Wanted, pause_after};
+use crate::hub::Connected;
+use crate::limits::{LOG_IN, REQUEST};
+use crate::link::Link;
+use crate::outbox::Outbox;
 use crate::serve::Step;
 use crate::times::{Late, Times};
-use crate::transfer::{Passage, read_into, write_from};
+use crate::transfer::{Broken, Passage, read_into};
 use mio::net::TcpStream;
 use pad_model::{Sequence, Who};
 use sessions::Session;
 use std::alloc::Global;
-use std::io::Write;
 use std::sync::Wait;
 use std::{io, mem};
-use wire_json::memory_line;
 use wire_lines::Fault;
 use workers::{Conversation, Gate, Shared};
 
@@ -35,12 +38,15 @@ pub enum Phase {
 pub struct Client {
     pub(crate) number: u64,
     pub(crate) home: usize,
-    stream: TcpStream,
+    pub(crate) stream: TcpStream,
+    pub(crate) link: Link,
+    /// What is to be written to a browser. The replies to a client that speaks lines are written from its conversation.
+    pub(crate) outbox: Outbox,
     pub(crate) conversation: Conversation,
     pub(crate) session: Session,
     pub(crate) phase: Phase,
     /// Whether a read may give something.
-    is_readable: bool,
+    pub(crate) is_readable: bool,
     /// Whether it is queued to be served.
     is_queued: bool,
     /// Whether it is listed among those that are held back.
@@ -49,16 +55,18 @@ pub struct Client {
     pub(crate) failures: u32,
     pub(crate) hold: Hold,
     pub(crate) times: Times,
-    cause: Option<io::Error>,
+    pub(crate) cause: Option<io::Error>,
 }
 
 impl Client {
     /// A client that has just come, and is queued.
-    pub fn new(alloc: Global, number: u64, home: usize, stream: TcpStream) -> Client {
+    pub fn new(alloc: Global, number: u64, home: usize, stream: TcpStream, link: Link) -> Client {
         Client {
             number,
             home,
             stream,
+            link,
+            outbox: Outbox::new(alloc),
             conversation: Conversation::new(alloc),
             session: Session::new(alloc),
             phase: Phase::Open,
@@ -81,6 +89,11 @@ impl Client {
     /// The worker that it belongs to.
     pub fn home(&self) -> usize {
         self.home
+    }
+
+    /// As what it is connected.
+    pub fn connected(&self) -> Connected {
+        self.link.connected()
     }
 
     /// Its socket.
@@ -119,7 +132,15 @@ impl Client {
 
     /// Whether replies wait to be written, those that are held back too.
     pub fn owes(&self) -> bool {
-        !self.conversation.replies().is_empty()
+        !self.conversation.replies().is_empty() || !self.outbox.is_empty()
+    }
+
+    /// How many bytes of replies wait to be written.
+    pub(crate) fn owed(&self) -> usize {
+        self.conversation
+            .replies()
+            .len()
+            .saturating_add(self.outbox.len())
     }
 
     /// Whether it has to go to another worker, which it may once its replies are written.
@@ -148,12 +169,25 @@ impl Client {
         }
     }
 
-    /// Reads once, if a read may give something.
-    pub(crate) fn read_more(&mut self, chunk: &mut [u8]) -> Step {
-        if self.phase != Phase::Open || !self.is_readable {
+    /// Reads once, if a read may give something; or takes the next message of those that a socket has sent.
+    pub(crate) fn read_more(&mut self, buffers: &mut Buffers) -> Step {
+        if self.phase != Phase::Open {
             return Step::Rests;
         }
-        match read_into(&mut self.conversation, &mut self.stream, chunk) {
+        if let Link::Socket(_) = self.link {
+            return self.listen(buffers);
+        }
+        if !self.is_readable {
+            return Step::Rests;
+        }
+        let chunk = buffers.chunk.as_mut_slice();
+        let read = read_into(&mut self.conversation, &mut self.stream, chunk);
+        self.has_read(read)
+    }
+
+    /// What comes of a read.
+    pub(crate) fn has_read(&mut self, read: Result<Passage, Broken>) -> Step {
+        match read {
             Ok(Passage::Passed | Passage::Again) => Step::Goes,
             Ok(Passage::Over) => {
                 self.phase = Phase::Ended;
@@ -173,7 +207,7 @@ impl Client {
     /// Its connection ends with a fault. Where memory ran out that is told, if the socket takes it at once.
     pub(crate) fn fail(&mut self, fault: Fault) -> Step {
         if fault == Fault::Memory && !self.owes() {
-            let _told = self.stream.write(memory_line());
+            self.tell_of_memory();
         }
         self.phase = Phase::Broken(fault);
         Step::Rests
@@ -213,26 +247,6 @@ impl Client {
         }
     }
 
-    /// Writes replies, as many as the socket takes.
-    pub fn write(&mut self) {
-        let held = match self.hold {
-            Hold::Pause { bytes, .. } => bytes,
-            _ => 0,
-        };
-        for _write in 0..WRITES {
-            match write_from(&mut self.conversation, &mut self.stream, held) {
-                Ok(Passage::Passed) => self.times.note_taken(),
-                Ok(Passage::Again) => {}
-                Ok(Passage::Blocked | Passage::Over) => return,
-                Err(broken) => {
-                    self.cause = broken.cause;
-                    self.phase = Phase::Broken(broken.fault);
-                    return;
-                }
-            }
-        }
-    }
-
     /// Whether nothing is left to do for it.
     pub fn is_gone(&self) -> bool {
         match self.phase {
@@ -246,12 +260,23 @@ impl Client {
     /// it does not need until it sends more.
     pub fn check(&mut self, now: u64, idle: Option<u64>) -> Option<Late> {
         self.conversation.rest();
+        self.outbox.rest();
+        self.link.rest();
         if let Hold::Change { .. } = self.hold {
             self.times.note_line();
         }
-        let is_nobody = matches!(self.session.who(), Who::Nobody);
         let owes = self.owes();
-        self.times.check(now, owes, is_nobody, idle)
+        self.times.check(now, owes, self.patience(), idle)
+    }
+
+    // How long it may be connected without having said who it is, or what it wants.
+    fn patience(&self) -> Option<u64> {
+        match (&self.link, self.session.who()) {
+            (Link::Over, _) => None,
+            (Link::Visit(_), _) => Some(REQUEST),
+            (_, Who::Nobody) => Some(LOG_IN),
+            _ => None,
+        }
     }
 
     /// Ends its session.

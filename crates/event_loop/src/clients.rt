@@ -1,12 +1,15 @@
 //! The clients of a worker, and what is to be done for them in a turn.
+use crate::arrivals::Entrance;
+use crate::buffers::Buffers;
 use crate::client::Client;
 use crate::hub::Hub;
-use crate::limits::CHUNK;
+use crate::link::Link;
 use mio::net::TcpStream;
 use mio::{Events, Interest, Registry, Token};
 use slab::Slab;
 use std::alloc::{AllocError, Global};
 use std::{io, mem};
+use web_wire::Visit;
 
 /// Under which token a worker is woken.
 pub const WAKING: Token = Token(usize::MAX);
@@ -23,8 +26,7 @@ pub struct Clients {
     /// Who is held back, and when the first of them is to be released, in milliseconds.
     pub held: Vec<usize>,
     pub deadline: Option<u64>,
-    /// What a read gives.
-    pub chunk: Vec<u8>,
+    pub buffers: Buffers,
     /// Whether replies were made that are not settled.
     pub has_spoken: bool,
 }
@@ -32,8 +34,6 @@ pub struct Clients {
 impl Clients {
     /// No clients.
     pub fn new(alloc: Global) -> Result<Clients, AllocError> {
-        let mut chunk = Vec::new(alloc);
-        chunk.resize(CHUNK, 0)?;
         Ok(Clients {
             all: Slab::new(alloc),
             queue: Vec::new(alloc),
@@ -41,7 +41,7 @@ impl Clients {
             owed: Vec::new(alloc),
             held: Vec::new(alloc),
             deadline: None,
-            chunk,
+            buffers: Buffers::new(alloc)?,
             has_spoken: false,
         })
     }
@@ -54,8 +54,13 @@ impl Clients {
         number: u64,
         home: usize,
         stream: TcpStream,
+        entrance: Entrance,
     ) -> io::Result<()> {
-        self.insert(registry, Client::new(alloc, number, home, stream))
+        let link = match entrance {
+            Entrance::Lines => Link::Lines,
+            Entrance::Web => Link::Visit(Visit::new(alloc)),
+        };
+        self.insert(registry, Client::new(alloc, number, home, stream, link))
     }
 
     /// Takes a client in, which is served in this turn.

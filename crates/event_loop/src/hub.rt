@@ -1,6 +1,7 @@
 //! What the threads of a server share: how each worker is reached, how many clients there are, and whether the server ends.
 use crate::arrivals::Arrival;
 use crate::hold::{Hold, Wanted};
+use crate::limits::VISITS;
 use crossbeam_channel::Sender;
 use mio::Waker;
 use std::sync::Wait;
@@ -35,6 +36,15 @@ impl Door {
     }
 }
 
+/// As what somebody is connected.
+#[derive(Clone, Copy, Debug, PartialEq, Eq)]
+pub enum Connected {
+    /// A client, which speaks lines or has a socket.
+    Client,
+    /// A browser whose request is read or answered.
+    Visit,
+}
+
 /// What the threads of a server share.
 #[derive(Drop)]
 pub struct Hub {
@@ -43,7 +53,10 @@ pub struct Hub {
     acceptor: Waker,
     /// When the server began. None: the clock did not tell.
     began: Option<Instant>,
-    connected: AtomicU64,
+    /// How many clients are connected: those that speak lines, and the sockets of browsers.
+    clients: AtomicU64,
+    /// How many requests over HTTP are read or answered.
+    visits: AtomicU64,
     /// Whether no more connections are accepted.
     is_closed: AtomicBool,
     has_stopped: AtomicBool,
@@ -68,7 +81,8 @@ impl Hub {
             doors,
             acceptor,
             began,
-            connected: AtomicU64::new(0),
+            clients: AtomicU64::new(0),
+            visits: AtomicU64::new(0),
             is_closed: AtomicBool::new(false),
             has_stopped: AtomicBool::new(false),
             revisions,
@@ -81,9 +95,14 @@ impl Hub {
         self.began
     }
 
-    /// How many clients are connected.
-    pub fn connected(&self) -> u64 {
-        self.connected.load(Ordering::SeqCst)
+    /// Whether there is room for one more client, of so many.
+    pub fn has_room(&self, most: u32) -> bool {
+        self.clients.load(Ordering::SeqCst) < u64::from(most)
+    }
+
+    /// Whether there is room for one more request over HTTP.
+    pub fn has_room_for_visit(&self) -> bool {
+        self.visits.load(Ordering::SeqCst) < VISITS
     }
 
     /// A worker has begun its work.
@@ -126,21 +145,39 @@ impl Hub {
         best
     }
 
-    /// One more client is connected, who belongs to a worker.
-    pub fn enter(&self, home: usize) {
-        self.connected.fetch_add(1, Ordering::SeqCst);
+    /// One more connection belongs to a worker.
+    pub fn enter(&self, home: usize, connected: Connected) {
+        self.count_of(connected).fetch_add(1, Ordering::SeqCst);
         if let Some(door) = self.doors.get(home) {
             door.clients.fetch_add(1, Ordering::SeqCst);
         }
     }
 
-    /// A client of a worker has ended. After the last one the workers end.
-    pub fn leave(&self, home: usize) {
+    /// A browser's connection becomes that of a client, unless there are so many already.
+    pub fn admit(&self, most: u32) -> bool {
+        if self.clients.fetch_add(1, Ordering::SeqCst) >= u64::from(most) {
+            self.clients.fetch_sub(1, Ordering::SeqCst);
+            return false;
+        }
+        self.visits.fetch_sub(1, Ordering::SeqCst);
+        true
+    }
+
+    /// A connection of a worker has ended. After the last one the workers end.
+    pub fn leave(&self, home: usize, connected: Connected) {
         if let Some(door) = self.doors.get(home) {
             door.clients.fetch_sub(1, Ordering::SeqCst);
         }
-        if self.connected.fetch_sub(1, Ordering::SeqCst) == 1 && self.is_over() {
+        if self.count_of(connected).fetch_sub(1, Ordering::SeqCst) == 1 && self.is_over() {
             self.ring_all();
+        }
+    }
+
+    // What counts them.
+    fn count_of(&self, connected: Connected) -> &AtomicU64 {
+        match connected {
+            Connected::Client => &self.clients,
+            Connected::Visit => &self.visits,
         }
     }
 
@@ -172,7 +209,12 @@ impl Hub {
 
     /// Whether nothing is left to do for the workers.
     pub fn is_over(&self) -> bool {
-        self.has_stopped() || self.is_closed.load(Ordering::SeqCst) && self.connected() == 0
+        self.has_stopped() || self.is_closed.load(Ordering::SeqCst) && self.is_empty()
+    }
+
+    // Whether nobody is connected. A browser that becomes a client is counted twice for a moment, and never not at all.
+    fn is_empty(&self) -> bool {
+        self.visits.load(Ordering::SeqCst) == 0 && self.clients.load(Ordering::SeqCst) == 0
     }
 
     /// Operations were delivered at a cell, whose lock is still held. Each worker that wants to know is woken, once until it

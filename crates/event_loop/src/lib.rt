@@ -1,16 +1,21 @@
 //! Many connections for each thread: workers that wait until sockets are ready.
 //!
-//! It stands on `workers`, which answers the lines of a connection, and on the readiness of sockets that `mio` reports. It
-//! knows no store and no command line: what replies wait for is a `Settle`.
+//! It stands on `workers`, which answers the lines of a connection, on `web_wire`, which makes lines of what browsers send,
+//! and on the readiness of sockets that `mio` reports. It knows no store and no command line: what replies wait for is a `Settle`.
 #![tactic(auto)]
 
 mod accept;
 mod arrivals;
+mod browser;
+mod buffers;
 mod client;
 mod clients;
 mod hold;
 mod hub;
 mod limits;
+mod link;
+mod messages;
+mod outbox;
 mod rarely;
 mod serve;
 mod settle;
@@ -20,6 +25,7 @@ mod times;
 mod transfer;
 mod turn;
 mod work;
+mod written;
 
 pub use accept::{Acceptor, accept_all};
 pub use hub::Hub;

@@ -29,5 +29,11 @@ pub const PATIENCE: u64 = 30_000;
 /// How long a client has to log in, in milliseconds.
 pub const LOG_IN: u64 = 60_000;
 
+/// How long a browser has to send its request, in milliseconds.
+pub const REQUEST: u64 = 10_000;
+
+/// How many requests over HTTP are read or answered at once. They are no clients.
+pub const VISITS: u64 = 512;
+
 /// How often it is checked which clients have passed a limit of time, in milliseconds.
 pub const CHECK: u64 = 1_000;

@@ -1,9 +1,10 @@
 //! A client's part of a turn: its lines are answered, and more are read.
 ghost use Rattle.wire_lines.specs.Buffer.{IsPart};
 
+use crate::buffers::Buffers;
 use crate::client::{Client, Phase};
 use crate::hold::{BAD_TOKEN, Claim, Hold, Wanted, claim_in, is_suspect, pause_after, wanted_by};
-use crate::hub::Hub;
+use crate::hub::{Connected, Hub};
 use crate::limits::{LINES, LONG_LINE, MOST_OWED};
 use crate::settle::Settle;
 use crate::work::Service;
@@ -35,7 +36,7 @@ impl Client {
         service: &Service<'_, S, R, G, T>,
         place: usize,
         pads: &mut Shared<'_, S, R, G>,
-        chunk: &mut [u8],
+        buffers: &mut Buffers,
     ) -> Step
     where
         S: Sequence,
@@ -47,10 +48,10 @@ impl Client {
             return Step::Rests;
         }
         for _line in 0..LINES {
-            if self.conversation.replies().len() >= MOST_OWED {
+            if self.owed() >= MOST_OWED {
                 break;
             }
-            match self.step(service, place, pads, chunk) {
+            match self.step(service, place, pads, buffers) {
                 Step::Goes => {}
                 end => return end,
             }
@@ -64,7 +65,7 @@ impl Client {
         service: &Service<'_, S, R, G, T>,
         place: usize,
         pads: &mut Shared<'_, S, R, G>,
-        chunk: &mut [u8],
+        buffers: &mut Buffers,
     ) -> Step
     where
         S: Sequence,
@@ -73,14 +74,18 @@ impl Client {
         T: Settle,
     {
         let alloc = service.row.rt.alloc();
+        if self.connected() == Connected::Visit {
+            let most = service.limits.clients;
+            return self.visit(alloc, service.site, service.hub, most, buffers);
+        }
         if self.is_misplaced(service.hub, place) {
             self.moves = true;
             self.conversation.rest();
             return Step::Moves;
         }
-        match self.hold_line(alloc, service.hub, place, chunk) {
+        match self.hold_line(alloc, service.hub, place, buffers) {
             Some(held) => held,
-            None => self.answer_or_read(alloc, pads, chunk),
+            None => self.answer_or_read(alloc, pads, buffers),
         }
     }
 
@@ -89,7 +94,7 @@ impl Client {
         &mut self,
         alloc: Global,
         pads: &mut Shared<'_, S, R, G>,
-        chunk: &mut [u8],
+        buffers: &mut Buffers,
     ) -> Step {
         let before = self.conversation.replies().len();
         let suspect = self.suspect(alloc);
@@ -104,7 +109,7 @@ impl Client {
                 self.end(alloc, pads);
                 Step::Rests
             }
-            Ok(Turn::Waits) => self.read_more(chunk),
+            Ok(Turn::Waits) => self.read_more(buffers),
             Ok(Turn::Full) => Step::Rests,
             Ok(Turn::Cut) => {
                 self.phase = Phase::Over;
@@ -138,7 +143,7 @@ impl Client {
         alloc: Global,
         hub: &Hub,
         place: usize,
-        chunk: &mut [u8],
+        buffers: &mut Buffers,
     ) -> Option<Step> {
         if self.hold == Hold::Over || self.phase != Phase::Open {
             return None;
@@ -149,7 +154,7 @@ impl Client {
             return None;
         }
         if let Hold::Change { .. } = self.hold {
-            return Some(self.read_more(chunk));
+            return Some(self.read_more(buffers));
         }
         let wanted = wanted_by(alloc, line, &self.session)?;
         if hub.has_to_wait(place, wanted) {

@@ -18,11 +18,12 @@ pub struct SetUp {
     pub workers: Vec<Worker>,
 }
 
-/// A worker for each member's seats, of which the last serves long lines alone, and who accepts connections for them. Of the
-/// pad at each cell it is told the revision.
+/// A worker for each member's seats, of which the last serves long lines alone, and who accepts connections for them: of
+/// clients that speak lines, and perhaps of browsers. Of the pad at each cell it is told the revision.
 pub fn set_up<R: AllocGlobal + Net + Clock>(
     rt: &R,
-    listener: TcpListener,
+    lines: TcpListener,
+    web: Option<TcpListener>,
     crew: Vec<Vec<Seat>>,
     revisions: &[u64],
 ) -> io::Result<SetUp> {
@@ -36,7 +37,7 @@ pub fn set_up<R: AllocGlobal + Net + Clock>(
         doors.push(Door::new(to, waker))?;
         workers.push(worker)?;
     }
-    let (acceptor, waker) = Acceptor::new(rt, alloc, listener)?;
+    let (acceptor, waker) = Acceptor::new(rt, alloc, lines, web)?;
     let mut counts = Vec::new(alloc);
     for revision in revisions {
         counts.push(AtomicU64::new(*revision))?;

@@ -1,5 +1,5 @@
 //! Limits of time.
-use crate::limits::{LOG_IN, PATIENCE};
+use crate::limits::PATIENCE;
 use std::mem;
 
 /// Which limit of time a client has passed.
@@ -9,7 +9,7 @@ pub enum Late {
     Silent,
     /// It has taken nothing of its replies for too long.
     Unread,
-    /// It has not logged in.
+    /// It has not logged in, or has sent no request over HTTP.
     Nobody,
 }
 
@@ -48,13 +48,13 @@ impl Times {
         self.has_taken = true;
     }
 
-    /// Which limit has been passed at this check by a client that owes replies or not, and is nobody or not. `idle` is how
-    /// long it may be silent.
+    /// Which limit has been passed at this check by a client that owes replies or not. `patience` is how long it may be
+    /// connected, if it has not said who it is, and `idle` how long it may be silent.
     pub fn check(
         &mut self,
         now: u64,
         owes: bool,
-        is_nobody: bool,
+        patience: Option<u64>,
         idle: Option<u64>,
     ) -> Option<Late> {
         let came = *self.came.get_or_insert(now);
@@ -67,7 +67,7 @@ impl Times {
         if now.saturating_sub(self.took) >= PATIENCE {
             return Some(Late::Unread);
         }
-        if is_nobody && now.saturating_sub(came) >= LOG_IN {
+        if patience.is_some_and(|patience| now.saturating_sub(came) >= patience) {
             return Some(Late::Nobody);
         }
         match idle {

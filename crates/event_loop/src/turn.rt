@@ -3,6 +3,7 @@ use crate::arrivals::Arrival;
 use crate::client::Client;
 use crate::clients::Clients;
 use crate::hold::Claim;
+use crate::hub::Connected;
 use crate::limits::CHECK;
 use crate::serve::Step;
 use crate::settle::Settle;
@@ -91,29 +92,32 @@ where
 {
     let rt = service.row.rt;
     for _ in 0..ARRIVALS {
-        let (number, home, taken) = match worker.arrivals.try_recv(rt) {
-            Ok(Arrival::Accepted { number, stream }) => {
-                let home = worker.place;
-                let registry = worker.poll.registry();
-                (
+        let registry = worker.poll.registry();
+        let (number, home, connected, taken) = match worker.arrivals.try_recv(rt) {
+            Ok(
+                Arrival::Accepted {
                     number,
-                    home,
-                    clients.accept(rt.alloc(), registry, number, home, stream),
-                )
+                    stream,
+                    entrance,
+                },
+            ) => {
+                let home = worker.place;
+                let taken = clients.accept(rt.alloc(), registry, number, home, stream, entrance);
+                (number, home, entrance.connected(), taken)
             }
             Ok(Arrival::Moved(client)) => {
-                let registry = worker.poll.registry();
-                (
+                let (number, home, connected) = (
                     client.number(),
                     client.home(),
-                    clients.insert(registry, client),
-                )
+                    client.connected(),
+                );
+                (number, home, connected, clients.insert(registry, client))
             }
             Err(TryRecvError::Empty | TryRecvError::Disconnected) => return,
         };
         if let Err(cause) = taken {
             warn!(Journal(rt); "connection {number} is not served: {cause}");
-            service.hub.leave(home);
+            service.hub.leave(home, connected);
         }
     }
 }
@@ -140,7 +144,7 @@ where
         let Some(client) = clients.all.get_mut(key) else {
             continue;
         };
-        let until = match client.serve(service, place, pads, clients.chunk.as_mut_slice()) {
+        let until = match client.serve(service, place, pads, &mut clients.buffers) {
             Step::Goes | Step::Rests | Step::Moves => None,
             Step::Fails(claim) => {
                 let now = ticker.look(rt);
@@ -224,7 +228,7 @@ where
     let Some(mut client) = clients.all.try_remove(key) else {
         return;
     };
-    let (number, home) = (client.number(), client.home());
+    let (number, home, connected) = (client.number(), client.home(), client.connected());
     let to = if worker.place == service.hub.long_lines() {
         home
     } else {
@@ -233,7 +237,7 @@ where
     let _registered = worker.poll.registry().deregister(client.stream());
     if !service.hub.send(rt, to, Arrival::Moved(client)) {
         warn!(Journal(rt); "connection {number} ended: out of memory");
-        service.hub.leave(home);
+        service.hub.leave(home, connected);
     }
 }
 
@@ -262,9 +266,9 @@ where
         Some((fault, None)) => warn!(Journal(rt); "connection {number} ended: {fault}"),
         None => {}
     }
-    let home = client.home();
+    let (home, connected) = (client.home(), client.connected());
     drop(client);
-    service.hub.leave(home);
+    service.hub.leave(home, connected);
 }
 
 // Ends who has passed a limit of time.
@@ -297,7 +301,10 @@ where
             Late::Unread => "it did not read its replies",
             Late::Nobody => "it did not log in",
         };
-        warn!(Journal(service.row.rt); "connection {number} ended: {why}");
+        if client.connected() == Connected::Client {
+            warn!(Journal(service.row.rt); "connection {number} ended: {why}");
+        }
+        client.say_goodbye();
         end(service, clients, pads, key);
     }
 }

@@ -19,6 +19,7 @@ use std::sync::Wait;
 use std::thread::Threads;
 use std::time::Clock;
 use std::{io, mem, thread};
+use web_wire::Site;
 use workers::{Gate, Row, Shared};
 
 /// How many events are taken at once.
@@ -31,6 +32,8 @@ pub struct Service<'a, S: Sequence, R: Wait, G: Gate, T: Settle> {
     pub hub: &'a Hub,
     pub limits: Limits,
     pub settle: &'a T,
+    /// What browsers are served.
+    pub site: Site<'a>,
 }
 
 /// What a worker has of its own.
@@ -144,6 +147,7 @@ where
 fn end_all<S: Sequence, R: Wait, G: Gate>(clients: &mut Clients, pads: &mut Shared<'_, S, R, G>) {
     for key in 0..clients.all.capacity() {
         if let Some(mut client) = clients.all.try_remove(key) {
+            client.say_goodbye();
             client.end_session(pads);
         }
     }

@@ -39,6 +39,14 @@ store_rule = option_rule (codes "store")
 abbrev pub new_replica_rule : Rule
 new_replica_rule = flag_rule (codes "new-replica")
 
+-- `--web ADDR`
+abbrev pub web_rule : Rule
+web_rule = option_rule (codes "web")
+
+-- `--web-origin ORIGINS`
+abbrev pub web_origins_rule : Rule
+web_origins_rule = option_rule (codes "web-origin")
+
 -- the options that say what is served, by which server, and for whom
 abbrev pub first_line : App
 first_line = with_rule (with_rule (with_rule (with_rule (versioned (new_app (codes "pad_server"))) stdin_rule)
@@ -48,9 +56,13 @@ first_line = with_rule (with_rule (with_rule (with_rule (versioned (new_app (cod
 abbrev pub second_line : App
 second_line = with_rule (with_rule (with_rule (with_rule first_line cells_rule) workers_rule) connections_rule) clients_rule
 
+-- with those that say when a silent connection is closed, and where the pads are kept
+abbrev pub third_line : App
+third_line = with_rule (with_rule (with_rule second_line idle_rule) store_rule) new_replica_rule
+
 -- the command line: clap's words say which words it takes, and what they give under a name
 abbrev pub line : App
-line = with_rule (with_rule (with_rule second_line idle_rule) store_rule) new_replica_rule
+line = with_rule (with_rule third_line web_rule) web_origins_rule
 
 -- the words give this: the numbers, the flag and the texts under the names of the options
 pub record AsksFor (words : List (List ℕ)) (asked : Asked) : Type 0 where
@@ -66,3 +78,5 @@ pub record AsksFor (words : List (List ℕ)) (asked : Asked) : Type 0 where
   pub idle : (other : ℕ) → Gives line words (codes "idle") 0 4294967295 other (unwrap_or asked.idle other)
   pub store : option_map (λ folder. folder.now) asked.store ≡ text_given line words (codes "store")
   pub new_replica : IsFlag (one_of (codes "new-replica") (matches_of line words)) asked.new_replica
+  pub web : option_map (λ address. address.now) asked.web ≡ text_given line words (codes "web")
+  pub web_origins : option_map (λ origins. origins.now) asked.web_origins ≡ text_given line words (codes "web-origin")

@@ -1,24 +1,28 @@
 -- What the server serves, by what the command line gives.
-use Rattle.std.specs.Prelude.{List, ℕ, Bool, true, false, if◌then◌else◌, Option, Some, None, Result, Ok, Err}
+use Rattle.std.specs.Prelude.{List, ℕ, Bool, true, false, not, ◌&&◌, if◌then◌else◌, Option, Some, None, Result, Ok, Err}
 use Rattle.std.specs.Option.{is_some}
 use Rattle.std.specs.Borrow.{Bor}
 use Rattle.pad_server.specs.declared.args.Asked.{Asked}
 use Rattle.pad_server.specs.declared.mode.Misuse.{Misuse}
-use Rattle.pad_server.specs.declared.mode.Misuse.TheVariants.{NotOne, NoAccounts, NoStore, NoIdle, NoNewReplica}
+use Rattle.pad_server.specs.declared.mode.Misuse.TheVariants.{NotOne, NoAccounts, NoStore, NoIdle, NoNewReplica, NoWeb, NoWebOrigins}
 use Rattle.pad_server.specs.declared.mode.Mode.{Mode}
 use Rattle.pad_server.specs.declared.mode.Mode.TheVariants.{Stdin, Listen}
 
--- connections over TCP, which need accounts
-abbrev pub listening : Bor (List ℕ) → Option (Bor (List ℕ)) → Result Mode Misuse
-listening address None = Err NoAccounts
-listening address (Some accounts) = Ok (Listen address accounts)
+-- connections over TCP, which need accounts; origins are only for a page
+abbrev pub listening : Bor (List ℕ) → Option (Bor (List ℕ)) → Asked → Result Mode Misuse
+listening address None asked = Err NoAccounts
+listening address (Some accounts) asked =
+    if not (is_some asked.web) && is_some asked.web_origins then Err NoWebOrigins
+    else Ok (Listen address accounts)
 
--- standard input, without the options that only connections have: a store, a limit of silence, a new replica number
+-- standard input, without the options that only connections have: a store, a limit of silence, a new replica number, a page
 abbrev pub reading : Asked → Result Mode Misuse
 reading asked =
     if is_some asked.store then Err NoStore
     else if is_some asked.idle then Err NoIdle
     else if asked.new_replica then Err NoNewReplica
+    else if is_some asked.web then Err NoWeb
+    else if is_some asked.web_origins then Err NoWebOrigins
     else Ok Stdin
 
 -- just one of standard input and connections over TCP
@@ -26,7 +30,7 @@ abbrev pub served : Bool → Option (Bor (List ℕ)) → Asked → Result Mode M
 served true None asked = reading asked
 served true (Some address) asked = Err NotOne
 served false None asked = Err NotOne
-served false (Some address) asked = listening address asked.accounts
+served false (Some address) asked = listening address asked.accounts asked
 
 -- what is asked for is served so
 abbrev pub mode_of : Asked → Result Mode Misuse

@@ -3,11 +3,12 @@ ghost use Rattle.std.specs.Prelude.{◌≡◌, ◌≤◌, IfOk, map, string_byte
 ghost use Rattle.clap.specs.Faults.{fault_of};
 ghost use Rattle.clap.specs.Words.{FailsBy, app_of};
 ghost use Rattle.server_core.specs.declared.limits.TheConstants.{MAX_CELLS};
-ghost use Rattle.pad_server.specs.CommandLine.{AsksFor, first_line, line, second_line};
+ghost use Rattle.pad_server.specs.CommandLine.{AsksFor, first_line, line, second_line, third_line};
 
 use crate::options::{
     clients_of, clients_option, connections_of, connections_option, idle_of, idle_option,
-    listen_option, new_replica_flag, stdin_flag, store_option, workers_of, workers_option,
+    listen_option, new_replica_flag, stdin_flag, store_option, web_option, web_origins_option,
+    workers_of, workers_option,
 };
 use clap::{Command, Error};
 use command_line::{VERSION, accounts_option, cells_of, cells_option, replica_of, replica_option};
@@ -38,6 +39,10 @@ pub struct Asked<'a> {
     pub store: Option<&'a str>,
     /// Whether no server has used the replica number before, so that the store may be one of another number.
     pub new_replica: bool,
+    /// The address where the page for browsers is served.
+    pub web: Option<&'a str>,
+    /// Whose pages may connect beside the server's own: origins, separated by commas.
+    pub web_origins: Option<&'a str>,
 }
 
 const USAGE: &str = "pad_server --stdin --replica <N> [--accounts <PATH>] [--cells <N>]
@@ -73,13 +78,22 @@ fn second_options<'a>(alloc: Global) -> Result<Command<'a>, AllocError>
         .arg(clients_option(alloc))
 }
 
-fn command<'a>(alloc: Global) -> Result<Command<'a>, AllocError>
-    ensures { IfOk result (λ command. app_of command ≡ line) }
+// When a silent connection is closed, and where the pads are kept.
+fn third_options<'a>(alloc: Global) -> Result<Command<'a>, AllocError>
+    ensures { IfOk result (λ command. app_of command ≡ third_line) }
 {
     second_options(alloc)?
         .arg(idle_option(alloc))?
         .arg(store_option(alloc))?
         .arg(new_replica_flag(alloc))
+}
+
+fn command<'a>(alloc: Global) -> Result<Command<'a>, AllocError>
+    ensures { IfOk result (λ command. app_of command ≡ line) }
+{
+    third_options(alloc)?
+        .arg(web_option(alloc))?
+        .arg(web_origins_option(alloc))
 }
 
 /// What the words of the command line give, or what is wrong with them.
@@ -104,5 +118,7 @@ pub fn parse<'a>(alloc: Global, words: &'a [String]) -> Result<Asked<'a>, Error>
         idle: idle_of(&matches),
         store: matches.get_str("store"),
         new_replica: matches.get_flag("new-replica"),
+        web: matches.get_str("web"),
+        web_origins: matches.get_str("web-origin"),
     })
 }

@@ -28,16 +28,19 @@ use std::sync::Wait;
 use std::thread::Threads;
 use std::time::Clock;
 use std::{io, thread};
+use web_wire::{Page, Site};
 use workers::{Row, open_row, take_all_seats, take_seats};
 
-/// Serves connections at an address, until as many have ended as the command line says. With a store, the pads come from
-/// it, each reply waits until everything that it reveals is synced, and the server stops if the store fails.
+/// Serves connections at an address, and browsers at another one if the command line says so, until as many have ended as it
+/// says. With a store, the pads come from it, each reply waits until everything that it reveals is synced, and the server
+/// stops if the store fails.
 pub fn listen<'a, R>(
     rt: &R,
     files: HostRuntime,
     asked: Asked<'a>,
     address: &'a str,
     path: &'a str,
+    pages: &[Page],
 ) -> Result<(), Failure<'a>>
 where
     R: Runtime<A = Global, File = File>
@@ -49,13 +52,18 @@ where
     requires { (1 ≤ asked.replica) × (asked.cells ≤ MAX_CELLS) }
 {
     let opened = open_pads(rt, files, asked, path)?;
-    let listener = bind(rt, address)?;
+    let origins = origins_of(rt.alloc(), asked)?;
+    let listeners = listen_at(rt, asked, address)?;
     let SetUp {
         hub,
         acceptor,
         workers,
-    } = make_threads(rt, &opened, asked, listener)?;
-    serve_row(rt, &opened, &hub, asked, acceptor, workers)?;
+    } = make_threads(rt, &opened, asked, listeners)?;
+    let site = Site {
+        pages,
+        origins: origins.as_slice(),
+    };
+    serve_row(rt, &opened, &hub, asked, site, acceptor, workers)?;
     match asked.store {
         Some(folder) if opened.has_failed() => Err(Failure::Failed { folder }),
         _ if hub.has_stopped() => Err(Failure::Halted),
@@ -131,6 +139,7 @@ fn serve_row<'s, R>(
     opened: &'s Opened,
     hub: &'s Hub,
     asked: Asked<'_>,
+    site: Site<'s>,
     acceptor: Acceptor,
     workers: Vec<Worker>,
 ) -> Result<(), Failure<'static>>
@@ -180,6 +189,7 @@ where
             idle: asked.idle,
         },
         settle: &settle,
+        site,
     };
     let relaying = Relaying {
         contacts,
@@ -197,7 +207,7 @@ fn make_threads<R>(
     rt: &R,
     opened: &Opened,
     asked: Asked<'_>,
-    listener: TcpListener,
+    listeners: Listeners,
 ) -> Result<SetUp, Failure<'static>>
 where
     R: AllocGlobal
@@ -211,7 +221,8 @@ where
     let threads = threads_for(rt, asked);
     take_all_seats(rt, rt.alloc(), opened.cells.as_slice(), threads, &mut crew)?;
     warn_of_room(rt, asked, crew.len());
-    match set_up(rt, listener, crew, opened.revisions.as_slice()) {
+    let Listeners { lines, web } = listeners;
+    match set_up(rt, lines, web, crew, opened.revisions.as_slice()) {
         Ok(made) => Ok(made),
         Err(cause) => Err(Failure::NotSetUp(cause)),
     }
@@ -234,25 +245,60 @@ fn processors<R: Threads>(rt: &R) -> u32 {
     }
 }
 
-/// Binds the address, and prints it with the real port.
-fn bind<'a, R>(rt: &R, address: &'a str) -> Result<TcpListener, Failure<'a>>
+/// Where clients connect: those that speak lines, and browsers.
+#[derive(Drop)]
+struct Listeners {
+    lines: TcpListener,
+    web: Option<TcpListener>,
+}
+
+/// Binds the addresses, and prints them with their real ports.
+fn listen_at<'a, R>(rt: &R, asked: Asked<'a>, address: &'a str) -> Result<Listeners, Failure<'a>>
 where
     R: Net<Listener = TcpListener, Stream = TcpStream> + Print,
 {
-    let listener = match TcpListener::bind(rt, address) {
-        Ok(listener) => listener,
-        Err(cause) if has_port(address) => return Err(Failure::Deaf { address, cause }),
-        Err(_) => return Err(Failure::NoPort { address }),
+    let lines = bind(rt, address)?;
+    let web = match asked.web {
+        Some(address) => Some(bind(rt, address)?),
+        None => None,
     };
-    match announce(rt, &listener) {
-        Ok(()) => Ok(listener),
+    let listeners = Listeners { lines, web };
+    match announce(rt, &listeners) {
+        Ok(()) => Ok(listeners),
         Err(cause) => Err(Failure::Untold(cause)),
     }
 }
 
-fn announce<R: Print>(rt: &R, listener: &TcpListener) -> io::Result<()> {
-    let local = listener.local_addr()?;
-    println!(rt; "listening on {local}")
+fn bind<'a, R>(rt: &R, address: &'a str) -> Result<TcpListener, Failure<'a>>
+where
+    R: Net<Listener = TcpListener, Stream = TcpStream>,
+{
+    match TcpListener::bind(rt, address) {
+        Ok(listener) => Ok(listener),
+        Err(cause) if has_port(address) => Err(Failure::Deaf { address, cause }),
+        Err(_) => Err(Failure::NoPort { address }),
+    }
+}
+
+fn announce<R: Print>(rt: &R, listeners: &Listeners) -> io::Result<()> {
+    let local = listeners.lines.local_addr()?;
+    println!(rt; "listening on {local}")?;
+    match &listeners.web {
+        Some(web) => {
+            let local = web.local_addr()?;
+            println!(rt; "web on http://{local}/")
+        }
+        None => Ok(()),
+    }
+}
+
+/// The origins of the command line, which are separated by commas.
+fn origins_of(alloc: Global, asked: Asked<'_>) -> Result<Vec<String>, AllocError> {
+    let mut origins = Vec::new(alloc);
+    for origin in asked.web_origins.unwrap_or_default().split(',') {
+        origins.push(String::from_str(alloc, origin.trim())?)?;
+    }
+    Ok(origins)
 }
 
 /// What the thread that exchanges with peers owns, and the sender that tells it of the last connection's end.

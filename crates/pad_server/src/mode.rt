@@ -32,11 +32,15 @@ pub enum Misuse {
     NoIdle,
     #[error("--new-replica needs --listen <ADDR>")]
     NoNewReplica,
+    #[error("--web <ADDR> needs --listen <ADDR>")]
+    NoWeb,
+    #[error("--web-origin <ORIGINS> needs --web <ADDR>")]
+    NoWebOrigins,
 }
 
 impl<'a> Asked<'a> {
-    /// What is served. Exactly one of `--stdin` and `--listen` has to be given: the first without `--store`, `--idle` and
-    /// `--new-replica`, the second with `--accounts`.
+    /// What is served. Exactly one of `--stdin` and `--listen` has to be given: the first without `--store`, `--idle`,
+    /// `--new-replica` and `--web`, the second with `--accounts`. `--web-origin` is for `--web`.
     pub fn mode(self) -> Result<Mode<'a>, Misuse>
         ensures { result ≡ mode_of self.entry }
     {
@@ -44,9 +48,14 @@ impl<'a> Asked<'a> {
             (true, None) if self.store.is_some() => Err(Misuse::NoStore),
             (true, None) if self.idle.is_some() => Err(Misuse::NoIdle),
             (true, None) if self.new_replica => Err(Misuse::NoNewReplica),
+            (true, None) if self.web.is_some() => Err(Misuse::NoWeb),
+            (true, None) if self.web_origins.is_some() => Err(Misuse::NoWebOrigins),
             (true, None) => Ok(Mode::Stdin),
             (true, Some(_)) | (false, None) => Err(Misuse::NotOne),
             (false, Some(address)) => match self.accounts {
+                Some(_) if self.web.is_none() && self.web_origins.is_some() => {
+                    Err(Misuse::NoWebOrigins)
+                }
                 Some(accounts) => Ok(Mode::Listen { address, accounts }),
                 None => Err(Misuse::NoAccounts),
             },

@@ -2,7 +2,7 @@
 ghost use Rattle.std.specs.Prelude.{◌≡◌, ◌≤◌, ℕ, codes, false, unwrap_or};
 ghost use Rattle.clap.specs.Words.{rule_of};
 ghost use Rattle.command_line.specs.Options.{Holds};
-ghost use Rattle.pad_server.specs.CommandLine.{clients_rule, connections_rule, idle_rule, listen_rule, new_replica_rule, stdin_rule, store_rule, workers_rule};
+ghost use Rattle.pad_server.specs.CommandLine.{clients_rule, connections_rule, idle_rule, listen_rule, new_replica_rule, stdin_rule, store_rule, web_origins_rule, web_rule, workers_rule};
 
 use clap::{Arg, ArgAction, ArgMatches, value_parser};
 use std::alloc::Global;
@@ -100,6 +100,27 @@ pub fn new_replica_flag<'a>(alloc: Global) -> Arg<'a>
         .long("new-replica")
         .action(ArgAction::SetTrue)
         .help("Continues a store under a replica number that no server has used")
+}
+
+/// `--web ADDR`.
+pub fn web_option<'a>(alloc: Global) -> Arg<'a>
+    ensures { (rule_of result ≡ web_rule) × (result.global ≡ false) }
+{
+    Arg::new(alloc, "web").long("web").value_name("ADDR").help(
+        "Serves the page for browsers at HOST:PORT, such as 127.0.0.1:8080; port 0 is any free port",
+    )
+}
+
+/// `--web-origin ORIGINS`.
+pub fn web_origins_option<'a>(alloc: Global) -> Arg<'a>
+    ensures { (rule_of result ≡ web_origins_rule) × (result.global ≡ false) }
+{
+    Arg::new(alloc, "web-origin")
+        .long("web-origin")
+        .value_name("ORIGINS")
+        .help(
+            "Whose pages may connect beside the server's own, such as https://pads.example; several are separated by commas",
+        )
 }
 
 /// The number of `--workers`, if there is one.

@@ -265,3 +265,17 @@ fn replies_are_messages(rt: HostRuntime) -> Result<(), Fail> {
     assert!(rt; output.as_slice() == b"\x81\x0B{\"ok\":true}\x81\x01a".as_slice());
     Ok(())
 }
+
+#[test]
+fn a_server_that_ends_closes_its_sockets(rt: HostRuntime) -> Result<(), Fail> {
+    let bytes = frames(rt.alloc(), &[(0x81, b"a")])?;
+    let mut socket = Frames::new(rt.alloc(), bytes);
+    let mut line = Vec::new(rt.alloc());
+    let mut output = Vec::new(rt.alloc());
+    socket.go_away(&mut output)?;
+    socket.go_away(&mut output)?;
+    assert!(rt; output.as_slice() == b"\x88\x02\x03\xE9".as_slice());
+    let next = socket.next_line(&mut line, &mut output)?;
+    assert!(rt; next == Turn::Close && line.is_empty() && output.len() == 4);
+    Ok(())
+}

@@ -335,6 +335,6 @@ fn frames_behind_a_handshake(rt: HostRuntime) -> Result<(), Fail> {
     visit.feed(HANDSHAKE.as_bytes())?;
     visit.feed(b"\r\n\x81\x82\0\0\0\0hi")?;
     assert!(rt; visit.answer(site, true)? == Next::Socket);
-    assert!(rt; visit.rest().as_slice() == b"\x81\x82\0\0\0\0hi".as_slice());
+    assert!(rt; visit.into_parts().input.as_slice() == b"\x81\x82\0\0\0\0hi".as_slice());
     Ok(())
 }

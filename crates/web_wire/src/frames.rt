@@ -1,5 +1,5 @@
 //! The server's side of a WebSocket after its handshake: bytes come in pieces, and each text message is a line.
-ghost use Rattle.std.specs.Prelude.{◌≡◌, ◌⊎◌, ◌<◌, true, false, [], ◌++◌, length, nat_eq, Ok, Err, IfOk, OnOk, OnErr};
+ghost use Rattle.std.specs.Prelude.{◌≡◌, ◌⊎◌, ◌<◌, true, false, if◌then◌else◌, [], ◌++◌, length, nat_eq, Ok, Err, IfOk, OnOk, OnErr};
 ghost use Rattle.websocket.specs.declared.protocol.config.Role.TheVariants.{Server};
 ghost use Rattle.web_wire.specs.Course.{close_code, farewell, waits};
 ghost use Rattle.web_wire.specs.Socket.{GivesLine, GoesOn, course, fed, fresh, opened};
@@ -117,6 +117,22 @@ impl Frames {
                 Step::Line => return Ok(Turn::Line),
                 Step::Closes => return Ok(Turn::Close),
             }
+        }
+    }
+
+    /// Ends a socket because the server ends, or serves it no longer: a close with code 1001 is appended to `output`,
+    /// unless the socket has ended. Out of memory it ends without one.
+    pub fn go_away(&mut self, output: &mut Vec<u8>) -> Result<(), AllocError>
+        ensures ok { OnOk result (output.new.items ≡ output.old.items ++ (if self.old.ended then []
+            else farewell self.old.conn CloseCode.Away)) }
+        ensures ended { self.new.ended ≡ true }
+    {
+        if self.ended {
+            return Ok(());
+        }
+        match self.end(CloseCode::Away, output) {
+            Ok(_) => Ok(()),
+            Err(error) => Err(error),
         }
     }
 

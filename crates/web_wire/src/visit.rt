@@ -29,8 +29,18 @@ pub enum Next {
     Read,
     /// The output has to be sent, and then the connection closed. This is the status of the response.
     Close(u16),
-    /// The output has to be sent, and then the connection is a socket, whose first bytes are the rest.
+    /// The output has to be sent, and then the connection is a socket, whose first bytes are those that were not
+    /// used.
     Socket,
+}
+
+/// The bytes of a visit that has ended.
+#[derive(Drop)]
+pub struct Parts {
+    /// Those that came and were not used: behind a handshake, the first ones of the socket.
+    pub input: Vec<u8>,
+    /// Those that have to be sent.
+    pub output: Vec<u8>,
 }
 
 /// A connection up to the response to its one request.
@@ -74,12 +84,13 @@ impl Visit {
         self.output.as_slice()
     }
 
-    /// The bytes that came and were not used: behind a handshake, the first ones of the socket.
-    pub fn rest(self) -> Vec<u8>
-        ensures { result.items ≡ self.input }
+    /// Its bytes, when it has ended.
+    pub fn into_parts(self) -> Parts
+        ensures input { result.input.items ≡ self.input }
+        ensures output { result.output.items ≡ self.output }
     {
-        let Visit { input, .. } = self;
-        input
+        let Visit { input, output } = self;
+        Parts { input, output }
     }
 
     /// Appends a refusal in words of whatever comes: the server is full.

@@ -47,6 +47,8 @@ returns-clause-asked c =
         set = λ e. c.get_flag-2.ensures.value (renewed ∙ e);
         unset = λ e. c.get_flag-2.ensures.other (renewed ∙ e);
       };
+      web = c.get_str-4.ensures ∙ gives_text line words m (codes "web") rows;
+      web_origins = c.get_str-5.ensures ∙ gives_text line words m (codes "web-origin") rows;
     }
 
 pub returns-clause-refused : goal.returns-clause-refused

@@ -1,0 +1,18 @@
+-- A WebSocket's messages as the lines of a conversation, and its replies as messages.
+use Rattle.std.specs.Prelude.{◌≡◌, ℕ, true, false, List, [], ◌∷◌, ◌++◌}
+use Rattle.std.specs.List.{list_any}
+use Rattle.web_wire.specs.Messages.{is_feed, is_line, message_bytes, with_feed}
+use Rattle.web_wire.specs.Socket.{GoesOn, Socket}
+use Rattle.workers.specs.Talk.{Talk, heard}
+
+-- the line of the next message came to the conversation, with its line feed
+abbrev pub GivesTo : Socket → Talk → List ℕ → Socket → Talk → List ℕ → Type 0
+GivesTo old talk output new talked put =
+    (line : List ℕ) × (is_line line ≡ true) × (talked ≡ heard talk (with_feed line))
+    × GoesOn (line ∷ []) old output new put
+
+-- the first of the replies, up to its line feed, is behind the output as a message
+abbrev pub SaysFirst : List ℕ → List ℕ → List ℕ → List ℕ → Type 0
+SaysFirst replies output rest put =
+    (line : List ℕ) × (list_any is_feed line ≡ false) × (replies ≡ with_feed line ++ rest)
+    × (put ≡ output ++ message_bytes line)

@@ -1,0 +1,74 @@
+//! A WebSocket's messages as the lines of a conversation, and its replies as messages.
+ghost use Rattle.std.specs.Prelude.{◌≡◌, ◌⊎◌, ◌<◌, ◌≤◌, [], true, Ok, min, length};
+ghost use Rattle.std.specs.List.{position};
+ghost use Rattle.web_wire.specs.Course.{waits as nothing_comes};
+ghost use Rattle.web_wire.specs.Messages.{is_feed};
+ghost use Rattle.web_wire.specs.Socket.{GoesOn, course};
+ghost use Rattle.web_wire.specs.declared.frames.Turn.TheVariants as Taken;
+ghost use Rattle.workers.specs.Talk.{unwritten};
+ghost use Rattle.event_loop.specs.Messages.{GivesTo, SaysFirst};
+
+use std::alloc::AllocError;
+use web_wire::{Frames, Turn, put_message};
+use wire_lines::Fault;
+use workers::Conversation;
+
+/// What the line of a long message took is given back behind it, but for so much.
+const KEPT: usize = 65_536;
+
+/// Gives a conversation the line of the next message. `line` is room for it. What frames are answered is appended to
+/// `output`.
+pub fn hear(
+    frames: &mut Frames,
+    conversation: &mut Conversation,
+    line: &mut Vec<u8>,
+    output: &mut Vec<u8>,
+) -> Result<Turn, Fault>
+    ensures line { result ≡ Ok Taken.Line → GivesTo frames.old conversation.old output.old.items
+        frames.new conversation.new output.new.items }
+    ensures none { result ≡ Ok Taken.Read → GoesOn [] frames.old output.old.items frames.new output.new.items
+        × (course frames.new [] ≡ nothing_comes) }
+    ensures end { result ≡ Ok Taken.Close → GoesOn [] frames.old output.old.items frames.new output.new.items
+        × (frames.new.ended ≡ true) }
+    ensures other { (result ≡ Ok Taken.Line) ⊎ (conversation.new ≡ conversation.old) }
+{
+    line.clear();
+    let turn = frames.next_line(line, output)?;
+    if turn == Turn::Line {
+        conversation.receive(line.as_slice())?;
+    }
+    line.clear();
+    line.shrink_to(KEPT);
+    Ok(turn)
+}
+
+/// Puts the first of a conversation's replies behind the output as a message, unless the last `held` bytes of the replies
+/// have a part of it. False if there is none.
+pub fn say(
+    conversation: &mut Conversation,
+    output: &mut Vec<u8>,
+    held: usize,
+) -> Result<bool, AllocError>
+    ensures only { conversation.new ≡ unwritten conversation.old conversation.new.replies }
+    ensures said { result ≡ Ok true → SaysFirst conversation.old.replies output.old.items
+        conversation.new.replies output.new.items }
+    ensures shorter { result ≡ Ok true → length conversation.new.replies < length conversation.old.replies }
+    ensures other { (result ≡ Ok true) ⊎ ((conversation.new ≡ conversation.old) × (output.new.items ≡ output.old.items)) }
+    ensures held { min held (length conversation.old.replies) ≤ length conversation.new.replies }
+{
+    let replies = conversation.replies();
+    let free = replies.len().saturating_sub(held);
+    let Some(end) = find_feed(&replies[..free]) else {
+        return Ok(false);
+    };
+    put_message(&replies[..end], output)?;
+    conversation.sent(end + 1);
+    Ok(true)
+}
+
+// Where the first line feed is.
+fn find_feed(bytes: &[u8]) -> Option<usize>
+    ensures { result ≡ position is_feed bytes.now }
+{
+    bytes.iter().position(|byte| *byte == b'\n')
+}

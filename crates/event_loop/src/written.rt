@@ -1,0 +1,95 @@
+//! What a client is told: its replies, and why it is served no longer.
+use crate::accept::FULL_PAGE;
+use crate::client::{Client, Phase};
+use crate::hold::Hold;
+use crate::link::Link;
+use crate::messages::say;
+use crate::transfer::{Broken, Passage, write_from, write_rest};
+use std::alloc::AllocError;
+use std::io::Write;
+use web_wire::put_message;
+use wire_json::memory_line;
+use wire_lines::Fault;
+
+/// How often a socket is written to before others have their turn.
+const WRITES: u32 = 16;
+
+impl Client {
+    /// Writes replies, as many as the socket takes.
+    pub fn write(&mut self) {
+        let held = match self.hold {
+            Hold::Pause { bytes, .. } => bytes,
+            _ => 0,
+        };
+        for _write in 0..WRITES {
+            match self.write_once(held) {
+                Ok(Passage::Passed) => self.times.note_taken(),
+                Ok(Passage::Again) => {}
+                Ok(Passage::Blocked | Passage::Over) => return,
+                Err(broken) => {
+                    self.cause = broken.cause;
+                    self.phase = Phase::Broken(broken.fault);
+                    return;
+                }
+            }
+        }
+    }
+
+    // Writes once, all replies but for the last `held` bytes of them.
+    fn write_once(&mut self, held: usize) -> Result<Passage, Broken> {
+        if let Link::Lines = self.link {
+            return write_from(&mut self.conversation, &mut self.stream, held);
+        }
+        if self.outbox.is_empty() && self.say_all(held).is_err() {
+            return Err(Broken {
+                fault: Fault::Memory,
+                cause: None,
+            });
+        }
+        self.write_outbox()
+    }
+
+    // Makes messages of all replies but for the last `held` bytes of them.
+    fn say_all(&mut self, held: usize) -> Result<(), AllocError> {
+        while say(&mut self.conversation, &mut self.outbox.bytes, held)? {}
+        Ok(())
+    }
+
+    // Writes once what is in the outbox.
+    fn write_outbox(&mut self) -> Result<Passage, Broken> {
+        let bytes = self.outbox.bytes.as_slice();
+        let passage = write_rest(bytes, &mut self.outbox.sent, &mut self.stream)?;
+        self.outbox.settle();
+        Ok(passage)
+    }
+
+    /// Tells that memory ran out, if the socket takes it at once.
+    pub(crate) fn tell_of_memory(&mut self) {
+        let line = memory_line();
+        match self.link {
+            Link::Lines => {
+                let _told = self.stream.write(line);
+            }
+            Link::Socket(_) => {
+                let text = line.strip_suffix(b"\n").unwrap_or(line);
+                let _put = put_message(text, &mut self.outbox.bytes);
+                let _told = self.write_outbox();
+            }
+            Link::Visit(_) | Link::Over => {
+                let _told = self.stream.write(FULL_PAGE);
+            }
+        }
+    }
+
+    /// Closes its socket as WebSocket asks, if it has one and no reply waits to be written: the server ends, or serves it no
+    /// longer.
+    pub fn say_goodbye(&mut self) {
+        if self.owes() {
+            return;
+        }
+        if let Link::Socket(frames) = &mut self.link {
+            let _put = frames.go_away(&mut self.outbox.bytes);
+            let _told = self.write_outbox();
+        }
+    }
+}

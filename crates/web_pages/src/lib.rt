@@ -1,0 +1,8 @@
+//! The files of the page, as they are in web/.
+//!
+//! It depends on `web_wire`, which serves them.
+#![tactic(auto)]
+
+mod pages;
+
+pub use pages::all_pages;

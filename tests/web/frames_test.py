@@ -11,6 +11,7 @@ from web_server import BINARY, CLOSE, CONTINUATION, LONGEST, PING, PONG, TEXT, W
 
 REVS = '{"do":"revs","pad":"p"}'
 NO_SESSION = {"code": 200, "error": "NoSession", "ok": False}
+AGAIN = '{"code":202,"error":"HaveSession","ok":false}'
 
 
 def padded(size):
@@ -167,6 +168,18 @@ def frames_may_come_with_the_handshake():
     want(rest, bytes([0x81, len(told)]) + told + b"\x88\x02\x03\xe9", "the frames behind the handshake")
 
 
+def messages_before_a_close_are_answered_before_it():
+    """RFC 6455, section 5.5.1: no data follows a close."""
+    server = WebServer()
+    told = json.dumps(NO_SESSION, separators=(",", ":")).encode()
+    for faulty, code in ((frame(CLOSE, struct.pack("!H", 1000)), 1000), (frame(BINARY, b""), 1003)):
+        for count in (1, 2, 40):
+            page = server.open()
+            page.send(frame(TEXT, '{"do":"pads"}') * count + faulty)
+            want([page.read_frame() for _ in range(count)], [(TEXT, told)] * count, f"the answers to {count} messages before a close")
+            want(page.closing(), code, "the code of the close")
+
+
 def control_characters_and_markup_come_back_as_they_were():
     """Each scalar value below 0x20, quotation marks, and markup, in a text, a comment and a refusal."""
     page = WebServer().page("ann")
@@ -189,6 +202,7 @@ FUNCTIONS = [
     pings_are_answered_also_between_fragments,
     frames_may_come_byte_by_byte,
     frames_may_come_with_the_handshake,
+    messages_before_a_close_are_answered_before_it,
     control_characters_and_markup_come_back_as_they_were,
 ]
 

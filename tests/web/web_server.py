@@ -66,9 +66,9 @@ def head_of(*lines):
     return "\r\n".join([*lines, "", ""])
 
 
-def handshake_of(host, *more, **changed):
+def handshake_of(address, *more, **changed):
     fields = {
-        "Host": host, "Connection": "Upgrade", "Upgrade": "websocket", "Sec-WebSocket-Version": "13", "Sec-WebSocket-Key": KEY,
+        "Host": address, "Connection": "Upgrade", "Upgrade": "websocket", "Sec-WebSocket-Version": "13", "Sec-WebSocket-Key": KEY,
     }
     changed = {name.replace("_", "-").lower(): value for name, value in changed.items()}
     lines = [f"{name}: {changed.get(name.lower(), value)}" for name, value in fields.items() if changed.get(name.lower(), value)]

@@ -132,9 +132,10 @@ def frame(opcode, data=b"", fin=True, reserved=0, masked=True):
 class Socket:
     """A WebSocket at the server."""
 
-    def __init__(self, port, *fields, host=None):
-        self.socket = socket.create_connection(("127.0.0.1", port), timeout=WAIT)
-        self.socket.setsockopt(socket.IPPROTO_TCP, socket.TCP_NODELAY, 1)
+    def __init__(self, port, *fields, host=None, wrap=None):
+        plain = socket.create_connection(("127.0.0.1", port), timeout=WAIT)
+        plain.setsockopt(socket.IPPROTO_TCP, socket.TCP_NODELAY, 1)
+        self.socket = wrap(plain) if wrap else plain
         key = base64.b64encode(os.urandom(16)).decode()
         self.send(handshake_of(host or f"127.0.0.1:{port}", *fields, sec_websocket_key=key).encode())
         self.bytes = self.socket.makefile("rb")

@@ -193,6 +193,12 @@ CASES = [
     misuse("--web with --stdin", "--stdin --replica 1 --web 127.0.0.1:0", "--web"),
     misuse("--web twice", f"{LISTEN} --web 127.0.0.1:0 --web 127.0.0.1:0", "--web"),
     misuse("--web without an address", f"{LISTEN} --web", "--web"),
+    misuse("--web-origin with --stdin", "--stdin --replica 1 --web-origin https://a", "--web-origin"),
+    misuse("--web-origin without --web", f"{LISTEN} --web-origin https://a", "--web-origin", "--web"),
+    Case(
+        "web: an address without a port", f"{LISTEN} --web 127.0.0.1", status=1, files=ACCOUNTS,
+        stderr=Has("pad_server: cannot listen at 127.0.0.1"),
+    ),
 ]
 
 FUNCTIONS = [

@@ -78,7 +78,7 @@ TESTS = [
 ]
 
 # These take minutes: tests/run --long.
-LONG = [
+LONG_TESTS = [
     named(lambda: the_pages_show_what_a_model_of_the_server_has(5_000), 600, "5,000 rounds with the model"),
     named(lambda: pages_whose_connections_break_make_each_character_once(60), 400, "connections break for two minutes"),
     named(lambda: the_same_over_tcp(30), 300, "connections over TCP break for a minute"),

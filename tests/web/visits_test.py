@@ -94,20 +94,20 @@ def ends(connections, seconds):
 
 
 def half_handshakes_by_the_thousand():
-    """All end, refused or in their time. Authors type meanwhile (which takes some 0.3 MiB), and the memory of one wave is
+    """All end, refused or in their time. Authors type meanwhile (some 0.2 MiB a wave), and the memory of one wave is
     used again by the next."""
     server = WebServer("--workers 2", stderr=subprocess.DEVNULL)
     owner = pad_of_typists(server)
     typing = Typing([server.author("bob", "p"), server.author("cid", "p"), server.page("dan", "p"), server.page("eve", "p")])
     memory = []
-    for _ in range(3):
+    for _ in range(2):
         halves = [one for one in (start_half(server.web, number) for number in range(2_500)) if one]
         counts = ends(halves, REQUEST_TIME + 10)
         want(set(counts) <= {None, 408, 503}, True, f"how they end: {counts}")
         memory.append(resident(server))
-    want(memory[2] - memory[0] < 2_048, True, f"less than 2 MiB more after two further waves, not {memory} KiB")
+    want(memory[1] - memory[0] < 1_024, True, f"less than 1 MiB more after another wave, not {memory} KiB")
     want(threads_of(server) <= 6, True, f"few threads, not {threads_of(server)}")
-    typed = typing.stop(30)
+    typed = typing.stop(20)
     want(len(owner.does(do="text", pad="p")["text"]), typed, "letters at the end")
     want(server.get("/").body == files()["/"], True, "that the page is served afterwards")
 
@@ -211,6 +211,38 @@ def a_server_that_ends_tells_its_sockets():
     want(process.wait(), 1, "the status")
 
 
+def a_silent_socket_is_closed_where_the_server_says_so():
+    server = WebServer("--idle 2", stderr=subprocess.DEVNULL)
+    speaks, silent = server.page("ann"), server.page("bob")
+    end = time.monotonic() + 4
+    while time.monotonic() < end:
+        speaks.does(do="pads")
+        time.sleep(0.2)
+    want(silent.closing(), 1001, "the code of the close")
+
+
+def a_request_that_drips_ends_in_its_time():
+    server = WebServer(stderr=subprocess.DEVNULL)
+    connection, began = socket.create_connection(("127.0.0.1", server.web), timeout=15), time.monotonic()
+    try:
+        for byte in handshake_of("a", f"X: {'x' * 200}").encode():
+            connection.sendall(bytes([byte]))
+            time.sleep(0.1)
+    except OSError:
+        pass
+    took = time.monotonic() - began
+    want(REQUEST_TIME - 1 < took < REQUEST_TIME + 4, True, f"an end after {REQUEST_TIME} s, not {took:.1f}")
+
+
+def a_socket_of_nobody_is_closed_after_a_minute():
+    server = WebServer(stderr=subprocess.DEVNULL)
+    nobody, began = server.open(), time.monotonic()
+    nobody.socket.settimeout(80)
+    want(nobody.closing(), 1001, "the code of the close")
+    took = time.monotonic() - began
+    want(58 < took < 65, True, f"an end after 60 s, not {took:.1f}")
+
+
 FUNCTIONS = [
     half_handshakes_by_the_thousand,
     a_thousand_silent_sockets_beside_authors_that_type,
@@ -218,6 +250,11 @@ FUNCTIONS = [
     pings_that_nobody_reads_take_no_memory,
     messages_that_never_end_hold_up_nobody,
     a_server_that_ends_tells_its_sockets,
+    a_silent_socket_is_closed_where_the_server_says_so,
 ]
+LONG_ONES = [a_request_that_drips_ends_in_its_time, a_socket_of_nobody_is_closed_after_a_minute]
 
-TESTS = [Test(f"pad_server: visits: {function.__name__.replace('_', ' ')}", function, 120) for function in FUNCTIONS]
+TESTS, LONG_TESTS = (
+    [Test(f"pad_server: visits: {function.__name__.replace('_', ' ')}", function, 120) for function in functions]
+    for functions in (FUNCTIONS, LONG_ONES)
+)

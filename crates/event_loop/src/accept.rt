@@ -2,7 +2,7 @@
 use crate::arrivals::{Arrival, Entrance};
 use crate::clients::WAKING;
 use crate::hub::Hub;
-use crate::limits::Limits;
+use crate::limits::{Limits, VISITS};
 use crate::rarely::Rarely;
 use crate::ticker::Ticker;
 use journal::Journal;
@@ -205,13 +205,13 @@ fn take<R: Clock + Wait + Eprint>(
     count: &mut Count,
 ) {
     let number = count.accepted;
-    let (has_room, refusal) = match entrance {
-        Entrance::Lines => (hub.has_room(limits.clients), FULL),
-        Entrance::Web => (hub.has_room_for_visit(), FULL_PAGE),
+    let (has_room, most, refusal) = match entrance {
+        Entrance::Lines => (hub.has_room(limits.clients), limits.clients, FULL),
+        Entrance::Web => (hub.has_room_for_visit(), VISITS, FULL_PAGE),
     };
     if !has_room {
         if count.full.is_due(count.ticker.look(rt)) {
-            warn!(Journal(rt); "connection {number} is refused: too many are connected");
+            warn!(Journal(rt); "connection {number} is refused: {most} clients are connected");
         }
         let _told = stream.write(refusal);
         return;

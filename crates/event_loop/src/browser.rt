@@ -88,8 +88,12 @@ impl Client {
         self.end_visit()
     }
 
-    /// Takes the next message of a socket, or reads once where none is whole.
+    /// Takes the next message of a socket, or reads once where none is whole. The replies to the messages before it are said
+    /// first, so that a close is sent behind them.
     pub(crate) fn listen(&mut self, buffers: &mut Buffers) -> Step {
+        if self.say_all(0).is_err() {
+            return self.fail(Fault::Memory);
+        }
         let Link::Socket(frames) = &mut self.link else {
             return Step::Rests;
         };

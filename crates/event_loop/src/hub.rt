@@ -102,7 +102,7 @@ impl Hub {
 
     /// Whether there is room for one more request over HTTP.
     pub fn has_room_for_visit(&self) -> bool {
-        self.visits.load(Ordering::SeqCst) < VISITS
+        self.visits.load(Ordering::SeqCst) < u64::from(VISITS)
     }
 
     /// A worker has begun its work.

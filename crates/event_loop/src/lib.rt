@@ -12,6 +12,7 @@ mod client;
 mod clients;
 mod hold;
 mod hub;
+pub mod laws;
 mod limits;
 mod link;
 mod messages;

@@ -33,7 +33,7 @@ pub const LOG_IN: u64 = 60_000;
 pub const REQUEST: u64 = 10_000;
 
 /// How many requests over HTTP are read or answered at once. They are no clients.
-pub const VISITS: u64 = 512;
+pub const VISITS: u32 = 512;
 
 /// How often it is checked which clients have passed a limit of time, in milliseconds.
 pub const CHECK: u64 = 1_000;

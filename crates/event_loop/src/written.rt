@@ -49,8 +49,8 @@ impl Client {
         self.write_outbox()
     }
 
-    // Makes messages of all replies but for the last `held` bytes of them.
-    fn say_all(&mut self, held: usize) -> Result<(), AllocError> {
+    /// Makes messages of all replies but for the last `held` bytes of them.
+    pub(crate) fn say_all(&mut self, held: usize) -> Result<(), AllocError> {
         while say(&mut self.conversation, &mut self.outbox.bytes, held)? {}
         Ok(())
     }

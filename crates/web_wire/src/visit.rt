@@ -159,7 +159,7 @@ impl Visit {
     // Appends the response.
     fn respond(&mut self, server: &mut Server, plan: Plan<'_>) -> Result<Next, AllocError>
         requires { IsRefused plan }
-        ensures { Responds plan self.old result self.new }
+        ensures { Responds plan.entry self.old result self.new }
     {
         let before = self.output.len();
         let output = &mut self.output;

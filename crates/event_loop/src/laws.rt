@@ -1,0 +1,22 @@
+//! A law of browsers, as the contract of a function that does nothing.
+ghost use Rattle.event_loop.specs.Laws.{BrowserLaw};
+ghost use Rattle.workers.specs.Crew.{CallsRow, KeepsSession};
+ghost use Rattle.workers.specs.Laws.{ServesApart};
+ghost use Rattle.workers.specs.declared.shared.Shared.{Shared};
+
+use pad_model::Sequence;
+use shared_pads::Gate;
+use std::sync::Wait;
+use web_wire::laws::pieces_law;
+use wire_lines::laws::lines_law;
+use workers::laws::shared_law;
+
+/// In whatever pieces the bytes of its socket come, what a browser's conversation gives out is the session text of the lines
+/// of its messages, where the worker's seats serve others between two of them.
+pub fn browser_law<S: Sequence, R: Wait, G: Gate>()
+    ensures { BrowserLaw {P = Shared S R G} CallsRow KeepsSession (ServesApart CallsRow KeepsSession) }
+{
+    lines_law();
+    pieces_law();
+    shared_law::<S, R, G>();
+}

@@ -168,6 +168,11 @@ def the_answer_to_the_key_is_that_of_the_standard():
     connection.sendall(handshake_of(server.host).encode())
     head = connection.makefile("rb")
     lines = [head.readline().decode().strip() for _ in range(4)]
+    offers = handshake_of(server.host, "Sec-WebSocket-Protocol: chat", "Sec-WebSocket-Extensions: permessage-deflate")
+    other = socket.create_connection(("127.0.0.1", server.web), timeout=WAIT)
+    other.sendall(offers.encode())
+    agreed = other.recv(4_096).lower()
+    want((b" 101 " in agreed, b"protocol:" in agreed, b"extensions:" in agreed), (True, False, False), f"what is agreed to: {agreed}")
     want((lines[0].split(" ")[1], [line.split(": ")[1] for line in lines if "accept" in line.lower()]), ("101", [ACCEPT]), f"the answer {lines}")
 
 

@@ -37,11 +37,11 @@ def the_parts_of_the_page_keep_their_laws():
 
 
 def pages_whose_connections_break_make_each_character_once(seconds=6):
-    script(NODE, "server_test.mjs", f"ws://{WebServer().host}/socket", seconds)
+    script(NODE, "server_test.mjs", f"ws://{WebServer(stderr=subprocess.DEVNULL).host}/socket", seconds)
 
 
 def the_same_over_tcp(seconds=6):
-    script(NODE, "server_test.mjs", Server().port, seconds)
+    script(NODE, "server_test.mjs", Server(stderr=subprocess.DEVNULL).port, seconds)
 
 
 def forty_pages_type_beside_a_peer(seconds=15):

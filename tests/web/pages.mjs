@@ -50,6 +50,18 @@ export async function openPage({ open, name, token, pad, how, pace }) {
   return out;
 }
 
+// A connection that can be told to break right behind an edit: the server gets the edit, and its answer is lost.
+export const fragile = (open, stats) => () => {
+  const channel = open(), { send } = channel;
+  channel.send = (text) => {
+    send(text);
+    if (!channel.breaksBehindEdit || !/^\{"do":"(insert|delete|edit)"/.test(text)) return;
+    stats.lost++;
+    channel.socket.destroy();
+  };
+  return channel;
+};
+
 // The spots between the characters of a text, in units.
 export function spotsOf(text) {
   const spots = [0];

@@ -7,7 +7,7 @@
 import { pause } from "../../web/clock.js";
 import { PACE } from "../../web/sync.js";
 import { dice as makeDice } from "./dice.mjs";
-import { Tally, areSettled, freshCharacters, openPage, runsOf, spotsOf, until } from "./pages.mjs";
+import { Tally, areSettled, fragile, freshCharacters, openPage, runsOf, spotsOf, until } from "./pages.mjs";
 import { connections, tcp } from "./tcp.mjs";
 import { webSocket } from "./websocket.mjs";
 
@@ -16,21 +16,21 @@ const sent = isSocket ? { lines: 0 } : connections, open = isSocket ? webSocket(
 const WHO = ["ann", "bob", "cid"], FAST = { gather: 30, rest: 0, wait: 25 };
 const tally = new Tally(), { tell } = tally;
 
-function page(k, pad, how, pace = FAST) {
+function page(k, pad, how, pace = FAST, through = open) {
   const name = WHO[k % 3];
-  return openPage({ open, name, token: `t${name}`, pad, how, pace });
+  return openPage({ open: through, name, token: `t${name}`, pad, how, pace });
 }
 
 async function grantAll(owner) {
   for (const name of WHO) if (name !== owner.session.name) await owner.session.grant(name, "write");
 }
 
-// Six windows of three authors type, and their connections break.
+// Six windows of three authors type, and their connections break: at any time, or right behind an edit.
 async function crowd(name, seed, isErasing) {
-  const dice = makeDice(seed), pad = `crowd-${process.pid}-${seed}`, typed = [], stats = { edits: 0, breaks: 0 }, fresh = freshCharacters();
-  const pages = [await page(0, pad, "create")];
+  const dice = makeDice(seed), pad = `crowd-${process.pid}-${seed}`, typed = [], stats = { breaks: 0, lost: 0 };
+  const fresh = freshCharacters(), through = fragile(open, stats), pages = [await page(0, pad, "create", FAST, through)];
   await grantAll(pages[0]);
-  for (let k = 1; k < 6; k++) pages.push(await page(k, pad, "join"));
+  for (let k = 1; k < 6; k++) pages.push(await page(k, pad, "join", FAST, through));
   const end = Date.now() + 1000 * Number(seconds);
   await Promise.all(pages.map(async (one) => {
     while (Date.now() < end) {
@@ -41,13 +41,16 @@ async function crowd(name, seed, isErasing) {
       if (from === to || dice(2)) for (let n = dice(4); n >= 0; n--) text += fresh();
       typed.push(...text);
       one.type(spots[from], spots[to] - spots[from], text);
-      if (dice(25) === 0) { stats.breaks++; one.session.wire?.channel?.socket.destroy(); }
+      const channel = dice(25) ? null : one.session.wire?.channel;
+      if (!channel) continue;
+      stats.breaks++;
+      if (dice(2)) channel.breaksBehindEdit = true; else channel.socket.destroy();
     }
   }));
   const settled = await until(() => areSettled(pages), 30000), { session } = pages[0];
   const { text, now } = await session.pad.call({ do: "text" }), { cells } = await session.pad.call({ do: "revs" });
   const { runs } = await session.pad.call({ do: "runs", rev: now });
-  tell(`${name}: all pages end`, settled && pages.every(({ faults }) => !faults.length), `${now} edits, ${stats.breaks} broken connections`);
+  tell(`${name}: all pages end`, settled && pages.every(({ faults }) => !faults.length), `${now} edits, ${stats.breaks} broken connections, ${stats.lost} lost answers`);
   tell(`${name}: all pages show the server's text`, pages.every((one) => one.shown === text && one.session.pad.text === text), `${text.length} units`);
   tell(`${name}: with its authors`, pages.every((one) => JSON.stringify(runsOf(one)) === JSON.stringify(runs)), `${runs.length} runs`);
   if (isErasing) tell(`${name}: no character is there twice`, new Set(text).size === [...text].length);
@@ -55,7 +58,7 @@ async function crowd(name, seed, isErasing) {
     const isSame = [...text].sort().join("") === typed.sort().join("");
     tell(`${name}: each typed character was made exactly once`, cells === typed.length && isSame, `${typed.length} typed, ${cells} made`);
   }
-  tell(`${name}: there were enough breaks and edits`, stats.breaks >= 5 && now >= 50);
+  tell(`${name}: there were enough breaks, lost answers and edits`, stats.breaks >= 5 && stats.lost >= 3 && now >= 50);
   for (const one of pages) one.session.logOut();
 }
 

@@ -33,8 +33,10 @@ def hostile(test):
     until(lambda: ann.text)
     ann.type(HOSTILE[-40:], 0)
     check("typed markup is text", ann.is_saved() and ann.text.startswith(HOSTILE[-40:]), ann.text[:60])
-    ann.log_in("<script>", "\"><script>window.hacked = 1</script>")
+    is_hacked = lambda: ann.run("return window.hacked ?? null")
     made = ann.run(MADE)
-    check("nothing of it becomes an element or runs", not made and not ann.run("return window.hacked ?? null"), made)
+    check("nothing of it becomes an element or runs", not made and not is_hacked(), made)
+    ann.log_in("<script>", "\"><script>window.hacked = 1</script>")
+    check("and nothing of a log-in", not ann.run(MADE) and not is_hacked(), ann.run(MADE))
     faults = [fault for fault in ann.faults() if "status of 4" not in fault]
     check("and the policy has nothing to stop", not faults, faults)

@@ -4,10 +4,10 @@ from windows import PAST, Line, until
 # All control characters but those that end a line, marks that change the direction, and markup.
 HOSTILE = "".join(map(chr, range(0x20))).replace("\n", "").replace("\r", "") + (
     "\x7f\u202e\u2066\ufeff\"'`<script>window.hacked = 1</script><img src=x onerror=\"window.hacked = 1\">"
-    "<svg onload='window.hacked = 1'>&lt;b&gt;&amp;</div></span><a href=\"javascript:window.hacked = 1\">x</a>\\u003cscript>"
+    "<svg onload='window.hacked = 1'>&lt;b&gt;&amp;<i>x</i></div></span><a href=\"javascript:window.hacked = 1\">x</a>\\u003cscript>"
 )
 MADE = """
-return ['script', 'img', 'svg', 'a', 'b'].flatMap(name => ['#text', '#margin', '#past', '#comment-box', '#here', '#notice', '#authors', '#pads']
+return ['script', 'img', 'svg', 'a', 'i'].flatMap(name => ['#text', '#margin', '#past', '#comment-box', '#here', '#notice', '#authors', '#pads']
   .map(place => `${place} ${name}`)).filter(selector => document.querySelector(selector))
 """
 

@@ -206,4 +206,4 @@ FUNCTIONS = [
     control_characters_and_markup_come_back_as_they_were,
 ]
 
-TESTS = [Test(f"pad_server: socket: {function.__name__.replace('_', ' ')}", function, 60) for function in FUNCTIONS]
+TESTS = [Test(f"pad_server: web socket: {function.__name__.replace('_', ' ')}", function, 60) for function in FUNCTIONS]

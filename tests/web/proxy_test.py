@@ -10,6 +10,7 @@ import time
 
 from harness import ROOT, Failed, Test, put_files, want
 from peers import free_ports
+from scripts_test import PYTHON, script
 from sockets import FIRST_STEPS, WAIT
 from web_server import LONGEST, PING, PONG, TEXT, Socket, WebServer, files, frame, handshake_of, head_of, read_response
 
@@ -138,6 +139,11 @@ def nginx_passes_the_socket_on():
     want(page.closing(), 1008, "the code after an empty message")
 
 
+def nginx_serves_a_window_over_tls():
+    proxy = Proxy(WebServer())
+    script(PYTHON, "tls_window.py", f"https://127.0.0.1:{proxy.port}/")
+
+
 def nginx_keeps_foreign_pages_out():
     proxy = Proxy(WebServer())
     for origin in ("https://evil.example", "null", f"http://evil.example:{proxy.port}"):
@@ -145,6 +151,11 @@ def nginx_keeps_foreign_pages_out():
     proxy.open().close()
 
 
-FUNCTIONS = [nginx_serves_the_page_over_tls, nginx_passes_the_socket_on, nginx_keeps_foreign_pages_out]
+FUNCTIONS = [
+    nginx_serves_the_page_over_tls,
+    nginx_passes_the_socket_on,
+    nginx_serves_a_window_over_tls,
+    nginx_keeps_foreign_pages_out,
+]
 
 TESTS = [Test(f"web: {function.__name__.replace('_', ' ')}", function, 60) for function in FUNCTIONS]

@@ -57,9 +57,9 @@ def units(text):
 class Window:
     """One window, of one author."""
 
-    def __init__(self, url, width=1280, height=860):
+    def __init__(self, url, *flags, width=1280, height=860):
         options = webdriver.ChromeOptions()
-        for flag in (*FLAGS, f"--window-size={width},{height}"):
+        for flag in (*FLAGS, *flags, f"--window-size={width},{height}"):
             options.add_argument(flag)
         options.set_capability("goog:loggingPrefs", {"browser": "ALL"})
         self.driver = webdriver.Chrome(service=Service("/usr/bin/chromedriver"), options=options)

@@ -43,8 +43,8 @@ async def status_of(url, origin):
     try:
         async with websockets.connect(url, origin=origin):
             return 101
-    except websockets.InvalidStatusCode as refused:
-        return refused.status_code
+    except websockets.InvalidHandshake as refused:  # which keeps the status here, or in its response in newer versions
+        return getattr(refused, "status_code", None) or refused.response.status_code
 
 
 async def session(url):

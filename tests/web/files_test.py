@@ -190,6 +190,18 @@ def one_too_many_is_told_so_in_words():
     line.does(do="pads")
 
 
+def a_server_ends_after_its_last_connection():
+    """Requests for files count, and so does a socket, whose end is waited for."""
+    server = WebServer("--connections 4")
+    want([server.get("/").status, server.get("/none").status], [200, 404], "two requests")
+    page, line = server.page("ann"), server.author("bob")
+    page.does(do="create", pad="p")
+    want(line.finish(), "", "what a client over TCP reads at its end")
+    page.does(do="revs", pad="p")
+    page.close()
+    server.ends()
+
+
 def misuse(name, args, *parts, status=2):
     return Case(f"web: {name}", args, status=status, stderr=Has(*parts), files=ACCOUNTS)
 
@@ -217,6 +229,7 @@ FUNCTIONS = [
     a_page_of_another_origin_gets_no_socket,
     the_answer_to_the_key_is_that_of_the_standard,
     one_too_many_is_told_so_in_words,
+    a_server_ends_after_its_last_connection,
 ]
 
 TESTS = [case.test() for case in CASES]

@@ -121,7 +121,7 @@ def a_thousand_silent_sockets_beside_authors_that_type():
     for number in range(1_000):
         silent.append(server.page(NAMES[number % len(NAMES)]))
     each = (resident(server) - before) / len(silent)
-    want(each < 6, True, f"less than 6 KiB for each silent socket, not {each:.1f}")
+    want(each < 4, True, f"less than 4 KiB for each silent socket, not {each:.1f}")
     typing = Typing([server.page(NAMES[number % len(NAMES)], "p") for number in range(15)])
     time.sleep(3)
     want(len(owner.does(do="text", pad="p")["text"]) > 0, True, "that letters come")

@@ -192,6 +192,28 @@ def messages_that_never_end_hold_up_nobody():
     want(slowest < SLOWEST, True, f"each answer within {SLOWEST} s, not {slowest:.2f}")
 
 
+def long_messages_hold_up_nobody():
+    """Messages of 8 MiB that are hard to parse, beside an author; who sent one is answered, and served on afterwards."""
+    server = WebServer("--workers 1", stderr=subprocess.DEVNULL)
+    author, hostile = server.page("ann"), [server.open() for _ in range(4)]
+    author.does(do="create", pad="p")
+    long = frame(TEXT, "[" + "0," * (LONGEST // 2 - 16) + "0]")
+    senders = [threading.Thread(target=overwhelm, args=(page, long), daemon=True) for page in hostile]
+    for sender in senders:
+        sender.start()
+    slowest, end = 0, time.monotonic() + 20
+    while any(sender.is_alive() for sender in senders) and time.monotonic() < end:
+        began = time.monotonic()
+        author.does(do="revs", pad="p")
+        slowest = max(slowest, time.monotonic() - began)
+        time.sleep(0.01)
+    want(slowest < 3, True, f"each answer within three seconds, not {slowest:.2f}")
+    for page in hostile:
+        want(page.read_text(), '{"code":102,"error":"NotRequest","ok":false}', "the answer to a long message")
+        want(page.ask(do="hello", name="ann", token="tann"), {"author": "ann@1", "ok": True}, "the answer to a short one")
+    author.does(do="revs", pad="p")
+
+
 def a_server_that_ends_tells_its_sockets():
     """Its store fails; a close with 1001 is what each socket reads last."""
     faults = Faults()
@@ -251,6 +273,7 @@ FUNCTIONS = [
     a_socket_that_reads_nothing_holds_up_nobody_and_takes_no_memory,
     pings_that_nobody_reads_take_no_memory,
     messages_that_never_end_hold_up_nobody,
+    long_messages_hold_up_nobody,
     a_server_that_ends_tells_its_sockets,
     a_silent_socket_is_closed_where_the_server_says_so,
 ]

@@ -265,8 +265,8 @@ impl Client {
         if let Hold::Change { .. } = self.hold {
             self.times.note_line();
         }
-        let owes = self.owes();
-        self.times.check(now, owes, self.patience(), idle)
+        let (owes, patience) = (self.owes(), self.patience());
+        self.times.check(now, owes, patience, idle)
     }
 
     // How long it may be connected without having said who it is, or what it wants.

@@ -10,7 +10,7 @@ import random
 import sys
 import tempfile
 
-from hostile import hostile
+from hard_cases import hostile, lost_pad
 from page_checks import contrasts, control_names, drawn_lines
 from windows import PAST, ChangedPage, Keys, Line, Server, Window, units, until
 
@@ -353,6 +353,7 @@ def main(program, folder=None):
                 part(test)
             exports(test, downloads)
             hostile(test)
+            lost_pad(test)
             full_pad(test, pages)
         finally:
             test.ann.quit()

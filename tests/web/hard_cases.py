@@ -1,5 +1,8 @@
-"""A pad, a comment and a log-in with markup, quotation marks and control characters, in a window."""
-from windows import PAST, Line, until
+"""What a window makes of hostile words, and of a server that has lost a pad."""
+import os
+import shutil
+
+from windows import PAST, Line, units, until
 
 # All control characters but those that end a line, marks that change the direction, and markup.
 HOSTILE = "".join(map(chr, range(0x20))).replace("\n", "").replace("\r", "") + (
@@ -40,3 +43,30 @@ def hostile(test):
     check("and nothing of a log-in", not ann.run(MADE) and not is_hacked(), ann.run(MADE))
     faults = [fault for fault in ann.faults() if "status of 4" not in fault]
     check("and the policy has nothing to stop", not faults, faults)
+
+
+def lost_pad(test):
+    """The server comes back with an older copy of its store."""
+    ann, server, check = test.ann, test.server, test.check
+    store, copy = os.path.join(server.folder, "store"), os.path.join(server.folder, "copy")
+    ann.log_in("ann", "t1")
+    ann.open("restored", "create")
+    ann.type("old words", 0)
+    ann.is_saved()
+    server.kill()
+    shutil.copytree(store, copy)
+    server.start()
+    check("the page connects again", ann.is_saved(40), ann.state)
+    ann.type(" and new ones", units("old words"))
+    check("and saves more", until(lambda: ann.text == "old words and new ones") and ann.is_saved(), ann.state)
+    server.kill()
+    shutil.rmtree(store)
+    os.rename(copy, store)
+    ann.type("!", units(ann.text))
+    server.start()
+    told = until(lambda: "restored from an older copy" in ann.get("notice-text").text, 40)
+    check("an older copy is told of, and the words stay", told and ann.text == "old words and new ones!", (ann.get("notice-text").text, ann.text))
+    line = Line(server.port, "ann", "t1")
+    line.ask(do="join", pad="restored")
+    text = line.ask(do="text", pad="restored")["text"]
+    check("nothing is sent to it", text == "old words", text)

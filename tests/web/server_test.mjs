@@ -108,9 +108,9 @@ async function quiet() {
   const pad = `quiet-${process.pid}`, pages = [await page(0, pad, "create", PACE)];
   await grantAll(pages[0]);
   for (let k = 1; k < 3; k++) pages.push(await page(k, pad, "join", PACE));
-  await pause(5000);
+  await pause(2000);
   const before = sent.lines, from = Date.now();
-  await pause(12000);
+  await pause(8000);
   const rate = (sent.lines - before) / 3 / ((Date.now() - from) / 1000);
   tell("a page sends at most three lines a second while nobody types", rate <= 3, `${rate.toFixed(2)} a second`);
   const rev = pages[0].session.pad.rev, start = Date.now();

@@ -110,6 +110,7 @@ def nginx_serves_the_page_over_tls():
         direct = server.get(path)
         for name in ("content-type", "content-security-policy", "etag", "x-content-type-options"):
             want(response.fields[name], direct.fields[name], f"{name} of {path}")
+        want("max-age=" in response.fields["strict-transport-security"], True, f"that {path} asks for TLS from now on")
     missing = proxy.request(head_of("GET /none HTTP/1.1", f"Host: {proxy.host}", "Connection: close"))
     want(missing.status, 404, "the status of no file")
 

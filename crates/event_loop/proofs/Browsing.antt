@@ -1,5 +1,5 @@
 -- The course of a browser is one of its socket and one of its conversation.
-use Rattle.std.proofs.Common.{◌≡◌, ℕ, true, List, [], ◌∷◌, ◌++◌, refl, ap, ◌∙◌, sym, subst, tt, append-nil, append_assoc}
+use Rattle.std.proofs.Common.{◌≡◌, ℕ, true, List, [], ◌∷◌, ◌++◌, refl, ap, ◌∙◌, sym, subst, append-nil, append_assoc}
 use Rattle.pad_core.specs.declared.request.Request.{Request}
 use Rattle.wire_lines.specs.Served.{LinesLaw}
 use Rattle.web_wire.specs.Laws.{Follows, PiecesLaw}
@@ -7,7 +7,8 @@ use Rattle.web_wire.specs.Laws.Follows.{begun, received, gone_on}
 use Rattle.web_wire.specs.Messages.{is_line, with_feed}
 use Rattle.web_wire.specs.Socket.{Socket}
 use Rattle.workers.specs.Laws.{CourseLaw, Course as Conversing}
-use Rattle.workers.specs.Laws.Course as talked
+use Rattle.workers.specs.Laws.Course.{begins as talk_begins, came as talk_came, answered as talk_answered}
+use Rattle.workers.specs.Laws.Course.{was_long as talk_was_long, written as talk_written, passed as talk_passed}
 use Rattle.workers.specs.Session.{Answer}
 use Rattle.workers.specs.Talk.{Talk, heard}
 use Rattle.event_loop.specs.Laws.{AreLines, BrowserLaw, Course, joined}
@@ -33,7 +34,7 @@ module _ {P : Type 0} (calls : P → Request → Answer → P → Type 0) (other
   parts : (old : P) (start : Socket) (all : List ℕ) (texts : List (List ℕ)) (sent out : List ℕ) (now : P)
       (socket : Socket) (talk : Talk) → Course calls others old start all texts sent out now socket talk
       → Parts old start all texts sent out now socket talk
-  parts old start _ _ _ _ _ _ _ begins = (begun, talked.begins, tt)
+  parts old start _ _ _ _ _ _ _ begins = (begun, talk_begins, tt)
   parts old start _ _ _ _ _ _ _ (came all texts sent out now socket talk bytes course) =
       let (follows, talks, each) = parts old start all texts sent out now socket talk course in
       (received all texts sent socket bytes follows, talks, each)
@@ -48,21 +49,21 @@ module _ {P : Type 0} (calls : P → Request → Answer → P → Type 0) (other
       let (follows, talks, each) = parts old start all texts sent out now socket talk course in (
         gone_on all texts sent socket next (text ∷ []) put follows comes,
         subst (λ b. Conversing calls others old b out now (heard talk (with_feed text))) (sym (joined_more texts text))
-            (talked.came (joined texts) out (with_feed text) now talk talks),
+            (talk_came (joined texts) out (with_feed text) now talk talks),
         lines_more texts text each is,
       )
   parts old start _ _ _ _ _ _ _ (answered all texts sent out now new socket talk after course uncut first) =
       let (follows, talks, each) = parts old start all texts sent out now socket talk course in
-      (follows, talked.answered (joined texts) out now new talk after talks uncut first, each)
+      (follows, talk_answered (joined texts) out now new talk after talks uncut first, each)
   parts old start _ _ _ _ _ _ _ (was_long all texts sent out now socket talk after course uncut long) =
       let (follows, talks, each) = parts old start all texts sent out now socket talk course in
-      (follows, talked.was_long (joined texts) out now talk after talks uncut long, each)
+      (follows, talk_was_long (joined texts) out now talk after talks uncut long, each)
   parts old start _ _ _ _ _ _ _ (said all texts sent out now socket talk count course) =
       let (follows, talks, each) = parts old start all texts sent out now socket talk course in
-      (follows, talked.written (joined texts) out now talk count talks, each)
+      (follows, talk_written (joined texts) out now talk count talks, each)
   parts old start _ _ _ _ _ _ _ (passed all texts sent out now new socket talk course other) =
       let (follows, talks, each) = parts old start all texts sent out now socket talk course in
-      (follows, talked.passed (joined texts) out now new talk talks other, each)
+      (follows, talk_passed (joined texts) out now new talk talks other, each)
 
   pub browsers : (serves : P → List (List ℕ) → List Answer → P → Type 0) → LinesLaw → PiecesLaw
       → CourseLaw calls others serves → BrowserLaw calls others serves

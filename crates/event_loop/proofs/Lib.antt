@@ -1,3 +1,4 @@
 -- The lemmas, by topic.
 pub mod Browsing
+pub mod Said
 pub mod Spoken

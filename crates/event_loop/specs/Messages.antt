@@ -1,5 +1,5 @@
 -- A WebSocket's messages as the lines of a conversation, and its replies as messages.
-use Rattle.std.specs.Prelude.{◌≡◌, ℕ, true, false, List, [], ◌∷◌, ◌++◌}
+use Rattle.std.specs.Prelude.{◌≡◌, ℕ, ◌+◌, true, false, List, [], ◌∷◌, ◌++◌, take, drop}
 use Rattle.std.specs.List.{list_any}
 use Rattle.web_wire.specs.Messages.{is_feed, is_line, message_bytes, with_feed}
 use Rattle.web_wire.specs.Socket.{GoesOn, Socket}
@@ -10,6 +10,11 @@ abbrev pub GivesTo : Socket → Talk → List ℕ → Socket → Talk → List �
 GivesTo old talk output new talked put =
     (line : List ℕ) × (is_line line ≡ true) × (talked ≡ heard talk (with_feed line))
     × GoesOn (line ∷ []) old output new put
+
+-- the first line of the bytes ends there, at a line feed
+abbrev pub IsFirst : List ℕ → ℕ → Type 0
+IsFirst bytes end =
+    (list_any is_feed (take end bytes) ≡ false) × (bytes ≡ with_feed (take end bytes) ++ drop (end + 1) bytes)
 
 -- the first of the replies, up to its line feed, is behind the output as a message
 abbrev pub SaysFirst : List ℕ → List ℕ → List ℕ → List ℕ → Type 0

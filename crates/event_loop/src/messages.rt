@@ -1,12 +1,12 @@
 //! A WebSocket's messages as the lines of a conversation, and its replies as messages.
-ghost use Rattle.std.specs.Prelude.{◌≡◌, ◌⊎◌, ◌<◌, ◌≤◌, [], true, Ok, min, length};
+ghost use Rattle.std.specs.Prelude.{◌≡◌, ◌⊎◌, ◌<◌, ◌≤◌, [], true, IfSome, Ok, min, length};
 ghost use Rattle.std.specs.List.{position};
 ghost use Rattle.web_wire.specs.Course.{waits as nothing_comes};
 ghost use Rattle.web_wire.specs.Messages.{is_feed};
 ghost use Rattle.web_wire.specs.Socket.{GoesOn, course};
 ghost use Rattle.web_wire.specs.declared.frames.Turn.TheVariants as Taken;
 ghost use Rattle.workers.specs.Talk.{unwritten};
-ghost use Rattle.event_loop.specs.Messages.{GivesTo, SaysFirst};
+ghost use Rattle.event_loop.specs.Messages.{GivesTo, IsFirst, SaysFirst};
 
 use std::alloc::AllocError;
 use web_wire::{Frames, Turn, put_message};
@@ -58,7 +58,7 @@ pub fn say(
 {
     let replies = conversation.replies();
     let free = replies.len().saturating_sub(held);
-    let Some(end) = find_feed(&replies[..free]) else {
+    let Some(end) = first_end(replies, free) else {
         return Ok(false);
     };
     put_message(&replies[..end], output)?;
@@ -66,7 +66,14 @@ pub fn say(
     Ok(true)
 }
 
-// Where the first line feed is.
+// Where the first line ends, if its line feed is among so many bytes.
+fn first_end(bytes: &[u8], free: usize) -> Option<usize>
+    requires { free ≤ length bytes.now }
+    ensures { IfSome result (IsFirst bytes.now) }
+{
+    find_feed(&bytes[..free])
+}
+
 fn find_feed(bytes: &[u8]) -> Option<usize>
     ensures { result ≡ position is_feed bytes.now }
 {

@@ -2,7 +2,7 @@
 use std::time::{Clock, Duration, Instant};
 
 /// After how many turns the clock is read, although something is reported in each of them.
-const TURNS: u32 = 32;
+const TURNS: u32 = 4;
 
 /// Milliseconds since the server began, as of the last look at the clock.
 #[derive(Drop)]

@@ -26,10 +26,10 @@ first_said bytes free end found =
     let at = position-Some is_feed (take free bytes) end 0 found in
     let inside : (end < free) × (end < length bytes) = bounds (length-take free bytes) at.0 in
     let same : (k : ℕ) → k ≤ end → get_or (take free bytes) k 0 ≡ get_or bytes k 0 =
-    λ k le. get_or-take bytes free k 0 (omega (arith, le, inside.0)) in
+    λ k le. get_or-take free bytes k 0 (omega (arith, le, inside.0)) in
     let none : list_any is_feed (take end bytes) ≡ false = none_inside (take end bytes) (λ k lt.
     let before : k < end = shorter k end (length-take end bytes) lt in
-    ap is_feed (get_or-take bytes end k 0 before ∙ sym (same k (omega (arith, before)))) ∙ at.2 k before) in
+    ap is_feed (get_or-take end bytes k 0 before ∙ sym (same k (omega (arith, before)))) ∙ at.2 k before) in
     let feed : get_or bytes end 0 ≡ 10 = sym (same end (omega arith)) ∙ is_ten (get_or (take free bytes) end 0) at.1 in (
       none,
       sym (take-append-drop end bytes)

@@ -1,6 +1,6 @@
 -- The first reply, up to its line feed; and bytes that were written behind others.
-use Rattle.std.proofs.Common.{◌≡◌, ℕ, ◌-◌, min, ◌+◌, ◌<◌, ◌≤◌, suc, Bool, true, false, ◌||◌, not, cond, eqb, List, [], ◌∷◌, ◌++◌, length, take, drop}
-use Rattle.std.proofs.Common.{Option, Some, None, get_or, refl, ap, ◌∙◌, sym, subst, append_assoc, take-append-drop, drop-drop, arith}
+use Rattle.std.proofs.Common.{◌≡◌, ℕ, ◌-◌, min, ◌+◌, ◌<◌, ◌≤◌, suc, true, false, ◌||◌, List, [], ◌∷◌, ◌++◌, length, take, drop}
+use Rattle.std.proofs.Common.{Option, Some, None, get_or, refl, ap, ◌∙◌, sym, append_assoc, take-append-drop, drop-drop, arith}
 use Rattle.std.proofs.lemmas.List.{drop_more, get_or-take, length-drop, length-take, take_all}
 use Rattle.std.proofs.lemmas.List.Quantifiers.{position-Some}
 use Rattle.std.specs.List.{list_any, position}

@@ -1,0 +1,67 @@
+//! The operations of a file, for other programs.
+use crate::book::Book;
+use crate::chain::line_with_sum;
+use crate::failure::Failure;
+use crate::operation::operation_on;
+use crate::trouble::Trouble;
+use std::alloc::Global;
+use std::io::Write;
+
+/// Prints a line of JSON for each operation, up to a revision.
+pub fn export<'a, W: Write>(
+    alloc: Global,
+    path: &'a str,
+    bytes: &[u8],
+    rev: Option<u64>,
+    out: &mut W,
+) -> Result<(), Failure<'a>> {
+    let book = match Book::read(alloc, bytes) {
+        Ok(book) => book,
+        Err(trouble) => return Err(Failure::of_pad(path, trouble)),
+    };
+    let last = rev.unwrap_or(book.revision());
+    if book.revision() < last {
+        return Err(Failure::of_pad(path, Trouble::NoRevision));
+    }
+    let whole = bytes.len().min(book.whole as usize);
+    let mut made: u64 = 0;
+    for line in bytes[..whole].split(|byte| *byte == b'\n') {
+        if made >= last {
+            return Ok(());
+        }
+        if let Some(done) = operation_on(alloc, line)? {
+            made = made.saturating_add(1);
+            let at = done.at.unwrap_or(0);
+            let op = done.json.as_str();
+            let sum = done.sum;
+            let line = format!(in alloc;
+                "{{\"at\":{at},\"op\":{op},\"rev\":{made},\"sum\":\"{sum}\"}}\n"
+            )?;
+            out.write_all(line.as_bytes())?;
+        }
+    }
+    Ok(())
+}
+
+/// Prints which line of a file has a sum.
+pub fn find<'a, W: Write>(
+    alloc: Global,
+    path: &'a str,
+    bytes: &[u8],
+    sum: &str,
+    out: &mut W,
+) -> Result<(), Failure<'a>> {
+    let book = match Book::read(alloc, bytes) {
+        Ok(book) => book,
+        Err(trouble) => return Err(Failure::of_pad(path, trouble)),
+    };
+    let whole = bytes.len().min(book.whole as usize);
+    match line_with_sum(&bytes[..whole], sum.as_bytes()) {
+        Some(number) => {
+            let line = format!(in alloc; "line {number}\n")?;
+            out.write_all(line.as_bytes())?;
+            Ok(())
+        }
+        None => Err(Failure::NoSum { path }),
+    }
+}

@@ -1,0 +1,108 @@
+//! A revision with its authors and comments, as text or as Markdown.
+use crate::book::Book;
+use crate::pieces::{quoted, split};
+use crate::trouble::Trouble;
+use anchors::Shown;
+use pad_model::{AuthorRun, Row, Text};
+use std::alloc::{AllocError, Global};
+use std::fmt::Write;
+
+/// What is shown beside the text of a revision, and how.
+#[derive(Clone, Copy, Debug, PartialEq, Eq)]
+pub struct View {
+    pub authors: bool,
+    pub comments: bool,
+    pub markdown: bool,
+}
+
+impl View {
+    /// Whether the text alone is shown.
+    pub fn is_plain(self) -> bool {
+        !self.authors && !self.comments && !self.markdown
+    }
+}
+
+/// A revision as a view shows it; None is the present one.
+pub fn viewed(
+    alloc: Global,
+    bytes: &[u8],
+    rev: Option<u64>,
+    view: View,
+) -> Result<String, Trouble> {
+    let mut book = Book::read(alloc, bytes)?;
+    let at = rev.unwrap_or(book.revision());
+    let text = book.text(alloc, Some(at))?;
+    let mut out = String::new(alloc);
+    if view.markdown {
+        write!(out, "# {}\n\nRevision {at}\n\n", book.name.as_str())?;
+    }
+    if view.authors {
+        let runs = book.runs(alloc, Some(at))?;
+        put_runs(alloc, &mut out, &text, &runs, view.markdown)?;
+    } else {
+        put_text(alloc, &mut out, &text)?;
+    }
+    if view.comments {
+        let comments = book.comments(alloc, Some(at))?;
+        put_comments(alloc, &mut out, &text, &comments, view.markdown)?;
+    }
+    Ok(out)
+}
+
+// The text, which ends a line.
+fn put_text(alloc: Global, out: &mut String, text: &Text) -> Result<(), AllocError> {
+    out.push_str(text.to_string(alloc)?.as_str())?;
+    if text.as_slice().last() != Some(&'\n') {
+        out.push('\n')?;
+    }
+    Ok(())
+}
+
+// Who wrote what: a line for each stretch.
+fn put_runs(
+    alloc: Global,
+    out: &mut String,
+    text: &Text,
+    runs: &Row<AuthorRun>,
+    markdown: bool,
+) -> Result<(), AllocError> {
+    let mark = if markdown { "- " } else { "" };
+    let mut rest = text.as_slice();
+    for run in runs.as_slice() {
+        let (own, behind) = split(rest, run.len);
+        let words = quoted(alloc, own)?;
+        let name = run.author.name.as_str();
+        let origin = run.author.origin;
+        out.push_str(format!(in alloc; "{mark}{name}@{origin} {words}\n")?.as_str())?;
+        rest = behind;
+    }
+    Ok(())
+}
+
+// The comments: a line for each, behind an empty one.
+fn put_comments(
+    alloc: Global,
+    out: &mut String,
+    text: &Text,
+    comments: &Row<Shown>,
+    markdown: bool,
+) -> Result<(), AllocError> {
+    let mark = if markdown { "- " } else { "" };
+    out.push_str(if markdown { "\n## Comments\n\n" } else { "\n" })?;
+    for comment in comments.as_slice() {
+        let (_, behind) = split(text.as_slice(), comment.at);
+        let (own, _) = split(behind, comment.len);
+        let on = quoted(alloc, own)?;
+        let words = quoted(alloc, comment.text.as_slice())?;
+        let name = comment.author.name.as_str();
+        let author = comment.author.origin;
+        let origin = comment.name.origin;
+        let number = comment.name.number;
+        let state = if comment.resolved { ", resolved" } else { "" };
+        let line = format!(in alloc;
+            "{mark}[{origin},{number}] {name}@{author} on {on}: {words}{state}\n"
+        )?;
+        out.push_str(line.as_str())?;
+    }
+    Ok(())
+}

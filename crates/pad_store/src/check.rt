@@ -1,10 +1,10 @@
 //! Verifying files.
 use crate::book::Book;
 use crate::failure::Failure;
-use crate::files::{is_folder, names_of};
+use crate::files::{is_folder, names_of, read_file};
+use crate::progress::Progress;
 use crate::trouble::Trouble;
 use std::alloc::Global;
-use std::fs;
 use std::io::{Eprint, Write};
 use std::rt::Runtime;
 use store::Damage;
@@ -22,25 +22,48 @@ pub fn check<'a, R: Runtime<A = Global>, W: Write>(
     if !in_folder {
         return check_file(rt, path, None, out);
     }
-    let names = match names_of(rt, path) {
-        Ok(names) => names,
-        Err(cause) => return Err(Failure::of_file(path, cause)),
-    };
+    match names_of(rt, path) {
+        Ok(names) => check_files(rt, path, names.as_slice(), out),
+        Err(cause) => Err(Failure::of_file(path, cause)),
+    }
+}
+
+// Verifies these files of a folder. One that is damaged or cannot be read is reported, and the next ones are verified.
+fn check_files<'a, R: Runtime<A = Global>, W: Write>(
+    rt: &R,
+    folder: &'a str,
+    names: &[String],
+    out: &mut W,
+) -> Result<bool, Failure<'a>> {
+    let mut progress = Progress::start(rt);
     let mut whole = true;
-    for name in names.as_slice() {
-        let file = format!(in rt.alloc(); "{path}/{name}")?;
-        let pad = name.strip_suffix(".pad").unwrap_or(name.as_str());
-        match check_file(rt, file.as_str(), Some(pad), out) {
-            Ok(sound) => whole = whole && sound,
-            Err(Failure::Unwritten(cause)) => return Err(Failure::Unwritten(cause)),
-            Err(Failure::Memory) => return Err(Failure::Memory),
-            Err(failure) => {
-                let _told = eprintln!(rt; "pad_store: {failure}");
-                whole = false;
-            }
-        }
+    let mut done: u64 = 0;
+    for name in names {
+        whole = check_named(rt, folder, name.as_str(), out)? && whole;
+        done = done.saturating_add(1);
+        progress.report(rt, "file", done, names.len() as u64);
     }
     Ok(whole)
+}
+
+// Verifies the file of this name in a folder.
+fn check_named<'a, R: Runtime<A = Global>, W: Write>(
+    rt: &R,
+    folder: &'a str,
+    name: &str,
+    out: &mut W,
+) -> Result<bool, Failure<'a>> {
+    let path = format!(in rt.alloc(); "{folder}/{name}")?;
+    let pad = name.strip_suffix(".pad").unwrap_or(name);
+    match check_file(rt, path.as_str(), Some(pad), out) {
+        Ok(sound) => Ok(sound),
+        Err(Failure::Unwritten(cause)) => Err(Failure::Unwritten(cause)),
+        Err(Failure::Memory) => Err(Failure::Memory),
+        Err(failure) => {
+            let _told = eprintln!(rt; "pad_store: {failure}");
+            Ok(false)
+        }
+    }
 }
 
 // Verifies a file, which in a folder is to be that of the pad of its name.
@@ -50,12 +73,8 @@ fn check_file<'a, R: Runtime<A = Global>, W: Write>(
     pad: Option<&str>,
     out: &mut W,
 ) -> Result<bool, Failure<'a>> {
-    let alloc = rt.alloc();
-    let bytes = match fs::read(rt, path) {
-        Ok(bytes) => bytes,
-        Err(cause) => return Err(Failure::of_file(path, cause)),
-    };
-    match summary(alloc, bytes.as_slice(), pad) {
+    let bytes = read_file(rt, path)?;
+    match summary(rt.alloc(), bytes.as_slice(), pad) {
         Ok(line) => {
             out.write_all(line.as_bytes())?;
             Ok(true)

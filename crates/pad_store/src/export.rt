@@ -2,19 +2,22 @@
 use crate::book::Book;
 use crate::chain::line_with_sum;
 use crate::failure::Failure;
-use crate::operation::operation_on;
+use crate::operation::{Operation, operation_on};
+use crate::progress::Progress;
 use crate::trouble::Trouble;
-use std::alloc::Global;
+use std::alloc::{AllocError, Global};
 use std::io::Write;
+use std::rt::Runtime;
 
 /// Prints a line of JSON for each operation, up to a revision.
-pub fn export<'a, W: Write>(
-    alloc: Global,
+pub fn export<'a, R: Runtime<A = Global>, W: Write>(
+    rt: &R,
     path: &'a str,
     bytes: &[u8],
     rev: Option<u64>,
     out: &mut W,
 ) -> Result<(), Failure<'a>> {
+    let alloc = rt.alloc();
     let book = match Book::read(alloc, bytes) {
         Ok(book) => book,
         Err(trouble) => return Err(Failure::of_pad(path, trouble)),
@@ -24,6 +27,7 @@ pub fn export<'a, W: Write>(
         return Err(Failure::of_pad(path, Trouble::NoRevision));
     }
     let whole = bytes.len().min(book.whole as usize);
+    let mut progress = Progress::start(rt);
     let mut made: u64 = 0;
     for line in bytes[..whole].split(|byte| *byte == b'\n') {
         if made >= last {
@@ -31,16 +35,19 @@ pub fn export<'a, W: Write>(
         }
         if let Some(done) = operation_on(alloc, line)? {
             made = made.saturating_add(1);
-            let at = done.at.unwrap_or(0);
-            let op = done.json.as_str();
-            let sum = done.sum;
-            let line = format!(in alloc;
-                "{{\"at\":{at},\"op\":{op},\"rev\":{made},\"sum\":\"{sum}\"}}\n"
-            )?;
-            out.write_all(line.as_bytes())?;
+            out.write_all(line_of(alloc, made, &done)?.as_bytes())?;
+            progress.report(rt, "revision", made, last);
         }
     }
     Ok(())
+}
+
+// The line of an operation.
+fn line_of(alloc: Global, rev: u64, done: &Operation<'_>) -> Result<String, AllocError> {
+    let at = done.at.unwrap_or(0);
+    let op = done.json.as_str();
+    let sum = done.sum;
+    format!(in alloc; "{{\"at\":{at},\"op\":{op},\"rev\":{rev},\"sum\":\"{sum}\"}}\n")
 }
 
 /// Prints which line of a file has a sum.

@@ -3,25 +3,30 @@ use crate::book::Book;
 use crate::failure::Failure;
 use crate::operation::{Operation, kind_of, operation_on};
 use crate::pieces::{put_words, words};
+use crate::progress::Progress;
 use crate::trouble::Trouble;
 use jiff::Timestamp;
 use pad_model::Part;
 use std::alloc::{AllocError, Global};
 use std::io::Write;
+use std::rt::Runtime;
 
 /// Prints a line for each revision from one on.
-pub fn log<'a, W: Write>(
-    alloc: Global,
+pub fn log<'a, R: Runtime<A = Global>, W: Write>(
+    rt: &R,
     path: &'a str,
     bytes: &[u8],
     from: u64,
     out: &mut W,
 ) -> Result<(), Failure<'a>> {
+    let alloc = rt.alloc();
     let mut book = match Book::read(alloc, bytes) {
         Ok(book) => book,
         Err(trouble) => return Err(Failure::of_pad(path, trouble)),
     };
+    let mut progress = Progress::start(rt);
     let whole = bytes.len().min(book.whole as usize);
+    let all = book.revision();
     let mut rev: u64 = 0;
     for line in bytes[..whole].split(|byte| *byte == b'\n') {
         if let Some(done) = operation_on(alloc, line)? {
@@ -32,6 +37,7 @@ pub fn log<'a, W: Write>(
                     Err(trouble) => return Err(Failure::of_pad(path, trouble)),
                 }
             }
+            progress.report(rt, "revision", rev, all);
         }
     }
     Ok(())
@@ -72,12 +78,31 @@ fn words_of(
     done: &Operation<'_>,
 ) -> Result<String, Trouble> {
     let parts = done.op.parts.as_slice();
-    if parts.iter().any(|part| matches!(part, Part::Delete(_))) {
-        let before = rev.saturating_sub(1);
-        let pieces = book.changes(alloc, before, rev)?;
-        let text = book.text(alloc, Some(before))?;
-        return Ok(words(alloc, pieces.as_slice(), text.as_slice())?);
+    if erases(parts) {
+        return words_between(alloc, book, rev.saturating_sub(1), rev);
     }
+    Ok(words_of_parts(alloc, parts)?)
+}
+
+// Whether one of the parts erases.
+fn erases(parts: &[Part]) -> bool {
+    for part in parts {
+        if let Part::Delete(_) = part {
+            return true;
+        }
+    }
+    false
+}
+
+// The words that went and came between two revisions.
+fn words_between(alloc: Global, book: &mut Book, rev: u64, to: u64) -> Result<String, Trouble> {
+    let pieces = book.changes(alloc, rev, to)?;
+    let text = book.text(alloc, Some(rev))?;
+    Ok(words(alloc, pieces.as_slice(), text.as_slice())?)
+}
+
+// What parts insert, comment or resolve.
+fn words_of_parts(alloc: Global, parts: &[Part]) -> Result<String, AllocError> {
     let mut out = String::new(alloc);
     for part in parts {
         put_part(alloc, &mut out, part)?;

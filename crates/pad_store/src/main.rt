@@ -15,6 +15,7 @@ mod names;
 mod operation;
 mod options;
 mod pieces;
+mod progress;
 mod show;
 mod trouble;
 mod view;
@@ -25,12 +26,13 @@ use command_line::report;
 use diff::diff;
 use export::{export, find};
 use failure::Failure;
+use files::read_file;
 use mode::Mode;
 use show::show;
 use std::alloc::Global;
+use std::io;
 use std::io::{BufWriter, IsTerminal, Write};
 use std::process::ExitCode;
-use std::{fs, io};
 use view::{View, viewed};
 
 fn main(rt: HostRuntime) -> ExitCode {
@@ -86,10 +88,7 @@ fn run<'a>(rt: &HostRuntime, alloc: Global, mode: Mode<'a>) -> Result<ExitCode, 
         | Mode::Diff { path, .. }
         | Mode::Export { path, .. }
         | Mode::Find { path, .. } => {
-            let bytes = match fs::read(rt, path) {
-                Ok(bytes) => bytes,
-                Err(cause) => return Err(Failure::of_file(path, cause)),
-            };
+            let bytes = read_file(rt, path)?;
             tell(rt, path, bytes.as_slice(), mode, &mut out)?;
             ExitCode::SUCCESS
         }
@@ -117,10 +116,10 @@ fn tell<'a, W: Write>(
             diff(alloc, bytes, u64::from(rev), u64::from(to), coloured)
         }
         Mode::Log { from, .. } => {
-            return log::log(alloc, path, bytes, u64::from(from.unwrap_or(1)), out);
+            return log::log(rt, path, bytes, u64::from(from.unwrap_or(1)), out);
         }
         Mode::Export { rev, .. } => {
-            return export(alloc, path, bytes, rev.map(u64::from), out);
+            return export(rt, path, bytes, rev.map(u64::from), out);
         }
         Mode::Find { sum, .. } => return find(alloc, path, bytes, sum, out),
         Mode::Check { .. } => return Ok(()),

@@ -4,7 +4,7 @@ use crate::failure::Failure;
 use crate::files::{is_folder, names_of, read_file};
 use crate::progress::Progress;
 use crate::trouble::Trouble;
-use std::alloc::Global;
+use std::alloc::{AllocError, Global};
 use std::io::{Eprint, Write};
 use std::rt::Runtime;
 use store::Damage;
@@ -90,16 +90,28 @@ fn check_file<'a, R: Runtime<A = Global>, W: Write>(
 
 // The line of a file.
 fn summary(alloc: Global, bytes: &[u8], pad: Option<&str>) -> Result<String, Trouble> {
-    let mut book = Book::read(alloc, bytes)?;
+    match Book::read(alloc, bytes) {
+        Ok(mut book) => line_of(alloc, &mut book, pad),
+        Err(trouble) => Err(trouble),
+    }
+}
+
+// The line of a file's pad.
+fn line_of(alloc: Global, book: &mut Book, pad: Option<&str>) -> Result<String, Trouble> {
     if pad.is_some() && pad != Some(book.name.as_str()) {
         return Err(Trouble::Damaged(Damage::OtherPad));
     }
     let length = book.length(alloc)?;
-    let name = book.name.as_str();
+    Ok(line_with(alloc, book, length)?)
+}
+
+// The line of a file's pad that has so many characters.
+fn line_with(alloc: Global, book: &Book, length: u64) -> Result<String, AllocError> {
     let rev = book.revision();
+    let name = book.name.as_str();
     let sum = book.sum.as_str();
     let behind = book.cut;
-    Ok(format!(in alloc;
+    format!(in alloc;
         "{name} operations={rev} revision={rev} length={length} sum={sum} behind={behind}\n"
-    )?)
+    )
 }

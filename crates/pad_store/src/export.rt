@@ -17,25 +17,39 @@ pub fn export<'a, R: Runtime<A = Global>, W: Write>(
     rev: Option<u64>,
     out: &mut W,
 ) -> Result<(), Failure<'a>> {
-    let alloc = rt.alloc();
-    let book = match Book::read(alloc, bytes) {
-        Ok(book) => book,
+    let (all, whole) = match read(rt.alloc(), bytes) {
+        Ok(read) => read,
         Err(trouble) => return Err(Failure::of_pad(path, trouble)),
     };
-    let last = rev.unwrap_or(book.revision());
-    if book.revision() < last {
+    let last = rev.unwrap_or(all);
+    if all < last {
         return Err(Failure::of_pad(path, Trouble::NoRevision));
     }
-    let whole = bytes.len().min(book.whole as usize);
+    put_lines(rt, &bytes[..bytes.len().min(whole)], last, out)
+}
+
+// The number of revisions of a file's pad, and how many bytes its whole lines have.
+fn read(alloc: Global, bytes: &[u8]) -> Result<(u64, usize), Trouble> {
+    let book = Book::read(alloc, bytes)?;
+    Ok((book.revision(), book.whole as usize))
+}
+
+// Prints the operations of these lines, up to a revision.
+fn put_lines<'a, R: Runtime<A = Global>, W: Write>(
+    rt: &R,
+    bytes: &[u8],
+    last: u64,
+    out: &mut W,
+) -> Result<(), Failure<'a>> {
     let mut progress = Progress::start(rt);
     let mut made: u64 = 0;
-    for line in bytes[..whole].split(|byte| *byte == b'\n') {
+    for line in bytes.split(|byte| *byte == b'\n') {
         if made >= last {
             return Ok(());
         }
-        if let Some(done) = operation_on(alloc, line)? {
+        if let Some(done) = operation_on(rt.alloc(), line)? {
             made = made.saturating_add(1);
-            out.write_all(line_of(alloc, made, &done)?.as_bytes())?;
+            out.write_all(line_of(rt.alloc(), made, &done)?.as_bytes())?;
             progress.report(rt, "revision", made, last);
         }
     }
@@ -58,16 +72,14 @@ pub fn find<'a, W: Write>(
     sum: &str,
     out: &mut W,
 ) -> Result<(), Failure<'a>> {
-    let book = match Book::read(alloc, bytes) {
-        Ok(book) => book,
+    let whole = match read(alloc, bytes) {
+        Ok((_, whole)) => bytes.len().min(whole),
         Err(trouble) => return Err(Failure::of_pad(path, trouble)),
     };
-    let whole = bytes.len().min(book.whole as usize);
     match line_with_sum(&bytes[..whole], sum.as_bytes()) {
         Some(number) => {
             let line = format!(in alloc; "line {number}\n")?;
-            out.write_all(line.as_bytes())?;
-            Ok(())
+            Ok(out.write_all(line.as_bytes())?)
         }
         None => Err(Failure::NoSum { path }),
     }

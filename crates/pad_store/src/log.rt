@@ -19,28 +19,50 @@ pub fn log<'a, R: Runtime<A = Global>, W: Write>(
     from: u64,
     out: &mut W,
 ) -> Result<(), Failure<'a>> {
-    let alloc = rt.alloc();
-    let mut book = match Book::read(alloc, bytes) {
-        Ok(book) => book,
-        Err(trouble) => return Err(Failure::of_pad(path, trouble)),
-    };
+    match Book::read(rt.alloc(), bytes) {
+        Ok(mut book) => put_lines(rt, path, &mut book, bytes, from, out),
+        Err(trouble) => Err(Failure::of_pad(path, trouble)),
+    }
+}
+
+// Prints the lines of a file's pad.
+fn put_lines<'a, R: Runtime<A = Global>, W: Write>(
+    rt: &R,
+    path: &'a str,
+    book: &mut Book,
+    bytes: &[u8],
+    from: u64,
+    out: &mut W,
+) -> Result<(), Failure<'a>> {
     let mut progress = Progress::start(rt);
     let whole = bytes.len().min(book.whole as usize);
     let all = book.revision();
     let mut rev: u64 = 0;
     for line in bytes[..whole].split(|byte| *byte == b'\n') {
-        if let Some(done) = operation_on(alloc, line)? {
+        if let Some(done) = operation_on(rt.alloc(), line)? {
             rev = rev.saturating_add(1);
             if rev >= from {
-                match line_of(alloc, &mut book, rev, &done) {
-                    Ok(line) => out.write_all(line.as_bytes())?,
-                    Err(trouble) => return Err(Failure::of_pad(path, trouble)),
-                }
+                put_line(rt.alloc(), path, book, rev, &done, out)?;
             }
             progress.report(rt, "revision", rev, all);
         }
     }
     Ok(())
+}
+
+// Prints the line of a revision.
+fn put_line<'a, W: Write>(
+    alloc: Global,
+    path: &'a str,
+    book: &mut Book,
+    rev: u64,
+    done: &Operation<'_>,
+    out: &mut W,
+) -> Result<(), Failure<'a>> {
+    match line_of(alloc, book, rev, done) {
+        Ok(line) => Ok(out.write_all(line.as_bytes())?),
+        Err(trouble) => Err(Failure::of_pad(path, trouble)),
+    }
 }
 
 // The line of a revision: its number, when and by whom it was made, what it is, and the words that went and came.

@@ -75,12 +75,23 @@ fn end(rt: &HostRuntime, failure: Failure<'_>) -> ExitCode {
 /// Does what the command line asks for, and writes out what is left.
 fn run<'a>(rt: &HostRuntime, alloc: Global, mode: Mode<'a>) -> Result<ExitCode, Failure<'a>> {
     let mut out = BufWriter::new(alloc, std::io::writer(rt))?;
-    let status = match mode {
+    let status = perform(rt, mode, &mut out)?;
+    out.flush()?;
+    Ok(status)
+}
+
+/// Does what the command line asks for.
+fn perform<'a, W: Write>(
+    rt: &HostRuntime,
+    mode: Mode<'a>,
+    out: &mut W,
+) -> Result<ExitCode, Failure<'a>> {
+    match mode {
         Mode::Check { path } => {
-            if check(rt, path, &mut out)? {
-                ExitCode::SUCCESS
+            if check(rt, path, out)? {
+                Ok(ExitCode::SUCCESS)
             } else {
-                ExitCode::FAILURE
+                Ok(ExitCode::FAILURE)
             }
         }
         Mode::Show { path, .. }
@@ -89,12 +100,10 @@ fn run<'a>(rt: &HostRuntime, alloc: Global, mode: Mode<'a>) -> Result<ExitCode, 
         | Mode::Export { path, .. }
         | Mode::Find { path, .. } => {
             let bytes = read_file(rt, path)?;
-            tell(rt, path, bytes.as_slice(), mode, &mut out)?;
-            ExitCode::SUCCESS
+            tell(rt, path, bytes.as_slice(), mode, out)?;
+            Ok(ExitCode::SUCCESS)
         }
-    };
-    out.flush()?;
-    Ok(status)
+    }
 }
 
 /// Writes what is asked for of the bytes of a file.

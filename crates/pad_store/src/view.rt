@@ -29,24 +29,65 @@ pub fn viewed(
     rev: Option<u64>,
     view: View,
 ) -> Result<String, Trouble> {
-    let mut book = Book::read(alloc, bytes)?;
-    let at = rev.unwrap_or(book.revision());
+    match Book::read(alloc, bytes) {
+        Ok(mut book) => {
+            let at = rev.unwrap_or(book.revision());
+            view_of(alloc, &mut book, at, view)
+        }
+        Err(trouble) => Err(trouble),
+    }
+}
+
+// A revision of a file's pad as a view shows it.
+fn view_of(alloc: Global, book: &mut Book, at: u64, view: View) -> Result<String, Trouble> {
     let text = book.text(alloc, Some(at))?;
     let mut out = String::new(alloc);
     if view.markdown {
-        write!(out, "# {}\n\nRevision {at}\n\n", book.name.as_str())?;
+        put_title(&mut out, book.name.as_str(), at)?;
     }
     if view.authors {
-        let runs = book.runs(alloc, Some(at))?;
-        put_runs(alloc, &mut out, &text, &runs, view.markdown)?;
+        put_authors(alloc, &mut out, book, at, &text, view.markdown)?;
     } else {
         put_text(alloc, &mut out, &text)?;
     }
     if view.comments {
-        let comments = book.comments(alloc, Some(at))?;
-        put_comments(alloc, &mut out, &text, &comments, view.markdown)?;
+        put_notes(alloc, &mut out, book, at, &text, view.markdown)?;
     }
     Ok(out)
+}
+
+// The pad's name and the revision, as Markdown.
+fn put_title(out: &mut String, name: &str, at: u64) -> Result<(), Trouble> {
+    match write!(out, "# {name}\n\nRevision {at}\n\n") {
+        Ok(()) => Ok(()),
+        Err(_) => Err(Trouble::Memory),
+    }
+}
+
+// The text of a revision, with its authors.
+fn put_authors(
+    alloc: Global,
+    out: &mut String,
+    book: &mut Book,
+    at: u64,
+    text: &Text,
+    markdown: bool,
+) -> Result<(), Trouble> {
+    let runs = book.runs(alloc, Some(at))?;
+    Ok(put_runs(alloc, out, text, &runs, markdown)?)
+}
+
+// The comments of a revision.
+fn put_notes(
+    alloc: Global,
+    out: &mut String,
+    book: &mut Book,
+    at: u64,
+    text: &Text,
+    markdown: bool,
+) -> Result<(), Trouble> {
+    let comments = book.comments(alloc, Some(at))?;
+    Ok(put_comments(alloc, out, text, &comments, markdown)?)
 }
 
 // The text, which ends a line.

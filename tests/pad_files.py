@@ -37,15 +37,16 @@ def told_of(content):
 
 
 def change_is_found(place, value):
-    """A file with another byte at a place is damaged in the line of that byte. Only of the last line, something may be left
-    that has not the form of a line: then it counts as cut off."""
+    """A file with another byte at a place is damaged in the line of that byte. Where no line from there on has the form of a
+    line any more, the file counts as cut off before it: so in the last line, and at the line feed before the last line."""
     content = bytearray(WHOLE)
     content[place] ^= value
     number, begin = line_at(place)
+    is_end = number == len(LINES) or place == len(WHOLE) - len(LINES[-1]) - 1
     damaged = (1, f"pad_store: p.pad: line {number}: it was changed, or lines before it are missing\n")
-    cut = (0, checked("p", len(LINES) - 5, 4, SUMS[-2], len(WHOLE) - begin))
+    cut = (0, checked("p", number - 5, 4, SUMS[number - 2], len(WHOLE) - begin))
     told = told_of(bytes(content))
-    if told != damaged and not (number == len(LINES) and told == cut):
+    if told != damaged and not (is_end and told == cut):
         raise Failed(f"byte {place}, changed by {value}, in line {number}: {told}")
     return told == damaged
 

@@ -1,4 +1,4 @@
-"""The map of the code in docs/ARCHITECTURE.md, compared with the folders.
+"""The map of the code in docs/ARCHITECTURE.md, compared with the folders, and NOTICE, with what the programs depend on.
 
 In the map a line `crates/NAME` begins a crate, and the indented lines below it name its source files.
 """
@@ -9,6 +9,7 @@ from harness import ROOT, Test, want
 
 CRATE = re.compile(r"crates/(\w+)\b.*")
 FILE = re.compile(r"\b\w+\.rt\b")
+PROGRAMS = ["pad_server", "pad_store", "pad_replay"]
 
 
 def mapped():
@@ -43,4 +44,28 @@ def map_is_whole():
             want(sorted(named), sorted(there), f"the map's files of {crate}")
 
 
-TESTS = [Test("map: docs/ARCHITECTURE.md names every source file", map_is_whole)]
+def below(program):
+    """All that a program depends on by crates.txt: crates of this repository and of the kit."""
+    with open(f"{ROOT}/crates.txt", encoding="utf-8") as crates:
+        needs = {line.split(":")[0].split()[0]: line.split(":")[1].split() for line in crates if ":" in line}
+    found, waiting = set(), [program]
+    while waiting:
+        name = waiting.pop()
+        if name not in found:
+            found.add(name)
+            waiting += needs.get(name, [])
+    return found
+
+
+def notice_is_whole():
+    with open(f"{ROOT}/NOTICE", encoding="utf-8") as notice:
+        named = set(re.findall(r"\b\w+\b", notice.read()))
+    linked = set().union(*map(below, PROGRAMS)) - set(listed_crates())
+    want("clap" in linked, True, "that a program links clap")
+    want(sorted(linked - named), [], "the crates that NOTICE does not name")
+
+
+TESTS = [
+    Test("map: docs/ARCHITECTURE.md names every source file", map_is_whole),
+    Test("map: NOTICE names every crate that the programs link", notice_is_whole),
+]

@@ -1,0 +1,5 @@
+-- The definitions that the contracts cite, by topic.
+pub mod CommandLine
+pub mod Marks
+pub mod Modes
+pub mod Reading

@@ -1,0 +1,77 @@
+-- What the program does, by what the command line gives.
+use Rattle.std.specs.Prelude.{List, ℕ, Bool, true, false, ◌&&◌, ◌||◌, bytes_eq, codes, if◌then◌else◌}
+use Rattle.std.specs.Prelude.{Option, Some, None, Result, Ok, Err, is_some}
+use Rattle.std.specs.Borrow.{Bor}
+use Rattle.pad_store.specs.declared.args.Asked.{Asked}
+use Rattle.pad_store.specs.declared.mode.Deed.{Deed}
+use Rattle.pad_store.specs.declared.mode.Deed.TheVariants as deed
+use Rattle.pad_store.specs.declared.mode.Misuse.{Misuse}
+use Rattle.pad_store.specs.declared.mode.Misuse.TheVariants as misuse
+use Rattle.pad_store.specs.declared.mode.Mode.{Mode}
+use Rattle.pad_store.specs.declared.mode.Mode.TheVariants as mode
+
+-- what a command means
+abbrev pub deed_of : List ℕ → Option Deed
+deed_of command =
+    if bytes_eq command (codes "check") then Some deed.Check
+    else if bytes_eq command (codes "show") then Some deed.Show
+    else if bytes_eq command (codes "log") then Some deed.Log
+    else if bytes_eq command (codes "diff") then Some deed.Diff
+    else if bytes_eq command (codes "export") then Some deed.Export
+    else None
+
+-- the first option that stands there and may not
+abbrev pub needless : Bool → Bool → Bool → Bool → Bool → Asked → Option Misuse
+needless no_rev no_from no_sum no_view no_words asked =
+    if no_rev && is_some asked.rev then Some misuse.Rev
+    else if no_from && is_some asked.from then Some misuse.From
+    else if no_sum && is_some asked.sum then Some misuse.Sum
+    else if no_view && (asked.authors || asked.comments || asked.markdown) then Some misuse.View
+    else if no_words && (is_some asked.first || is_some asked.second) then Some misuse.Revisions
+    else None
+
+-- what is wrong with the options of a command, if anything is: each is one of its own
+abbrev pub misuse_of : Deed → Asked → Option Misuse
+misuse_of deed.Check asked = needless true true true true true asked
+misuse_of deed.Show asked = needless false true true false true asked
+misuse_of deed.Log asked = needless true false true true true asked
+misuse_of deed.Diff asked = needless true true true true false asked
+misuse_of deed.Export asked = needless false true (is_some asked.rev) true true asked
+
+-- two revisions are needed
+abbrev pub compare : Bor (List ℕ) → Option ℕ → Option ℕ → Result Mode Misuse
+compare path (Some rev) (Some to) = Ok (mode.Diff path rev to)
+compare path (Some rev) None = Err misuse.NoRevisions
+compare path None second = Err misuse.NoRevisions
+
+-- the operations are written, or a sum is looked for
+abbrev pub export_or_find : Bor (List ℕ) → Option ℕ → Option (Bor (List ℕ)) → Mode
+export_or_find path rev (Some sum) = mode.Find path sum
+export_or_find path rev None = mode.Export path rev
+
+-- what a command does with its options
+abbrev pub done_with : Asked → Bor (List ℕ) → Deed → Result Mode Misuse
+done_with asked path deed.Check = Ok (mode.Check path)
+done_with asked path deed.Show = Ok (mode.Show path asked.rev
+    (record { authors = asked.authors; comments = asked.comments; markdown = asked.markdown }))
+done_with asked path deed.Log = Ok (mode.Log path asked.from)
+done_with asked path deed.Diff = compare path asked.first asked.second
+done_with asked path deed.Export = Ok (export_or_find path asked.rev asked.sum)
+
+-- unless something is wrong
+abbrev pub unless_misused : Option Misuse → Result Mode Misuse → Result Mode Misuse
+unless_misused (Some wrong) mode = Err wrong
+unless_misused None mode = mode
+
+abbrev pub with_deed : Asked → Bor (List ℕ) → Option Deed → Result Mode Misuse
+with_deed asked path None = Err misuse.NoCommand
+with_deed asked path (Some done) = unless_misused (misuse_of done asked) (done_with asked path done)
+
+-- what the command line asks for is done, with a file
+abbrev pub mode_with : Asked → Option (Bor (List ℕ)) → Option (Bor (List ℕ)) → Result Mode Misuse
+mode_with asked (Some command) (Some path) = with_deed asked path (deed_of command.now)
+mode_with asked (Some command) None = Err misuse.NoCommand
+mode_with asked None path = Err misuse.NoCommand
+
+abbrev pub mode_of : Asked → Result Mode Misuse
+mode_of asked = mode_with asked asked.command asked.path

@@ -1,0 +1,67 @@
+-- What is read of the bytes of a pad's file.
+use Rattle.std.specs.Prelude.{◌≡◌, ◌⊎◌, ℕ, List, length, encode_utf8_all, Option, Result, Ok, Err}
+use Rattle.pad_model.specs.declared.op.Op.{Op}
+use Rattle.pad_model.specs.declared.refusal.Refusal.{Refusal}
+use Rattle.pad_model.specs.declared.refusal.Refusal.TheVariants as refusal
+use Rattle.pad_core.specs.Reads.{read_changes, read_comments, read_revs, read_runs, read_text}
+use Rattle.pad_core.specs.declared.act.Act.{Act}
+use Rattle.pad_core.specs.declared.act.Act.TheVariants as act
+use Rattle.pad_core.specs.declared.reply.PadReply.{PadReply}
+use Rattle.pad_core.specs.declared.reply.PadReply.TheVariants.{Elsewhere, Text}
+use Rattle.store.specs.Files.{Read, pad_read}
+use Rattle.store.specs.declared.reader.Damage.{Damage}
+use Rattle.store.specs.declared.reader.Damage.TheVariants as damage
+use Rattle.pad_store.specs.declared.trouble.Trouble.{Trouble}
+use Rattle.pad_store.specs.declared.trouble.Trouble.TheVariants.{Memory, Damaged, NoRevision, Unread}
+
+-- the bytes of a file lead to a pad with this log, under some name
+unfoldable pub LeadTo : List ℕ → List Op → Type 0
+LeadTo bytes log = (name : List ℕ) × (read : Read) × (pad_read 1 name bytes ≡ Ok read) × (log ≡ read.pad.log)
+
+-- a text in UTF-8 is that of a revision of the pad that the bytes of a file lead to; None is the present revision
+unfoldable pub Shows : List ℕ → Option ℕ → List ℕ → Type 0
+Shows bytes rev text = (log : List Op) × LeadTo bytes log × (at : ℕ) × (shown : List ℕ)
+    × (read_text rev log ≡ Ok (Text (length log) at shown)) × (text ≡ encode_utf8_all shown)
+
+-- what the refusal of a pad means to who reads its file
+abbrev pub trouble_of : Refusal → Trouble
+trouble_of refusal.Memory = Memory
+trouble_of refusal.NoRevision = NoRevision
+trouble_of other = Unread
+
+-- what damage means
+abbrev pub trouble_after : Damage → Trouble
+trouble_after damage.Memory = Memory
+trouble_after other = Damaged other
+
+-- where the bytes of a file are said to be damaged, they are so
+unfoldable pub IsFault : List ℕ → Trouble → Type 0
+IsFault bytes (Damaged found) = (name : List ℕ) × (pad_read 1 name bytes ≡ Err found)
+IsFault bytes other = Unit {0}
+
+-- nothing is said to be damaged
+abbrev pub IsNoDamage : Trouble → Type 0
+IsNoDamage (Damaged found) = ⊥
+IsNoDamage other = Unit {0}
+
+-- what a log answers to an act that reads it, with no claim about any other act
+abbrev pub IsAnswered : Act → PadReply → List Op → Type 0
+IsAnswered (act.Text rev) answer log = read_text rev log ≡ Ok answer
+IsAnswered (act.Runs rev) answer log = read_runs rev log ≡ Ok answer
+IsAnswered (act.Comments rev) answer log = read_comments rev log ≡ Ok answer
+IsAnswered (act.Changes rev to wait) answer log = read_changes rev to wait log ≡ Ok answer
+IsAnswered act.Revs answer log = read_revs log ≡ Ok answer
+IsAnswered other answer log = Unit {0}
+
+-- whether an act only reads the log
+abbrev pub Reads : Act → Type 0
+Reads (act.Text rev) = Unit {0}
+Reads (act.Runs rev) = Unit {0}
+Reads (act.Comments rev) = Unit {0}
+Reads (act.Changes rev to wait) = Unit {0}
+Reads act.Revs = Unit {0}
+Reads other = ⊥
+
+-- an act that reads is answered by the log, which stays, unless the pad has another name
+abbrev pub IsTold : Act → PadReply → List Op → List Op → Type 0
+IsTold this answer old new = Reads this → ((answer ≡ Elsewhere) ⊎ IsAnswered this answer old) × (new ≡ old)

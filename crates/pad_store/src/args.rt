@@ -1,0 +1,110 @@
+//! The command line.
+ghost use Rattle.std.specs.Prelude.{◌≡◌, IfOk, codes, map, string_bytes};
+ghost use Rattle.clap.specs.Faults.{fault_of};
+ghost use Rattle.clap.specs.Words.{FailsBy, app_of, new_app};
+ghost use Rattle.command_line.specs.Options.{versioned};
+ghost use Rattle.pad_store.specs.CommandLine.{AsksFor, first_line, line, second_line};
+
+use crate::options::{flag, revision_of, revision_option, revision_word, sum_option, word};
+use clap::{Command, Error};
+use command_line::VERSION;
+use std::alloc::{AllocError, Global};
+
+/// What the words of the command line give.
+#[derive(Clone, Copy)]
+pub struct Asked<'a> {
+    /// What is done.
+    pub command: Option<&'a str>,
+    /// The file, or the folder.
+    pub path: Option<&'a str>,
+    /// The first revision of `diff`.
+    pub first: Option<u32>,
+    /// Its second one.
+    pub second: Option<u32>,
+    /// The revision that is shown, or the last that is exported.
+    pub rev: Option<u32>,
+    /// The first revision of `log`.
+    pub from: Option<u32>,
+    /// The sum that is looked for.
+    pub sum: Option<&'a str>,
+    pub authors: bool,
+    pub comments: bool,
+    pub markdown: bool,
+}
+
+const USAGE: &str = "pad_store check <DIR|FILE>
+       pad_store show <FILE> [--rev <N>] [--authors] [--comments] [--markdown]
+       pad_store log <FILE> [--from <N>]
+       pad_store diff <FILE> <REV> <REV>
+       pad_store export <FILE> [--rev <N>] [--sum <SUM>]";
+
+// The name, and what the help says.
+fn start<'a>(alloc: Global) -> Command<'a>
+    ensures { app_of result ≡ versioned (new_app (codes "pad_store")) }
+{
+    Command::new(alloc, "pad_store")
+        .about("Reads the files in which a pad server keeps pads, and changes nothing")
+        .version(VERSION)
+        .override_usage(USAGE)
+}
+
+// The words: what is done, with which file, and two revisions.
+fn first_options<'a>(alloc: Global) -> Result<Command<'a>, AllocError>
+    ensures { IfOk result (λ command. app_of command ≡ first_line) }
+{
+    let path_help = "A file NAME.pad, or with check a folder of such files";
+    start(alloc)
+        .arg(word(
+            alloc,
+            "command",
+            "COMMAND",
+            "check, show, log, diff or export",
+        ))?
+        .arg(word(alloc, "path", "PATH", path_help))?
+        .arg(revision_word(alloc, "first", "With diff: the older revision"))?
+        .arg(revision_word(alloc, "second", "With diff: the newer revision"))
+}
+
+// The options that take a value.
+fn second_options<'a>(alloc: Global) -> Result<Command<'a>, AllocError>
+    ensures { IfOk result (λ command. app_of command ≡ second_line) }
+{
+    let rev_help =
+        "The revision that is shown, or the last one that is exported [default: the present one]";
+    first_options(alloc)?
+        .arg(revision_option(alloc, "rev", rev_help))?
+        .arg(revision_option(alloc, "from", "The first revision of the log [default: 1]"))?
+        .arg(sum_option(alloc))
+}
+
+fn command<'a>(alloc: Global) -> Result<Command<'a>, AllocError>
+    ensures { IfOk result (λ command. app_of command ≡ line) }
+{
+    second_options(alloc)?
+        .arg(flag(alloc, "authors", "Shows who wrote what"))?
+        .arg(flag(alloc, "comments", "Shows the comments"))?
+        .arg(flag(alloc, "markdown", "Shows the revision as Markdown"))
+}
+
+/// What the words of the command line give, or what is wrong with them.
+pub fn parse<'a>(alloc: Global, words: &'a [String]) -> Result<Asked<'a>, Error>
+    ensures asked { IfOk result (AsksFor (map string_bytes words.now)) }
+    ensures refused { FailsBy (fault_of line (map string_bytes words.now)) result }
+{
+    let matches = match command(alloc)?.try_get_matches_from(words) {
+        Ok(matches) => matches,
+        Err(error) => return Err(error),
+    };
+    Ok(Asked {
+        command: matches.get_str("command"),
+        path: matches.get_str("path"),
+        first: revision_of(&matches, "first"),
+        second: revision_of(&matches, "second"),
+        rev: revision_of(&matches, "rev"),
+        from: revision_of(&matches, "from"),
+        sum: matches.get_str("sum"),
+        authors: matches.get_flag("authors"),
+        comments: matches.get_flag("comments"),
+        markdown: matches.get_flag("markdown"),
+    })
+}

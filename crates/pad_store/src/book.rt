@@ -1,0 +1,182 @@
+//! The pad of a file, read by its owner.
+ghost use Rattle.std.specs.Prelude.{◌≡◌, IfErr, IfOk, MatchResult, OnOk, Ok, Some, length};
+ghost use Rattle.pad_core.specs.Reads.{read_changes, read_comments, read_runs, read_text};
+ghost use Rattle.pad_core.specs.declared.reply.PadReply.TheVariants as reply;
+ghost use Rattle.pad_store.specs.Reading.{IsFault, IsNoDamage, IsTold, LeadTo};
+
+use crate::names::{Names, names_in};
+use crate::trouble::Trouble;
+use anchors::Shown;
+use block_seq::BlockSeq;
+use pad_core::{Act, Pad, PadEvent, PadReply};
+use pad_model::{AuthorRun, Name, Piece, Row, Text, Who};
+use std::alloc::Global;
+use store::{Loaded, load};
+
+/// The pad of a file, which its owner has joined to read it, and what the file says beside it.
+#[derive(Drop)]
+pub struct Book {
+    pad: Pad<BlockSeq>,
+    pub name: Name,
+    owner: Who,
+    visit: u64,
+    /// The sum of the last line.
+    pub sum: String,
+    /// How many bytes the whole lines have.
+    pub whole: u64,
+    /// How many bytes follow them.
+    pub cut: u64,
+}
+
+impl Book {
+    /// Reads the bytes of a file, under the name that its first line says.
+    pub fn read(alloc: Global, bytes: &[u8]) -> Result<Book, Trouble>
+        ensures { MatchResult result (λ book. LeadTo bytes.now book.pad.log) (λ trouble. IsFault bytes.now trouble) }
+    {
+        let names = match names_in(alloc, bytes) {
+            Ok(names) => names,
+            Err(_) => return Err(Trouble::Memory),
+        };
+        match load_pad(alloc, names.pad.as_str(), bytes) {
+            Ok(loaded) => begin(alloc, loaded, names),
+            Err(trouble) => Err(trouble),
+        }
+    }
+
+    /// How many revisions there are after the empty one, each made by an operation.
+    pub fn revision(&self) -> u64
+        ensures { result ≡ length self.now.pad.log }
+    {
+        self.pad.revision()
+    }
+
+    /// The text of a revision; None is the present one.
+    pub fn text(&mut self, alloc: Global, rev: Option<u64>) -> Result<Text, Trouble>
+        ensures told { IfOk result (λ text. (at : _) × (read_text rev self.old.pad.log ≡ Ok (reply.Text (length self.old.pad.log) at text))) }
+        ensures kept { OnOk result (self.new.pad.log ≡ self.old.pad.log) }
+        ensures fault { IfErr result IsNoDamage }
+    {
+        match self.ask(alloc, &Act::Text { rev })? {
+            PadReply::Text { text, .. } => Ok(text),
+            _ => Err(Trouble::Unread),
+        }
+    }
+
+    /// Who wrote the text of a revision.
+    pub fn runs(&mut self, alloc: Global, rev: Option<u64>) -> Result<Row<AuthorRun>, Trouble>
+        ensures told { IfOk result (λ runs. (at : _) × (read_runs rev self.old.pad.log ≡ Ok (reply.Runs (length self.old.pad.log) at runs))) }
+        ensures kept { OnOk result (self.new.pad.log ≡ self.old.pad.log) }
+        ensures fault { IfErr result IsNoDamage }
+    {
+        match self.ask(alloc, &Act::Runs { rev })? {
+            PadReply::Runs { runs, .. } => Ok(runs),
+            _ => Err(Trouble::Unread),
+        }
+    }
+
+    /// The comments of a revision, by name.
+    pub fn comments(&mut self, alloc: Global, rev: Option<u64>) -> Result<Row<Shown>, Trouble>
+        ensures told { IfOk result (λ comments. (at : _) × (read_comments rev self.old.pad.log ≡ Ok (reply.Comments (length self.old.pad.log) at comments))) }
+        ensures kept { OnOk result (self.new.pad.log ≡ self.old.pad.log) }
+        ensures fault { IfErr result IsNoDamage }
+    {
+        match self.ask(alloc, &Act::Comments { rev })? {
+            PadReply::Comments { comments, .. } => Ok(comments),
+            _ => Err(Trouble::Unread),
+        }
+    }
+
+    /// What leads from the text of one revision to that of a later one.
+    pub fn changes(&mut self, alloc: Global, rev: u64, to: u64) -> Result<Row<Piece>, Trouble>
+        ensures told { IfOk result (λ pieces. (notes : _) × (read_changes rev (Some to) 0 self.old.pad.log ≡ Ok (reply.Changes (length self.old.pad.log) rev to pieces notes))) }
+        ensures kept { OnOk result (self.new.pad.log ≡ self.old.pad.log) }
+        ensures fault { IfErr result IsNoDamage }
+    {
+        let act = Act::Changes {
+            rev,
+            to: Some(to),
+            wait: 0,
+        };
+        match self.ask(alloc, &act)? {
+            PadReply::Changes { pieces, .. } => Ok(pieces),
+            _ => Err(Trouble::Unread),
+        }
+    }
+
+    /// How many characters the present revision has.
+    pub fn length(&mut self, alloc: Global) -> Result<u64, Trouble> {
+        match self.ask(alloc, &Act::Revs)? {
+            PadReply::Revs { length, .. } => Ok(length),
+            _ => Err(Trouble::Unread),
+        }
+    }
+
+    // What the pad answers the owner.
+    fn ask(&mut self, alloc: Global, act: &Act) -> Result<PadReply, Trouble>
+        ensures told { IfOk result (λ answer. IsTold act.now answer self.old.pad.log self.new.pad.log) }
+        ensures fault { IfErr result IsNoDamage }
+    {
+        let event = PadEvent {
+            pad: self.name.as_str(),
+            who: &self.owner,
+            visit: Some(self.visit),
+            act,
+        };
+        match self.pad.step(alloc, &event) {
+            Ok(answer) => Ok(answer),
+            Err(refusal) => Err(Trouble::of(refusal)),
+        }
+    }
+}
+
+// The pad of the bytes of a file, under this name.
+fn load_pad(alloc: Global, name: &str, bytes: &[u8]) -> Result<Loaded<BlockSeq>, Trouble>
+    ensures { MatchResult result (λ loaded. LeadTo bytes.now loaded.pad.log) (λ trouble. IsFault bytes.now trouble) }
+{
+    match load(alloc, 1, name, bytes) {
+        Ok(loaded) => Ok(loaded),
+        Err(damage) => Err(Trouble::of_damage(damage)),
+    }
+}
+
+// The pad that was loaded, joined by its owner.
+fn begin(alloc: Global, loaded: Loaded<BlockSeq>, names: Names) -> Result<Book, Trouble>
+    ensures { MatchResult result (λ book. book.pad.log ≡ loaded.pad.log) IsNoDamage }
+{
+    let Loaded {
+        mut pad,
+        sum,
+        whole,
+        cut,
+        ..
+    } = loaded;
+    let Names { pad: name, owner } = names;
+    let owner = Who::Author(owner);
+    let visit = join(alloc, &mut pad, name.as_str(), &owner)?;
+    Ok(Book {
+        pad,
+        name,
+        owner,
+        visit,
+        sum,
+        whole,
+        cut,
+    })
+}
+
+// The visit of an author who joins a pad.
+fn join(alloc: Global, pad: &mut Pad<BlockSeq>, name: &str, who: &Who) -> Result<u64, Trouble>
+    ensures { MatchResult result (λ _. pad.new.log ≡ pad.old.log) IsNoDamage }
+{
+    let event = PadEvent {
+        pad: name,
+        who,
+        visit: None,
+        act: &Act::Join,
+    };
+    match pad.step(alloc, &event) {
+        Ok(PadReply::Joined { visit, .. }) => Ok(visit),
+        Ok(_) => Err(Trouble::Unread),
+        Err(refusal) => Err(Trouble::of(refusal)),
+    }
+}

@@ -1,0 +1,117 @@
+//! Verifying files.
+use crate::book::Book;
+use crate::failure::Failure;
+use crate::files::{is_folder, names_of, read_file};
+use crate::progress::Progress;
+use crate::trouble::Trouble;
+use std::alloc::{AllocError, Global};
+use std::io::{Eprint, Write};
+use std::rt::Runtime;
+use store::Damage;
+
+/// Verifies a file, or each file of a folder, and prints a line for each. Answers whether all are undamaged.
+pub fn check<'a, R: Runtime<A = Global>, W: Write>(
+    rt: &R,
+    path: &'a str,
+    out: &mut W,
+) -> Result<bool, Failure<'a>> {
+    let in_folder = match is_folder(rt, path) {
+        Ok(in_folder) => in_folder,
+        Err(cause) => return Err(Failure::of_file(path, cause)),
+    };
+    if !in_folder {
+        return check_file(rt, path, None, out);
+    }
+    match names_of(rt, path) {
+        Ok(names) => check_files(rt, path, names.as_slice(), out),
+        Err(cause) => Err(Failure::of_file(path, cause)),
+    }
+}
+
+// Verifies these files of a folder. One that is damaged or cannot be read is reported, and the next ones are verified.
+fn check_files<'a, R: Runtime<A = Global>, W: Write>(
+    rt: &R,
+    folder: &'a str,
+    names: &[String],
+    out: &mut W,
+) -> Result<bool, Failure<'a>> {
+    let mut progress = Progress::start(rt);
+    let mut whole = true;
+    let mut done: u64 = 0;
+    for name in names {
+        whole = check_named(rt, folder, name.as_str(), out)? && whole;
+        done = done.saturating_add(1);
+        progress.report(rt, "file", done, names.len() as u64);
+    }
+    Ok(whole)
+}
+
+// Verifies the file of this name in a folder.
+fn check_named<'a, R: Runtime<A = Global>, W: Write>(
+    rt: &R,
+    folder: &'a str,
+    name: &str,
+    out: &mut W,
+) -> Result<bool, Failure<'a>> {
+    let path = format!(in rt.alloc(); "{folder}/{name}")?;
+    let pad = name.strip_suffix(".pad").unwrap_or(name);
+    match check_file(rt, path.as_str(), Some(pad), out) {
+        Ok(sound) => Ok(sound),
+        Err(Failure::Unwritten(cause)) => Err(Failure::Unwritten(cause)),
+        Err(Failure::Memory) => Err(Failure::Memory),
+        Err(failure) => {
+            let _told = eprintln!(rt; "pad_store: {failure}");
+            Ok(false)
+        }
+    }
+}
+
+// Verifies a file, which in a folder is to be that of the pad of its name.
+fn check_file<'a, R: Runtime<A = Global>, W: Write>(
+    rt: &R,
+    path: &'a str,
+    pad: Option<&str>,
+    out: &mut W,
+) -> Result<bool, Failure<'a>> {
+    let bytes = read_file(rt, path)?;
+    match summary(rt.alloc(), bytes.as_slice(), pad) {
+        Ok(line) => {
+            out.write_all(line.as_bytes())?;
+            Ok(true)
+        }
+        Err(Trouble::Memory) => Err(Failure::Memory),
+        Err(trouble) => {
+            out.flush()?;
+            let _told = eprintln!(rt; "pad_store: {path}: {trouble}");
+            Ok(false)
+        }
+    }
+}
+
+// The line of a file.
+fn summary(alloc: Global, bytes: &[u8], pad: Option<&str>) -> Result<String, Trouble> {
+    match Book::read(alloc, bytes) {
+        Ok(mut book) => line_of(alloc, &mut book, pad),
+        Err(trouble) => Err(trouble),
+    }
+}
+
+// The line of a file's pad.
+fn line_of(alloc: Global, book: &mut Book, pad: Option<&str>) -> Result<String, Trouble> {
+    if pad.is_some() && pad != Some(book.name.as_str()) {
+        return Err(Trouble::Damaged(Damage::OtherPad));
+    }
+    let length = book.length(alloc)?;
+    Ok(line_with(alloc, book, length)?)
+}
+
+// The line of a file's pad that has so many characters.
+fn line_with(alloc: Global, book: &Book, length: u64) -> Result<String, AllocError> {
+    let rev = book.revision();
+    let name = book.name.as_str();
+    let sum = book.sum.as_str();
+    let behind = book.cut;
+    format!(in alloc;
+        "{name} operations={rev} revision={rev} length={length} sum={sum} behind={behind}\n"
+    )
+}

@@ -1,0 +1,86 @@
+//! The operations of a file, for other programs.
+use crate::book::Book;
+use crate::chain::line_with_sum;
+use crate::failure::Failure;
+use crate::operation::{Operation, operation_on};
+use crate::progress::Progress;
+use crate::trouble::Trouble;
+use std::alloc::{AllocError, Global};
+use std::io::Write;
+use std::rt::Runtime;
+
+/// Prints a line of JSON for each operation, up to a revision.
+pub fn export<'a, R: Runtime<A = Global>, W: Write>(
+    rt: &R,
+    path: &'a str,
+    bytes: &[u8],
+    rev: Option<u64>,
+    out: &mut W,
+) -> Result<(), Failure<'a>> {
+    let (all, whole) = match read(rt.alloc(), bytes) {
+        Ok(read) => read,
+        Err(trouble) => return Err(Failure::of_pad(path, trouble)),
+    };
+    let last = rev.unwrap_or(all);
+    if all < last {
+        return Err(Failure::of_pad(path, Trouble::NoRevision));
+    }
+    put_lines(rt, &bytes[..bytes.len().min(whole)], last, out)
+}
+
+// The number of revisions of a file's pad, and how many bytes its whole lines have.
+fn read(alloc: Global, bytes: &[u8]) -> Result<(u64, usize), Trouble> {
+    let book = Book::read(alloc, bytes)?;
+    Ok((book.revision(), book.whole as usize))
+}
+
+// Prints the operations of these lines, up to a revision.
+fn put_lines<'a, R: Runtime<A = Global>, W: Write>(
+    rt: &R,
+    bytes: &[u8],
+    last: u64,
+    out: &mut W,
+) -> Result<(), Failure<'a>> {
+    let mut progress = Progress::start(rt);
+    let mut made: u64 = 0;
+    for line in bytes.split(|byte| *byte == b'\n') {
+        if made >= last {
+            return Ok(());
+        }
+        if let Some(done) = operation_on(rt.alloc(), line)? {
+            made = made.saturating_add(1);
+            out.write_all(line_of(rt.alloc(), made, &done)?.as_bytes())?;
+            progress.report(rt, "revision", made, last);
+        }
+    }
+    Ok(())
+}
+
+// The line of an operation.
+fn line_of(alloc: Global, rev: u64, done: &Operation<'_>) -> Result<String, AllocError> {
+    let at = done.at.unwrap_or(0);
+    let op = done.json.as_str();
+    let sum = done.sum;
+    format!(in alloc; "{{\"at\":{at},\"op\":{op},\"rev\":{rev},\"sum\":\"{sum}\"}}\n")
+}
+
+/// Prints which line of a file has a sum.
+pub fn find<'a, W: Write>(
+    alloc: Global,
+    path: &'a str,
+    bytes: &[u8],
+    sum: &str,
+    out: &mut W,
+) -> Result<(), Failure<'a>> {
+    let whole = match read(alloc, bytes) {
+        Ok((_, whole)) => bytes.len().min(whole),
+        Err(trouble) => return Err(Failure::of_pad(path, trouble)),
+    };
+    match line_with_sum(&bytes[..whole], sum.as_bytes()) {
+        Some(number) => {
+            let line = format!(in alloc; "line {number}\n")?;
+            Ok(out.write_all(line.as_bytes())?)
+        }
+        None => Err(Failure::NoSum { path }),
+    }
+}

@@ -1,0 +1,147 @@
+//! Who did what and when.
+use crate::book::Book;
+use crate::failure::Failure;
+use crate::operation::{Operation, kind_of, operation_on};
+use crate::pieces::{put_words, words};
+use crate::progress::Progress;
+use crate::trouble::Trouble;
+use jiff::Timestamp;
+use pad_model::Part;
+use std::alloc::{AllocError, Global};
+use std::io::Write;
+use std::rt::Runtime;
+
+/// Prints a line for each revision from one on.
+pub fn log<'a, R: Runtime<A = Global>, W: Write>(
+    rt: &R,
+    path: &'a str,
+    bytes: &[u8],
+    from: u64,
+    out: &mut W,
+) -> Result<(), Failure<'a>> {
+    match Book::read(rt.alloc(), bytes) {
+        Ok(mut book) => put_lines(rt, path, &mut book, bytes, from, out),
+        Err(trouble) => Err(Failure::of_pad(path, trouble)),
+    }
+}
+
+// Prints the lines of a file's pad.
+fn put_lines<'a, R: Runtime<A = Global>, W: Write>(
+    rt: &R,
+    path: &'a str,
+    book: &mut Book,
+    bytes: &[u8],
+    from: u64,
+    out: &mut W,
+) -> Result<(), Failure<'a>> {
+    let mut progress = Progress::start(rt);
+    let whole = bytes.len().min(book.whole as usize);
+    let all = book.revision();
+    let mut rev: u64 = 0;
+    for line in bytes[..whole].split(|byte| *byte == b'\n') {
+        if let Some(done) = operation_on(rt.alloc(), line)? {
+            rev = rev.saturating_add(1);
+            if rev >= from {
+                put_line(rt.alloc(), path, book, rev, &done, out)?;
+            }
+            progress.report(rt, "revision", rev, all);
+        }
+    }
+    Ok(())
+}
+
+// Prints the line of a revision.
+fn put_line<'a, W: Write>(
+    alloc: Global,
+    path: &'a str,
+    book: &mut Book,
+    rev: u64,
+    done: &Operation<'_>,
+    out: &mut W,
+) -> Result<(), Failure<'a>> {
+    match line_of(alloc, book, rev, done) {
+        Ok(line) => Ok(out.write_all(line.as_bytes())?),
+        Err(trouble) => Err(Failure::of_pad(path, trouble)),
+    }
+}
+
+// The line of a revision: its number, when and by whom it was made, what it is, and the words that went and came.
+fn line_of(
+    alloc: Global,
+    book: &mut Book,
+    rev: u64,
+    done: &Operation<'_>,
+) -> Result<String, Trouble> {
+    let time = time_of(alloc, done.at)?;
+    let name = done.op.author.as_str();
+    let origin = done.op.name.origin;
+    let kind = kind_of(done.op.parts.as_slice());
+    let words = words_of(alloc, book, rev, done)?;
+    Ok(format!(in alloc; "{rev} {time} {name}@{origin} {kind}{words}\n")?)
+}
+
+// A time of day, in UTC, or `-` where there is none.
+fn time_of(alloc: Global, at: Option<u64>) -> Result<String, AllocError> {
+    let second = match at {
+        Some(at) => i64::try_from(at).unwrap_or(i64::MAX),
+        None => return String::from_str(alloc, "-"),
+    };
+    match Timestamp::from_second(second) {
+        Ok(time) => format!(in alloc; "{time}"),
+        Err(_) => String::from_str(alloc, "-"),
+    }
+}
+
+// The words of a revision. The text before it is read only where words went.
+fn words_of(
+    alloc: Global,
+    book: &mut Book,
+    rev: u64,
+    done: &Operation<'_>,
+) -> Result<String, Trouble> {
+    let parts = done.op.parts.as_slice();
+    if erases(parts) {
+        return words_between(alloc, book, rev.saturating_sub(1), rev);
+    }
+    Ok(words_of_parts(alloc, parts)?)
+}
+
+// Whether one of the parts erases.
+fn erases(parts: &[Part]) -> bool {
+    for part in parts {
+        if let Part::Delete(_) = part {
+            return true;
+        }
+    }
+    false
+}
+
+// The words that went and came between two revisions.
+fn words_between(alloc: Global, book: &mut Book, rev: u64, to: u64) -> Result<String, Trouble> {
+    let pieces = book.changes(alloc, rev, to)?;
+    let text = book.text(alloc, Some(rev))?;
+    Ok(words(alloc, pieces.as_slice(), text.as_slice())?)
+}
+
+// What parts insert, comment or resolve.
+fn words_of_parts(alloc: Global, parts: &[Part]) -> Result<String, AllocError> {
+    let mut out = String::new(alloc);
+    for part in parts {
+        put_part(alloc, &mut out, part)?;
+    }
+    Ok(out)
+}
+
+// What a part inserts, comments or resolves.
+fn put_part(alloc: Global, out: &mut String, part: &Part) -> Result<(), AllocError> {
+    match part {
+        Part::Insert(run) => put_words(alloc, out, " +", run.text.as_slice()),
+        Part::Comment { text, .. } => put_words(alloc, out, " ", text.as_slice()),
+        Part::Resolve { comment } => {
+            let name = format!(in alloc; " [{},{}]", comment.origin, comment.number)?;
+            out.push_str(name.as_str())?;
+            Ok(())
+        }
+        Part::Delete(_) => Ok(()),
+    }
+}

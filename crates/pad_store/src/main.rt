@@ -1,0 +1,154 @@
+//! Reads the files in which a server keeps pads: verifies them, and prints what they hold. It changes nothing.
+#![tactic(auto)]
+
+mod args;
+mod book;
+mod chain;
+mod check;
+mod diff;
+mod export;
+mod failure;
+mod files;
+mod log;
+mod mode;
+mod names;
+mod operation;
+mod options;
+mod pieces;
+mod progress;
+mod show;
+mod trouble;
+mod view;
+
+use args::parse;
+use check::check;
+use command_line::report;
+use diff::diff;
+use export::{export, find};
+use failure::Failure;
+use files::read_file;
+use mode::Mode;
+use show::show;
+use std::alloc::Global;
+use std::io;
+use std::io::{BufWriter, IsTerminal, Write};
+use std::process::ExitCode;
+use view::{View, viewed};
+
+fn main(rt: HostRuntime) -> ExitCode {
+    let alloc = rt.alloc();
+    let words = match words_of(&rt, alloc) {
+        Ok(words) => words,
+        Err(cause) => return end(&rt, Failure::of_arguments(cause)),
+    };
+    let asked = match parse(alloc, words.as_slice()) {
+        Ok(asked) => asked,
+        Err(error) => return report(&rt, "pad_store", &error),
+    };
+    let mode = match asked.mode() {
+        Ok(mode) => mode,
+        Err(misuse) => {
+            let _told = eprintln!(rt; "pad_store: {misuse}");
+            return ExitCode::from(2);
+        }
+    };
+    match run(&rt, alloc, mode) {
+        Ok(status) => status,
+        Err(failure) => end(&rt, failure),
+    }
+}
+
+/// The words of the command line.
+fn words_of(rt: &HostRuntime, alloc: Global) -> io::Result<Vec<String>> {
+    Ok(std::env::args(rt)?.collect(alloc)?)
+}
+
+/// Prints why the program ends, unless nobody reads its output any more, and returns the status.
+fn end(rt: &HostRuntime, failure: Failure<'_>) -> ExitCode {
+    if failure.is_end() {
+        return ExitCode::SUCCESS;
+    }
+    let _told = eprintln!(rt; "pad_store: {failure}");
+    failure.status()
+}
+
+/// Does what the command line asks for, and writes out what is left.
+fn run<'a>(rt: &HostRuntime, alloc: Global, mode: Mode<'a>) -> Result<ExitCode, Failure<'a>> {
+    let mut out = BufWriter::new(alloc, std::io::writer(rt))?;
+    let status = perform(rt, mode, &mut out)?;
+    out.flush()?;
+    Ok(status)
+}
+
+/// Does what the command line asks for.
+fn perform<'a, W: Write>(
+    rt: &HostRuntime,
+    mode: Mode<'a>,
+    out: &mut W,
+) -> Result<ExitCode, Failure<'a>> {
+    match mode {
+        Mode::Check { path } => {
+            if check(rt, path, out)? {
+                Ok(ExitCode::SUCCESS)
+            } else {
+                Ok(ExitCode::FAILURE)
+            }
+        }
+        Mode::Show { path, .. }
+        | Mode::Log { path, .. }
+        | Mode::Diff { path, .. }
+        | Mode::Export { path, .. }
+        | Mode::Find { path, .. } => {
+            let bytes = read_file(rt, path)?;
+            tell(rt, path, bytes.as_slice(), mode, out)?;
+            Ok(ExitCode::SUCCESS)
+        }
+    }
+}
+
+/// Writes what is asked for of the bytes of a file.
+fn tell<'a, W: Write>(
+    rt: &HostRuntime,
+    path: &'a str,
+    bytes: &[u8],
+    mode: Mode<'_>,
+    out: &mut W,
+) -> Result<(), Failure<'a>> {
+    let alloc = rt.alloc();
+    let text = match mode {
+        Mode::Show { rev, view, .. } => shown(alloc, bytes, rev.map(u64::from), view),
+        Mode::Diff { rev, to, .. } => {
+            if to < rev {
+                return Err(Failure::Backwards);
+            }
+            let coloured = rt.stdout().is_terminal();
+            diff(alloc, bytes, u64::from(rev), u64::from(to), coloured)
+        }
+        Mode::Log { from, .. } => {
+            return log::log(rt, path, bytes, u64::from(from.unwrap_or(1)), out);
+        }
+        Mode::Export { rev, .. } => {
+            return export(rt, path, bytes, rev.map(u64::from), out);
+        }
+        Mode::Find { sum, .. } => return find(alloc, path, bytes, sum, out),
+        Mode::Check { .. } => return Ok(()),
+    };
+    match text {
+        Ok(text) => Ok(out.write_all(text.as_bytes())?),
+        Err(trouble) => Err(Failure::of_pad(path, trouble)),
+    }
+}
+
+/// A revision as a view shows it.
+fn shown(
+    alloc: Global,
+    bytes: &[u8],
+    rev: Option<u64>,
+    asked: View,
+) -> Result<String, trouble::Trouble> {
+    if asked.is_plain() {
+        show(alloc, bytes, rev)
+    } else {
+        viewed(alloc, bytes, rev, asked)
+    }
+}

@@ -1,0 +1,194 @@
+//! What the program does, by what the command line gives.
+ghost use Rattle.std.specs.Prelude.{◌≡◌};
+ghost use Rattle.pad_store.specs.Modes.{compare, deed_of as deed_named, done_with, export_or_find, misuse_of, mode_of, needless, with_deed};
+
+use crate::args::Asked;
+use crate::view::View;
+use thiserror::Error;
+
+/// What is done with a file.
+#[derive(Clone, Copy, Debug, PartialEq, Eq)]
+pub enum Deed {
+    Check,
+    Show,
+    Log,
+    Diff,
+    Export,
+}
+
+/// What is done, with all that it needs.
+#[derive(Clone, Copy, Debug, PartialEq, Eq)]
+pub enum Mode<'a> {
+    /// Verifies a file, or each file of a folder.
+    Check {
+        path: &'a str,
+    },
+    /// Prints a revision.
+    Show {
+        path: &'a str,
+        rev: Option<u32>,
+        view: View,
+    },
+    /// Prints who did what, from a revision on.
+    Log {
+        path: &'a str,
+        from: Option<u32>,
+    },
+    /// Prints what leads from one revision to another.
+    Diff {
+        path: &'a str,
+        rev: u32,
+        to: u32,
+    },
+    /// Prints the operations, up to a revision.
+    Export {
+        path: &'a str,
+        rev: Option<u32>,
+    },
+    /// Says whether a line has a sum.
+    Find {
+        path: &'a str,
+        sum: &'a str,
+    },
+}
+
+/// What is wrong with a command line that clap accepts.
+#[derive(Clone, Copy, Debug, PartialEq, Eq, Error)]
+pub enum Misuse {
+    #[error("the command is check, show, log, diff or export")]
+    NoCommand,
+    #[error("diff needs two revisions")]
+    NoRevisions,
+    #[error("only diff takes revisions as words")]
+    Revisions,
+    #[error("--rev <N> is for show and export")]
+    Rev,
+    #[error("--from <N> is for log")]
+    From,
+    #[error("--sum <SUM> is for export, without --rev <N>")]
+    Sum,
+    #[error("--authors, --comments and --markdown are for show")]
+    View,
+}
+
+impl<'a> Asked<'a> {
+    /// What is done. Each option has to be one of the command's.
+    pub fn mode(self) -> Result<Mode<'a>, Misuse>
+        ensures { result ≡ mode_of self.entry }
+    {
+        match (self.command, self.path) {
+            (Some(command), Some(path)) => self.mode_with(path, deed_of(command)),
+            _ => Err(Misuse::NoCommand),
+        }
+    }
+
+    // What is done with a file.
+    fn mode_with(self, path: &'a str, deed: Option<Deed>) -> Result<Mode<'a>, Misuse>
+        ensures { result ≡ with_deed self.entry path.entry deed }
+    {
+        let Some(deed) = deed else {
+            return Err(Misuse::NoCommand);
+        };
+        match self.misuse(deed) {
+            Some(misuse) => Err(misuse),
+            None => self.done(path, deed),
+        }
+    }
+
+    // What a command does with its options.
+    fn done(self, path: &'a str, deed: Deed) -> Result<Mode<'a>, Misuse>
+        ensures { result ≡ done_with self.entry path.entry deed }
+    {
+        match deed {
+            Deed::Check => Ok(Mode::Check { path }),
+            Deed::Show => Ok(Mode::Show {
+                path,
+                rev: self.rev,
+                view: View {
+                    authors: self.authors,
+                    comments: self.comments,
+                    markdown: self.markdown,
+                },
+            }),
+            Deed::Log => Ok(Mode::Log {
+                path,
+                from: self.from,
+            }),
+            Deed::Diff => compared(path, self.first, self.second),
+            Deed::Export => Ok(exported(path, self.rev, self.sum)),
+        }
+    }
+
+    // What is wrong with the options of a command, if anything is.
+    fn misuse(self, deed: Deed) -> Option<Misuse>
+        ensures { result ≡ misuse_of deed self.entry }
+    {
+        match deed {
+            Deed::Check => self.needless(true, true, true, true, true),
+            Deed::Show => self.needless(false, true, true, false, true),
+            Deed::Log => self.needless(true, false, true, true, true),
+            Deed::Diff => self.needless(true, true, true, true, false),
+            Deed::Export => self.needless(false, true, self.rev.is_some(), true, true),
+        }
+    }
+
+    // The first option that stands there and may not.
+    fn needless(
+        self,
+        no_rev: bool,
+        no_from: bool,
+        no_sum: bool,
+        no_view: bool,
+        no_words: bool,
+    ) -> Option<Misuse>
+        ensures { result ≡ needless no_rev no_from no_sum no_view no_words self.entry }
+    {
+        if no_rev && self.rev.is_some() {
+            Some(Misuse::Rev)
+        } else if no_from && self.from.is_some() {
+            Some(Misuse::From)
+        } else if no_sum && self.sum.is_some() {
+            Some(Misuse::Sum)
+        } else if no_view && (self.authors || self.comments || self.markdown) {
+            Some(Misuse::View)
+        } else if no_words && (self.first.is_some() || self.second.is_some()) {
+            Some(Misuse::Revisions)
+        } else {
+            None
+        }
+    }
+}
+
+// Two revisions are needed.
+fn compared<'a>(path: &'a str, first: Option<u32>, second: Option<u32>) -> Result<Mode<'a>, Misuse>
+    ensures { result ≡ compare path.entry first second }
+{
+    match (first, second) {
+        (Some(rev), Some(to)) => Ok(Mode::Diff { path, rev, to }),
+        _ => Err(Misuse::NoRevisions),
+    }
+}
+
+// The operations are written, or a sum is looked for.
+fn exported<'a>(path: &'a str, rev: Option<u32>, sum: Option<&'a str>) -> Mode<'a>
+    ensures { result ≡ export_or_find path.entry rev sum.entry }
+{
+    match sum {
+        Some(sum) => Mode::Find { path, sum },
+        None => Mode::Export { path, rev },
+    }
+}
+
+// What a command means.
+fn deed_of(command: &str) -> Option<Deed>
+    ensures { result ≡ deed_named command.now }
+{
+    match command {
+        "check" => Some(Deed::Check),
+        "show" => Some(Deed::Show),
+        "log" => Some(Deed::Log),
+        "diff" => Some(Deed::Diff),
+        "export" => Some(Deed::Export),
+        _ => None,
+    }
+}

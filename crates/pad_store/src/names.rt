@@ -1,0 +1,68 @@
+//! What the first lines of a file say of its pad.
+use crate::chain::text_on;
+use pad_model::{Name, Refusal};
+use records::Record;
+use serde_json::Value;
+use std::alloc::{AllocError, Global};
+use store::{Entry, Header, read_entry};
+
+/// The name of a pad, and who made it: the owner may read all of it.
+#[derive(Debug, Drop)]
+pub struct Names {
+    pub pad: Name,
+    pub owner: Name,
+}
+
+/// The names that the lines of a file say, as far as they say them: the others are empty. Nothing is verified.
+pub fn names_in(alloc: Global, bytes: &[u8]) -> Result<Names, AllocError> {
+    let pad = pad_in(alloc, bytes)?;
+    let owner = owner_in(alloc, bytes)?;
+    Ok(Names { pad, owner })
+}
+
+/// The name that the first line says.
+fn pad_in(alloc: Global, bytes: &[u8]) -> Result<Name, AllocError> {
+    let Some(line) = bytes.split(|byte| *byte == b'\n').next() else {
+        return Name::from_str(alloc, "");
+    };
+    match entry_on(alloc, line)? {
+        Some(Entry::Header(Header { pad, replica: _ })) => Ok(pad),
+        _ => Name::from_str(alloc, ""),
+    }
+}
+
+/// The owner that the first record of a name says.
+fn owner_in(alloc: Global, bytes: &[u8]) -> Result<Name, AllocError> {
+    for line in bytes.split(|byte| *byte == b'\n') {
+        match entry_on(alloc, line)? {
+            Some(Entry::Record(Record::Named { name: _pad, owner })) => return Ok(owner),
+            Some(_) => {}
+            None => return Name::from_str(alloc, ""),
+        }
+    }
+    Name::from_str(alloc, "")
+}
+
+/// What a line says, whatever line it follows. None: it says nothing.
+fn entry_on(alloc: Global, line: &[u8]) -> Result<Option<Entry>, AllocError> {
+    let Some(text) = text_on(line) else {
+        return Ok(None);
+    };
+    let Some(value) = value_of(alloc, text)? else {
+        return Ok(None);
+    };
+    match read_entry(alloc, &value) {
+        Ok(entry) => Ok(Some(entry)),
+        Err(Refusal::Memory) => Err(AllocError),
+        Err(_) => Ok(None),
+    }
+}
+
+/// The value of a text, if it is JSON.
+pub fn value_of(alloc: Global, text: &[u8]) -> Result<Option<Value>, AllocError> {
+    match Value::from_slice(alloc, text) {
+        Ok(value) => Ok(Some(value)),
+        Err(error) if error.is_memory() => Err(AllocError),
+        Err(_) => Ok(None),
+    }
+}

@@ -1,0 +1,61 @@
+//! The operations of a file, line by line.
+use crate::chain::{sum_on, text_on};
+use crate::names::value_of;
+use pad_model::{Op, Part, Refusal};
+use records::Record;
+use serde_json::Value;
+use std::alloc::{AllocError, Global};
+use store::{Entry, read_entry};
+
+/// An operation with what its line says beside it.
+#[derive(Drop)]
+pub struct Operation<'a> {
+    /// The time of day in seconds since 1970, if the line says one.
+    pub at: Option<u64>,
+    pub op: Op,
+    /// The operation as JSON.
+    pub json: String,
+    /// The sum of the line.
+    pub sum: &'a str,
+}
+
+/// The operation of a line. None: the line says something else.
+pub fn operation_on(alloc: Global, line: &[u8]) -> Result<Option<Operation<'_>>, AllocError> {
+    let (Some(text), Some(sum)) = (text_on(line), sum_on(line)) else {
+        return Ok(None);
+    };
+    let Some(value) = value_of(alloc, text)? else {
+        return Ok(None);
+    };
+    let at = match value.get("at") {
+        Some(at) => at.as_u64(),
+        None => None,
+    };
+    let json = match value.get("op") {
+        Some(op) => op.to_string(alloc)?,
+        None => return Ok(None),
+    };
+    match read_entry(alloc, &value) {
+        Ok(Entry::Record(Record::Delivered { op })) => Ok(Some(Operation {
+            at,
+            op,
+            json,
+            sum: std::str::from_utf8(sum).unwrap_or(""),
+        })),
+        Err(Refusal::Memory) => Err(AllocError),
+        _ => Ok(None),
+    }
+}
+
+/// What an operation does, in a word.
+pub fn kind_of(parts: &[Part]) -> &'static str {
+    if parts.len() != 1 {
+        return "edit";
+    }
+    match &parts[0] {
+        Part::Insert(_) => "insert",
+        Part::Delete(_) => "delete",
+        Part::Comment { .. } => "comment",
+        Part::Resolve { .. } => "resolve",
+    }
+}

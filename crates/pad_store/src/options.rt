@@ -1,0 +1,65 @@
+//! The options of the command line.
+ghost use Rattle.std.specs.Prelude.{◌≡◌, ℕ, codes, false, unwrap_or};
+ghost use Rattle.clap.specs.Words.{rule_of};
+ghost use Rattle.command_line.specs.Options.{Holds, flag_rule, option_rule};
+ghost use Rattle.pad_store.specs.CommandLine.{needed_word, revision_option as revision_rule, revision_word as word_rule};
+
+use clap::{Arg, ArgAction, ArgMatches, value_parser};
+use std::alloc::Global;
+
+/// A word that has to be there.
+pub fn word<'a>(alloc: Global, name: &'a str, shown: &'a str, help: &'a str) -> Arg<'a>
+    ensures { (rule_of result ≡ needed_word name.now) × (result.global ≡ false) }
+{
+    Arg::new(alloc, name)
+        .value_name(shown)
+        .required(true)
+        .help(help)
+}
+
+/// A revision as a word.
+pub fn revision_word<'a>(alloc: Global, name: &'a str, help: &'a str) -> Arg<'a>
+    ensures { (rule_of result ≡ word_rule name.now) × (result.global ≡ false) }
+{
+    Arg::new(alloc, name)
+        .value_name("REV")
+        .value_parser(value_parser!(u32).range(0..))
+        .help(help)
+}
+
+/// An option that takes a revision.
+pub fn revision_option<'a>(alloc: Global, name: &'a str, help: &'a str) -> Arg<'a>
+    ensures { (rule_of result ≡ revision_rule name.now) × (result.global ≡ false) }
+{
+    Arg::new(alloc, name)
+        .long(name)
+        .value_name("N")
+        .value_parser(value_parser!(u32).range(0..))
+        .help(help)
+}
+
+/// `--sum S`.
+pub fn sum_option<'a>(alloc: Global) -> Arg<'a>
+    ensures { (rule_of result ≡ option_rule (codes "sum")) × (result.global ≡ false) }
+{
+    Arg::new(alloc, "sum").long("sum").value_name("SUM").help(
+        "With export: prints nothing but says whether a line of the file has this sum",
+    )
+}
+
+/// An option that takes no value.
+pub fn flag<'a>(alloc: Global, name: &'a str, help: &'a str) -> Arg<'a>
+    ensures { (rule_of result ≡ flag_rule name.now) × (result.global ≡ false) }
+{
+    Arg::new(alloc, name)
+        .long(name)
+        .action(ArgAction::SetTrue)
+        .help(help)
+}
+
+/// The revision that stands under a name, if there is one.
+pub fn revision_of(matches: &ArgMatches<'_>, name: &str) -> Option<u32>
+    ensures { (other : ℕ) → Holds name.now 0 4294967295 other matches.now (unwrap_or result other) }
+{
+    matches.get_one::<u32>(name)
+}

@@ -1,0 +1,37 @@
+//! Messages on standard error while something takes long.
+use std::io::Eprint;
+use std::time::{Clock, Instant};
+
+/// Reports how far something is, once a second.
+#[derive(Drop)]
+pub struct Progress {
+    last: Option<Instant>,
+}
+
+impl Progress {
+    /// From now on. Without a clock, nothing is reported.
+    pub fn start<C: Clock>(clock: &C) -> Progress {
+        Progress {
+            last: Instant::now(clock).ok(),
+        }
+    }
+
+    /// Prints how many of all are done, if a second has passed since the start or the last message.
+    pub fn report<R: Clock + Eprint>(&mut self, rt: &R, what: &str, done: u64, all: u64) {
+        if self.is_due(rt) {
+            let _told = eprintln!(rt; "pad_store: {what} {done} of {all}");
+        }
+    }
+
+    // Whether a second has passed. If so, the next one begins.
+    fn is_due<C: Clock>(&mut self, clock: &C) -> bool {
+        let (Some(last), Ok(now)) = (self.last, Instant::now(clock)) else {
+            return false;
+        };
+        if now.saturating_duration_since(last).as_secs() < 1 {
+            return false;
+        }
+        self.last = Some(now);
+        true
+    }
+}

@@ -1,0 +1,26 @@
+//! The text of a file's pad.
+ghost use Rattle.std.specs.Prelude.{IfOk, IfErr, string_bytes};
+ghost use Rattle.pad_store.specs.Reading.{IsFault, Shows};
+
+use crate::book::Book;
+use crate::trouble::Trouble;
+use std::alloc::Global;
+
+/// What `show` prints: the text of a revision of the pad that the bytes of its file lead to; None is the present one.
+pub fn show(alloc: Global, bytes: &[u8], rev: Option<u64>) -> Result<String, Trouble>
+    ensures shown { IfOk result (λ text. Shows bytes.now rev (string_bytes text)) }
+    ensures fault { IfErr result (λ trouble. IsFault bytes.now trouble) }
+{
+    let mut book = match Book::read(alloc, bytes) {
+        Ok(book) => book,
+        Err(trouble) => return Err(trouble),
+    };
+    let text = match book.text(alloc, rev) {
+        Ok(text) => text,
+        Err(trouble) => return Err(trouble),
+    };
+    match text.to_string(alloc) {
+        Ok(text) => Ok(text),
+        Err(_) => Err(Trouble::Memory),
+    }
+}

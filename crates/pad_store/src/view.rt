@@ -1,0 +1,149 @@
+//! A revision with its authors and comments, as text or as Markdown.
+use crate::book::Book;
+use crate::pieces::{quoted, split};
+use crate::trouble::Trouble;
+use anchors::Shown;
+use pad_model::{AuthorRun, Row, Text};
+use std::alloc::{AllocError, Global};
+use std::fmt::Write;
+
+/// What is shown beside the text of a revision, and how.
+#[derive(Clone, Copy, Debug, PartialEq, Eq)]
+pub struct View {
+    pub authors: bool,
+    pub comments: bool,
+    pub markdown: bool,
+}
+
+impl View {
+    /// Whether the text alone is shown.
+    pub fn is_plain(self) -> bool {
+        !self.authors && !self.comments && !self.markdown
+    }
+}
+
+/// A revision as a view shows it; None is the present one.
+pub fn viewed(
+    alloc: Global,
+    bytes: &[u8],
+    rev: Option<u64>,
+    view: View,
+) -> Result<String, Trouble> {
+    match Book::read(alloc, bytes) {
+        Ok(mut book) => {
+            let at = rev.unwrap_or(book.revision());
+            view_of(alloc, &mut book, at, view)
+        }
+        Err(trouble) => Err(trouble),
+    }
+}
+
+// A revision of a file's pad as a view shows it.
+fn view_of(alloc: Global, book: &mut Book, at: u64, view: View) -> Result<String, Trouble> {
+    let text = book.text(alloc, Some(at))?;
+    let mut out = String::new(alloc);
+    if view.markdown {
+        put_title(&mut out, book.name.as_str(), at)?;
+    }
+    if view.authors {
+        put_authors(alloc, &mut out, book, at, &text, view.markdown)?;
+    } else {
+        put_text(alloc, &mut out, &text)?;
+    }
+    if view.comments {
+        put_notes(alloc, &mut out, book, at, &text, view.markdown)?;
+    }
+    Ok(out)
+}
+
+// The pad's name and the revision, as Markdown.
+fn put_title(out: &mut String, name: &str, at: u64) -> Result<(), Trouble> {
+    match write!(out, "# {name}\n\nRevision {at}\n\n") {
+        Ok(()) => Ok(()),
+        Err(_) => Err(Trouble::Memory),
+    }
+}
+
+// The text of a revision, with its authors.
+fn put_authors(
+    alloc: Global,
+    out: &mut String,
+    book: &mut Book,
+    at: u64,
+    text: &Text,
+    markdown: bool,
+) -> Result<(), Trouble> {
+    let runs = book.runs(alloc, Some(at))?;
+    Ok(put_runs(alloc, out, text, &runs, markdown)?)
+}
+
+// The comments of a revision.
+fn put_notes(
+    alloc: Global,
+    out: &mut String,
+    book: &mut Book,
+    at: u64,
+    text: &Text,
+    markdown: bool,
+) -> Result<(), Trouble> {
+    let comments = book.comments(alloc, Some(at))?;
+    Ok(put_comments(alloc, out, text, &comments, markdown)?)
+}
+
+// The text, which ends a line.
+fn put_text(alloc: Global, out: &mut String, text: &Text) -> Result<(), AllocError> {
+    out.push_str(text.to_string(alloc)?.as_str())?;
+    if text.as_slice().last() != Some(&'\n') {
+        out.push('\n')?;
+    }
+    Ok(())
+}
+
+// Who wrote what: a line for each stretch.
+fn put_runs(
+    alloc: Global,
+    out: &mut String,
+    text: &Text,
+    runs: &Row<AuthorRun>,
+    markdown: bool,
+) -> Result<(), AllocError> {
+    let mark = if markdown { "- " } else { "" };
+    let mut rest = text.as_slice();
+    for run in runs.as_slice() {
+        let (own, behind) = split(rest, run.len);
+        let words = quoted(alloc, own)?;
+        let name = run.author.name.as_str();
+        let origin = run.author.origin;
+        out.push_str(format!(in alloc; "{mark}{name}@{origin} {words}\n")?.as_str())?;
+        rest = behind;
+    }
+    Ok(())
+}
+
+// The comments: a line for each, behind an empty one.
+fn put_comments(
+    alloc: Global,
+    out: &mut String,
+    text: &Text,
+    comments: &Row<Shown>,
+    markdown: bool,
+) -> Result<(), AllocError> {
+    let mark = if markdown { "- " } else { "" };
+    out.push_str(if markdown { "\n## Comments\n\n" } else { "\n" })?;
+    for comment in comments.as_slice() {
+        let (_, behind) = split(text.as_slice(), comment.at);
+        let (own, _) = split(behind, comment.len);
+        let on = quoted(alloc, own)?;
+        let words = quoted(alloc, comment.text.as_slice())?;
+        let name = comment.author.name.as_str();
+        let author = comment.author.origin;
+        let origin = comment.name.origin;
+        let number = comment.name.number;
+        let state = if comment.resolved { ", resolved" } else { "" };
+        let line = format!(in alloc;
+            "{mark}[{origin},{number}] {name}@{author} on {on}: {words}{state}\n"
+        )?;
+        out.push_str(line.as_str())?;
+    }
+    Ok(())
+}

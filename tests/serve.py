@@ -1,0 +1,195 @@
+"""The script `serve`: an accounts file with random tokens, a server with a store, and how to log in."""
+import os
+import re
+import signal
+import socket
+import stat
+import subprocess
+
+from harness import ROOT, Failed, Test, path_of, put_files, want
+from sockets import Client
+
+ACCOUNT = re.compile(r"author ([a-z]+) ([A-Za-z0-9_-]{24})")
+
+
+class Served:
+    """The script, which is killed with the test. It finds the server that is built, and no toolchain to build another."""
+
+    def __init__(self, *words, script=f"{ROOT}/serve", variables=None):
+        path_of("pad_server")
+        command = [script, "--listen", "127.0.0.1:0", "--web", "127.0.0.1:0", *words]
+        streams = {"stdout": subprocess.PIPE, "stderr": subprocess.PIPE}
+        self.process = subprocess.Popen(command, env=variables or {"PATH": "/usr/bin:/bin"}, text=True, **streams)
+        line = self.process.stdout.readline()
+        if not line.startswith("listening on 127.0.0.1:"):
+            raise Failed(f"the first line: {line!r}, and {self.process.stderr.read()!r}")
+        self.port = int(line.rsplit(":", 1)[1])
+
+    def told(self):
+        """The message that says how to log in."""
+        for line in self.process.stderr:
+            if line.startswith("serve: log in at "):
+                return line
+        raise Failed("no message says how to log in")
+
+    def end(self):
+        """It ends by the signal, as the server itself does."""
+        self.process.send_signal(signal.SIGTERM)
+        want(self.process.wait(), -signal.SIGTERM, "the status")
+
+
+def accounts_of(path):
+    with open(path, encoding="utf-8") as file:
+        lines = file.read().splitlines()
+    return [ACCOUNT.fullmatch(line).groups() for line in lines]
+
+
+def log_in(port, name, token):
+    client = Client(port)
+    client.wants({"do": "hello", "name": name, "token": token}, {"author": f"{name}@1", "ok": True})
+    return client
+
+
+def three_authors_can_log_in():
+    served = Served()
+    told = served.told()
+    want(stat.S_IMODE(os.stat("accounts").st_mode), 0o600, "the mode of the accounts file")
+    accounts = accounts_of("accounts")
+    want([name for name, _ in accounts], ["ann", "bob", "cyd"], "the authors")
+    want(len({token for _, token in accounts}), 3, "how many tokens are different")
+    want(all(word in told for word in accounts[0]), True, f"that {told!r} says who logs in, and by which token")
+    for name, token in accounts:
+        log_in(served.port, name, token)
+    served.end()
+
+
+def a_second_start_keeps_accounts_and_pads():
+    served = Served("--store", "kept", "--accounts", "who")
+    accounts = accounts_of("who")
+    ann = log_in(served.port, *accounts[0])
+    ann.does(do="create", pad="p")
+    ann.does(do="insert", pad="p", rev=0, at=0, text="hello")
+    served.end()
+    served = Served("--store", "kept", "--accounts", "who")
+    want(accounts_of("who"), accounts, "the accounts")
+    ann = log_in(served.port, *accounts[0])
+    ann.join("p")
+    want(ann.does(do="text", pad="p")["text"], "hello", "the text")
+    served.end()
+
+
+def another_accounts_file_is_taken():
+    put_files([("accounts", "author zoe tzoe\n")])
+    served = Served()
+    want("as zoe with the token tzoe " in served.told(), True, "that zoe is named")
+    log_in(served.port, "zoe", "tzoe")
+    served.end()
+
+
+RT = """#!/bin/bash
+# In place of the toolchain: notes what it is called for and when, and what it makes is the server that is built.
+crate=${PWD##*/}
+case $1 in
+lib | run)
+    echo "begin $crate" >>"$NOTES"
+    sleep 0.05
+    [[ $crate != "$FAILS" ]] || { echo "fn $crate::f: not proved"; exit 1; }
+    echo "end $crate" >>"$NOTES"
+    [[ $1 == lib ]] || { mkdir -p out; ln -s "$BUILT" out/pad_server; }
+    ;;
+try) exec "$BUILT" "${@:5}" ;;
+esac
+"""
+
+
+def fresh_machine(fails=""):
+    """A copy of the script and of the list of crates, with nothing built, and a toolchain of a few lines. Returns the
+    environment and what each crate depends on."""
+    with open(f"{ROOT}/crates.txt", encoding="utf-8") as file:
+        crates = file.read()
+    with open(f"{ROOT}/serve", "rb") as file:
+        put_files([("serve", file.read()), ("crates.txt", crates), ("notes", "")])
+    below = {line.split(":")[0].split()[0]: line.split(":")[1].split() for line in crates.splitlines() if ":" in line}
+    os.mkdir("bin")
+    put_files([("bin/rt", RT)])
+    os.chmod("bin/rt", 0o755)
+    os.chmod("serve", 0o755)
+    for name in below:
+        os.makedirs(f"crates/{name}/src")
+    here = os.getcwd()
+    variables = {"PATH": f"{here}/bin:/usr/bin:/bin", "NOTES": f"{here}/notes", "BUILT": path_of("pad_server"), "FAILS": fails}
+    return variables, below
+
+
+def notes():
+    with open("notes", encoding="utf-8") as file:
+        return [line.split() for line in file.read().splitlines()]
+
+
+def everything_is_proved_lowest_first():
+    variables, below = fresh_machine()
+    served = Served("--store", "kept", script="./serve", variables=variables)
+    served.end()
+    told = notes()
+    crates = [name for word, name in told if word == "begin"]
+    want(len(set(crates)), len(crates), "how many crates are proved, each once")
+    want(crates[-1], "pad_server", "the last one")
+    for number, (word, name) in enumerate(told):
+        if word == "begin":
+            ended = [other for what, other in told[:number] if what == "end"]
+            want([other for other in below[name] if other in below and other not in ended], [], f"what is missing below {name}")
+    served = Served("--store", "kept", script="./serve", variables=variables)
+    served.end()
+    want(notes(), told, "what is proved at the second start")
+
+
+def a_failing_proof_ends_it():
+    variables, _ = fresh_machine(fails="pad_core")
+    done = subprocess.run(["./serve"], env=variables, capture_output=True, text=True)
+    want((done.returncode, done.stdout), (1, ""), "the status, and standard output")
+    lines = done.stderr.splitlines()
+    want(lines[-2:], ["fn pad_core::f: not proved", "serve: pad_core is not proved, or not built"], "the last messages")
+    want("begin pad_server" in notes(), False, "that the server is proved")
+
+
+def unproved_serves_until_it_is_ended():
+    variables, _ = fresh_machine()
+    with socket.socket() as free:
+        free.bind(("127.0.0.1", 0))
+        port = free.getsockname()[1]
+    command = ["./serve", "--unproved", "--listen", f"127.0.0.1:{port}"]
+    process = subprocess.Popen(command, env=variables, stdout=subprocess.DEVNULL, stderr=subprocess.PIPE, text=True)
+    told = ""
+    while not told.startswith("serve: log in at "):
+        told = process.stderr.readline() or "serve: log in at no address"
+    log_in(port, *accounts_of("accounts")[0])
+    process.send_signal(signal.SIGTERM)
+    want(process.wait(), 143, "the status")
+    try:
+        Client(port)
+    except OSError:
+        return
+    raise Failed("the server goes on")
+
+
+def words_are_refused():
+    for words, status, part in [
+        (["--all"], 2, "serve: unknown word: --all"),
+        (["--store"], 2, "serve: --store needs a value"),
+        (["--unproved"], 1, "serve: rt, the toolchain that builds the server, is not on the path"),
+    ]:
+        done = subprocess.run([f"{ROOT}/serve", *words], env={"PATH": "/usr/bin:/bin"}, capture_output=True, text=True)
+        want((done.returncode, part in done.stderr), (status, True), f"serve {words}: {done.stderr}")
+    done = subprocess.run([f"{ROOT}/serve", "--help"], env={"PATH": "/usr/bin:/bin"}, capture_output=True, text=True)
+    want((done.returncode, done.stdout.startswith("Usage: ./serve ")), (0, True), "serve --help")
+
+
+TESTS = [
+    Test("serve: three authors can log in", three_authors_can_log_in),
+    Test("serve: a second start keeps accounts and pads", a_second_start_keeps_accounts_and_pads),
+    Test("serve: another accounts file is taken", another_accounts_file_is_taken),
+    Test("serve: everything is proved, lowest first", everything_is_proved_lowest_first),
+    Test("serve: a failing proof ends it", a_failing_proof_ends_it),
+    Test("serve: --unproved serves until it is ended", unproved_serves_until_it_is_ended),
+    Test("serve: wrong words", words_are_refused),
+]

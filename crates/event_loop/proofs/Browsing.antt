@@ -27,7 +27,7 @@ lines_more [] text each is = (is, tt)
 lines_more (first ∷ texts) text each is = (each.0, lines_more texts text each.1 is)
 
 module _ {P : Type 0} (calls : P → Request → Answer → P → Type 0) (others : P → P → Type 0) where
-  Parts : P → Socket → List ℕ → List (List ℕ) → List ℕ → List ℕ → P → Socket → Talk → Type 0
+  abbrev Parts : P → Socket → List ℕ → List (List ℕ) → List ℕ → List ℕ → P → Socket → Talk → Type 0
   Parts old start all texts sent out now socket talk =
       Follows start all texts sent socket × Conversing calls others old (joined texts) out now talk × AreLines texts
 

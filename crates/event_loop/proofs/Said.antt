@@ -48,6 +48,15 @@ pub first_of : (bytes : List ℕ) (free : ℕ) (found : Option ℕ) → found �
 first_of bytes free None is = tt
 first_of bytes free (Some end) is = first_said bytes free end (sym is)
 
+pub inside : (bytes : List ℕ) (free : ℕ) (found : Option ℕ) → found ≡ position is_feed (take free bytes)
+    → IfSome found (λ end. end < free)
+inside bytes free None is = tt
+inside bytes free (Some end) is =
+    less (length-take free bytes) (position-Some is_feed (take free bytes) end 0 (sym is)).0
+  where
+    less : {n : ℕ} → n ≡ min free (length bytes) → end < n → end < free
+    less is lt = grind (arith, is, lt)
+
 -- a reply is said up to its line feed
 pub says_first : (replies output put rest : List ℕ) (end : ℕ) → IsFirst replies end
     → rest ≡ drop (end + 1) replies → put ≡ output ++ message_bytes (take end replies)

@@ -69,7 +69,8 @@ pub fn say(
 // Where the first line ends, if its line feed is among so many bytes.
 fn first_end(bytes: &[u8], free: usize) -> Option<usize>
     requires { free ≤ length bytes.now }
-    ensures { IfSome result (IsFirst bytes.now) }
+    ensures first { IfSome result (IsFirst bytes.now) }
+    ensures inside { IfSome result (λ end. end < free) }
 {
     find_feed(&bytes[..free])
 }

@@ -4,6 +4,6 @@ use Rattle.event_loop.proofs.Browsing.{browsers}
 use Rattle.event_loop.proofs.laws.browser_law.Goals as goal
 
 pub returns : goal.returns
-returns c =
+returns g c =
     browsers CallsRow KeepsSession (ServesApart CallsRow KeepsSession) c.lines_law.ensures c.pieces_law.ensures
     c.shared_law.ensures.course

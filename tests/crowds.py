@@ -291,6 +291,17 @@ def a_hundred_wait_for_one_change():
             want(json.loads(client.replies.readline())["to"], rev, "to which revision")
 
 
+def a_pad_with_64_sessions_is_crowded():
+    server = Server()
+    owner = server.author("ann")
+    owner.does(do="create", pad="p")
+    guests = [server.author("ann", "p") for _ in range(63)]
+    last = server.author("ann")
+    last.wants({"do": "join", "pad": "p"}, {"code": 313, "error": "Crowded", "ok": False})
+    guests[0].does(do="leave", pad="p")
+    last.join("p")
+
+
 def refused(name, args, *parts):
     return Case(f"crowds: {name}", args, status=2, stderr=Has(*parts), files=ACCOUNTS)
 
@@ -313,6 +324,7 @@ FUNCTIONS = [
     waiting_is_only_for_the_present_revision,
     who_waits_is_not_silent,
     a_hundred_wait_for_one_change,
+    a_pad_with_64_sessions_is_crowded,
 ]
 
 TESTS = [case.test() for case in CASES]

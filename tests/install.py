@@ -36,6 +36,13 @@ def read(path):
         return file.read()
 
 
+def linked_pages():
+    """The pages of docs/ that the README links to or shows, and those that it does not."""
+    linked = set(re.findall(r"\]\((docs/[^)#]*)", read(f"{ROOT}/README.md")))
+    there = {f"docs/{name}" for name in os.listdir(f"{ROOT}/docs") if name.endswith((".md", ".png"))}
+    return sorted(linked | there)
+
+
 def everything_is_installed():
     installed()
     found = {}
@@ -43,7 +50,7 @@ def everything_is_installed():
         found |= {os.path.join(folder, name): oct(os.stat(os.path.join(folder, name)).st_mode & 0o777) for name in names}
     due = {f"root{PREFIX}/bin/{name}": "0o755" for name in PROGRAMS}
     due |= {f"root{PREFIX}/share/man/man1/{name}.1": "0o644" for name in PROGRAMS}
-    due |= {f"root{PREFIX}/share/doc/vindrughe/{name}": "0o644" for name in PAGES}
+    due |= {f"root{PREFIX}/share/doc/vindrughe/{name}": "0o644" for name in PAGES + linked_pages()}
     due |= {UNIT: "0o644", EXAMPLE: "0o644"}
     want(found, due, "the files that are installed, with their modes")
     for name in PROGRAMS:

@@ -8,8 +8,10 @@ import subprocess
 
 from harness import ROOT, Failed, Test, path_of, put_files, want
 from sockets import Client
+from web_server import Socket, read_web
 
 ACCOUNT = re.compile(r"author ([a-z]+) ([A-Za-z0-9_-]{24})")
+LOGIN = re.compile(r"serve: log in at http://127\.0\.0\.1:(?P<port>\d+)/ as (?P<name>[a-z]+) with the token (?P<token>\S+) ")
 
 
 class Served:
@@ -19,18 +21,28 @@ class Served:
         path_of("pad_server")
         command = [script, "--listen", "127.0.0.1:0", "--web", "127.0.0.1:0", *words]
         streams = {"stdout": subprocess.PIPE, "stderr": subprocess.PIPE}
-        self.process = subprocess.Popen(command, env=variables or {"PATH": "/usr/bin:/bin"}, text=True, **streams)
-        line = self.process.stdout.readline()
+        self.process = subprocess.Popen(command, env=variables or {"PATH": "/usr/bin:/bin"}, **streams)
+        line = self.process.stdout.readline().decode()
         if not line.startswith("listening on 127.0.0.1:"):
             raise Failed(f"the first line: {line!r}, and {self.process.stderr.read()!r}")
         self.port = int(line.rsplit(":", 1)[1])
+        self.web = read_web(self.process)
 
     def told(self):
         """The message that says how to log in."""
         for line in self.process.stderr:
-            if line.startswith("serve: log in at "):
-                return line
+            if line.startswith(b"serve: log in at "):
+                return line.decode()
         raise Failed("no message says how to log in")
+
+    def page(self):
+        """A socket of the page, logged in as the message says."""
+        told = LOGIN.match(self.told())
+        want(int(told["port"]), self.web, "the port of the page that the message names")
+        socket = Socket(self.web, f"Origin: http://127.0.0.1:{self.web}")
+        answer = socket.ask(do="hello", name=told["name"], token=told["token"])
+        want(answer, {"author": f"{told['name']}@1", "ok": True}, "the answer to hello")
+        return socket
 
     def end(self):
         """It ends by the signal, as the server itself does."""
@@ -75,6 +87,21 @@ def a_second_start_keeps_accounts_and_pads():
     ann = log_in(served.port, *accounts[0])
     ann.join("p")
     want(ann.does(do="text", pad="p")["text"], "hello", "the text")
+    served.end()
+
+
+def the_page_has_its_pads_after_a_restart():
+    """Whoever opens the page that is named, with the name and the token that are named, can write; also after a kill."""
+    served = Served()
+    page = served.page()
+    page.does(do="create", pad="minutes")
+    page.does(do="insert", pad="minutes", rev=0, at=0, text="Present: Ann")
+    served.process.kill()
+    served.process.wait()
+    served = Served()
+    page = served.page()
+    page.does(do="join", pad="minutes")
+    want(page.does(do="text", pad="minutes")["text"], "Present: Ann", "the text")
     served.end()
 
 
@@ -187,6 +214,7 @@ def words_are_refused():
 TESTS = [
     Test("serve: three authors can log in", three_authors_can_log_in),
     Test("serve: a second start keeps accounts and pads", a_second_start_keeps_accounts_and_pads),
+    Test("serve: the page has its pads after a restart", the_page_has_its_pads_after_a_restart),
     Test("serve: another accounts file is taken", another_accounts_file_is_taken),
     Test("serve: everything is proved, lowest first", everything_is_proved_lowest_first),
     Test("serve: a failing proof ends it", a_failing_proof_ends_it),

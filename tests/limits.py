@@ -1,0 +1,53 @@
+"""The README's table of limits: each number in it is that of the code."""
+import re
+
+from harness import ROOT, Failed, Test, want
+
+# The beginning of a row, and the constant whose value its number is: a file of crates/ and the name there.
+ROWS = [
+    ("clients connected at once", "pad_server/src/options.rt", "DEFAULT_CLIENTS"),
+    ("threads that serve them", "pad_server/src/options.rt", "MAX_WORKERS"),
+    ("requests for the page's files at once", "event_loop/src/limits.rt", "VISITS"),
+    ("bytes in a line over TCP", "wire_lines/src/feed.rt", "MAX_LINE"),
+    ("bytes in a message of a WebSocket", "web_wire/src/frames.rt", "LONGEST_MESSAGE"),
+    ("pads on a server", "server_core/src/limits.rt", "MAX_CELLS"),
+    ("accounts, authors and peers together", "sessions/src/accounts.rt", "MAX_ACCOUNTS"),
+    ("names with a right on a pad", "rights/src/book.rt", "MAX_GRANTS"),
+    ("sessions present on a pad", "sessions/src/presence.rt", "MAX_PRESENT"),
+    ("visits to a pad in all", "sessions/src/presence.rt", "MAX_VISITS"),
+    ("operations on a pad in all", "pad_model/src/limits.rt", "MAX_OPERATIONS"),
+    ("comments on a pad", "pad_model/src/limits.rt", "MAX_COMMENTS"),
+    ("characters in a pad", "pad_model/src/limits.rt", "MAX_CHARACTERS"),
+    ("characters in one insertion, deletion or edit", "pad_model/src/limits.rt", "MAX_TEXT"),
+    ("changes in one edit", "pad_model/src/limits.rt", "MAX_PARTS"),
+    ("characters in a comment", "pad_model/src/limits.rt", "MAX_COMMENT"),
+    ("characters in the name of a pad or an author", "pad_model/src/limits.rt", "MAX_NAME"),
+    ("operations of other servers that a pad holds back", "holdback/src/held.rt", "MAX_HELD"),
+]
+
+
+def value_of(path, name):
+    with open(f"{ROOT}/crates/{path}", encoding="utf-8") as file:
+        found = re.search(rf"const {name}: \w+ = ([0-9_]+);", file.read())
+    if not found:
+        raise Failed(f"crates/{path} has no constant {name} that is a number")
+    return int(found[1].replace("_", ""))
+
+
+def rows_of_readme():
+    with open(f"{ROOT}/README.md", encoding="utf-8") as file:
+        part = file.read().split("\n## Limits\n")[1].split("\n## ")[0]
+    rows = [line.strip("| ").split(" | ") for line in part.splitlines() if line.startswith("| ")]
+    return rows[1:]  # without the titles
+
+
+def numbers_are_those_of_the_code():
+    rows = rows_of_readme()
+    want(len(rows), len(ROWS), "how many rows the table has")
+    for (what, most), (begin, path, name) in zip(rows, ROWS):
+        want(what[: len(begin)], begin, "what a row limits")
+        numbers = [int(number.replace(",", "")) for number in re.findall(r"[0-9][0-9,]*", most)]
+        want(numbers, [value_of(path, name)], f"the limit of {what}")
+
+
+TESTS = [Test("limits: the README has those of the code", numbers_are_those_of_the_code)]

@@ -255,7 +255,7 @@ def a_request_that_drips_ends_in_its_time():
     except OSError:
         pass
     took = time.monotonic() - began
-    want(REQUEST_TIME - 1 < took < REQUEST_TIME + 10, True, f"an end some seconds after {REQUEST_TIME} s, not after {took:.1f}")
+    want(REQUEST_TIME - 1 < took < REQUEST_TIME + 6, True, f"an end some seconds after {REQUEST_TIME} s, not after {took:.1f}")
 
 
 def a_socket_of_nobody_is_closed_after_a_minute():

@@ -30,6 +30,9 @@ struct faults {
 
 #define LARGE (1 << 20)
 
+/* The most bytes that are kept of a client's room while nothing comes. */
+#define KEPT_IDLE 1024
+
 static struct faults *faults;
 static __thread int has_read __attribute__((tls_model("initial-exec")));
 
@@ -106,9 +109,16 @@ void *malloc(size_t size)
     return counted(__libc_malloc(size));
 }
 
+/* Whether a call gives room back that a client does not need while nothing comes. A worker does that once a second, at any
+ * time, so it is never refused: what is refused is then a request's own. */
+static int gives_back(void *block, size_t size)
+{
+    return block && size <= KEPT_IDLE && size <= malloc_usable_size(block);
+}
+
 void *realloc(void *block, size_t size)
 {
-    if (size > 0 && is_refused()) {
+    if (size > 0 && !gives_back(block, size) && is_refused()) {
         errno = ENOMEM;
         return NULL;
     }

@@ -271,7 +271,7 @@ def waiting_is_only_for_the_present_revision():
 
 
 def who_waits_is_not_silent():
-    server = Server("--workers 1 --idle 1")
+    server = Server("--workers 1 --idle 2")
     ann, bob, rev = pad_of_two(server)
     bob.send(changes(rev, 4))
     want(json.loads(bob.replies.readline())["to"], rev, "to which revision")

@@ -1,6 +1,8 @@
 """The accounts file, and who may log in."""
 import calendar
+import os
 import re
+import socket
 import subprocess
 import time
 
@@ -45,6 +47,70 @@ def a_warning_begins_with_the_time():
         raise Failed(f"no line of the log, but {said!r}")
     told = calendar.timegm(time.strptime(found.group(1), "%Y-%m-%dT%H:%M:%SZ"))
     want(before <= told <= after, True, f"that {found.group(1)} lies between {before} and {after}")
+
+
+class Watched:
+    """A server over TCP whose accounts file changes while it runs."""
+
+    def __init__(self, text):
+        put_files([("accounts", text)])
+        streams = dict(stdin=subprocess.DEVNULL, stdout=subprocess.PIPE, stderr=subprocess.PIPE)
+        self.process = start("pad_server", "--listen 127.0.0.1:0 --replica 1 --accounts accounts --workers 2", **streams)
+        self.port = int(self.process.stdout.readline().rsplit(b":", 1)[1])
+
+    def asks(self, line):
+        """What a new connection is answered, which stays open."""
+        client = socket.create_connection(("127.0.0.1", self.port), timeout=15)
+        return client, self.asks_by(client, line)
+
+    def asks_by(self, client, line):
+        client.sendall(line.encode())
+        return client.makefile("r").readline()
+
+    def comes_to(self, line, answer, what):
+        """The same is asked again and again, until it is answered so."""
+        end = time.monotonic() + 20
+        while True:
+            came = self.asks(line)[1]
+            if came == answer:
+                return
+            if time.monotonic() > end:
+                raise Failed(f"{what}: after 20 s still {came!r}")
+            time.sleep(0.3)
+
+    def said(self):
+        self.process.kill()
+        return self.process.communicate()[1].decode()
+
+
+def accounts_change_while_the_server_runs():
+    """New authors log in, removed ones don't, sessions go on, and a file with a fault changes nothing."""
+    server = Watched("author ann t1\nauthor bob t2\n")
+    ann, told = server.asks(hello("ann", "t1"))
+    want(told, ANN, "ann's log-in")
+    want(server.asks_by(ann, '{"do":"create","pad":"p"}\n'), '{"now":0,"ok":true,"visit":1}\n', "a pad of hers")
+    put_files([("accounts", "author cyd t3\nauthor bob t9\n")])
+    server.comes_to(hello("cyd", "t3"), '{"author":"cyd@1","ok":true}\n', "a new author's log-in")
+    want(server.asks(hello("ann", "t1"))[1], BAD_TOKEN, "the log-in of an author who was removed")
+    want(server.asks(hello("bob", "t2"))[1], BAD_TOKEN, "a log-in with a token of before")
+    want(server.asks(hello("bob", "t9"))[1], '{"author":"bob@1","ok":true}\n', "one with the new token")
+    want(server.asks_by(ann, '{"do":"insert","pad":"p","rev":0,"at":0,"text":"a"}\n'), '{"name":[1,1],"now":1,"ok":true}\n', "an edit of a session that goes on")
+    put_files([("accounts", "author dan t4\nauthor bob\n")])
+    time.sleep(7)
+    want(server.asks(hello("dan", "t4"))[1], BAD_TOKEN, "a log-in by a file with a fault")
+    want(server.asks(hello("cyd", "t3"))[1], '{"author":"cyd@1","ok":true}\n', "one by the file before it")
+    os.remove("accounts")
+    time.sleep(6)
+    want(server.asks(hello("cyd", "t3"))[1], '{"author":"cyd@1","ok":true}\n', "a log-in without a file")
+    put_files([("accounts", "author dan t4\n")])
+    server.comes_to(hello("dan", "t4"), '{"author":"dan@1","ok":true}\n', "a log-in after the fault was mended")
+    lines = [line.split(" ", 1)[1] for line in server.said().splitlines()]
+    want(lines, [
+        "pad_server: note: the accounts file accounts has changed and was read again",
+        f"pad_server: warning: the accounts file accounts has changed, and nothing of it is taken: line 2: {NO_TOKEN}",
+        "pad_server: warning: the accounts file accounts cannot be read, and the accounts stay as they are: No such file or directory (os error 2)",
+        "pad_server: note: the accounts file accounts has changed and was read again",
+    ], "what is logged")
 
 
 # What is said of each kind of mistake.
@@ -191,4 +257,5 @@ CASES = [
 TESTS = [
     *[case.test() for case in CASES],
     Test("accounts: a warning begins with the time", a_warning_begins_with_the_time),
+    Test("accounts: they change while the server runs", accounts_change_while_the_server_runs, 90),
 ]

@@ -74,7 +74,7 @@ CASES = [
         refused(f"replica {text or 'of no digits'}", f"--stdin --replica={text}", "--replica")
         for text in ["0", "65536", "70000", "-1", "1.0", "one", "0x1", "18446744073709551617", ""]
     ],
-    *[refused(f"cells {text}", f"--stdin --replica 1 --cells={text}", "--cells") for text in ["0", "65", "-1", "two", "4294967297"]],
+    *[refused(f"cells {text}", f"--stdin --replica 1 --cells={text}", "--cells") for text in ["0", "4097", "-1", "two", "4294967297"]],
     Case("--workers, --clients and --connections change nothing with --stdin", "--stdin --replica 1 --workers 2 --clients 1 --connections 1", CREATE, CREATED),
     Case(
         "an address without a host",
@@ -92,6 +92,8 @@ CASES = [
     rooms("cells 1", "--stdin --replica 1 --cells 1", 1),
     rooms("cells 2", "--stdin --replica 1 --cells 2", 2),
     rooms("cells 64", "--stdin --replica 1 --cells 64", 64),
+    rooms("cells 65", "--stdin --replica 1 --cells 65", 65),
+    rooms("cells 4096", "--stdin --replica 1 --cells 4096", 4096),
     rooms("no --cells", "--stdin --replica 1", 64),
     Case("an unknown word, standard error closed", "--wrong", status=2, errors_to=CLOSED),
     Case("an unknown word, standard error full", "--wrong", status=2, errors_to=FULL),

@@ -23,6 +23,8 @@ ROWS = [
     ("characters in a comment", "pad_model/src/limits.rt", "MAX_COMMENT"),
     ("characters in the name of a pad or an author", "pad_model/src/limits.rt", "MAX_NAME"),
     ("operations of other servers that a pad holds back", "holdback/src/held.rt", "MAX_HELD"),
+    ("operations that a server gives another one at once", "pad_core/src/exchange.rt", "MAX_BATCH"),
+    ("bytes of these operations, if they are several", "pad_core/src/exchange.rt", "MAX_BATCH_BYTES"),
 ]
 
 

@@ -27,6 +27,9 @@ DONE = {"hello": 202, "peer": 202, "create": 301, "join": 311, "leave": 310}
 # What wakes the relay behind its reply. The wake-up may find no memory: then the next round comes when it is due.
 WAKES = {"insert", "delete", "edit", "comment", "resolve", "push"}
 
+# What is done before the name of the pad is learned for the next look-up, which can do without.
+LEARNS = {"create"}
+
 # What may have a long reply, whose room is given back once it is written. It may also stay: nobody is told of that.
 LONG_REPLIES = {"text", "runs", "comments", "entries", "pull"}
 
@@ -87,7 +90,7 @@ class Server:
             answer, refused = self.refuses_one(allocation, lambda: client.ask(**request))
             if allocation > 1 and answer.get("code") == DONE.get(request["do"], 0):
                 return None, 0
-            if not refused or (answer["ok"] and request["do"] in WAKES | LONG_REPLIES):
+            if not refused or (answer["ok"] and request["do"] in WAKES | LEARNS | LONG_REPLIES):
                 return answer, allocation if refused else 0
             want(answer, NO_MEMORY, f"the answer to {request} with its allocation {allocation} refused")
             after = read()

@@ -1,8 +1,10 @@
 """Servers that exchange the operations of their pads by themselves, over TCP."""
+import json
 import os
 import re
 import socket
 import subprocess
+import threading
 import time
 
 from harness import Failed, Test, put_files, start, want
@@ -32,9 +34,11 @@ class Server:
         self.process = start("pad_server", args, stdin=subprocess.DEVNULL, stdout=subprocess.PIPE, **streams)
         want(self.process.stdout.readline().decode(), f"listening on 127.0.0.1:{self.port}\n", "the first line")
 
-    def author(self, name):
+    def author(self, name, pad=None):
         client = Client(self.port)
         client.wants({"do": "hello", "name": name, "token": f"t{name}"}, {"author": f"{name}@{self.number}", "ok": True})
+        if pad is not None:
+            client.join(pad)
         return client
 
     def stop(self):
@@ -143,9 +147,127 @@ def three_servers_in_a_ring():
     exchange((1, 2, 3), {1: [2, 3], 2: [3, 1], 3: [1, 2]})
 
 
+class Wire:
+    """Stands between two servers, passes on what they send, and keeps the requests."""
+
+    def __init__(self, port):
+        self.to, self.listener = port, socket.create_server(("127.0.0.1", 0))
+        self.port, self.requests, self.connections = self.listener.getsockname()[1], [], 0
+        threading.Thread(target=self.accept, daemon=True).start()
+
+    def accept(self):
+        while True:
+            one, _ = self.listener.accept()
+            self.connections += 1
+            other = socket.create_connection(("127.0.0.1", self.to))
+            for pair in ((one, other, True), (other, one, False)):
+                threading.Thread(target=self.carry, args=pair, daemon=True).start()
+
+    def carry(self, source, target, asks):
+        for line in source.makefile("rb"):
+            if asks:
+                self.requests.append(json.loads(line))
+            target.sendall(line)
+        target.close()
+
+
+def a_letter_costs_a_peer_four_requests():
+    """Of 40 pads one is typed on: the other server is asked about that one alone, over the connection that there is."""
+    ports = dict(zip((1, 2), free_ports(2)))
+    wire = Wire(ports[2])
+    second = Server(2, ports, ["bob"], [1])
+    first = Server(1, {1: ports[1], 2: wire.port}, ["ann"], [2])
+    ann, bob = first.author("ann"), second.author("bob")
+    for number in range(40):
+        bob.does(do="create", pad=f"p{number}")
+        ann.does(do="create", pad=f"p{number}")
+    for round in range(3):
+        time.sleep(1.5)
+        before, connections = len(wire.requests), wire.connections
+        ann.does(do="insert", pad="p7", rev=round, at=0, text="a")
+        wait_for("the letter at bob's server", lambda: bob.does(do="text", pad="p7")["text"] == "a" * (round + 1))
+        time.sleep(1.5)
+        asked = wire.requests[before:]
+        want([request["do"] for request in asked], ["pull", "vector", "push", "vector"], f"what is asked in round {round}")
+        want({request["pad"] for request in asked}, {"p7"}, "about which pads")
+        want((connections, wire.connections), (1, 1), "the connections")
+    first.stop()
+    second.stop()
+
+
+class Liar:
+    """A peer that says of each operation that it was delivered, and lacks all of them again; or one that says nothing."""
+
+    def __init__(self, speaks):
+        self.speaks, self.listener, self.kept = speaks, socket.create_server(("127.0.0.1", 0)), []
+        self.port = self.listener.getsockname()[1]
+        threading.Thread(target=self.accept, daemon=True).start()
+
+    def accept(self):
+        while True:
+            one, _ = self.listener.accept()
+            self.kept.append(one)
+            if self.speaks:
+                threading.Thread(target=self.answer, args=(one,), daemon=True).start()
+
+    def answer(self, one):
+        said = {
+            "peer": {"ok": True, "replica": 3, "version": 2}, "pull": {"now": 0, "ok": True, "ops": []},
+            "vector": {"now": 0, "ok": True, "seen": []}, "push": {"dropped": 0, "now": 1, "ok": True, "released": 0, "state": "delivered"},
+        }
+        try:
+            for line in one.makefile("rb"):
+                one.sendall(json.dumps(said[json.loads(line)["do"]], separators=(",", ":")).encode() + b"\n")
+        except OSError:
+            pass
+
+
+def neither_a_silent_peer_nor_a_liar_delays_another():
+    """Nor does either delay an author."""
+    ports = dict(zip((1, 4), free_ports(2)))
+    ports |= {2: Liar(False).port, 3: Liar(True).port}
+    first = Server(1, ports, ["ann"], [2, 3, 4])
+    second = Server(4, ports, ["bob"], [1])
+    ann, bob = first.author("ann"), second.author("bob")
+    bob.does(do="create", pad="p")
+    ann.does(do="create", pad="p")
+    for round in range(5):
+        began = time.monotonic()
+        ann.does(do="insert", pad="p", rev=round, at=0, text="a")
+        answered = time.monotonic() - began
+        wait_for("the letter at bob's server", lambda: text(bob) == "a" * (round + 1))
+        taken = time.monotonic() - began
+        want(answered < 2 and taken < 5, True, f"that {answered:.2f} s for the author and {taken:.2f} s for the other server are short")
+    first.stop()
+    second.stop()
+
+
+def a_connection_that_was_closed_is_made_again():
+    """The other server closes connections that are silent: the next letter comes through all the same, and nothing is logged."""
+    ports = dict(zip((1, 2), free_ports(2)))
+    with open("said", "wb") as said:
+        second = Server(2, ports, ["bob"], [1], "--idle 1")
+        bob = second.author("bob")
+        bob.does(do="create", pad="p")
+        first = Server(1, ports, ["ann"], [2], stderr=said)
+        ann = first.author("ann")
+        ann.does(do="create", pad="p")
+        for round in range(2):
+            time.sleep(3.5)
+            ann.does(do="insert", pad="p", rev=round, at=0, text="a")
+            wait_for("the letter at bob's server", lambda: text(second.author("bob", "p")) == "a" * (round + 1))
+        first.stop()
+        second.stop()
+    with open("said", "rb") as said:
+        want(b"peer 2" in said.read(), False, "that something is said of the peer")
+
+
 TESTS = [
     Test("peers: two servers come to the same text", two_servers_come_to_the_same_text, 60),
     Test("peers: a server that was away is caught up with", a_server_that_was_away_is_caught_up_with, 90),
     Test("peers: three servers in a line", three_servers_in_a_line, 120),
     Test("peers: three servers in a ring", three_servers_in_a_ring, 120),
+    Test("peers: a letter costs a peer four requests", a_letter_costs_a_peer_four_requests, 60),
+    Test("peers: neither a silent peer nor a liar delays another", neither_a_silent_peer_nor_a_liar_delays_another, 120),
+    Test("peers: a connection that was closed is made again", a_connection_that_was_closed_is_made_again, 60),
 ]

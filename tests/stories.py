@@ -229,7 +229,7 @@ COMMAND_LINE = [
     refused("no cells", "--replica 1 --accounts accounts", "--cells"),
     refused("no replica", "--cells 1 --accounts accounts", "--replica"),
     refused("replica 0", ARGS.replace("replica 1", "replica 0"), "--replica"),
-    refused("cells 65", ARGS.replace("cells 2", "cells 65"), "--cells"),
+    refused("cells 4097", ARGS.replace("cells 2", "cells 4097"), "--cells"),
     refused("an unknown word", ARGS + " more", "more"),
     run("an unknown word, standard error closed", "", status=2, args="--wrong", errors_to=CLOSED),
     Case("a bad line of accounts", ARGS, "# x\n", "", 2, "pad_replay: 500 BadAccounts line 2\n", (("accounts", "author ann t1\nauthor ann t1\n"),), "pad_replay"),

@@ -1,10 +1,10 @@
 //! The numbers that the options hold.
 ghost use Rattle.std.specs.Prelude.{◌≡◌, ◌≤◌, codes};
-ghost use Rattle.server_core.specs.declared.limits.TheConstants.{MAX_CELLS};
+ghost use Rattle.server_core.specs.declared.limits.TheConstants.{DEFAULT_CELLS, MAX_CELLS};
 ghost use Rattle.command_line.specs.Options.{Holds, named_or};
 
 use clap::ArgMatches;
-use server_core::MAX_CELLS;
+use server_core::{DEFAULT_CELLS, MAX_CELLS};
 
 /// `named`, or `other` if it is None or 0.
 pub fn replica_or(named: Option<u16>, other: u16) -> u16
@@ -25,13 +25,13 @@ pub fn replica_of(matches: &ArgMatches<'_>) -> u16
     replica_or(matches.get_one::<u16>("replica"), 1)
 }
 
-/// The number of `--cells`, or `MAX_CELLS` without one.
+/// The number of `--cells`, or `DEFAULT_CELLS` without one.
 pub fn cells_of(matches: &ArgMatches<'_>) -> u32
-    ensures value { Holds (codes "cells") 0 MAX_CELLS MAX_CELLS matches.now result }
+    ensures value { Holds (codes "cells") 0 MAX_CELLS DEFAULT_CELLS matches.now result }
     ensures most { result ≤ MAX_CELLS }
 {
     match matches.get_one::<u32>("cells") {
         Some(cells) if cells <= MAX_CELLS => cells,
-        _ => MAX_CELLS,
+        _ => DEFAULT_CELLS,
     }
 }

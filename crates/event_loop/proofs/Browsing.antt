@@ -1,5 +1,5 @@
 -- The course of a browser is one of its socket and one of its conversation.
-use Rattle.std.proofs.Common.{◌≡◌, ℕ, true, List, [], ◌∷◌, ◌++◌, refl, ap, ◌∙◌, sym, subst, append-nil, append_assoc}
+use Rattle.std.proofs.Common.{◌≡◌, ℕ, true, List, [], ◌∷◌, ◌++◌, ap, ◌∙◌, sym, subst, append-nil, append_assoc}
 use Rattle.pad_core.specs.declared.request.Request.{Request}
 use Rattle.wire_lines.specs.Served.{LinesLaw}
 use Rattle.web_wire.specs.Laws.{Follows, PiecesLaw}

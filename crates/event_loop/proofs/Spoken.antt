@@ -7,7 +7,7 @@ use Rattle.wire_lines.specs.Lines.{behind_line, first_line, is_too_long, line_en
 use Rattle.wire_lines.specs.Served.{LinesLaw, is_long, lines}
 use Rattle.wire_lines.specs.declared.feed.TheConstants.{MAX_LINE}
 use Rattle.wire_lines.specs.declared.buffer.Found.TheVariants.{Text, TooLong}
-use Rattle.web_wire.specs.Messages.{is_feed, is_line, with_feed}
+use Rattle.web_wire.specs.Messages.{is_feed, is_line}
 use Rattle.event_loop.specs.Laws.{AreLines, joined, spoken}
 
 neither : (a b : Bool) → a || b ≡ false → (a ≡ false) × (b ≡ false)

@@ -1,7 +1,8 @@
-//! Clients on their way to a worker.
+//! Clients on their way to a worker, and what it is told.
 use crate::client::Client;
 use crate::hub::Connected;
 use mio::net::TcpStream;
+use sessions::Accounts;
 
 /// Where a connection was accepted.
 #[derive(Clone, Copy, Debug, PartialEq, Eq)]
@@ -22,7 +23,7 @@ impl Entrance {
     }
 }
 
-/// Who comes to a worker.
+/// Who or what comes to a worker.
 #[derive(Drop)]
 pub enum Arrival {
     /// A connection that was accepted, at the entrance of lines or at that of browsers.
@@ -33,4 +34,6 @@ pub enum Arrival {
     },
     /// A client of another worker.
     Moved(Client),
+    /// Who may log in from now on.
+    Accounts(Accounts),
 }

@@ -240,8 +240,10 @@ impl Client {
     pub fn release(&mut self) -> bool {
         match mem::replace(&mut self.hold, Hold::Free) {
             Hold::Pause { .. } => true,
+            // It was not silent: its line is answered now.
             _ => {
                 self.hold = Hold::Over;
+                self.times.note_line();
                 false
             }
         }

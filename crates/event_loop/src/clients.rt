@@ -6,6 +6,7 @@ use crate::hub::Hub;
 use crate::link::Link;
 use mio::net::TcpStream;
 use mio::{Events, Interest, Registry, Token};
+use sessions::Accounts;
 use slab::Slab;
 use std::alloc::{AllocError, Global};
 use std::{io, mem};
@@ -29,6 +30,8 @@ pub struct Clients {
     pub buffers: Buffers,
     /// Whether replies were made that are not settled.
     pub has_spoken: bool,
+    /// Who may log in from now on, if that has changed.
+    pub accounts: Option<Accounts>,
 }
 
 impl Clients {
@@ -43,6 +46,7 @@ impl Clients {
             deadline: None,
             buffers: Buffers::new(alloc)?,
             has_spoken: false,
+            accounts: None,
         })
     }
 

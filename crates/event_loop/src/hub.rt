@@ -1,9 +1,12 @@
 //! What the threads of a server share: how each worker is reached, how many clients there are, and whether the server ends.
 use crate::arrivals::Arrival;
+use crate::cells::CellSet;
 use crate::hold::{Hold, Wanted};
 use crate::limits::VISITS;
 use crossbeam_channel::Sender;
 use mio::Waker;
+use sessions::Accounts;
+use std::alloc::{AllocError, Global};
 use std::sync::Wait;
 use std::sync::atomic::{AtomicBool, AtomicU64, Ordering};
 use std::time::Instant;
@@ -17,22 +20,30 @@ pub struct Door {
     clients: AtomicU64,
     /// Whether it is at work: the system may make no thread for it.
     is_open: AtomicBool,
-    /// A bit for each cell: those of whose pads it wants to know, and those whose pads have moved since it was told last.
-    wanted: AtomicU64,
-    moved: AtomicU64,
+    /// The cells of whose pads it wants to know, and those whose pads have moved since it was told last.
+    wanted: CellSet,
+    moved: CellSet,
+    /// Whether it was told that a pad has moved, and has not looked yet.
+    is_told: AtomicBool,
 }
 
 impl Door {
-    /// To a worker that is not at work yet.
-    pub fn new(to: Sender<Arrival>, waker: Waker) -> Door {
-        Door {
+    /// To a worker that is not at work yet, of a server with so many cells.
+    pub fn new(
+        alloc: Global,
+        to: Sender<Arrival>,
+        waker: Waker,
+        cells: usize,
+    ) -> Result<Door, AllocError> {
+        Ok(Door {
             to,
             waker,
             clients: AtomicU64::new(0),
             is_open: AtomicBool::new(false),
-            wanted: AtomicU64::new(0),
-            moved: AtomicU64::new(0),
-        }
+            wanted: CellSet::new(alloc, cells)?,
+            moved: CellSet::new(alloc, cells)?,
+            is_told: AtomicBool::new(false),
+        })
     }
 }
 
@@ -189,6 +200,19 @@ impl Hub {
         }
     }
 
+    /// Other accounts take the place of those that the workers have: one of these for each worker, which takes it between two
+    /// turns. Sessions go on. Workers for whom there is none left, or no memory to tell them, keep what they have.
+    pub fn replace_accounts<R: Wait>(&self, rt: &R, copies: Vec<Accounts>) {
+        for (place, accounts) in copies.into_iter().enumerate() {
+            let _told = self.send(rt, place, Arrival::Accounts(accounts));
+        }
+    }
+
+    /// How many workers there are.
+    pub fn workers(&self) -> usize {
+        self.doors.len()
+    }
+
     /// No more connections are accepted.
     pub fn close(&self) {
         self.is_closed.store(true, Ordering::SeqCst);
@@ -223,11 +247,12 @@ impl Hub {
         if let Some(revision) = self.revisions.get(cell as usize) {
             revision.fetch_add(operations, Ordering::SeqCst);
         }
-        let bit = bit_of(cell);
         for door in &self.doors {
-            if door.wanted.load(Ordering::SeqCst) & bit != 0
-                && door.moved.fetch_or(bit, Ordering::SeqCst) == 0
-            {
+            if !door.wanted.has(cell) {
+                continue;
+            }
+            door.moved.insert(cell);
+            if !door.is_told.swap(true, Ordering::SeqCst) {
                 let _woken = door.waker.wake();
             }
         }
@@ -238,9 +263,11 @@ impl Hub {
         let Some(door) = self.doors.get(place) else {
             return false;
         };
-        let moved = door.moved.swap(0, Ordering::SeqCst);
-        door.wanted.fetch_and(!moved, Ordering::SeqCst);
-        moved != 0
+        if !door.is_told.swap(false, Ordering::SeqCst) {
+            return false;
+        }
+        door.wanted.forget(&door.moved);
+        true
     }
 
     /// Whether a request has to wait: the pad is at the revision that it names. The worker is told when the pad moves.
@@ -249,7 +276,7 @@ impl Hub {
     /// the two sees the other.
     pub fn has_to_wait(&self, place: usize, wanted: Wanted) -> bool {
         if let Some(door) = self.doors.get(place) {
-            door.wanted.fetch_or(bit_of(wanted.cell), Ordering::SeqCst);
+            door.wanted.insert(wanted.cell);
         }
         match self.revisions.get(wanted.cell as usize) {
             Some(revision) => revision.load(Ordering::SeqCst) == wanted.rev,
@@ -283,9 +310,4 @@ impl Hub {
             let _woken = door.waker.wake();
         }
     }
-}
-
-// The bit of a cell, of which there are at most 64.
-fn bit_of(cell: u32) -> u64 {
-    1 << (cell % 64)
 }

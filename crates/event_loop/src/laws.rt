@@ -11,7 +11,7 @@ use web_wire::laws::pieces_law;
 use wire_lines::laws::lines_law;
 use workers::laws::shared_law;
 
-/// In whatever pieces the bytes of its socket come, what a browser's conversation gives out is the session text of the lines
+/// In whatever pieces the bytes of its socket come, what a browser's conversation gives out is the session text of the first lines
 /// of its messages, where the worker's seats serve others between two of them.
 pub fn browser_law<S: Sequence, R: Wait, G: Gate>()
     ensures { BrowserLaw {P = Shared S R G} CallsRow KeepsSession (ServesApart CallsRow KeepsSession) }

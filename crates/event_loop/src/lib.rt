@@ -8,6 +8,7 @@ mod accept;
 mod arrivals;
 mod browser;
 mod buffers;
+mod cells;
 mod client;
 mod clients;
 mod hold;
@@ -29,6 +30,7 @@ mod work;
 mod written;
 
 pub use accept::{Acceptor, accept_all};
+pub use cells::CellSet;
 pub use hub::Hub;
 pub use limits::Limits;
 pub use settle::Settle;

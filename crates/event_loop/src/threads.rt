@@ -34,7 +34,7 @@ pub fn set_up<R: AllocGlobal + Net + Clock>(
         let (to, arrivals) = crossbeam_channel::unbounded(alloc)?;
         let worker = Worker::new(rt, alloc, workers.len(), arrivals, seats)?;
         let waker = Waker::new(worker.poll.registry(), WAKING)?;
-        doors.push(Door::new(to, waker))?;
+        doors.push(Door::new(alloc, to, waker, revisions.len())?)?;
         workers.push(worker)?;
     }
     let (acceptor, waker) = Acceptor::new(rt, alloc, lines, web)?;

@@ -78,7 +78,7 @@ fn timeout_of<C: Clock>(rt: &C, clients: &Clients, ticker: &mut Ticker) -> Optio
     Some(Duration::from_millis(most))
 }
 
-// Takes in who has come.
+// Takes in who and what has come.
 fn receive<S, R, G, T>(
     service: &Service<'_, S, R, G, T>,
     worker: &mut Worker,
@@ -112,6 +112,10 @@ where
                     client.connected(),
                 );
                 (number, home, connected, clients.insert(registry, client))
+            }
+            Ok(Arrival::Accounts(accounts)) => {
+                clients.accounts = Some(accounts);
+                continue;
             }
             Err(TryRecvError::Empty | TryRecvError::Disconnected) => return,
         };

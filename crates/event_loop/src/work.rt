@@ -11,7 +11,7 @@ use journal::Journal;
 use log::error;
 use mio::{Events, Poll};
 use pad_model::Sequence;
-use sessions::Session;
+use sessions::{Accounts, Session};
 use shared_pads::Seat;
 use std::alloc::Global;
 use std::net::Net;
@@ -94,33 +94,75 @@ where
     T: Settle,
 {
     let rt = service.row.rt;
-    let alloc = rt.alloc();
-    let own = mem::replace(&mut worker.seats, Vec::new(alloc));
-    let mut pads = Shared::new(service.row, own, Session::new(alloc));
-    match Clients::new(alloc) {
-        Ok(mut clients) => {
-            service.hub.open(worker.place);
-            if let Err(cause) = take_turns(service, worker, &mut clients, &mut pads) {
-                error!(Journal(rt); "a worker ended: {cause}");
-                service.hub.stop();
-            }
-            end_all(&mut clients, &mut pads);
-        }
-        Err(_) => {
-            error!(Journal(rt); "a worker did not begin: out of memory");
-            service.hub.stop();
+    let Ok(mut clients) = Clients::new(rt.alloc()) else {
+        error!(Journal(rt); "a worker did not begin: out of memory");
+        service.hub.stop();
+        return;
+    };
+    service.hub.open(worker.place);
+    let mut accounts = None;
+    for _ in rt.forever() {
+        let known = accounts.as_ref().unwrap_or(service.row.accounts);
+        accounts = serve_with(service, known, worker, &mut clients);
+        if accounts.is_none() {
+            return;
         }
     }
-    worker.seats = pads.seats();
 }
 
-// Serves in turns until the server ends.
+// Serves those who may log in by these accounts, until there are others, which it returns, or the server ends.
+fn serve_with<S, R, G, T>(
+    service: &Service<'_, S, R, G, T>,
+    accounts: &Accounts,
+    worker: &mut Worker,
+    clients: &mut Clients,
+) -> Option<Accounts>
+where
+    S: Sequence,
+    R: AllocGlobal + Clock + Wait + Eprint,
+    G: Gate,
+    T: Settle,
+{
+    let row = Row {
+        rt: service.row.rt,
+        cells: service.row.cells,
+        names: service.row.names,
+        replica: service.row.replica,
+        accounts,
+        gate: service.row.gate,
+    };
+    let service = Service {
+        row: &row,
+        hub: service.hub,
+        limits: service.limits,
+        settle: service.settle,
+        site: service.site,
+    };
+    let alloc = row.rt.alloc();
+    let own = mem::replace(&mut worker.seats, Vec::new(alloc));
+    let mut pads = Shared::new(&row, own, Session::new(alloc));
+    let news = match take_turns(&service, worker, clients, &mut pads) {
+        Ok(news) => news,
+        Err(cause) => {
+            error!(Journal(row.rt); "a worker ended: {cause}");
+            service.hub.stop();
+            None
+        }
+    };
+    if news.is_none() {
+        end_all(clients, &mut pads);
+    }
+    worker.seats = pads.seats();
+    news
+}
+
+// Serves in turns until other accounts come, which it returns, or the server ends.
 fn take_turns<S, R, G, T>(
     service: &Service<'_, S, R, G, T>,
     worker: &mut Worker,
     clients: &mut Clients,
     pads: &mut Shared<'_, S, R, G>,
-) -> io::Result<()>
+) -> io::Result<Option<Accounts>>
 where
     S: Sequence,
     R: AllocGlobal + Clock + Wait + Eprint,
@@ -132,15 +174,18 @@ where
     let mut checked = 0;
     for _ in rt.forever() {
         if service.hub.is_over() {
-            return Ok(());
+            return Ok(None);
         }
         if service.settle.has_failed() {
             service.hub.stop();
-            return Ok(());
+            return Ok(None);
         }
         take_turn(service, worker, clients, pads, &mut ticker, &mut checked)?;
+        if clients.accounts.is_some() {
+            return Ok(clients.accounts.take());
+        }
     }
-    Ok(())
+    Ok(None)
 }
 
 // Ends the sessions of all who are left.

@@ -4,6 +4,7 @@ pub mod Admitted
 pub mod Alike
 pub mod Allowed
 pub mod Audited
+pub mod Batched
 pub mod Booked
 pub mod ByName
 pub mod Commented

@@ -21,14 +21,14 @@ given_some One (suc n) (op ∷ ops) some can = rw can refl
 
 told_given : (version : Version) (seen : List Counted) (most : ℕ) (log : List Op) (r : Result (List Op) Refusal) →
     eqb most 0 ≡ false → ltb MAX_PULL most ≡ false → given version (missing log seen most) ≡ r → IsOk r →
-    IsOk (pull version seen most log)
+    IsOk (pull version seen most None log)
 told_given version seen most log (Ok ops) some few is ok = rw (some, few, is) refl
 told_given version seen most log (Err refusal) some few is ok = absurd (cc)
 
 -- a pull is answered
 pub pull_answered : (version : Version) (seen : List Counted) (most : ℕ) (log : List Op) → eqb most 0 ≡ false →
     ltb MAX_PULL most ≡ false → can_give version (slice_get (filter (is_missing seen) log) 0) ≡ true →
-    IsOk (pull version seen most log)
+    IsOk (pull version seen most None log)
 pull_answered version seen most log some few can =
     told_given version seen most log (given version (missing log seen most)) some few refl
     (given_some version most (filter (is_missing seen) log) some can)

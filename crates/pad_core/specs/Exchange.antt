@@ -15,7 +15,8 @@ use Rattle.holdback.specs.declared.held.TheConstants.{MAX_HELD}
 use Rattle.revisions.specs.Log.{missing}
 use Rattle.pad_core.specs.Counts.{vector_of}
 use Rattle.pad_core.specs.Delivered.{delivery_refusal}
-use Rattle.pad_core.specs.declared.exchange.TheConstants.{MAX_PULL}
+use Rattle.pad_core.specs.Batch.{batch_of}
+use Rattle.pad_core.specs.declared.exchange.TheConstants.{MAX_BATCH, MAX_PULL}
 use Rattle.pad_core.specs.declared.reply.Pushed.{Pushed}
 use Rattle.pad_core.specs.declared.reply.Pushed.TheVariants.{Repeat, Held, Delivered}
 use Rattle.pad_core.specs.declared.reply.PadReply.{PadReply}
@@ -31,10 +32,20 @@ abbrev pub read_vector : Version → List Op → Result PadReply Refusal
 read_vector version log = if can_tell version (vector_of log) then Ok (reply.Vector (length log) (vector_of log))
     else Err OldPeer
 
+-- whether a peer can read an operation
+abbrev pub can_read : Version → Op → Bool
+can_read One op = op_in_v1 op
+can_read Two op = true
+
 -- operations up to the first that an old peer cannot read
 abbrev pub sayable : List Op → List Op
 sayable [] = []
 sayable (op ∷ ops) = if op_in_v1 op then op ∷ sayable ops else []
+
+-- operations up to the first that a peer cannot read
+abbrev pub readable : Version → List Op → List Op
+readable One ops = sayable ops
+readable Two ops = ops
 
 -- what a peer is given of the operations that it lacks: an old one nothing from the first on that it cannot read
 abbrev pub given : Version → List Op → Result (List Op) Refusal
@@ -48,16 +59,28 @@ can_give Two first = true
 can_give One None = true
 can_give One (Some op) = op_in_v1 op
 
--- the first operations that a peer lacks
-abbrev pub pull : Version → List Counted → ℕ → List Op → Result PadReply Refusal
-pull version seen most log =
+-- the answer that gives these operations, or none of them
+abbrev pub told : ℕ → Result (List Op) Refusal → Result PadReply Refusal
+told now (Ok ops) = Ok (reply.Pulled now ops)
+told now (Err refusal) = Err refusal
+
+-- the first n operations that a peer lacks, as many of these as fit in an answer, but at least the first
+abbrev pub pull_batch : Version → List Counted → ℕ → List Op → Result PadReply Refusal
+pull_batch version seen n log =
+    if n == 0 then Err Empty
+    else if nat_lt MAX_BATCH n then Err TooMuch
+    else told (length log) (given version (batch_of (missing log seen n)))
+
+-- the first operations that a peer lacks, or a batch of them
+abbrev pub pull : Version → List Counted → ℕ → Option ℕ → List Op → Result PadReply Refusal
+pull version seen most batch log =
     if most == 0 then Err Empty
     else if nat_lt MAX_PULL most then Err TooMuch
-    else told (given version (missing log seen most))
+    else asked batch
   where
-    told : Result (List Op) Refusal → Result PadReply Refusal
-    told (Ok ops) = Ok (reply.Pulled (length log) ops)
-    told (Err refusal) = Err refusal
+    asked : Option ℕ → Result PadReply Refusal
+    asked None = told (length log) (given version (missing log seen most))
+    asked (Some n) = pull_batch version seen n log
 
 -- a log, what is held back, and how many held operations were delivered and dropped so far
 pub record Delivery : Type 0 where

@@ -64,7 +64,7 @@ need_of (act.Grant author given) = Visit right.Own
 need_of act.Rights = Visit right.Read
 need_of act.Vector = PeerSession
 need_of (act.Push op) = PeerSession
-need_of (act.Pull seen max) = PeerSession
+need_of (act.Pull seen max batch) = PeerSession
 
 -- whether an act names an author by what is no name
 abbrev pub names_badly : Act → Bool
@@ -184,7 +184,7 @@ author_outcome owned name visit other m = reads (Err NotPeer)
 abbrev pub peer_outcome : Version → Act → Machine → Outcome
 peer_outcome version act.Vector m = reads (read_vector version m.log)
 peer_outcome version (act.Push op) m = delivers (push m.replica op (m.log, m.held))
-peer_outcome version (act.Pull seen max) m = reads (pull version seen max m.log)
+peer_outcome version (act.Pull seen max batch) m = reads (pull version seen max batch m.log)
 peer_outcome version other m = reads (Err NoSession)
 
 -- what an author's act does

@@ -95,10 +95,12 @@ pub enum Act {
     Push {
         op: Op,
     },
-    /// Gives a peer the first operations that it lacks.
+    /// Gives a peer the first operations that it lacks: `max`, or where there is a batch as many as that, as far as they
+    /// fit.
     Pull {
         seen: Seen,
         max: u64,
+        batch: Option<u64>,
     },
 }
 
@@ -166,9 +168,10 @@ impl Clone for Act {
             Act::Rights => Act::Rights,
             Act::Vector => Act::Vector,
             Act::Push { op } => Act::Push { op: op.clone()? },
-            Act::Pull { seen, max } => Act::Pull {
+            Act::Pull { seen, max, batch } => Act::Pull {
                 seen: seen.clone()?,
                 max: *max,
+                batch: *batch,
             },
         })
     }

@@ -1,17 +1,24 @@
 //! What a peer is told and given.
-ghost use Rattle.std.specs.Prelude.{◌≡◌, IfOk, filter, slice_get};
-ghost use Rattle.pad_core.specs.Exchange.{can_give as can_be_given, can_tell as can_be_told, given, sayable, pull as pulled, read_vector as vector_read};
+ghost use Rattle.std.specs.Prelude.{◌≡◌, ◌≤◌, IfOk, filter, slice_get, None};
+ghost use Rattle.pad_core.specs.Exchange.{can_give as can_be_given, can_tell as can_be_told, given, sayable, pull as pulled, pull_batch as batch_pulled, read_vector as vector_read};
 ghost use Rattle.revisions.specs.Log.{is_missing};
 ghost use Rattle.pad_model.specs.declared.who.Version.TheVariants.{One};
 ghost use Rattle.pad_model.specs.Answers.{Tells};
 
+use crate::batch::copy_batch;
 use crate::ledger::Ledger;
 use crate::reply::PadReply;
 use pad_model::{Op, Refusal, Row, Seen, Sequence, Version, op_in_v1, seen_in_v1};
 use std::alloc::{AllocError, Global};
 
-/// How many operations one pull gives at most.
+/// How many operations one pull without a batch gives at most.
 pub const MAX_PULL: u64 = 4;
+
+/// How many operations a batch gives at most.
+pub const MAX_BATCH: u64 = 256;
+
+/// How many bytes the operations of a batch take at most as JSON, if they are several: 1 MiB.
+pub const MAX_BATCH_BYTES: u64 = 1_048_576;
 
 /// How many operations of each origin were delivered.
 pub fn read_vector<S: Sequence>(ledger: &Ledger<S>, version: Version) -> Result<PadReply, Refusal>
@@ -38,15 +45,17 @@ fn can_tell(version: Version, seen: &Seen) -> bool
     }
 }
 
-/// The first operations that a peer lacks; an old peer gets none from the first on that it cannot read.
+/// The first operations that a peer lacks, `max` of them or a batch; an old peer gets none from the first on that it
+/// cannot read.
 pub fn pull<S: Sequence>(
     alloc: Global,
     ledger: &Ledger<S>,
     version: Version,
     seen: &Seen,
     max: u64,
+    batch: Option<u64>,
 ) -> Result<PadReply, Refusal>
-    ensures { Tells (pulled version seen.now max ledger.now) result }
+    ensures { Tells (pulled version seen.now max batch ledger.now) result }
 {
     if max == 0 {
         return Err(Refusal::Empty);
@@ -54,11 +63,55 @@ pub fn pull<S: Sequence>(
     if MAX_PULL < max {
         return Err(Refusal::TooMuch);
     }
+    match batch {
+        None => pull_some(alloc, ledger, version, seen, max),
+        Some(count) => pull_batch(alloc, ledger, version, seen, count),
+    }
+}
+
+/// The first `max` operations that a peer lacks.
+fn pull_some<S: Sequence>(
+    alloc: Global,
+    ledger: &Ledger<S>,
+    version: Version,
+    seen: &Seen,
+    max: u64,
+) -> Result<PadReply, Refusal>
+    requires some { 1 ≤ max }
+    requires few { max ≤ MAX_PULL }
+    ensures { Tells (pulled version seen.now max None ledger.now) result }
+{
     if !can_give(ledger, version, seen) {
         return Err(Refusal::OldPeer);
     }
     let missing = ledger.missing(alloc, seen, max)?;
     let ops = give(alloc, version, missing)?;
+    Ok(PadReply::Pulled {
+        now: ledger.len(),
+        ops,
+    })
+}
+
+/// The first `count` operations that a peer lacks, as many as fit in an answer, but at least the first.
+fn pull_batch<S: Sequence>(
+    alloc: Global,
+    ledger: &Ledger<S>,
+    version: Version,
+    seen: &Seen,
+    count: u64,
+) -> Result<PadReply, Refusal>
+    ensures { Tells (batch_pulled version seen.now count ledger.now) result }
+{
+    if count == 0 {
+        return Err(Refusal::Empty);
+    }
+    if MAX_BATCH < count {
+        return Err(Refusal::TooMuch);
+    }
+    if !can_give(ledger, version, seen) {
+        return Err(Refusal::OldPeer);
+    }
+    let ops = copy_batch(alloc, version, ledger.since_missing(seen), seen, count)?;
     Ok(PadReply::Pulled {
         now: ledger.len(),
         ops,

@@ -196,6 +196,16 @@ impl<S: Sequence> Ledger<S> {
         self.log.first_missing(seen)
     }
 
+    /// The operations from the first one on that `seen` does not cover.
+    pub fn since_missing(&self, seen: &Seen) -> &[Op]
+        ensures { filter (is_missing seen.now) result.now ≡ filter (is_missing seen.now) self.now }
+    {
+        match self.log.first_missing(seen) {
+            Some(first) => self.log.since(self.log.find(first.name).unwrap_or(0)),
+            None => self.log.since(self.log.len()),
+        }
+    }
+
     /// Copies of the first `max` operations that `seen` does not cover.
     pub fn missing(&self, alloc: Global, seen: &Seen, max: u64) -> Result<Row<Op>, Refusal>
         ensures { MatchResult result (λ row. row ≡ missing_of self.now seen.now max) (λ e. e ≡ Refusal.Memory) }

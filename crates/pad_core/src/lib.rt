@@ -3,6 +3,7 @@
 
 mod act;
 mod admit;
+mod batch;
 mod edit;
 mod enter;
 mod event;
@@ -27,7 +28,7 @@ mod writer;
 pub use act::{Act, Change};
 pub use admit::session_refusal;
 pub use event::{Claim, PadEvent};
-pub use exchange::MAX_PULL;
+pub use exchange::{MAX_BATCH, MAX_BATCH_BYTES, MAX_PULL};
 pub use owned::Owned;
 pub use pad::Pad;
 pub use reads::{MAX_ENTRIES, MAX_WAIT};

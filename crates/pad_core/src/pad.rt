@@ -336,7 +336,9 @@ impl<S: Sequence> Pad<S> {
         match act {
             Act::Vector => read_vector(&self.ledger, version),
             Act::Push { op } => push(alloc, &mut self.ledger, &mut self.held, self.replica, op),
-            Act::Pull { seen, max } => pull(alloc, &self.ledger, version, seen, *max),
+            Act::Pull { seen, max, batch } => {
+                pull(alloc, &self.ledger, version, seen, *max, *batch)
+            }
             _ => Err(Refusal::NoSession),
         }
     }

@@ -3,7 +3,7 @@ use Rattle.std.specs.Prelude.{◌≡◌, List, ℕ, codes, true, unwrap_or, []}
 use Rattle.clap.specs.Words.{App, Rule, matches_of, new_app, one_of, with_rule}
 use Rattle.command_line.specs.Options.{Gives, IsFlag, accounts_rule, cells_rule, flag_rule, replica_rule, text_given}
 use Rattle.command_line.specs.Options.{versioned}
-use Rattle.server_core.specs.declared.limits.TheConstants.{MAX_CELLS}
+use Rattle.server_core.specs.declared.limits.TheConstants.{DEFAULT_CELLS, MAX_CELLS}
 use Rattle.pad_replay.specs.declared.args.Asked.{Asked}
 
 -- an option that has to be there
@@ -19,6 +19,6 @@ line = with_rule (with_rule (with_rule (with_rule (versioned (new_app (codes "pa
 -- `--plain`
 pub record AsksFor (words : List (List ℕ)) (asked : Asked) : Type 0 where
   pub replica : Gives line words (codes "replica") 1 65535 1 asked.replica
-  pub cells : Gives line words (codes "cells") 0 MAX_CELLS MAX_CELLS asked.cells
+  pub cells : Gives line words (codes "cells") 0 MAX_CELLS DEFAULT_CELLS asked.cells
   pub accounts : asked.accounts.now ≡ unwrap_or (text_given line words (codes "accounts")) []
   pub plain : IsFlag (one_of (codes "plain") (matches_of line words)) asked.plain

@@ -15,7 +15,7 @@ use std::alloc::{AllocError, Global};
 pub struct Asked<'a> {
     /// The replica number of a server whose title names none, at least 1.
     pub replica: u16,
-    /// How many pads a server has room for, 1 to 64.
+    /// How many pads a server has room for, 1 to 4,096.
     pub cells: u32,
     /// The path of the accounts file.
     pub accounts: &'a str,
@@ -45,7 +45,7 @@ fn command<'a>(alloc: Global) -> Result<Command<'a>, AllocError>
     ensures { IfOk result (λ command. app_of command ≡ line) }
 {
     let replica_help = "The replica number of a server whose title names none, 1 to 65535";
-    let cells_help = "How many pads a server has room for, 1 to 64";
+    let cells_help = "How many pads a server has room for, 1 to 4,096 [default: 64]";
     Command::new(alloc, "pad_replay")
         .about("Plays sessions against a pad server, from lines NAME<TAB>REQUEST")
         .version(VERSION)

@@ -3,7 +3,7 @@ use Rattle.std.specs.Prelude.{◌≡◌, List, ℕ, codes, option_map, unwrap_or
 use Rattle.clap.specs.Words.{App, Rule, matches_of, new_app, one_of, with_rule}
 use Rattle.command_line.specs.Options.{Gives, IsFlag, accounts_rule, cells_rule, flag_rule, number_rule, option_rule}
 use Rattle.command_line.specs.Options.{replica_rule, text_given, versioned}
-use Rattle.server_core.specs.declared.limits.TheConstants.{MAX_CELLS}
+use Rattle.server_core.specs.declared.limits.TheConstants.{DEFAULT_CELLS, MAX_CELLS}
 use Rattle.pad_server.specs.declared.args.Asked.{Asked}
 use Rattle.pad_server.specs.declared.options.TheConstants.{MAX_WORKERS, DEFAULT_CLIENTS}
 
@@ -67,7 +67,7 @@ line = with_rule (with_rule third_line web_rule) web_origins_rule
 -- the words give this: the numbers, the flag and the texts under the names of the options
 pub record AsksFor (words : List (List ℕ)) (asked : Asked) : Type 0 where
   pub replica : Gives line words (codes "replica") 1 65535 1 asked.replica
-  pub cells : Gives line words (codes "cells") 0 MAX_CELLS MAX_CELLS asked.cells
+  pub cells : Gives line words (codes "cells") 0 MAX_CELLS DEFAULT_CELLS asked.cells
   pub accounts : option_map (λ path. path.now) asked.accounts ≡ text_given line words (codes "accounts")
   pub stdin : IsFlag (one_of (codes "stdin") (matches_of line words)) asked.stdin
   pub listen : option_map (λ address. address.now) asked.listen ≡ text_given line words (codes "listen")

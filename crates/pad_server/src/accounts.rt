@@ -7,11 +7,11 @@ use std::fs;
 use std::rt::Files;
 use std::time::Clock;
 
-/// The accounts of a file. A peer whose port is no number is warned of: no round with it can succeed.
+/// The accounts of a file, and its bytes. A peer whose port is no number is warned of.
 pub fn read_accounts<'a, R: AllocGlobal + Files + Clock + Eprint>(
     rt: &R,
     path: &'a str,
-) -> Result<Accounts, Failure<'a>> {
+) -> Result<(Accounts, Vec<u8>), Failure<'a>> {
     let bytes = match fs::read(rt, path) {
         Ok(bytes) => bytes,
         Err(cause) => return Err(Failure::Unread { path, cause }),
@@ -20,13 +20,18 @@ pub fn read_accounts<'a, R: AllocGlobal + Files + Clock + Eprint>(
         Ok(accounts) => accounts,
         Err(error) => return Err(Failure::of_accounts(path, error)),
     };
+    warn_of_ports(rt, path, &accounts);
+    Ok((accounts, bytes))
+}
+
+/// Warns of each peer whose port is no number: no round with it can succeed.
+pub fn warn_of_ports<R: Clock + Eprint>(rt: &R, path: &str, accounts: &Accounts) {
     for peer in accounts.peers() {
         let (number, address) = (peer.number, peer.address.as_str());
         if !has_port(address) {
             warn!(Journal(rt); "the accounts file {path}: peer {number}: the port of {address} is not a number from 0 to 65535");
         }
     }
-    Ok(accounts)
 }
 
 /// Whether a port number comes after the last colon of an address.

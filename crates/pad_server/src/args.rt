@@ -19,7 +19,7 @@ use std::alloc::{AllocError, Global};
 pub struct Asked<'a> {
     /// The replica number of this server, at least 1.
     pub replica: u16,
-    /// How many pads the server has room for, 1 to 64.
+    /// How many pads the server has room for, 1 to 4,096.
     pub cells: u32,
     /// The path of the accounts file.
     pub accounts: Option<&'a str>,
@@ -70,7 +70,7 @@ fn first_options<'a>(alloc: Global) -> Result<Command<'a>, AllocError>
 fn second_options<'a>(alloc: Global) -> Result<Command<'a>, AllocError>
     ensures { IfOk result (λ command. app_of command ≡ second_line) }
 {
-    let cells_help = "How many pads the server has room for, 1 to 64 [default: 64]";
+    let cells_help = "How many pads the server has room for, 1 to 4,096 [default: 64]";
     first_options(alloc)?
         .arg(cells_option(alloc, cells_help))?
         .arg(workers_option(alloc))?

@@ -1,6 +1,6 @@
 //! What the server does in the course of its connections.
+use crate::exchange::Exchange;
 use crate::keeper::Keeper;
-use crate::wake::Waker;
 use event_loop::Hub;
 use pad_core::Request;
 use pad_model::Refusal;
@@ -9,22 +9,27 @@ use std::alloc::Global;
 use std::sync::Wait;
 use workers::Gate;
 
-/// Wakes the relay thread before each reply that tells of a delivered operation. What was answered at a pad is noted in the
-/// store, and its revision is told to the workers, under the pad's lock.
+/// Wakes the threads that exchange with peers before each reply that tells of a delivered operation. What was answered at a pad
+/// is noted in the store, and that the pad has moved is told to the workers and to those threads, under the pad's lock.
 #[derive(Drop)]
 pub struct Course<'a, R> {
     rt: &'a R,
-    waker: Waker,
+    exchange: &'a Exchange,
     keeper: Option<&'a Keeper>,
     hub: &'a Hub,
 }
 
 impl<'a, R> Course<'a, R> {
     /// Of connections whose threads wait by a runtime.
-    pub fn new(rt: &'a R, waker: Waker, keeper: Option<&'a Keeper>, hub: &'a Hub) -> Course<'a, R> {
+    pub fn new(
+        rt: &'a R,
+        exchange: &'a Exchange,
+        keeper: Option<&'a Keeper>,
+        hub: &'a Hub,
+    ) -> Course<'a, R> {
         Course {
             rt,
-            waker,
+            exchange,
             keeper,
             hub,
         }
@@ -38,6 +43,12 @@ impl<R: Wait> Gate for Course<'_, R> {
         }
         if !told.more.is_empty() {
             self.hub.publish(told.cell, told.more.len() as u64);
+            self.exchange.note(told.cell);
+        }
+        // A peer may have the pad already.
+        if let (Request::Create { .. }, Ok(Some(_))) = (told.request, told.answer) {
+            self.exchange.note(told.cell);
+            self.exchange.ring(self.rt);
         }
     }
 
@@ -48,11 +59,17 @@ impl<R: Wait> Gate for Course<'_, R> {
         }
     }
 
+    fn passed(&self, _request: &Request) {
+        if let Some(keeper) = self.keeper {
+            keeper.release(self.rt);
+        }
+    }
+
     fn inside(&self, _cell: u32) {}
 
     fn before_reply(&self, _connection: u64, delivered: bool) {
         if delivered {
-            self.waker.wake(self.rt);
+            self.exchange.ring(self.rt);
         }
     }
 

@@ -151,6 +151,11 @@ impl Keeper {
         }
     }
 
+    /// A creation that was promised a file came to no cell.
+    pub fn release<R: Wait>(&self, rt: &R) {
+        self.spares.release(rt);
+    }
+
     // Whether a creation has ended and has named no pad: it was refused, or went past the last cell.
     fn has_named_nothing(&self, told: &Answered<'_>) -> bool {
         match (told.request, told.answer) {

@@ -26,7 +26,7 @@ where
 {
     let alloc = rt.alloc();
     let accounts = match asked.accounts {
-        Some(path) => read_accounts(rt, path)?,
+        Some(path) => read_accounts(rt, path)?.0,
         None => solo_accounts(alloc)?,
     };
     let mut pads = open_server(alloc, asked.replica, asked.cells, accounts)?;

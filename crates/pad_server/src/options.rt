@@ -7,7 +7,7 @@ ghost use Rattle.pad_server.specs.CommandLine.{clients_rule, connections_rule, i
 use clap::{Arg, ArgAction, ArgMatches, value_parser};
 use std::alloc::Global;
 
-/// The most workers. A pad has 64 seats: one for each worker, and one for the exchange with other servers.
+/// The most workers. Each has a seat at each pad, and so has each of up to 16 threads that exchange with other servers.
 pub const MAX_WORKERS: u32 = 63;
 
 /// The number of workers without `--workers`, where the system does not tell how many processors there are.

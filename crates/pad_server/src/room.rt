@@ -6,13 +6,16 @@ use libc::{RLIMIT_NOFILE, getrlimit};
 use log::warn;
 use std::time::Clock;
 
-/// The files that a server has open beside its clients' sockets: the standard streams, the listener, the socket to a peer, the
-/// store's lock, folder, reserve and spare files, and the acceptor's poll and waker.
+/// The files that a server has open beside its clients' sockets: the standard streams, the listeners, the store's lock, folder,
+/// reserve and spare files, and the acceptor's poll and waker.
 const OTHERS: u64 = 24;
 
+/// The handles of the socket to a peer: to read, to write, and to break the exchange off.
+const HANDLES: u64 = 3;
+
 /// Warns, if the limit of open files leaves room for fewer clients than may be connected. Each of so many threads has two
-/// files, and so has each pad of a store.
-pub fn warn_of_room<R: Clock + Eprint>(rt: &R, asked: Asked<'_>, threads: usize) {
+/// files, and so has each pad of a store; each of so many peers has a socket.
+pub fn warn_of_room<R: Clock + Eprint>(rt: &R, asked: Asked<'_>, threads: usize, peers: usize) {
     let Some(limit) = most_files() else {
         return;
     };
@@ -24,6 +27,7 @@ pub fn warn_of_room<R: Clock + Eprint>(rt: &R, asked: Asked<'_>, threads: usize)
     let taken = (threads as u64)
         .saturating_add(u64::from(pads))
         .saturating_mul(2)
+        .saturating_add((peers as u64).saturating_mul(HANDLES))
         .saturating_add(OTHERS);
     let room = limit.saturating_sub(taken);
     let clients = asked.clients;

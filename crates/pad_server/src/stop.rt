@@ -1,41 +1,53 @@
-//! How a server ends whose store has failed.
+//! How exchanges with peers are broken off.
 use crate::keeper::Keeper;
 use event_loop::Hub;
 use journal::Journal;
 use log::warn;
+use std::alloc::{AllocError, Global};
 use std::net::{Shutdown, TcpStream};
+use std::sync::atomic::{AtomicBool, Ordering};
 use std::sync::{Mutex, Wait};
 use std::time::Clock;
 
-/// The socket to a peer that is read or written, by which the exchange is broken off.
+/// The sockets to the peers, by which exchanges are broken off, and whether they were.
 #[derive(Drop)]
 pub struct Stop {
-    peer: Mutex<Option<TcpStream>>,
+    sockets: Vec<Mutex<Option<TcpStream>>>,
+    is_over: AtomicBool,
 }
 
 impl Stop {
-    /// Of a server that exchanges with nobody yet.
-    pub fn new() -> Stop {
-        Stop {
-            peer: Mutex::new(None),
+    /// Of a server with so many peers that exchanges with none of them yet.
+    pub fn new(alloc: Global, peers: usize) -> Result<Stop, AllocError> {
+        let mut sockets = Vec::new(alloc);
+        for _ in 0..peers {
+            sockets.push(Mutex::new(None))?;
         }
+        Ok(Stop {
+            sockets,
+            is_over: AtomicBool::new(false),
+        })
     }
 }
 
-/// A store, and how the server ends if it fails.
+/// What an exchange with a peer looks at: the store, which has to be synced before a line is written to the peer, and whether
+/// the server ends.
 #[derive(Clone, Copy)]
 pub struct Guard<'a> {
-    pub keeper: &'a Keeper,
+    pub keeper: Option<&'a Keeper>,
     pub stop: &'a Stop,
     pub hub: &'a Hub,
 }
 
 impl Guard<'_> {
-    /// An exchange with a peer begins. It is broken off at once where the server has ended or the socket has no second
-    /// handle.
-    pub fn enter<R: Wait + Clock + Eprint>(&self, rt: &R, stream: &TcpStream) {
+    /// A connection to a peer begins. It is broken off at once where the server has ended or the socket has no second handle.
+    pub fn enter<R: Wait + Clock + Eprint>(&self, rt: &R, peer: usize, stream: &TcpStream) {
         match stream.try_clone() {
-            Ok(second) => *self.stop.peer.lock(rt) = Some(second),
+            Ok(second) => {
+                if let Some(socket) = self.stop.sockets.get(peer) {
+                    *socket.lock(rt) = Some(second);
+                }
+            }
             Err(cause) => {
                 warn!(Journal(rt); "no exchange with a peer: {cause}");
                 let _ended_already = stream.shutdown(Shutdown::Both);
@@ -46,26 +58,32 @@ impl Guard<'_> {
         }
     }
 
-    /// The exchange has ended. If the store has failed meanwhile, the server ends.
-    pub fn leave<R: Wait>(&self, rt: &R) {
-        *self.stop.peer.lock(rt) = None;
-        if self.keeper.has_failed() {
+    /// The connection to a peer has ended.
+    pub fn leave<R: Wait>(&self, rt: &R, peer: usize) {
+        if let Some(socket) = self.stop.sockets.get(peer) {
+            *socket.lock(rt) = None;
+        }
+    }
+
+    /// Ends the server, if the store has failed.
+    pub fn check(&self) {
+        if self.keeper.is_some_and(|keeper| keeper.has_failed()) {
             self.hub.stop();
         }
     }
 
-    /// Breaks an exchange off that is under way, if the server was ended.
+    /// Breaks all exchanges off that are under way. None begins any more.
     pub fn end<R: Wait>(&self, rt: &R) {
-        if !self.has_stopped() {
-            return;
-        }
-        if let Some(stream) = &*self.stop.peer.lock(rt) {
-            let _ended_already = stream.shutdown(Shutdown::Both);
+        self.stop.is_over.store(true, Ordering::SeqCst);
+        for socket in &self.stop.sockets {
+            if let Some(stream) = &*socket.lock(rt) {
+                let _ended_already = stream.shutdown(Shutdown::Both);
+            }
         }
     }
 
-    /// Whether the server was ended.
+    /// Whether the server was ended, or exchanges were broken off.
     pub fn has_stopped(&self) -> bool {
-        self.hub.has_stopped()
+        self.hub.has_stopped() || self.stop.is_over.load(Ordering::SeqCst)
     }
 }

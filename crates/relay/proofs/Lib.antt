@@ -4,3 +4,5 @@ pub mod Steps
 pub mod Pulls
 pub mod Pushes
 pub mod Rounds
+pub mod Images
+pub mod Places

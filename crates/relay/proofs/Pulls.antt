@@ -8,6 +8,7 @@ use Rattle.pad_model.specs.declared.refusal.Refusal.{Refusal}
 use Rattle.pad_model.specs.declared.seen.Counted.{Counted}
 use Rattle.pad_core.specs.declared.act.Act.{Act}
 use Rattle.pad_core.specs.declared.act.Act.TheVariants as act
+use Rattle.pad_core.specs.declared.exchange.TheConstants.{MAX_BATCH}
 use Rattle.pad_core.specs.declared.request.Request.{Request}
 use Rattle.pad_core.specs.declared.request.Request.TheVariants as request
 use Rattle.serde_json.specs.Data.{Data}
@@ -25,7 +26,7 @@ use Rattle.relay.specs.Round.{own_vector, own_count, counted}
 use Rattle.relay.specs.Round.Stage.{Failed, Over, Pulled, Pulling, Pushing, Taking}
 use Rattle.relay.specs.Round.Reaches.{here}
 use Rattle.relay.specs.Wire.{Wire, HearsAs}
-use Rattle.relay.specs.declared.limits.TheConstants.{MAX_OPS, MAX_TURNS}
+use Rattle.relay.specs.declared.limits.TheConstants.{MAX_OPS, MAX_PULL_TURNS}
 use Rattle.relay.specs.declared.pull.Turn.{Turn}
 use Rattle.relay.specs.declared.talk.Talk.{Talk}
 use Rattle.relay.proofs.Steps.{at_ok, join, one, later, unsent, wrong, lacks}
@@ -61,18 +62,18 @@ module _ {P : Type 0} (calls : P → Request → Answer → P → Type 0) (names
   -- a pull turn's call, and what is sent then
   pull_goes : (name : List ℕ) (turn : ℕ) (talk : Talk) (old new : P) (wire : Wire)
       (r : Result (Option (List Counted)) Fault) (said : Answer) (stage : Stage) (w v : World P) (d : Option Data)
-      → turn < MAX_TURNS → calls old (request.On name act.Vector) said new → own_vector said ≡ r
+      → turn < MAX_PULL_TURNS → calls old (request.On name act.Vector) said new → own_vector said ≡ r
       → asked name turn r (world talk new wire) ≡ (stage, w, d) → SendsIf d w v → Goes calls names (Pulling name turn)
       (world talk old wire) stage v
   pull_goes name turn talk old new wire r said stage w v d low call told is sends =
       let so : asked name turn (own_vector said) (world talk new wire) ≡ (stage, w, d) =
       ap (λ x. asked name turn x (world talk new wire)) told ∙ is in
-      chosen_false _ _ _ (lt-leb MAX_TURNS turn low)
+      chosen_false _ _ _ (lt-leb MAX_PULL_TURNS turn low)
       (said, world talk new wire, (call, refl), sym (ap (λ p. p.0) so), subst (λ p. SendsIf p.2 p.1 v) (sym so) sends)
 
   readable : (name : List ℕ) (turn : ℕ) (seen : List Counted) (w : World P) (b : Bool) →
       is_readable w.version (seen_in_v1 seen) ≡ b
-      → asked name turn (Ok (Some seen)) w ≡ (if b then (Pulled name turn, w, Some (pull_request name seen MAX_OPS))
+      → asked name turn (Ok (Some seen)) w ≡ (if b then (Pulled name turn, w, Some (pull_request name seen MAX_OPS (Some MAX_BATCH)))
       else (Over, counted with_unsaid w, None))
   readable name turn seen w b is = rw is refl
 
@@ -81,14 +82,14 @@ module _ {P : Type 0} (calls : P → Request → Answer → P → Type 0) (names
       (answer : Result Bool Fault) (talk new_talk : Talk) (old new : P) (wire new_wire : Wire)
       → r ≡ Ok (Some seen) → AsksFor calls name act.Vector own_vector r old new
       → IfOk answer (λ sent. SendsPull name seen sent talk wire new_talk new_wire)
-      → IfOk answer (λ sent. (turn : ℕ) → turn < MAX_TURNS → Reaches calls names (Pulling name turn)
+      → IfOk answer (λ sent. (turn : ℕ) → turn < MAX_PULL_TURNS → Reaches calls names (Pulling name turn)
       (world talk old wire) (if sent then Pulled name turn else Over) (world new_talk new new_wire))
   asked_sent name seen r (Ok true) talk new_talk old new wire new_wire is asks (can, wrote, same) = λ turn low.
       let (said, call, told) = was_asked calls name act.Vector own_vector r (Some seen) old new is asks in
       subst (λ t. Reaches calls names (Pulling name turn) (world talk old wire) (Pulled name turn)
       (world t new new_wire)) (sym same)
       (one calls names _ _ _ _ (pull_goes name turn talk old new wire (Ok (Some seen)) said (Pulled name turn)
-      (world talk new wire) (world talk new new_wire) (Some (pull_request name seen MAX_OPS)) low call told
+      (world talk new wire) (world talk new new_wire) (Some (pull_request name seen MAX_OPS (Some MAX_BATCH))) low call told
       (readable name turn seen (world talk new wire) true can) (wrote, refl)))
   asked_sent name seen r (Ok false) talk new_talk old new wire new_wire is asks (can, same_wire, same) = λ turn low.
       let (said, call, told) = was_asked calls name act.Vector own_vector r (Some seen) old new is asks in
@@ -105,21 +106,21 @@ module _ {P : Type 0} (calls : P → Request → Answer → P → Type 0) (names
       (answer : Result Bool Fault) (talk new_talk : Talk) (old new : P) (wire new_wire : Wire)
       → r ≡ Ok (Some seen) → AsksFor calls name act.Vector own_vector r old new
       → IfErr answer (λ fault. (is_readable talk.version (seen_in_v1 seen) ≡ true) × (new_talk ≡ talk)
-      × IsUnsent fault (line_of (pull_request name seen MAX_OPS)) wire new_wire)
-      → IfErr answer (λ fault. (turn : ℕ) → turn < MAX_TURNS → Breaks calls names fault (Pulling name turn)
+      × IsUnsent fault (line_of (pull_request name seen MAX_OPS (Some MAX_BATCH))) wire new_wire)
+      → IfErr answer (λ fault. (turn : ℕ) → turn < MAX_PULL_TURNS → Breaks calls names fault (Pulling name turn)
       (world talk old wire) new new_wire)
   asked_unsent name seen r (Ok sent) talk new_talk old new wire new_wire is asks so = tt
   asked_unsent name seen r (Err fault) talk new_talk old new wire new_wire is asks (can, same, un) = λ turn low.
       let (said, call, told) = was_asked calls name act.Vector own_vector r (Some seen) old new is asks in
-      unsent calls names fault (pull_request name seen MAX_OPS) (Pulling name turn) (Pulled name turn)
+      unsent calls names fault (pull_request name seen MAX_OPS (Some MAX_BATCH)) (Pulling name turn) (Pulled name turn)
       (world talk old wire) (world talk new wire) new_wire refl
       (λ v sends. pull_goes name turn talk old new wire (Ok (Some seen)) said (Pulled name turn) (world talk new wire) v
-      (Some (pull_request name seen MAX_OPS)) low call told
+      (Some (pull_request name seen MAX_OPS (Some MAX_BATCH))) low call told
       (readable name turn seen (world talk new wire) true can) sends) un
 
   -- this server refuses
   pub asked_over : (name : List ℕ) (r : Result (Option (List Counted)) Fault) (talk : Talk) (old new : P) (wire : Wire)
-      → r ≡ Ok None → AsksFor calls name act.Vector own_vector r old new → (turn : ℕ) → turn < MAX_TURNS
+      → r ≡ Ok None → AsksFor calls name act.Vector own_vector r old new → (turn : ℕ) → turn < MAX_PULL_TURNS
       → Reaches calls names (Pulling name turn) (world talk old wire) Over (world talk new wire)
   asked_over name r talk old new wire is asks turn low =
       let (said, call, told) = was_asked calls name act.Vector own_vector r None old new is asks in
@@ -142,7 +143,7 @@ module _ {P : Type 0} (calls : P → Request → Answer → P → Type 0) (names
   pub asked_none : (name : List ℕ) (r : Result (Option (List Counted)) Fault) (fault : Fault) (talk : Talk)
       (old new : P) (wire : Wire)
       → r ≡ Err fault → fault ≡ Memory → AsksFor calls name act.Vector own_vector r old new → (turn : ℕ) →
-      turn < MAX_TURNS
+      turn < MAX_PULL_TURNS
       → Breaks calls names fault (Pulling name turn) (world talk old wire) new wire
   asked_none name r fault talk old new wire is memory asks turn low =
       lacks calls names fault (Pulling name turn) (world talk old wire) new
@@ -297,16 +298,16 @@ module _ {P : Type 0} (calls : P → Request → Answer → P → Type 0) (names
 
   -- a turn whose pull was sent, or whose pad's part is over
   pub turn_asked : (name : List ℕ) (turn : ℕ) (r : Result Bool Fault) (asked : Bool) (u v : World P) → r ≡ Ok asked →
-      turn < MAX_TURNS
-      → IfOk r (λ asked. (turn : ℕ) → turn < MAX_TURNS →
+      turn < MAX_PULL_TURNS
+      → IfOk r (λ asked. (turn : ℕ) → turn < MAX_PULL_TURNS →
       Reaches calls names (Pulling name turn) u (if asked then Pulled name turn else Over) v)
       → Reaches calls names (Pulling name turn) u (if asked then Pulled name turn else Over) v
   turn_asked name turn r asked u v is low goes =
-      at_ok (λ asked. (turn : ℕ) → turn < MAX_TURNS →
+      at_ok (λ asked. (turn : ℕ) → turn < MAX_PULL_TURNS →
       Reaches calls names (Pulling name turn) u (if asked then Pulled name turn else Over) v) r asked is goes turn low
 
   -- all turns were made
-  pub turns_spent : (name : List ℕ) (turn : ℕ) (w : World P) → MAX_TURNS ≤ turn →
+  pub turns_spent : (name : List ℕ) (turn : ℕ) (w : World P) → MAX_PULL_TURNS ≤ turn →
       Reaches calls names (Pulling name turn) w (Pushing name 0) w
   turns_spent name turn w spent = one calls names (Pulling name turn) w _ _
-      (chosen_true _ _ _ (le-leb MAX_TURNS turn spent) (refl, refl))
+      (chosen_true _ _ _ (le-leb MAX_PULL_TURNS turn spent) (refl, refl))

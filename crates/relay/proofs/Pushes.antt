@@ -9,6 +9,7 @@ use Rattle.pad_model.specs.declared.refusal.Refusal.{Refusal}
 use Rattle.pad_model.specs.declared.seen.Counted.{Counted}
 use Rattle.pad_core.specs.declared.act.Act.TheVariants as act
 use Rattle.pad_core.specs.declared.reply.Pushed.{Pushed}
+use Rattle.pad_core.specs.declared.exchange.TheConstants.{MAX_BATCH}
 use Rattle.pad_core.specs.declared.request.Request.{Request}
 use Rattle.wire_json.specs.Peers.{push_answer, push_request, vector_answer, vector_request}
 use Rattle.wire_json.specs.declared.peer_answer.Told.{Told}
@@ -23,7 +24,7 @@ use Rattle.relay.specs.Round.{Stage, World, Reaches, after_push, is_delivered, i
 use Rattle.relay.specs.Round.{told_vector}
 use Rattle.relay.specs.Round.Stage.{Counting, Giving, Hearing, Lacking, Over, Pushing}
 use Rattle.relay.specs.Wire.{Wire, HearsAs, MissesAnswer, Writes}
-use Rattle.relay.specs.declared.limits.TheConstants.{MAX_OPS, MAX_TURNS}
+use Rattle.relay.specs.declared.limits.TheConstants.{MAX_OPS, MAX_PUSH_TURNS}
 use Rattle.relay.specs.declared.talk.Talk.{Talk}
 use Rattle.relay.proofs.Pulls.{chosen_false, chosen_true, no_memory, was_asked}
 use Rattle.relay.proofs.Steps.{join, lacks, later, one, unheard, unsent, wrong}
@@ -43,26 +44,26 @@ and_else a b c is so = rw (is, so) refl
 module _ {P : Type 0} (calls : P → Request → Answer → P → Type 0) (names : P → ℕ → Result (Option (List ℕ)) Refusal →
     P → Type 0) where
   -- the peer's vector was asked for
-  pub vector_sent : (name : List ℕ) (turn : ℕ) (talk : Talk) (pads : P) (wire new : Wire) → turn < MAX_TURNS →
+  pub vector_sent : (name : List ℕ) (turn : ℕ) (talk : Talk) (pads : P) (wire new : Wire) → turn < MAX_PUSH_TURNS →
       Writes (line_of (vector_request name)) wire new
       → Reaches calls names (Pushing name turn) (world talk pads wire) (Counting name turn) (world talk pads new)
   vector_sent name turn talk pads wire new low wrote =
-      one calls names _ _ _ _ (chosen_false _ _ _ (lt-leb MAX_TURNS turn low) ((wrote, refl), refl))
+      one calls names _ _ _ _ (chosen_false _ _ _ (lt-leb MAX_PUSH_TURNS turn low) ((wrote, refl), refl))
 
   -- or not
   pub vector_unsent : (name : List ℕ) (turn : ℕ) (fault : Fault) (talk : Talk) (pads : P) (wire new : Wire) →
-      turn < MAX_TURNS → IsUnsent fault (line_of (vector_request name)) wire new
+      turn < MAX_PUSH_TURNS → IsUnsent fault (line_of (vector_request name)) wire new
       → Breaks calls names fault (Pushing name turn) (world talk pads wire) pads new
   vector_unsent name turn fault talk pads wire new low un =
       unsent calls names fault (vector_request name) (Pushing name turn) (Counting name turn) (world talk pads wire)
       (world talk pads wire) new refl
-      (λ v sends. chosen_false _ _ _ (lt-leb MAX_TURNS turn low) (sends, refl)) un
+      (λ v sends. chosen_false _ _ _ (lt-leb MAX_PUSH_TURNS turn low) (sends, refl)) un
 
   -- all turns were made
-  pub pushes_spent : (name : List ℕ) (turn : ℕ) (w : World P) → MAX_TURNS ≤ turn →
+  pub pushes_spent : (name : List ℕ) (turn : ℕ) (w : World P) → MAX_PUSH_TURNS ≤ turn →
       Reaches calls names (Pushing name turn) w Over w
   pushes_spent name turn w spent = one calls names (Pushing name turn) w _ _
-      (chosen_true _ _ _ (le-leb MAX_TURNS turn spent) (refl, refl))
+      (chosen_true _ _ _ (le-leb MAX_PUSH_TURNS turn spent) (refl, refl))
 
   -- the peer tells its vector, or refuses, or says neither
   pub counted_then : (name : List ℕ) (turn : ℕ) (r : Option (Told (List Counted))) (seen : List Counted) (talk : Talk)
@@ -97,11 +98,11 @@ module _ {P : Type 0} (calls : P → Request → Answer → P → Type 0) (names
   -- this server tells what the peer lacks
   pub lacks_ops : (name : List ℕ) (seen : List Counted) (r : Result (Option (List Op)) Fault) (ops : List Op)
       (talk : Talk) (old new : P) (wire : Wire)
-      → r ≡ Ok (Some ops) → AsksFor calls name (act.Pull seen MAX_OPS) own_ops r old new → (turn : ℕ)
+      → r ≡ Ok (Some ops) → AsksFor calls name (act.Pull seen MAX_OPS (Some MAX_BATCH)) own_ops r old new → (turn : ℕ)
       → Reaches calls names (Lacking name turn seen) (world talk old wire) (Giving name turn 0 ops)
       (world talk new wire)
   lacks_ops name seen r ops talk old new wire is asks turn =
-      let (said, call, told) = was_asked calls name (act.Pull seen MAX_OPS) own_ops r (Some ops) old new is asks in
+      let (said, call, told) = was_asked calls name (act.Pull seen MAX_OPS (Some MAX_BATCH)) own_ops r (Some ops) old new is asks in
       one calls names (Lacking name turn seen) _ _ _ (
         said,
         world talk new wire,
@@ -112,10 +113,10 @@ module _ {P : Type 0} (calls : P → Request → Answer → P → Type 0) (names
   -- or refuses
   pub lacks_over : (name : List ℕ) (seen : List Counted) (r : Result (Option (List Op)) Fault) (talk : Talk)
       (old new : P) (wire : Wire)
-      → r ≡ Ok None → AsksFor calls name (act.Pull seen MAX_OPS) own_ops r old new → (turn : ℕ)
+      → r ≡ Ok None → AsksFor calls name (act.Pull seen MAX_OPS (Some MAX_BATCH)) own_ops r old new → (turn : ℕ)
       → Reaches calls names (Lacking name turn seen) (world talk old wire) Over (world talk new wire)
   lacks_over name seen r talk old new wire is asks turn =
-      let (said, call, told) = was_asked calls name (act.Pull seen MAX_OPS) own_ops r None old new is asks in
+      let (said, call, told) = was_asked calls name (act.Pull seen MAX_OPS (Some MAX_BATCH)) own_ops r None old new is asks in
       one calls names (Lacking name turn seen) _ _ _ (
         said,
         world talk new wire,
@@ -126,11 +127,11 @@ module _ {P : Type 0} (calls : P → Request → Answer → P → Type 0) (names
   -- or is out of memory
   pub lacks_none : (name : List ℕ) (seen : List Counted) (r : Result (Option (List Op)) Fault) (fault : Fault)
       (talk : Talk) (old new : P) (wire : Wire)
-      → r ≡ Err fault → fault ≡ Memory → AsksFor calls name (act.Pull seen MAX_OPS) own_ops r old new → (turn : ℕ)
+      → r ≡ Err fault → fault ≡ Memory → AsksFor calls name (act.Pull seen MAX_OPS (Some MAX_BATCH)) own_ops r old new → (turn : ℕ)
       → Breaks calls names fault (Lacking name turn seen) (world talk old wire) new wire
   lacks_none name seen r fault talk old new wire is memory asks turn =
       lacks calls names fault (Lacking name turn seen) (world talk old wire) new
-      (no_memory calls names name (act.Pull seen MAX_OPS) own_ops r fault (Lacking name turn seen) talk old new wire is
+      (no_memory calls names name (act.Pull seen MAX_OPS (Some MAX_BATCH)) own_ops r fault (Lacking name turn seen) talk old new wire is
       memory asks
       (λ said call told. (
         said,

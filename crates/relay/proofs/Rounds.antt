@@ -1,5 +1,5 @@
 -- The steps from pad to pad.
-use Rattle.std.proofs.Common.{◌≡◌, ◌⊎◌, inl, inr, ℕ, ◌+◌, ◌<◌, ◌≤◌, List, Option, None, Some, Result, Ok, Err, refl}
+use Rattle.std.proofs.Common.{◌≡◌, ◌⊎◌, inl, inr, ℕ, ◌+◌, ◌<◌, ◌≤◌, List, Option, None, Some, Result, Ok, Err, IfOk, refl}
 use Rattle.std.proofs.Common.{sym, ap, ◌∙◌, subst}
 use Rattle.std.proofs.lemmas.Bool.{le-leb, lt-leb}
 use Rattle.pad_model.specs.declared.refusal.Refusal.{Refusal}
@@ -12,13 +12,14 @@ use Rattle.wire_lines.specs.declared.fault.Fault.{Fault}
 use Rattle.wire_lines.specs.declared.fault.Fault.TheVariants.{PeerReply, Memory}
 use Rattle.workers.specs.Session.{Answer}
 use Rattle.relay.specs.Breaks.{Breaks}
-use Rattle.relay.specs.Kept.{IsUnsent, begun, world}
+use Rattle.relay.specs.Kept.{Greets, IsUnsent, Made, MissesGreeting, Visited, begun, ready, world}
 use Rattle.relay.specs.Round.{Stage, World, Goes, Reaches, greeted, line_of, named, own_name, with_version}
 use Rattle.relay.specs.Round.Stage.{Ended, Failed, Greeted, Greeting, Next, Over, Pulling}
 use Rattle.relay.specs.Wire.{Wire, HearsAs, Writes}
+use Rattle.relay.specs.declared.relayed.Relayed.{Relayed}
 use Rattle.relay.specs.declared.talk.Talk.{Talk}
 use Rattle.relay.proofs.Pulls.{chosen_false, chosen_true}
-use Rattle.relay.proofs.Steps.{join, lacks, one, unsent, wrong}
+use Rattle.relay.proofs.Steps.{join, lacks, later, one, unheard, unsent, wrong}
 
 module _ {P : Type 0} (calls : P → Request → Answer → P → Type 0) (names : P → ℕ → Result (Option (List ℕ)) Refusal →
     P → Type 0) where
@@ -66,6 +67,44 @@ module _ {P : Type 0} (calls : P → Request → Answer → P → Type 0) (names
         (heard, refl),
         sym (ap (λ x. greeted x (begun cells pads new)) is),
       )
+
+  -- the first two stages: the peer was greeted
+  pub greets_then : (own : ℕ) (token : List ℕ) (its : Version) (cells : ℕ) (pads : P) (wire new : Wire) →
+      Greets own token its wire new
+      → Reaches calls names (Greeting own token) (begun cells pads wire) Next (ready its cells pads new)
+  greets_then own token its cells pads wire new (mid, wrote, heard) =
+      join calls names _ _ _ _ _ _ (greeting_sent own token cells pads wire mid wrote)
+      (greeted_then cells (Some (Said its)) its pads mid new refl heard)
+
+  -- or they broke off
+  pub misses_then : (own : ℕ) (token : List ℕ) (fault : Fault) (cells : ℕ) (pads : P) (wire new : Wire) →
+      MissesGreeting own token fault wire new
+      → Breaks calls names fault (Greeting own token) (begun cells pads wire) pads new
+  misses_then own token fault cells pads wire new (inl un) =
+      greeting_unsent own token fault cells pads wire new un
+  misses_then own token fault cells pads wire new (inr (mid, wrote, inl missed)) =
+      later calls names fault _ (begun cells pads wire) _ (begun cells pads mid) pads new
+      (greeting_sent own token cells pads wire mid wrote)
+      (unheard calls names fault Greeted (begun cells pads mid) new missed)
+  misses_then own token fault cells pads wire new (inr (mid, wrote, inr (is, said, which, heard))) =
+      later calls names fault _ (begun cells pads wire) _ (begun cells pads mid) pads new
+      (greeting_sent own token cells pads wire mid wrote)
+      (subst (λ f. Breaks calls names f Greeted (begun cells pads mid) pads new) (sym is)
+      (greeted_wrong cells said pads mid new which heard))
+
+  -- a visit after a greeting is a round
+  pub made_then : (own : ℕ) (token : List ℕ) (r : Result Relayed Fault) (u v : World P) (wire : Wire) (pads : P) →
+      Reaches calls names (Greeting own token) u Next v
+      → IfOk r (λ relayed. Visited calls names v relayed wire pads)
+      → IfOk r (λ relayed. Made calls names own token u relayed wire pads)
+  made_then own token (Ok relayed) u v wire pads before (w, more, counted, wired, left) = (
+    w,
+    join calls names _ u _ v _ w before more,
+    counted,
+    wired,
+    left,
+  )
+  made_then own token (Err fault) u v wire pads before visited = tt
 
   -- a cell is looked at
   looked : (talk : Talk) (old new : P) (wire : Wire) (said : Result (Option (List ℕ)) Refusal)

@@ -1,20 +1,24 @@
 -- The world of a round, as the code keeps it, and what its parts leave.
-use Rattle.std.specs.Prelude.{◌≡◌, ◌⊎◌, ℕ, ◌+◌, Bool, true, false, List, Option, Result, Err}
+use Rattle.std.specs.Prelude.{◌≡◌, ◌⊎◌, ℕ, ◌+◌, Bool, true, false, List, Option, None, Some, Result, Err}
 use Rattle.pad_model.specs.OldWire.{seen_in_v1}
 use Rattle.pad_model.specs.declared.refusal.Refusal.{Refusal}
 use Rattle.pad_model.specs.declared.seen.Counted.{Counted}
+use Rattle.pad_model.specs.declared.who.Version.{Version}
 use Rattle.pad_model.specs.declared.who.Version.TheVariants.{One}
 use Rattle.pad_core.specs.declared.act.Act.{Act}
+use Rattle.pad_core.specs.declared.exchange.TheConstants.{MAX_BATCH}
 use Rattle.pad_core.specs.declared.request.Request.{Request}
 use Rattle.pad_core.specs.declared.request.Request.TheVariants.{On}
-use Rattle.wire_json.specs.Peers.{pull_request}
+use Rattle.wire_json.specs.Peers.{peer_answer, peer_request, pull_request}
+use Rattle.wire_json.specs.declared.peer_answer.Told.{Told}
+use Rattle.wire_json.specs.declared.peer_answer.Told.TheVariants.{Said, Refused}
 use Rattle.wire_lines.specs.declared.fault.Fault.{Fault}
-use Rattle.wire_lines.specs.declared.fault.Fault.TheVariants.{WriteFault, Memory}
+use Rattle.wire_lines.specs.declared.fault.Fault.TheVariants.{WriteFault, PeerReply, Memory}
 use Rattle.workers.specs.Session.{Answer}
 use Rattle.relay.specs.Counts.{none_yet, with_unsaid}
-use Rattle.relay.specs.Round.{Stage, World, Reaches, is_readable, line_of}
-use Rattle.relay.specs.Round.Stage.{Greeting, Pulling, Pushing, Over, Ended}
-use Rattle.relay.specs.Wire.{Wire, Writes, WritesPart}
+use Rattle.relay.specs.Round.{Stage, World, Reaches, is_readable, line_of, with_version}
+use Rattle.relay.specs.Round.Stage.{Greeting, Next, Pulling, Pushing, Over, Ended}
+use Rattle.relay.specs.Wire.{Wire, HearsAs, MissesAnswer, Writes, WritesPart}
 use Rattle.relay.specs.declared.limits.TheConstants.{MAX_OPS}
 use Rattle.relay.specs.declared.pull.Turn.{Turn}
 use Rattle.relay.specs.declared.pull.Turn.TheVariants as turn_of
@@ -28,6 +32,10 @@ world talk pads wire = record { cells = talk.cells; cell = talk.cell; version = 
 -- the world before a round
 abbrev pub begun : {P : Type 0} → ℕ → P → Wire → World P
 begun cells pads wire = record { cells = cells; cell = 0; version = One; relayed = none_yet; pads = pads; wire = wire }
+
+-- the world of a peer that was greeted, before a visit to the cells
+abbrev pub ready : {P : Type 0} → Version → ℕ → P → Wire → World P
+ready version cells pads wire = with_version version (begun cells pads wire)
 
 -- what follows a turn of pulling
 abbrev pub after_turn : List ℕ → ℕ → Turn → Stage
@@ -46,7 +54,7 @@ counts more talk = record { cells = talk.cells; cell = talk.cell; version = talk
 -- this server's vector was sent to the peer, or the peer can't read it
 abbrev pub SendsPull : List ℕ → List Counted → Bool → Talk → Wire → Talk → Wire → Type 0
 SendsPull name seen true talk old then new =
-    (is_readable talk.version (seen_in_v1 seen) ≡ true) × Writes (line_of (pull_request name seen MAX_OPS)) old new
+    (is_readable talk.version (seen_in_v1 seen) ≡ true) × Writes (line_of (pull_request name seen MAX_OPS (Some MAX_BATCH))) old new
     × (then ≡ talk)
 SendsPull name seen false talk old then new =
     (is_readable talk.version (seen_in_v1 seen) ≡ false) × (new ≡ old) × (then ≡ counts with_unsaid talk)
@@ -63,6 +71,32 @@ abbrev pub Lacks : {P : Type 0} → (P → Request → Answer → P → Type 0) 
 Lacks {P} calls names fault first old pads =
     (fault ≡ Memory) × (stage : Stage) × (w : World P) × Reaches calls names first old stage w × (pads ≡ w.pads)
     × (w.wire ≡ old.wire)
+
+-- the peer was greeted, and said that it reads this version
+abbrev pub Greets : ℕ → List ℕ → Version → Wire → Wire → Type 0
+Greets own token version old new =
+    (mid : Wire) × Writes (line_of (peer_request own token)) old mid
+    × HearsAs peer_answer (Some (Said version)) mid new
+
+-- the peer refused the greeting, or said neither
+abbrev pub IsTurnedAway : Fault → Wire → Wire → Type 0
+IsTurnedAway fault old new =
+    (fault ≡ PeerReply) × (said : Option (Told Version)) × ((said ≡ Some Refused) ⊎ (said ≡ None))
+    × HearsAs peer_answer said old new
+
+-- the greeting was not written, or in part; or no answer to it was heard; or one that is no version
+abbrev pub MissesGreeting : ℕ → List ℕ → Fault → Wire → Wire → Type 0
+MissesGreeting own token fault old new =
+    IsUnsent fault (line_of (peer_request own token)) old new
+    ⊎ ((mid : Wire) × Writes (line_of (peer_request own token)) old mid
+    × (MissesAnswer fault mid new ⊎ IsTurnedAway fault mid new))
+
+-- the cells were gone through from here on, and this was counted
+abbrev pub Visited : {P : Type 0} → (P → Request → Answer → P → Type 0) →
+    (P → ℕ → Result (Option (List ℕ)) Refusal → P → Type 0)
+    → World P → Relayed → Wire → P → Type 0
+Visited {P} calls names old relayed wire pads =
+    (w : World P) × Reaches calls names Next old Ended w × (w.relayed ≡ relayed) × (w.wire ≡ wire) × (w.pads ≡ pads)
 
 -- a round was made, and counted this
 abbrev pub Made : {P : Type 0} → (P → Request → Answer → P → Type 0) →

@@ -4,3 +4,6 @@ pub mod Counts
 pub mod Round
 pub mod Breaks
 pub mod Kept
+pub mod Listed
+pub mod Chosen
+pub mod Laws

@@ -13,6 +13,7 @@ use Rattle.pad_model.specs.declared.who.Version.{Version}
 use Rattle.pad_model.specs.declared.who.Version.TheVariants as version
 use Rattle.pad_core.specs.declared.act.Act.{Act}
 use Rattle.pad_core.specs.declared.act.Act.TheVariants as act
+use Rattle.pad_core.specs.declared.exchange.TheConstants.{MAX_BATCH}
 use Rattle.pad_core.specs.declared.reply.PadReply.TheVariants as pad
 use Rattle.pad_core.specs.declared.reply.Pushed.{Pushed}
 use Rattle.pad_core.specs.declared.reply.Pushed.TheVariants as pushed
@@ -29,7 +30,7 @@ use Rattle.workers.specs.Delivered.{delivered_of}
 use Rattle.workers.specs.Session.{Answer}
 use Rattle.relay.specs.Counts.{with_pull, with_pulled, with_pushed, with_refused, with_unsaid}
 use Rattle.relay.specs.Wire.{Wire, Writes, HearsAs}
-use Rattle.relay.specs.declared.limits.TheConstants.{MAX_OPS, MAX_TURNS}
+use Rattle.relay.specs.declared.limits.TheConstants.{MAX_OPS, MAX_PULL_TURNS, MAX_PUSH_TURNS}
 use Rattle.relay.specs.declared.relayed.Relayed.{Relayed}
 
 -- what a round does next
@@ -170,7 +171,7 @@ module _ {P : Type 0} where
   abbrev pub asked : List ℕ → ℕ → Result (Option (List Counted)) Fault → World P → Stage × World P × Option Data
   asked name turn (Ok None) w = (Over, w, None)
   asked name turn (Ok (Some seen)) w =
-      if is_readable w.version (seen_in_v1 seen) then (Pulled name turn, w, Some (pull_request name seen MAX_OPS))
+      if is_readable w.version (seen_in_v1 seen) then (Pulled name turn, w, Some (pull_request name seen MAX_OPS (Some MAX_BATCH)))
       else (Over, counted with_unsaid w, None)
   asked name turn (Err fault) w = (Failed fault, w, None)
 
@@ -227,7 +228,7 @@ module _ {P : Type 0} (calls : P → Request → Answer → P → Type 0) (names
       × (mid ≡ with_pads mid.pads old)
       × ((stage, new) ≡ named (own_name name) mid))
   Goes (Pulling name turn) old stage new =
-      Choice (nat_le MAX_TURNS turn) ((stage ≡ Pushing name 0) × (new ≡ old))
+      Choice (nat_le MAX_PULL_TURNS turn) ((stage ≡ Pushing name 0) × (new ≡ old))
       ((said : Answer) × (mid : World P) × Asks name act.Vector said old mid
       × (stage ≡ (asked name turn (own_vector said) mid).0)
       × SendsIf (asked name turn (own_vector said) mid).2 (asked name turn (own_vector said) mid).1 new)
@@ -240,13 +241,13 @@ module _ {P : Type 0} (calls : P → Request → Answer → P → Type 0) (names
       (said : Answer) × (mid : World P) × Asks name (act.Push op) said old mid
       × ((stage, new) ≡ taken name turn gained ops (own_count said) mid)
   Goes (Pushing name turn) old stage new =
-      Choice (nat_le MAX_TURNS turn) ((stage ≡ Over) × (new ≡ old)) (Sends (vector_request name) old new
+      Choice (nat_le MAX_PUSH_TURNS turn) ((stage ≡ Over) × (new ≡ old)) (Sends (vector_request name) old new
       × (stage ≡ Counting name turn))
   Goes (Counting name turn) old stage new =
       (said : Option (Told (List Counted))) × (mid : World P) × Heard vector_answer said old mid
       × ((stage, new) ≡ told_vector name turn said mid)
   Goes (Lacking name turn seen) old stage new =
-      (said : Answer) × (mid : World P) × Asks name (act.Pull seen MAX_OPS) said old mid
+      (said : Answer) × (mid : World P) × Asks name (act.Pull seen MAX_OPS (Some MAX_BATCH)) said old mid
       × ((stage, new) ≡ lacked name turn (own_ops said) mid)
   Goes (Giving name turn due []) old stage new = (stage ≡ Hearing name turn due false true) × (new ≡ old)
   Goes (Giving name turn due (op ∷ ops)) old stage new =

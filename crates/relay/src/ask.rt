@@ -1,6 +1,7 @@
 //! What a round asks the pads of its own server.
-ghost use Rattle.std.specs.Prelude.{◌≡◌, IfOk, IfErr};
+ghost use Rattle.std.specs.Prelude.{◌≡◌, Some, IfOk, IfErr};
 ghost use Rattle.pad_core.specs.declared.act.Act.TheVariants as act;
+ghost use Rattle.pad_core.specs.declared.exchange.TheConstants.{MAX_BATCH};
 ghost use Rattle.pad_core.specs.declared.request.Request.TheVariants as request;
 ghost use Rattle.relay.specs.Kept.{AsksFor};
 ghost use Rattle.relay.specs.Round.{own_name as name_told, own_vector as vector_told, own_ops as ops_told, own_count as count_told};
@@ -8,7 +9,7 @@ ghost use Rattle.relay.specs.declared.limits.TheConstants.{MAX_OPS};
 ghost use Rattle.wire_lines.specs.declared.fault.Fault.TheVariants.{Memory};
 
 use crate::limits::MAX_OPS;
-use pad_core::{Act, PadReply, Reply, Request};
+use pad_core::{Act, MAX_BATCH, PadReply, Reply, Request};
 use pad_model::{Name, Op, Refusal, Row, Seen};
 use std::alloc::Global;
 use wire_lines::Fault;
@@ -29,10 +30,14 @@ pub fn own_ops<P: Pads>(
     pad: &Name,
     seen: Seen,
 ) -> Result<Option<Row<Op>>, Fault>
-    ensures asks { AsksFor P.calls pad.now (act.Pull seen MAX_OPS) ops_told result pads.old pads.new }
+    ensures asks { AsksFor P.calls pad.now (act.Pull seen MAX_OPS (Some MAX_BATCH)) ops_told result pads.old pads.new }
     ensures memory { IfErr result (λ fault. fault ≡ Memory) }
 {
-    let act = Act::Pull { seen, max: MAX_OPS };
+    let act = Act::Pull {
+        seen,
+        max: MAX_OPS,
+        batch: Some(MAX_BATCH),
+    };
     ops_in(ask(alloc, pads, pad, act)?)
 }
 

@@ -5,7 +5,9 @@
 #![tactic(auto)]
 
 mod ask;
+mod chosen;
 mod hear;
+mod laws;
 mod limits;
 mod link;
 mod pull;
@@ -14,7 +16,9 @@ mod relayed;
 mod round;
 mod talk;
 
-pub use limits::{MAX_OPS, MAX_TURNS};
+pub use chosen::visit_listed;
+pub use laws::{all_cells_law, greeting_law};
+pub use limits::{MAX_OPS, MAX_PULL_TURNS, MAX_PUSH_TURNS};
 pub use link::{Exchange, Link};
 pub use relayed::Relayed;
-pub use round::relay_round;
+pub use round::{greet, relay_round, visit_cells};

@@ -1,5 +1,6 @@
 //! The first half of a pad's exchange: what the peer has and this server lacks is delivered here.
-ghost use Rattle.std.specs.Prelude.{◌≡◌, ◌<◌, ℕ, [], false, true, if◌then◌else◌, IfOk, IfErr};
+ghost use Rattle.std.specs.Prelude.{◌≡◌, ◌<◌, ℕ, [], false, true, if◌then◌else◌, Some, IfOk, IfErr};
+ghost use Rattle.pad_core.specs.declared.exchange.TheConstants.{MAX_BATCH};
 ghost use Rattle.pad_model.specs.OldWire.{seen_in_v1};
 ghost use Rattle.wire_json.specs.Peers.{pull_request};
 ghost use Rattle.relay.specs.Breaks.{Breaks};
@@ -10,9 +11,10 @@ ghost use Rattle.relay.specs.Wire.{Wire};
 
 use crate::ask::{deliver, own_vector};
 use crate::hear::hear_ops;
-use crate::limits::{MAX_OPS, MAX_TURNS};
+use crate::limits::{MAX_OPS, MAX_PULL_TURNS};
 use crate::link::Exchange;
 use crate::talk::Talk;
+use pad_core::MAX_BATCH;
 use pad_model::{Name, Op, Row, Seen, seen_in_v1};
 use std::alloc::Global;
 use wire_json::{Told, pull_line};
@@ -44,7 +46,7 @@ pub fn pull_pad<P: Pads, L: Exchange>(
         (world talk.old pads.old (L.wire link.old)) pads.new (L.wire link.new)) }
     ensures cell { (talk.new.cell ≡ talk.old.cell) × (talk.new.cells ≡ talk.old.cells) }
 {
-    for turn in 0..MAX_TURNS {
+    for turn in 0..MAX_PULL_TURNS {
         match pull_turn(alloc, pads, link, talk, pad, turn)? {
             Turn::Gained => {}
             Turn::Spent => return Ok(true),
@@ -63,7 +65,7 @@ fn pull_turn<P: Pads, L: Exchange>(
     pad: &Name,
     turn: u64,
 ) -> Result<Turn, Fault>
-    requires { turn < MAX_TURNS }
+    requires { turn < MAX_PULL_TURNS }
     ensures goes { IfOk result (λ came. Reaches P.calls P.names (Pulling pad.now turn) (world talk.old pads.old (L.wire link.old))
         (after_turn pad.now turn came) (world talk.new pads.new (L.wire link.new))) }
     ensures breaks { IfErr result (λ fault. Breaks P.calls P.names fault (Pulling pad.now turn)
@@ -84,9 +86,9 @@ fn ask_peer<P: Pads, L: Exchange>(
     talk: &mut Talk,
     pad: &Name,
 ) -> Result<bool, Fault>
-    ensures goes { IfOk result (λ asked. (turn : ℕ) → turn < MAX_TURNS → Reaches P.calls P.names (Pulling pad.now turn)
+    ensures goes { IfOk result (λ asked. (turn : ℕ) → turn < MAX_PULL_TURNS → Reaches P.calls P.names (Pulling pad.now turn)
         (world talk.old pads.old (L.wire link.old)) (if asked then Pulled pad.now turn else Over) (world talk.new pads.new (L.wire link.new))) }
-    ensures breaks { IfErr result (λ fault. (turn : ℕ) → turn < MAX_TURNS → Breaks P.calls P.names fault (Pulling pad.now turn)
+    ensures breaks { IfErr result (λ fault. (turn : ℕ) → turn < MAX_PULL_TURNS → Breaks P.calls P.names fault (Pulling pad.now turn)
         (world talk.old pads.old (L.wire link.old)) pads.new (L.wire link.new)) }
     ensures cell { (talk.new.cell ≡ talk.old.cell) × (talk.new.cells ≡ talk.old.cells) }
 {
@@ -106,13 +108,13 @@ fn send_pull<L: Exchange>(
 ) -> Result<bool, Fault>
     ensures sent { IfOk result (λ sent. SendsPull pad.now seen.now sent talk.old (L.wire link.old) talk.new (L.wire link.new)) }
     ensures unsent { IfErr result (λ fault. (is_readable talk.old.version (seen_in_v1 seen.now) ≡ true) × (talk.new ≡ talk.old)
-        × IsUnsent fault (line_of (pull_request pad.now seen.now MAX_OPS)) (L.wire link.old) (L.wire link.new)) }
+        × IsUnsent fault (line_of (pull_request pad.now seen.now MAX_OPS (Some MAX_BATCH))) (L.wire link.old) (L.wire link.new)) }
 {
     if !talk.is_readable(seen_in_v1(seen)) {
         talk.relayed = talk.relayed.with_unsaid();
         return Ok(false);
     }
-    let line = pull_line(alloc, pad, seen, MAX_OPS)?;
+    let line = pull_line(alloc, pad, seen, MAX_OPS, Some(MAX_BATCH))?;
     link.send(line.as_str())?;
     Ok(true)
 }

@@ -12,7 +12,7 @@ ghost use Rattle.relay.specs.Wire.{HearsAs, MissesAnswer, Writes};
 
 use crate::ask::own_ops;
 use crate::hear::{hear_push, hear_vector};
-use crate::limits::MAX_TURNS;
+use crate::limits::MAX_PUSH_TURNS;
 use crate::link::Exchange;
 use crate::talk::Talk;
 use pad_core::Pushed;
@@ -36,7 +36,7 @@ pub fn push_pad<P: Pads, L: Exchange>(
         (world talk.old pads.old (L.wire link.old)) pads.new (L.wire link.new)) }
     ensures cell { (talk.new.cell ≡ talk.old.cell) × (talk.new.cells ≡ talk.old.cells) }
 {
-    for turn in 0..MAX_TURNS {
+    for turn in 0..MAX_PUSH_TURNS {
         if !push_turn(alloc, pads, link, talk, pad, turn)? {
             return Ok(());
         }
@@ -53,7 +53,7 @@ fn push_turn<P: Pads, L: Exchange>(
     pad: &Name,
     turn: u64,
 ) -> Result<bool, Fault>
-    requires { turn < MAX_TURNS }
+    requires { turn < MAX_PUSH_TURNS }
     ensures goes { IfOk result (λ more. Reaches P.calls P.names (Pushing pad.now turn) (world talk.old pads.old (L.wire link.old))
         (if more then Pushing pad.now (turn + 1) else Over) (world talk.new pads.new (L.wire link.new))) }
     ensures breaks { IfErr result (λ fault. Breaks P.calls P.names fault (Pushing pad.now turn)

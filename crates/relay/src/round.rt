@@ -1,7 +1,7 @@
 //! A relay round.
 ghost use Rattle.std.specs.Prelude.{◌≡◌, ◌<◌, IfOk, IfErr, OnOk};
 ghost use Rattle.relay.specs.Breaks.{Breaks};
-ghost use Rattle.relay.specs.Kept.{begun, IsUnsent, Made, world};
+ghost use Rattle.relay.specs.Kept.{begun, ready, Greets, IsUnsent, Made, MissesGreeting, Visited, world};
 ghost use Rattle.relay.specs.Round.{Reaches, line_of};
 ghost use Rattle.relay.specs.Wire.{Writes};
 ghost use Rattle.wire_json.specs.Peers.{peer_request};
@@ -46,6 +46,7 @@ pub fn relay_round<P: Pads, L: Exchange>(
     relayed
 }
 
+// A greeting and a visit to all cells.
 fn make_round<P: Pads, L: Exchange>(
     alloc: Global,
     pads: &mut P,
@@ -58,12 +59,51 @@ fn make_round<P: Pads, L: Exchange>(
     ensures fault { IfErr result (λ fault. Breaks P.calls P.names fault (Greeting own token.now)
         (begun (P.width pads.old) pads.old (L.wire link.old)) pads.new (L.wire link.new)) }
 {
+    let version = greet(alloc, link, own, token)?;
+    visit_cells(alloc, pads, link, version)
+}
+
+/// Begins a session at the peer, by this server's number and the token of both, and hears the version of the forms that
+/// the peer reads. A session lasts as long as the link: any number of visits may follow.
+///
+/// PeerReply: the peer refused the greeting, or its reply was none.
+pub fn greet<L: Exchange>(
+    alloc: Global,
+    link: &mut L,
+    own: u16,
+    token: &str,
+) -> Result<Version, Fault>
+    // By `greeting_law` these are the first two stages of a round, over any pads.
+    ensures greeted { IfOk result (λ version. Greets own token.now version (L.wire link.old) (L.wire link.new)) }
+    ensures fault { IfErr result (λ fault. MissesGreeting own token.now fault (L.wire link.old) (L.wire link.new)) }
+{
     send_greeting(alloc, link, own, token)?;
-    let version = match hear_version(alloc, link)? {
-        Some(Told::Said(version)) => version,
-        Some(Told::Refused) => return Err(Fault::PeerReply),
-        None => return Err(Fault::PeerReply),
-    };
+    match hear_version(alloc, link)? {
+        Some(Told::Said(version)) => Ok(version),
+        Some(Told::Refused) => Err(Fault::PeerReply),
+        None => Err(Fault::PeerReply),
+    }
+}
+
+/// Exchanges the operations of the pads of all cells with a peer that was greeted and reads this version: pulls and
+/// pushes pad by pad. Neither session is ended, so that another visit may follow over the same link; a link at which one
+/// broke off is of no more use. `Chosen` visits the cells of a list alone.
+///
+/// PeerReply: a reply of the peer was none.
+pub fn visit_cells<P: Pads, L: Exchange>(
+    alloc: Global,
+    pads: &mut P,
+    link: &mut L,
+    version: Version,
+) -> Result<Relayed, Fault>
+    // At the end all stages from the first cell on were gone through, and what was written and heard are theirs.
+    ensures all { IfOk result (λ relayed. Visited P.calls P.names
+        (ready version (P.width pads.old) pads.old (L.wire link.old)) relayed (L.wire link.new) pads.new) }
+
+    // After a fault some of them, and a front of what they write is written.
+    ensures fault { IfErr result (λ fault. Breaks P.calls P.names fault Next
+        (ready version (P.width pads.old) pads.old (L.wire link.old)) pads.new (L.wire link.new)) }
+{
     let mut talk = Talk {
         cells: pads.cells(),
         cell: 0,

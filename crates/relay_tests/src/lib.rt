@@ -4,7 +4,11 @@
 #[cfg(test)]
 mod answers;
 #[cfg(test)]
+mod batches;
+#[cfg(test)]
 mod gates;
+#[cfg(test)]
+mod listed;
 #[cfg(test)]
 mod loopback;
 #[cfg(test)]

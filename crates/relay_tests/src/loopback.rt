@@ -13,7 +13,7 @@ use std::time::Duration;
 use std::{io, thread};
 use wire_json::{read_request, reply_line};
 use wire_lines::{Fault, Std};
-use workers::{Pads, Row, Served, Shared, open_row, serve_client, take_seats};
+use workers::{Names, Pads, Row, Served, Shared, open_row, serve_client, take_seats};
 
 // For how many seconds a server waits for the other one's next bytes. The test fails then.
 const PATIENCE: u64 = 30;
@@ -182,12 +182,14 @@ fn serve<R: Wait>(
 pub fn row_of<'a, R: Wait>(
     rt: &'a R,
     cells: &'a [SharedPad<BlockSeq>],
+    names: &'a Names,
     replica: u16,
     accounts: &'a Accounts,
 ) -> LoopbackRow<'a, R> {
     Row {
         rt,
         cells,
+        names,
         replica,
         accounts,
         gate: &Open,
@@ -201,10 +203,12 @@ fn one_round_over_loopback(rt: HostRuntime) -> Result<(), Fail> {
         alloc,
         b"author ann t\npeer 1 secret h:1\npeer 2 secret h:2\n",
     )?;
-    let first_cells: Vec<SharedPad<BlockSeq>> = open_row(alloc, 1, 1)?;
-    let second_cells: Vec<SharedPad<BlockSeq>> = open_row(alloc, 2, 1)?;
-    let first = row_of(&rt, first_cells.as_slice(), 1, &accounts);
-    let second = row_of(&rt, second_cells.as_slice(), 2, &accounts);
+    let first_cells: Vec<SharedPad<BlockSeq>> = open_row(alloc, 1, 1, 8)?;
+    let second_cells: Vec<SharedPad<BlockSeq>> = open_row(alloc, 2, 1, 8)?;
+    let first_names = Names::fill(&rt, alloc, first_cells.as_slice())?;
+    let second_names = Names::fill(&rt, alloc, second_cells.as_slice())?;
+    let first = row_of(&rt, first_cells.as_slice(), &first_names, 1, &accounts);
+    let second = row_of(&rt, second_cells.as_slice(), &second_names, 2, &accounts);
     prepare(alloc, &first, &FIRST)?;
     prepare(alloc, &second, &SECOND)?;
     let listener = TcpListener::bind(&rt, "127.0.0.1:0")?;

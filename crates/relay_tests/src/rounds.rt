@@ -9,7 +9,10 @@ const GREETING: &str = concat!(r#"{"do":"peer","number":1,"token":"p2","version"
 
 const VECTOR: &str = concat!(r#"{"do":"vector","pad":"p"}"#, "\n");
 
-const PULL: &str = concat!(r#"{"do":"pull","max":4,"pad":"p","seen":[[1,1]]}"#, "\n");
+const PULL: &str = concat!(
+    r#"{"batch":256,"do":"pull","max":4,"pad":"p","seen":[[1,1]]}"#,
+    "\n"
+);
 
 const PUSH: &str = concat!(
     r#"{"do":"push","op":{"after":null,"author":"ann","first":[1,1],"kind":"insert","name":[1,1],"seen":[],"text":"one"},"pad":"p"}"#,
@@ -42,7 +45,7 @@ const FOUR: &str = concat!(
 const ALL_COUNTS: &str = concat!(r#"{"now":5,"ok":true,"seen":[[1,1],[2,4]]}"#, "\n");
 
 const PULL_BEHIND_FOUR: &str = concat!(
-    r#"{"do":"pull","max":4,"pad":"p","seen":[[1,1],[2,4]]}"#,
+    r#"{"batch":256,"do":"pull","max":4,"pad":"p","seen":[[1,1],[2,4]]}"#,
     "\n"
 );
 // The first stamp has another replica than the name, which no server takes.
@@ -166,7 +169,10 @@ fn a_refused_push_is_counted(rt: HostRuntime) -> Result<(), Fail> {
 // An operation of two parts has no form of the first version.
 #[test]
 fn an_old_peer_gets_what_it_can_read(rt: HostRuntime) -> Result<(), Fail> {
-    let seen = concat!(r#"{"do":"pull","max":4,"pad":"p","seen":[[1,2]]}"#, "\n");
+    let seen = concat!(
+        r#"{"batch":256,"do":"pull","max":4,"pad":"p","seen":[[1,2]]}"#,
+        "\n"
+    );
     let peer = [MET_OLD, NO_OPS, NO_COUNTS, DELIVERED];
     let lines = [GREETING, seen, VECTOR, PUSH];
     let relayed = Relayed {

@@ -1,4 +1,4 @@
-//! A server with the pad `p`, on which ann has typed, and its side of a round.
+//! A server with the pad `p`, or several pads, on which ann has typed, and its side of a round.
 use block_seq::BlockSeq;
 use pad_core::Request;
 use pad_model::Refusal;
@@ -35,7 +35,10 @@ pub struct Talked {
     pub ended: Result<Relayed, Fault>,
 }
 
-fn request(alloc: Global, line: &str) -> Result<Request, Refusal> {
+/// A server on which ann has typed.
+pub type TypedPads = Alone<BlockSeq>;
+
+pub fn request(alloc: Global, line: &str) -> Result<Request, Refusal> {
     read_request(alloc, line.as_bytes())
 }
 
@@ -63,4 +66,26 @@ pub fn talk(alloc: Global, lines: &[&str], peer: &[u8]) -> Result<Talked, Fail> 
     let ended = relay_round(alloc, &mut pads, &mut link, 1, "p2");
     let (_input, output) = link.into_parts();
     Ok(Talked { output, ended })
+}
+
+/// Server 1 with so many pads, `p0`, `p1` and on, in a session of peer 2, after ann has typed a letter so often on one.
+pub fn typed_on(alloc: Global, pads: u32, typed: u32, letters: u32) -> Result<TypedPads, Fail> {
+    let accounts = Accounts::read(alloc, b"author ann t\npeer 2 p2 host:1\n")?;
+    let mut server: Server<BlockSeq> = Server::new(alloc, 1, pads.min(64), accounts)?;
+    let actor = server.open(alloc)?;
+    let mut alone = Alone::new(server, actor);
+    let _hello = alone.call(alloc, &request(alloc, HELLO)?)?;
+    for pad in 0..pads {
+        let line = format!(in alloc; r#"{{"do":"create","pad":"p{pad}"}}"#)?;
+        let _created = alone.call(alloc, &request(alloc, line.as_str())?)?;
+    }
+    for rev in 0..letters {
+        let line = format!(in alloc;
+            r#"{{"at":0,"do":"insert","pad":"p{typed}","rev":{rev},"text":"x"}}"#
+        )?;
+        let _typed = alone.call(alloc, &request(alloc, line.as_str())?)?;
+    }
+    alone.end(alloc);
+    let _session = alone.relay(alloc, 2)?;
+    Ok(alone)
 }

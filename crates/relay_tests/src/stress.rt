@@ -14,7 +14,7 @@ use std::test::Fail;
 use std::thread;
 use std::thread::Threads;
 use wire_lines::{Fault, Std};
-use workers::{Pads, Shared, open_row, serve_client};
+use workers::{Names, Pads, Shared, open_row, serve_client};
 
 // How often the authors write, with a round of the servers beside each time.
 const PHASES: u64 = 10;
@@ -359,11 +359,12 @@ fn play<R: Threads + Wait + Sync + Net<Stream = TcpStream, Listener = TcpListene
     rt: &R,
     alloc: Global,
     accounts: &Accounts,
+    names: &[Names; 2],
     first_cells: Vec<SharedPad<BlockSeq>>,
     second_cells: Vec<SharedPad<BlockSeq>>,
 ) -> Played {
-    let first = row_of(rt, first_cells.as_slice(), 1, accounts);
-    let second = row_of(rt, second_cells.as_slice(), 2, accounts);
+    let first = row_of(rt, first_cells.as_slice(), &names[0], 1, accounts);
+    let second = row_of(rt, second_cells.as_slice(), &names[1], 2, accounts);
     let mut ours = Side::new(alloc);
     let mut theirs = Side::new(alloc);
     let alike = end_alike(alloc, &first, &second, &mut ours, &mut theirs);
@@ -382,9 +383,13 @@ fn play<R: Threads + Wait + Sync + Net<Stream = TcpStream, Listener = TcpListene
 fn two_servers_under_stress(rt: HostRuntime) -> Result<(), Fail> {
     let alloc = rt.alloc();
     let accounts = Accounts::read(alloc, ACCOUNTS)?;
-    let first_cells = open_row(alloc, 1, 1)?;
-    let second_cells = open_row(alloc, 2, 1)?;
-    let came = play(&rt, alloc, &accounts, first_cells, second_cells);
+    let first_cells = open_row(alloc, 1, 1, 64)?;
+    let second_cells = open_row(alloc, 2, 1, 64)?;
+    let names = [
+        Names::fill(&rt, alloc, first_cells.as_slice())?,
+        Names::fill(&rt, alloc, second_cells.as_slice())?,
+    ];
+    let came = play(&rt, alloc, &accounts, &names, first_cells, second_cells);
     assert!(rt; came.alike == Ok(true), "{came:?}");
     assert!(rt;
         came.edits == [400, 400] && came.taken == [400, 400],

@@ -1,6 +1,7 @@
 -- The lemmas, by topic.
 pub mod Lengths
 pub mod Listings
+pub mod LogIns
 pub mod NameRuns
 pub mod NameSteps
 pub mod Named

@@ -1,26 +1,27 @@
--- The names of a row over any steps of any actors.
+-- The names of a row over any steps of any actors and any new accounts.
 use Rattle.std.proofs.Common.{◌≡◌, ◌⊎◌, inl, inr, ℕ, ◌+◌, Bool, true, false, List, [], ◌∷◌, length, map, Option, Some}
 use Rattle.std.proofs.Common.{nat_lt, None, refl, sym, ap, ◌∙◌, subst}
-use Rattle.std.specs.List.{AllByRecursion, slice_get, slice_set, find, repeat}
+use Rattle.std.specs.List.{AllByRecursion, slice_get, repeat}
 use Rattle.std.specs.Prelude.{bytes_eq}
 use Rattle.std.proofs.lemmas.Slice.Eq.{bytes_eq-Decides}
 use Rattle.pad_model.proofs.Newer.{split}
 use Rattle.pad_model.specs.declared.refusal.Refusal.{Refusal}
 use Rattle.pad_model.specs.declared.who.Who.{Who}
 use Rattle.sessions.specs.Accounts.{Accounts}
-use Rattle.sessions.specs.Session.{is_of}
 use Rattle.sessions.specs.declared.session.Room.{Room}
-use Rattle.pad_core.specs.Machine.{Machine, name_of, step}
+use Rattle.pad_core.specs.Machine.{Machine, step}
 use Rattle.pad_core.specs.declared.act.Act.TheVariants as act
 use Rattle.pad_core.specs.declared.request.Request.{Request}
 use Rattle.pad_core.specs.declared.request.Request.TheVariants as request
 use Rattle.server_core.specs.Actor.{Actor, first_cell, is_busy, nobody}
 use Rattle.server_core.specs.AtCell.{RowAnswer, row_answer}
-use Rattle.server_core.specs.Machine.{Server, new_server, run, server_step, unnamed}
+use Rattle.server_core.specs.Machine.{Server, run, server_event, server_step, unnamed}
 use Rattle.server_core.specs.Names.{AreNamedInTurn, NamesLaw, NamesStay, names_of, opened_server}
 use Rattle.server_core.specs.Opening.{act_refusal, create_refusal, pads_refusal}
 use Rattle.server_core.specs.Steps.{actor_step, ask, begun, end, ended, goes_on, leave_first, left_room, list_begun, move, scanned}
 use Rattle.server_core.specs.Steps.{unless_busy}
+use Rattle.server_core.specs.declared.step.Event.{Event}
+use Rattle.server_core.specs.declared.step.Event.TheVariants as event
 use Rattle.server_core.specs.declared.step.Moved.{Moved}
 use Rattle.server_core.specs.declared.step.Step.{Step}
 use Rattle.server_core.specs.declared.step.Step.TheVariants.{Ask, Move, Look, Relay, End}
@@ -161,11 +162,15 @@ by_actor at step s (Some a) e h =
       stay,
     )
 
-run-goes : (steps : List (ℕ × Step)) (s : Server) → Stands s → GoesOn s (run steps s).1
+by_event : (e : Event) (s : Server) → Stands s → GoesOn s (server_event e s).1
+by_event (event.Step at step) s h = by_actor at step s (slice_get s.actors at) refl h
+by_event (event.Accounts accounts) s h = (h, same_stay (names_of s.cells))
+
+run-goes : (events : List Event) (s : Server) → Stands s → GoesOn s (run events s).1
 run-goes [] s h = (h, same_stay (names_of s.cells))
-run-goes (event ∷ steps) s h =
-    let one = by_actor event.0 event.1 s (slice_get s.actors event.0) refl h in
-    let rest = run-goes steps (server_step event.0 event.1 s).1 one.0 in
+run-goes (e ∷ events) s h =
+    let one = by_event e s h in
+    let rest = run-goes events (server_event e s).1 one.0 in
     (rest.0, λ cell name there. rest.1 cell name (one.1 cell name there))
 
 unnamed-row : (replica cells : ℕ) → AllByRecursion (λ n. n ≡ None) (names_of (repeat cells (unnamed replica ∷ [])))
@@ -180,6 +185,6 @@ start-stands replica cells actors accounts = (
 
 -- the names are in turn, and stay
 pub names_in_turn : NamesLaw
-names_in_turn replica cells actors accounts steps more =
-    let s = run-goes steps (opened_server replica cells accounts actors) (start-stands replica cells actors accounts) in
-    (s.0.0, (run-goes more (run steps (opened_server replica cells accounts actors)).1 s.0).1)
+names_in_turn replica cells actors accounts events more =
+    let s = run-goes events (opened_server replica cells accounts actors) (start-stands replica cells actors accounts) in
+    (s.0.0, (run-goes more (run events (opened_server replica cells accounts actors)).1 s.0).1)

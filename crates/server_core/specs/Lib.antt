@@ -2,6 +2,7 @@
 pub mod Actor
 pub mod AtCell
 pub mod Listing
+pub mod LogIns
 pub mod Machine
 pub mod Names
 pub mod Opening

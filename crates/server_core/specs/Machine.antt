@@ -1,4 +1,4 @@
--- The server machine: any list of steps of any actors.
+-- The server machine: any list of steps of any actors, and of new accounts.
 use Rattle.std.specs.Prelude.{ℕ, ◌≤◌, nat_le, if◌then◌else◌, List, [], ◌∷◌, ◌++◌, length, slice_get, slice_set, Option}
 use Rattle.std.specs.Prelude.{Some, None, Result, Ok, Err}
 use Rattle.std.specs.List.{repeat}
@@ -9,6 +9,8 @@ use Rattle.pad_core.specs.Machine.{Machine, nobody_present}
 use Rattle.server_core.specs.Actor.{Actor, nobody}
 use Rattle.server_core.specs.Steps.{actor_step}
 use Rattle.server_core.specs.declared.limits.TheConstants.{MAX_CELLS, MAX_ACTORS}
+use Rattle.server_core.specs.declared.step.Event.{Event}
+use Rattle.server_core.specs.declared.step.Event.TheVariants as event
 use Rattle.server_core.specs.declared.step.Moved.{Moved}
 use Rattle.server_core.specs.declared.step.Moved.TheVariants.{Idle}
 use Rattle.server_core.specs.declared.step.Step.{Step}
@@ -51,9 +53,18 @@ server_step at step s = by_actor (slice_get s.actors at)
     by_actor None = (Idle, s)
     by_actor (Some a) = with_actor at s (actor_step s.replica s.accounts step a s.cells)
 
--- what the actors are told at a list of steps, and the server after them
-abbrev pub run : List (ℕ × Step) → Server → List Moved × Server
+-- other accounts in the place of those that a server had: its sessions go on
+abbrev pub with_accounts : Accounts → Server → Server
+with_accounts accounts s = record s { accounts = accounts }
+
+-- one event: an actor's step, or new accounts, of which nobody is told
+abbrev pub server_event : Event → Server → Moved × Server
+server_event (event.Step at step) s = server_step at step s
+server_event (event.Accounts accounts) s = (Idle, with_accounts accounts s)
+
+-- what the actors are told at a list of events, and the server after them
+abbrev pub run : List Event → Server → List Moved × Server
 run [] s = ([], s)
-run (event ∷ events) s =
-    let done = server_step event.0 event.1 s in
+run (first ∷ events) s =
+    let done = server_event first s in
     (done.0 ∷ (run events done.1).0, (run events done.1).1)

@@ -5,7 +5,7 @@ use Rattle.sessions.specs.Accounts.{Accounts}
 use Rattle.pad_core.specs.Machine.{Machine, name_of}
 use Rattle.server_core.specs.Actor.{nobody}
 use Rattle.server_core.specs.Machine.{Server, new_server, run}
-use Rattle.server_core.specs.declared.step.Step.{Step}
+use Rattle.server_core.specs.declared.step.Event.{Event}
 
 -- the name of each cell, if it has one
 abbrev pub names_of : List Machine → List (Option (List ℕ))
@@ -27,9 +27,9 @@ abbrev pub opened_server : ℕ → ℕ → Accounts → ℕ → Server
 opened_server replica cells accounts actors = record (new_server replica cells accounts)
     { actors = repeat actors (nobody ∷ []) }
 
--- after any steps of any actors the names are in turn, and stay whatever steps follow
+-- after any events, steps of any actors and new accounts, the names are in turn, and stay whatever follows
 abbrev pub NamesLaw : Type 0
 NamesLaw =
-    (replica cells actors : ℕ) → (accounts : Accounts) → (steps more : List (ℕ × Step)) →
-    let s : Server = (run steps (opened_server replica cells accounts actors)).1 in
+    (replica cells actors : ℕ) → (accounts : Accounts) → (events more : List Event) →
+    let s : Server = (run events (opened_server replica cells accounts actors)).1 in
     AreNamedInTurn (names_of s.cells) × NamesStay (names_of s.cells) (names_of (run more s).1.cells)

@@ -17,10 +17,12 @@ use Rattle.pad_core.specs.declared.request.Request.TheVariants.{Create, On}
 use Rattle.server_core.specs.Actor.{Actor, rested}
 use Rattle.server_core.specs.AtCell.{CellAnswer, RowAnswer, row_answer}
 use Rattle.server_core.specs.Listing.{listed_at}
-use Rattle.server_core.specs.Machine.{Server, server_step, with_actor}
+use Rattle.server_core.specs.Machine.{Server, server_step, with_accounts, with_actor}
 use Rattle.server_core.specs.Steps.{actor_step}
+use Rattle.server_core.specs.declared.step.Event.{Event}
+use Rattle.server_core.specs.declared.step.Event.TheVariants as event
 use Rattle.server_core.specs.declared.step.Moved.{Moved}
-use Rattle.server_core.specs.declared.step.Moved.TheVariants.{Named, Refused}
+use Rattle.server_core.specs.declared.step.Moved.TheVariants.{Idle, Named, Refused}
 use Rattle.server_core.specs.declared.step.Step.{Step}
 use Rattle.server_core.specs.declared.task.Task.{Task}
 use Rattle.server_core.specs.declared.step.Step.TheVariants as step
@@ -132,12 +134,17 @@ abbrev pub Served : Server → ℕ → Step → Moved → Server → Type 0
 Served old at step answer new = (server_step at step old ≡ (answer, new))
     ⊎ StepFoundNone old at step (slice_get old.actors at) answer new
 
--- each step was served so, one after the other
-abbrev pub Ran : Server → List (ℕ × Step) → List Moved → Server → Type 0
+-- a server went through an event: a step was served so, or it has the new accounts and told nobody
+abbrev pub GoesThrough : Server → Event → Moved → Server → Type 0
+GoesThrough old (event.Step at step) answer new = Served old at step answer new
+GoesThrough old (event.Accounts accounts) answer new = (answer ≡ Idle) × (new ≡ with_accounts accounts old)
+
+-- it went through each event so, one after the other
+abbrev pub Ran : Server → List Event → List Moved → Server → Type 0
 Ran s [] [] new = new ≡ s
 Ran s [] (answer ∷ answers) new = ⊥
-Ran s (event ∷ events) [] new = ⊥
-Ran s (event ∷ events) (answer ∷ answers) new = (next : Server) × Served s event.0 event.1 answer next
+Ran s (first ∷ events) [] new = ⊥
+Ran s (first ∷ events) (answer ∷ answers) new = (next : Server) × GoesThrough s first answer next
     × Ran next events answers new
 
 -- no actor is told that there was no memory

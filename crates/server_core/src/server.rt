@@ -8,13 +8,13 @@ ghost use Rattle.server_core.specs.declared.limits.TheConstants.{MAX_CELLS};
 ghost use Rattle.pad_core.specs.Delivered.{IsDelivered};
 ghost use Rattle.pad_core.specs.Laws.{HaveSame, ReadAlike};
 ghost use Rattle.pad_core.specs.Machine.{Machine};
-ghost use Rattle.server_core.specs.Machine.{new_server, with_newcomer, run as machine_run, unnamed};
-ghost use Rattle.server_core.specs.Served.{FoundMemory, IsFormed, Ran, Served};
+ghost use Rattle.server_core.specs.Machine.{new_server, with_accounts, with_newcomer, run as machine_run, unnamed};
+ghost use Rattle.server_core.specs.Served.{FoundMemory, GoesThrough, IsFormed, Ran, Served};
 ghost use Rattle.server_core.specs.declared.step.Step.TheVariants as Step;
 
 use crate::actor::Actor;
 use crate::limits::{MAX_ACTORS, MAX_CELLS};
-use crate::step::{Moved, Step};
+use crate::step::{Event, Moved, Step};
 use pad_core::{Pad, Request};
 use pad_model::{Refusal, Sequence};
 use sessions::Accounts;
@@ -103,25 +103,46 @@ impl<S: Sequence> Server<S> {
         self.actors[index].step(alloc, self.replica, &self.accounts, cells, step)
     }
 
-    /// Makes a list of steps, one after the other.
+    /// Takes other accounts in the place of those that it had. Sessions go on, also those of authors who are in them no more;
+    /// who logs in from now on needs one of these.
+    pub fn replace_accounts(&mut self, accounts: Accounts)
+        ensures { self.new ≡ with_accounts accounts self.old }
+    {
+        self.accounts = accounts;
+    }
+
+    /// Goes through one event. Nobody is told of new accounts: the answer is Idle.
+    fn go_through(&mut self, alloc: Global, event: Event) -> Moved
+        ensures { GoesThrough self.old event result self.new }
+    {
+        match event {
+            Event::Step(actor, step) => self.step(alloc, actor, &step),
+            Event::Accounts(accounts) => {
+                self.replace_accounts(accounts);
+                Moved::Idle
+            }
+        }
+    }
+
+    /// Goes through a list of events, one after the other.
     ///
     /// The room for what the actors are told is taken first; without it nothing is done.
-    pub fn run(&mut self, alloc: Global, steps: &[(u32, Step)]) -> Result<Vec<Moved>, Refusal>
-        ensures ran { MatchResult result (λ answers. Ran self.old steps.now answers.items self.new) (λ e. (e ≡ Refusal.Memory) × (self.new ≡ self.old)) }
+    pub fn run(&mut self, alloc: Global, events: Vec<Event>) -> Result<Vec<Moved>, Refusal>
+        ensures ran { MatchResult result (λ answers. Ran self.old events.items answers.items self.new) (λ e. (e ≡ Refusal.Memory) × (self.new ≡ self.old)) }
 
         // What the actors are told and the server are the machine's, where no step was out of memory.
-        ensures machine { IfOk result (λ answers. FoundMemory answers.items → machine_run steps.now self.old ≡ (answers.items, self.new)) }
+        ensures machine { IfOk result (λ answers. FoundMemory answers.items → machine_run events.items self.old ≡ (answers.items, self.new)) }
 
         // What a reader of a pad's present text, authors or comments is answered then depends on the set of its operations alone:
         // any other log of a pad with the same ones answers the same.
         ensures alike { OnOk result ((m : Machine) → Contains self.new.cells m → (other : List Op) → IsDelivered other → HaveSame m.log other → ReadAlike m.log other) }
     {
-        let mut answers = match Vec::with_capacity(alloc, steps.len()) {
+        let mut answers = match Vec::with_capacity(alloc, events.len()) {
             Ok(answers) => answers,
             Err(_) => return Err(Refusal::Memory),
         };
-        for event in steps {
-            let answer = self.step(alloc, event.0, &event.1);
+        for event in events {
+            let answer = self.go_through(alloc, event);
             answers.push_reserved(answer);
         }
         know_delivered(self.cells.as_slice());

@@ -1,6 +1,7 @@
-//! One step of an actor, and what it is told.
+//! What a server goes through: steps of its actors, and new accounts.
 use pad_core::{Reply, Request};
 use pad_model::{Name, Refusal};
+use sessions::Accounts;
 
 /// What an actor does.
 #[derive(Debug, Drop)]
@@ -15,6 +16,15 @@ pub enum Step {
     Relay(u16),
     /// Ends the session: it leaves its pads, one at each `Move`.
     End,
+}
+
+/// What a server goes through.
+#[derive(Drop)]
+pub enum Event {
+    /// A step of an actor, by its number.
+    Step(u32, Step),
+    /// Other accounts take the place of those that it had. Sessions go on; who logs in from now on needs one of these.
+    Accounts(Accounts),
 }
 
 /// What an actor is told.

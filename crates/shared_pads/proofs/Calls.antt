@@ -19,13 +19,13 @@ use Rattle.shared_pads.specs.declared.seat.Tally.{Tally}
 use Rattle.shared_pads.proofs.Grows.{Grown, step_grows, visited_grows}
 use Rattle.shared_pads.proofs.Tallies.{kept_on, one_of, one_within, stands_after, stands_on}
 
-abbrev pub kept_of : Machine → ℕ → List Tally → ℕ → Kept
-kept_of pad base ts calls = record { pad = pad; base = base; tallies = ts; calls = calls }
+abbrev pub kept_of : Machine → ℕ → List Tally → ℕ → ℕ → Kept
+kept_of pad base ts calls most = record { pad = pad; base = base; tallies = ts; calls = calls; seats = most }
 
 -- one more call of a seat that is known can be counted
-module _ (pad : Machine) (base : ℕ) (ts : List Tally) (calls room : ℕ) (k : Kept) (seat : Seat)
-    (view : kept_of pad base ts calls ≡ k) (known : IsKnown k seat) (kept : IsKept pad.log base ts calls room) where
-  there : IsKnown (kept_of pad base ts calls) seat
+module _ (pad : Machine) (base : ℕ) (ts : List Tally) (calls most room : ℕ) (k : Kept) (seat : Seat)
+    (view : kept_of pad base ts calls most ≡ k) (known : IsKnown k seat) (kept : IsKept pad.log base ts calls most room) where
+  there : IsKnown (kept_of pad base ts calls most) seat
   there = subst (λ k. IsKnown k seat) (sym view) known
 
   pub calls_low : seat.tally.calls < 2 ^ 64 - 1
@@ -38,13 +38,13 @@ module _ (pad : Machine) (base : ℕ) (ts : List Tally) (calls room : ℕ) (k : 
   -- who leaves changes no operation
   pub departs : (name : List ℕ) (w : Who) (visit : ℕ) (after : Machine) (t : Tally) →
       after ≡ (step name w (Some visit) act.Leave pad).1 → t ≡ counted 0 None seat.tally →
-      IsKept after.log base (slice_set ts seat.number t) (calls + 1) room
+      IsKept after.log base (slice_set ts seat.number t) (calls + 1) most room
   departs name w visit after t is told =
       let grown = step_grows name w (Some visit) act.Leave pad.owned pad.replica pad.log pad.held pad.presence in
-      subst (λ (m : Machine). IsKept m.log base (slice_set ts seat.number t) (calls + 1) room) (sym is)
+      subst (λ (m : Machine). IsKept m.log base (slice_set ts seat.number t) (calls + 1) most room) (sym is)
       (subst (λ (t : Tally). IsKept (step name w (Some visit) act.Leave pad).1.log base (slice_set ts seat.number t)
-      (calls + 1) room) (ap (λ n. counted n None seat.tally) grown.2 ∙ sym told)
-      (kept_on pad.log (step name w (Some visit) act.Leave pad).1.log grown.0 base calls room seat.number ts seat.tally None
+      (calls + 1) most room) (ap (λ n. counted n None seat.tally) grown.2 ∙ sym told)
+      (kept_on pad.log (step name w (Some visit) act.Leave pad).1.log grown.0 base calls most room seat.number ts seat.tally None
       kept there.1 grown.1 tt))
 
   fits_here : IsDelivered pad.log → IsPad pad.owned pad.replica pad.held pad.presence → Fits seat pad
@@ -86,27 +86,27 @@ module _ (pad : Machine) (base : ℕ) (ts : List Tally) (calls room : ℕ) (k : 
       )))
 
 -- what a call was, before it is counted
-pub record Visit (pad : Machine) (base : ℕ) (ts : List Tally) (calls room : ℕ) (k : Kept) (seat : Seat) (who : Who)
+pub record Visit (pad : Machine) (base : ℕ) (ts : List Tally) (calls most room : ℕ) (k : Kept) (seat : Seat) (who : Who)
     (asked : Request) (rooms : List Room) (answer : Answer) (new : List Room) (after : Machine)
     (before now : ℕ) : Type 0 where
-  pub view : kept_of pad base ts calls ≡ k
+  pub view : kept_of pad base ts calls most ≡ k
   pub known : IsKnown k seat
-  pub kept : IsKept pad.log base ts calls room
+  pub kept : IsKept pad.log base ts calls most room
   pub visited : Visited who asked rooms pad (request_at who asked seat.cell rooms pad) answer new after
   pub was : before ≡ length pad.log
   pub is : now ≡ length after.log
 
-module _ (pad : Machine) (base : ℕ) (ts : List Tally) (calls room : ℕ) (k : Kept) (seat : Seat) (who : Who)
+module _ (pad : Machine) (base : ℕ) (ts : List Tally) (calls most room : ℕ) (k : Kept) (seat : Seat) (who : Who)
     (asked : Request)
     (rooms : List Room) (answer : Answer) (new : List Room) (after : Machine) (before now : ℕ)
-    (v : Visit pad base ts calls room k seat who asked rooms answer new after before now) where
+    (v : Visit pad base ts calls most room k seat who asked rooms answer new after before now) where
   grown : Grown asked answer pad.log after.log
   grown = visited_grows who asked seat.cell rooms pad answer new after v.visited
 
   longer : length after.log ≡ length pad.log + length grown.0
   longer = ap length grown.1 ∙ length-append pad.log grown.0
 
-  known_here : IsKnown (kept_of pad base ts calls) seat
+  known_here : IsKnown (kept_of pad base ts calls most) seat
   known_here = subst (λ k. IsKnown k seat) (sym v.view) v.known
 
   -- the revision does not fall
@@ -137,26 +137,26 @@ module _ (pad : Machine) (base : ℕ) (ts : List Tally) (calls room : ℕ) (k : 
   pub counts : (edit : Option LastEdit) (t : Tally) → edit ≡ edit_of asked answer →
       t ≡ counted (now - before) edit seat.tally →
       Counts k seat who asked rooms answer (record seat { tally = t }) new
-      (kept_of after base (slice_set ts seat.number t) (calls + 1))
+      (kept_of after base (slice_set ts seat.number t) (calls + 1) most)
   counts edit t edit_is t_is =
       subst (λ k. Counts k seat who asked rooms answer (record seat { tally = t }) new
-      (kept_of after base (slice_set ts seat.number t) (calls + 1))) v.view (
+      (kept_of after base (slice_set ts seat.number t) (calls + 1) most)) v.view (
         length grown.0,
         longer,
         grown.2,
         v.visited,
         ap (λ (t : Tally). (let s : Seat = record seat { tally = t } in s))
             (told edit t edit_is t_is),
-        ap (λ t. kept_of after base (slice_set ts seat.number t) (calls + 1))
+        ap (λ t. kept_of after base (slice_set ts seat.number t) (calls + 1) most)
             (told edit t edit_is t_is),
       )
 
   -- and what lies under the lock is sound
   pub stays_kept : (edit : Option LastEdit) (t : Tally) → edit ≡ edit_of asked answer →
-      t ≡ counted (now - before) edit seat.tally → IsKept after.log base (slice_set ts seat.number t) (calls + 1) room
+      t ≡ counted (now - before) edit seat.tally → IsKept after.log base (slice_set ts seat.number t) (calls + 1) most room
   stays_kept edit t edit_is t_is =
-      subst (λ t. IsKept after.log base (slice_set ts seat.number t) (calls + 1) room) (sym (told edit t edit_is t_is))
-      (kept_on pad.log after.log grown.0 base calls room seat.number ts seat.tally (edit_of asked answer) v.kept known_here.1
+      subst (λ t. IsKept after.log base (slice_set ts seat.number t) (calls + 1) most room) (sym (told edit t edit_is t_is))
+      (kept_on pad.log after.log grown.0 base calls most room seat.number ts seat.tally (edit_of asked answer) v.kept known_here.1
       grown.1 grown.3)
 
   fits_before : IsDelivered pad.log → IsPad pad.owned pad.replica pad.held pad.presence → Fits seat pad

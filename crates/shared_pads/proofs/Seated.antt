@@ -102,14 +102,14 @@ same_sum f cell k seats all =
     omega arith
 
 -- so they have made the revision of the pad, and all calls
-pub all_made : (pad : Machine) (base : ℕ) (ts : List Tally) (calls room cell : ℕ) (k : Kept) (seats : List Seat) →
-    kept_of pad base ts calls ≡ k → IsKept pad.log base ts calls room → AreAll cell k seats →
+pub all_made : (pad : Machine) (base : ℕ) (ts : List Tally) (calls most room cell : ℕ) (k : Kept) (seats : List Seat) →
+    kept_of pad base ts calls most ≡ k → IsKept pad.log base ts calls most room → AreAll cell k seats →
     (length pad.log ≡ base + sum_by (λ seat. seat.tally.operations) seats)
     × (calls ≡ sum_by (λ seat. seat.tally.calls) seats)
-all_made pad base ts calls room cell k seats view kept all =
+all_made pad base ts calls most room cell k seats view kept all =
     let here = subst (λ k. AreAll cell k seats) (sym view) all in
-    let operations = same_sum (λ t. t.operations) cell (kept_of pad base ts calls) seats here in
-    let called = same_sum (λ t. t.calls) cell (kept_of pad base ts calls) seats here in
+    let operations = same_sum (λ t. t.operations) cell (kept_of pad base ts calls most) seats here in
+    let called = same_sum (λ t. t.calls) cell (kept_of pad base ts calls most) seats here in
     let revision = kept.revision in
     let counted = kept.called in
     (omega arith, omega arith)

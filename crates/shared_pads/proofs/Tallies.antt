@@ -92,10 +92,10 @@ stands_after log None before h b = b
 stands_after log (Some edit) before h b = h
 
 -- what is kept under the lock after a call
-pub kept_on : (old new more : List Op) (base calls room i : ℕ) (ts : List Tally) (t : Tally) (edit : Option LastEdit) →
-    IsKept old base ts calls room → slice_get ts i ≡ Some t → new ≡ old ++ more → Stands new edit →
-    IsKept new base (slice_set ts i (counted (length more) edit t)) (calls + 1) room
-kept_on old new more base calls room i ts t edit kept e grown stands = record {
+pub kept_on : (old new more : List Op) (base calls most room i : ℕ) (ts : List Tally) (t : Tally) (edit : Option LastEdit) →
+    IsKept old base ts calls most room → slice_get ts i ≡ Some t → new ≡ old ++ more → Stands new edit →
+    IsKept new base (slice_set ts i (counted (length more) edit t)) (calls + 1) most room
+kept_on old new more base calls most room i ts t edit kept e grown stands = record {
   revision = (let both = ap length grown ∙ length-append old more in let sum = sum_after (λ t. t.operations) ts i t
       (counted (length more) edit t) (length more) e refl in let was = kept.revision in omega arith);
   standing =
@@ -110,9 +110,9 @@ kept_on old new more base calls room i ts t edit kept e grown stands = record {
 }
 
 -- one more seat, which has made no call
-pub one_more : (log : List Op) (base calls room : ℕ) (ts : List Tally) → IsKept log base ts calls room →
-    IsKept log base (ts ++ uncounted ∷ []) calls room
-one_more log base calls room ts kept = record {
+pub one_more : (log : List Op) (base calls most room : ℕ) (ts : List Tally) → IsKept log base ts calls most room →
+    IsKept log base (ts ++ uncounted ∷ []) calls most room
+one_more log base calls most room ts kept = record {
   revision = (let sum = sum_by-append (λ t. t.operations) ts (uncounted ∷ []) in let was = kept.revision in
       omega arith);
   standing = all_more ts kept.standing;

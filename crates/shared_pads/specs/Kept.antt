@@ -1,5 +1,5 @@
 -- What lies under the lock of a shared pad, and what a call of a seat is.
-use Rattle.std.specs.Prelude.{◌≡◌, ◌⊎◌, ℕ, ◌+◌, ◌≤◌, ◌<◌, ◌^◌, ◌-◌, List, [], ◌∷◌, ◌++◌, length, sum_by, slice_get}
+use Rattle.std.specs.Prelude.{◌≡◌, ◌⊎◌, ℕ, ◌+◌, ◌≤◌, ◌<◌, ◌^◌, ◌-◌, List, [], ◌∷◌, ◌++◌, length, min, sum_by, slice_get}
 use Rattle.std.specs.Prelude.{slice_set, true, Option, None, Some, Err}
 use Rattle.std.specs.List.{AllByRecursion}
 use Rattle.pad_model.specs.declared.op.Op.{Op}
@@ -8,7 +8,7 @@ use Rattle.pad_model.specs.declared.who.Who.{Who}
 use Rattle.sessions.specs.declared.session.Room.{Room}
 use Rattle.pad_core.specs.Delivered.{IsDelivered}
 use Rattle.pad_core.specs.Listing.{listing}
-use Rattle.pad_core.specs.Machine.{IsPad, Machine, step}
+use Rattle.pad_core.specs.Machine.{IsPad, Machine, name_of, step}
 use Rattle.pad_core.specs.declared.act.Act.TheVariants.{Leave}
 use Rattle.pad_core.specs.declared.reply.Listed.{Listed}
 use Rattle.pad_core.specs.declared.request.Request.{Request}
@@ -21,25 +21,27 @@ use Rattle.shared_pads.specs.declared.seat.Seat.{Seat}
 use Rattle.shared_pads.specs.declared.seat.Tally.{Tally}
 use Rattle.shared_pads.specs.declared.sums.Sums.{Sums}
 
--- a pad, the revision that it had when it came under its lock, the tally of each seat by its number, and how many calls
--- all have made
+-- a pad, the revision that it had when it came under its lock, the tally of each seat by its number, how many calls all
+-- have made, and how many seats there is room for
 pub record Kept : Type 0 where
   pub pad : Machine
   pub base : ℕ
   pub tallies : List Tally
   pub calls : ℕ
+  pub seats : ℕ
 
 -- whenever the lock is free: the revision is the base and the operations of all seats, each last edit stands in the
 -- log, the calls are those of all seats, and there is room for the tallies of as many seats as may be made
-pub record IsKept (log : List Op) (base : ℕ) (tallies : List Tally) (calls room : ℕ) : Type 0 where
+pub record IsKept (log : List Op) (base : ℕ) (tallies : List Tally) (calls seats room : ℕ) : Type 0 where
   pub revision : length log ≡ base + sum_by (λ t. t.operations) tallies
   pub standing : AllByRecursion (λ t. Stands log t.last) tallies
   pub called : calls ≡ sum_by (λ t. t.calls) tallies
-  pub roomy : MAX_SEATS ≤ room
+  pub roomy : seats ≤ room
 
--- what lies under the lock of a pad that no seat was made for
-abbrev pub unseated : Machine → Kept
-unseated m = record { pad = m; base = length m.log; tallies = []; calls = 0 }
+-- what lies under the lock of a pad that no seat was made for, with room for so many, and for 96 at most
+abbrev pub unseated : ℕ → Machine → Kept
+unseated seats m =
+    record { pad = m; base = length m.log; tallies = []; calls = 0; seats = min seats MAX_SEATS }
 
 -- the next seat, at a cell
 abbrev pub next_seat : ℕ → Kept → Seat
@@ -47,7 +49,7 @@ next_seat cell k = record { cell = cell; number = length k.tallies; base = k.bas
 
 -- what lies under the lock once that seat was made
 abbrev pub one_more : Kept → Kept
-one_more k = record { pad = k.pad; base = k.base; tallies = k.tallies ++ uncounted ∷ []; calls = k.calls }
+one_more k = record k { tallies = k.tallies ++ uncounted ∷ [] }
 
 -- a seat is the one that the lock knows, and one more call can be counted
 abbrev pub IsKnown : Kept → Seat → Type 0
@@ -59,7 +61,7 @@ seat_after more edit seat = record seat { tally = counted more edit seat.tally }
 
 -- what lies under the lock after a call of a seat that left the pad so
 abbrev pub kept_after : Machine → ℕ → Option LastEdit → Seat → Kept → Kept
-kept_after m more edit seat k = record { pad = m; base = k.base; tallies = slice_set k.tallies seat.number (counted more edit seat.tally); calls = k.calls + 1 }
+kept_after m more edit seat k = record k { pad = m; tallies = slice_set k.tallies seat.number (counted more edit seat.tally); calls = k.calls + 1 }
 
 -- a call of a seat that is known does what the machine's step does at the cell, and seat and lock count it alike
 abbrev pub Counts : Kept → Seat → Who → Request → List Room → Answer → Seat → List Room → Kept → Type 0
@@ -92,6 +94,16 @@ Called seat who request rooms answer after new =
 -- a pad can be in this state
 abbrev pub CanBe : Machine → Type 0
 CanBe m = IsDelivered m.log × IsPad m.owned m.replica m.held m.presence
+
+-- the pad of a cell has this name: it has it in some state that it can have, and keeps it. `SharedPad::name` alone gives
+-- this fact
+pub IsNamed : ℕ → List ℕ → Type 0
+IsNamed cell name = (m : Machine) × CanBe m × (name_of m.owned ≡ Some name)
+
+-- a name that a pad has
+pub named : (cell : ℕ) (name : List ℕ) (m : Machine) → CanBe m → name_of m.owned ≡ Some name → IsNamed cell name
+unfolding IsNamed
+named cell name m can is = (m, can, is)
 
 -- what a pad tells somebody in a list of pads, in some state that it can have
 abbrev pub IsListing : Who → Option Listed → Type 0

@@ -29,6 +29,9 @@ pub trait Gate {
         Ok(())
     }
 
+    /// A request that `keeps` let pass came to no cell: it asked for a new pad, and each cell has one of another name.
+    fn passed(&self, _request: &Request) {}
+
     /// A step was made at a cell, whose lock is still held.
     fn inside(&self, cell: u32);
 

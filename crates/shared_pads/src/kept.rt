@@ -5,8 +5,7 @@ ghost use Rattle.server_core.specs.Rooms.{IsAsked};
 ghost use Rattle.pad_core.specs.Listing.{listing};
 ghost use Rattle.pad_core.specs.Machine.{name_of};
 ghost use Rattle.pad_model.specs.Checked.{is_name};
-ghost use Rattle.shared_pads.specs.declared.seat.TheConstants.{MAX_SEATS};
-ghost use Rattle.shared_pads.specs.Kept.{AreAll, Called, Counts, Departs, IsClosed, IsKnown, IsListing, IsOf, kept_after, left, next_seat, one_more, seat_after, unseated};
+ghost use Rattle.shared_pads.specs.Kept.{AreAll, Called, CanBe, Counts, Departs, IsClosed, IsKnown, IsListing, IsOf, kept_after, left, next_seat, one_more, seat_after, unseated};
 ghost use Rattle.shared_pads.specs.Seats.{Stands};
 
 use crate::seat::{MAX_SEATS, Seat, Tally, edit_of};
@@ -26,6 +25,8 @@ pub struct Kept<S: Sequence> {
     base: u64,
     tallies: Vec<Tally>,
     calls: u64,
+    /// Seats that it makes at most.
+    seats: u32,
 }
 
 impl<S: Sequence> Model for Kept<S> {
@@ -34,17 +35,19 @@ impl<S: Sequence> Model for Kept<S> {
 
     ghost Value = { Kept };
 
-    ghost view = { λ k. record { pad = k.pad; base = k.base; tallies = k.tallies.items; calls = k.calls } };
+    ghost view = { λ k. record { pad = k.pad; base = k.base; tallies = k.tallies.items; calls = k.calls; seats = k.seats } };
 
-    ghost invariant = { λ k. IsKept k.pad.log k.base k.tallies.items k.calls (vec_capacity k.tallies) };
+    ghost invariant = { λ k. IsKept k.pad.log k.base k.tallies.items k.calls k.seats (vec_capacity k.tallies) };
 }
 
 impl<S: Sequence> Kept<S> {
-    /// A pad that no seat was made for. Without memory for the tallies of all seats it is handed back.
-    pub fn new(alloc: Global, pad: Pad<S>) -> Result<Kept<S>, Pad<S>>
-        ensures { MatchResult result (λ kept. kept ≡ unseated pad) (λ back. back ≡ pad) }
+    /// A pad that no seat was made for, with room for so many, and for 96 at most. Without memory for their tallies it is
+    /// handed back.
+    pub fn new(alloc: Global, pad: Pad<S>, seats: u32) -> Result<Kept<S>, Pad<S>>
+        ensures { MatchResult result (λ kept. kept ≡ unseated seats pad) (λ back. back ≡ pad) }
     {
-        match Vec::with_capacity(alloc, MAX_SEATS as usize) {
+        let seats = seats.min(MAX_SEATS);
+        match Vec::with_capacity(alloc, seats as usize) {
             Ok(tallies) => {
                 let base = pad.revision();
                 Ok(Kept {
@@ -52,6 +55,7 @@ impl<S: Sequence> Kept<S> {
                     base,
                     tallies,
                     calls: 0,
+                    seats,
                 })
             }
             Err(_) => Err(pad),
@@ -60,14 +64,14 @@ impl<S: Sequence> Kept<S> {
 
     /// A seat with a number of its own, at this cell. It takes no memory.
     pub fn seat(&mut self, cell: u32) -> Result<Seat, Refusal>
-        ensures gone { (result ≡ Err Refusal.SeatsGone) ↔ (MAX_SEATS ≤ length self.old.tallies) }
+        ensures gone { (result ≡ Err Refusal.SeatsGone) ↔ (self.old.seats ≤ length self.old.tallies) }
         ensures refusal { IfErr result (λ e. e ≡ Refusal.SeatsGone) }
         ensures refused { OnErr result (self.new ≡ self.old) }
         ensures seat { IfOk result (λ seat. seat ≡ next_seat cell self.old) }
         ensures kept { OnOk result (self.new ≡ one_more self.old) }
     {
         let number = self.tallies.len();
-        if number >= MAX_SEATS as usize {
+        if number >= self.seats as usize {
             return Err(Refusal::SeatsGone);
         }
         self.tallies.push_reserved(Tally::new());
@@ -102,9 +106,12 @@ impl<S: Sequence> Kept<S> {
     /// The name of the pad, if it has one.
     pub fn name(&self, alloc: Global) -> Result<Option<Name>, Refusal>
         ensures name { IfOk result (λ name. name ≡ name_of self.now.pad.owned) }
+        ensures can { CanBe self.now.pad }
         ensures formed { IfOk result (λ name. IfSome name (λ text. IsTrue (is_name text))) }
         ensures refusal { IfErr result (λ e. e ≡ Refusal.Memory) }
     {
+        // The contract of `revision` says what a pad is.
+        let _revision = self.pad.revision();
         match self.pad.name() {
             None => Ok(None),
             Some(name) => Ok(Some(Name::from_str(alloc, name)?)),

@@ -5,8 +5,8 @@ ghost use Rattle.shared_pads.specs.Seats.{counted, uncounted, edit_of as edit_to
 use pad_core::{Act, PadReply, Reply, Request};
 use pad_model::{OpName, Refusal};
 
-/// Seats that a pad makes while it is shared.
-pub const MAX_SEATS: u32 = 64;
+/// Seats that a pad makes at most while it is shared.
+pub const MAX_SEATS: u32 = 96;
 
 /// An edit that was answered: its operation has this name, and made this revision.
 #[derive(Clone, Copy, Debug, PartialEq, Eq)]

@@ -2,7 +2,7 @@
 ghost use Rattle.std.specs.Prelude.{◌≡◌, ◌⊎◌, ◌↔◌, IsTrue, IfOk, IfErr, IfSome, MatchResult, None};
 ghost use Rattle.pad_model.specs.Checked.{is_name};
 ghost use Rattle.server_core.specs.Rooms.{IsAsked};
-ghost use Rattle.shared_pads.specs.Kept.{Called, Departs, HasClosed, IsListing, seat_after};
+ghost use Rattle.shared_pads.specs.Kept.{Called, Departs, HasClosed, IsListing, IsNamed, seat_after};
 ghost use Rattle.shared_pads.specs.Seats.{uncounted};
 
 use crate::gate::{Answered, Gate};
@@ -30,11 +30,12 @@ pub struct SharedPad<S: Sequence> {
 }
 
 impl<S: Sequence> SharedPad<S> {
-    /// Puts a pad behind a lock, with room for what is counted of all seats. Without memory for it the pad is handed back.
-    pub fn new(alloc: Global, pad: Pad<S>, cell: u32) -> Result<SharedPad<S>, Pad<S>>
+    /// Puts a pad behind a lock, with room for what is counted of so many seats, and of 96 at most. Without memory for it
+    /// the pad is handed back.
+    pub fn new(alloc: Global, pad: Pad<S>, cell: u32, seats: u32) -> Result<SharedPad<S>, Pad<S>>
         ensures { MatchResult result (λ shared. shared.cell ≡ cell) (λ back. back ≡ pad) }
     {
-        match Kept::new(alloc, pad) {
+        match Kept::new(alloc, pad, seats) {
             Ok(kept) => Ok(SharedPad {
                 kept: Mutex::new(kept),
                 cell,
@@ -57,7 +58,7 @@ impl<S: Sequence> SharedPad<S> {
         seat.cell() == self.cell
     }
 
-    /// One more seat. 317 where 64 were made. It takes no memory.
+    /// One more seat. 317 where as many were made as there is room for. It takes no memory.
     pub fn seat<R: Wait>(&self, rt: &R) -> Result<Seat, Refusal>
         ensures seat { IfOk result (λ seat. (seat.cell ≡ self.now.cell) × (seat.tally ≡ uncounted)) }
         ensures refusal { IfErr result (λ e. e ≡ Refusal.SeatsGone) }
@@ -127,6 +128,7 @@ impl<S: Sequence> SharedPad<S> {
     /// The name of the pad, if it has one.
     pub fn name<R: Wait>(&self, rt: &R, alloc: Global) -> Result<Option<Name>, Refusal>
         ensures formed { IfOk result (λ name. IfSome name (λ text. IsTrue (is_name text))) }
+        ensures named { IfOk result (λ name. IfSome name (IsNamed self.now.cell)) }
         ensures refusal { IfErr result (λ e. e ≡ Refusal.Memory) }
     {
         self.kept.lock(rt).name(alloc)

@@ -12,7 +12,7 @@ use std::process::Abort;
 use std::sync::Wait;
 use std::test::Fail;
 use wire_lines::Fault;
-use workers::{Conversation, Row, Shared, Turn, open_row, take_seats};
+use workers::{Conversation, Names, Row, Shared, Turn, open_row, take_seats};
 
 const STORY: &str = concat!(
     r#"{"do":"hello","name":"a1","token":"t"}"#,
@@ -116,13 +116,17 @@ fn write(conversation: &mut Conversation, written: &mut Vec<u8>) -> Result<(), A
 struct Stage {
     accounts: Accounts,
     cells: Vec<SharedPad<BlockSeq>>,
+    names: Names,
 }
 
 impl Stage {
-    fn new(alloc: Global) -> Result<Stage, Refusal> {
+    fn new<R: Wait>(rt: &R, alloc: Global) -> Result<Stage, Refusal> {
+        let cells = open_row(alloc, 1, 2, 2)?;
+        let names = Names::fill(rt, alloc, cells.as_slice())?;
         Ok(Stage {
             accounts: accounts(alloc)?,
-            cells: open_row(alloc, 1, 2)?,
+            cells,
+            names,
         })
     }
 
@@ -130,6 +134,7 @@ impl Stage {
         Row {
             rt,
             cells: self.cells.as_slice(),
+            names: &self.names,
             replica: 1,
             accounts: &self.accounts,
             gate,
@@ -158,7 +163,7 @@ fn a_story_cut_at_each_byte_has_the_replies_of_the_whole(rt: HostRuntime) -> Res
     let alloc = rt.alloc();
     let bytes = STORY.as_bytes();
     for cut in 0..bytes.len() {
-        let stage = Stage::new(alloc)?;
+        let stage = Stage::new(&rt, alloc)?;
         let row = stage.row(&rt, &Open);
         let mut pads = Shared::new(&row, seats(alloc, &row)?, Session::new(alloc));
         let mut client = Client::new(alloc);
@@ -179,7 +184,7 @@ fn a_client_goes_to_another_thread_in_the_middle_of_a_line(rt: HostRuntime) -> R
     let alloc = rt.alloc();
     let bytes = STORY.as_bytes();
     for cut in 0..bytes.len() {
-        let stage = Stage::new(alloc)?;
+        let stage = Stage::new(&rt, alloc)?;
         let row = stage.row(&rt, &Open);
         let mut first = Shared::new(&row, seats(alloc, &row)?, Session::new(alloc));
         let mut second = Shared::new(&row, seats(alloc, &row)?, Session::new(alloc));
@@ -194,7 +199,7 @@ fn a_client_goes_to_another_thread_in_the_middle_of_a_line(rt: HostRuntime) -> R
 #[test]
 fn two_clients_of_one_thread_keep_their_sessions(rt: HostRuntime) -> Result<(), Fail> {
     let alloc = rt.alloc();
-    let stage = Stage::new(alloc)?;
+    let stage = Stage::new(&rt, alloc)?;
     let row = stage.row(&rt, &Open);
     let mut pads = Shared::new(&row, seats(alloc, &row)?, Session::new(alloc));
     let mut first = Client::new(alloc);
@@ -228,7 +233,7 @@ fn two_clients_of_one_thread_keep_their_sessions(rt: HostRuntime) -> Result<(), 
 #[test]
 fn a_last_line_without_its_line_feed_is_answered(rt: HostRuntime) -> Result<(), Fail> {
     let alloc = rt.alloc();
-    let stage = Stage::new(alloc)?;
+    let stage = Stage::new(&rt, alloc)?;
     let row = stage.row(&rt, &Open);
     let mut pads = Shared::new(&row, seats(alloc, &row)?, Session::new(alloc));
     let mut client = Client::new(alloc);

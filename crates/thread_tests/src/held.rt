@@ -12,7 +12,7 @@ use std::thread;
 use std::time::{Clock, Duration};
 use wire_lines::{Fault, Input, Output};
 use workers::{
-    Connection, Pads, Row, Served, Shared, open_row, pool, serve_client, take_all_seats,
+    Connection, Names, Pads, Row, Served, Shared, open_row, pool, serve_client, take_all_seats,
 };
 
 // Turns after which a thread that waits gives up: each is a look and a sleep of a millisecond.
@@ -126,7 +126,8 @@ fn read_second<R: Wait + Clock>(
 fn cells_do_not_block_each_other(rt: HostRuntime) -> Result<(), Fail> {
     let alloc = rt.alloc();
     let accounts = accounts(alloc)?;
-    let cells: Vec<SharedPad<BlockSeq>> = open_row(alloc, 1, 2)?;
+    let cells: Vec<SharedPad<BlockSeq>> = open_row(alloc, 1, 2, 2)?;
+    let names = Names::fill(&rt, alloc, cells.as_slice())?;
     let gate = FirstCellHeld {
         rt: &rt,
         first_made: Event::new(),
@@ -137,6 +138,7 @@ fn cells_do_not_block_each_other(rt: HostRuntime) -> Result<(), Fail> {
     let row = Row {
         rt: &rt,
         cells: cells.as_slice(),
+        names: &names,
         replica: 1,
         accounts: &accounts,
         gate: &gate,
@@ -241,7 +243,8 @@ fn is_closed(
 fn connections_do_not_block_each_other(rt: HostRuntime) -> Result<(), Fail> {
     let alloc = rt.alloc();
     let accounts = accounts(alloc)?;
-    let cells: Vec<SharedPad<BlockSeq>> = open_row(alloc, 1, 1)?;
+    let cells: Vec<SharedPad<BlockSeq>> = open_row(alloc, 1, 1, 2)?;
+    let names = Names::fill(&rt, alloc, cells.as_slice())?;
     let gate = FirstConnectionHeld {
         rt: &rt,
         second_done: Event::new(),
@@ -250,6 +253,7 @@ fn connections_do_not_block_each_other(rt: HostRuntime) -> Result<(), Fail> {
     let row = Row {
         rt: &rt,
         cells: cells.as_slice(),
+        names: &names,
         replica: 1,
         accounts: &accounts,
         gate: &gate,

@@ -9,7 +9,7 @@ use std::alloc::Global;
 use std::process::Abort;
 use std::sync::atomic::{AtomicBool, Ordering};
 use std::test::Fail;
-use workers::{Pads, Row, Shared, open_row, take_seats};
+use workers::{Names, Pads, Row, Shared, open_row, take_seats};
 
 // Keeps what is answered, or nothing.
 #[derive(Drop)]
@@ -75,13 +75,15 @@ fn are_refused<P: Pads>(rt: &impl Abort, alloc: Global, pads: &mut P, lines: &[&
 fn what_cannot_be_kept_is_refused(rt: HostRuntime) -> Result<(), Fail> {
     let alloc = rt.alloc();
     let accounts = accounts(alloc)?;
-    let cells: Vec<SharedPad<BlockSeq>> = open_row(alloc, 1, 2)?;
+    let cells: Vec<SharedPad<BlockSeq>> = open_row(alloc, 1, 2, 1)?;
+    let names = Names::fill(&rt, alloc, cells.as_slice())?;
     let gate = Disk {
         has_room: AtomicBool::new(true),
     };
     let row = Row {
         rt: &rt,
         cells: cells.as_slice(),
+        names: &names,
         replica: 1,
         accounts: &accounts,
         gate: &gate,

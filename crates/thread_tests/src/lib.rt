@@ -1,5 +1,5 @@
 //! Tests of threads at shared pads: four that write, cells and connections that do not hold one another up, conversations in
-//! pieces, seats, audits, and what is refused while nothing can be kept.
+//! pieces, seats, names, audits, and what is refused while nothing can be kept.
 #![tactic(auto)]
 
 #[cfg(test)]
@@ -10,6 +10,8 @@ mod conversations;
 mod held;
 #[cfg(test)]
 mod kept;
+#[cfg(test)]
+mod names;
 #[cfg(test)]
 mod rows;
 #[cfg(test)]

@@ -7,7 +7,7 @@ use shared_pads::{Open, SharedPad};
 use std::alloc::Global;
 use std::process::Abort;
 use std::test::Fail;
-use workers::{Pads, Row, Shared, open_row, take_seats};
+use workers::{Names, Pads, Row, Shared, open_row, take_seats};
 
 // A number that takes more than a byte.
 const REPLICA: u16 = 300;
@@ -55,10 +55,12 @@ fn have_names<P: Pads>(
 fn each_cell_has_a_pad_of_its_own(rt: HostRuntime) -> Result<(), Fail> {
     let alloc = rt.alloc();
     let accounts = accounts(alloc)?;
-    let cells: Vec<SharedPad<BlockSeq>> = open_row(alloc, REPLICA, 2)?;
+    let cells: Vec<SharedPad<BlockSeq>> = open_row(alloc, REPLICA, 2, 1)?;
+    let names = Names::fill(&rt, alloc, cells.as_slice())?;
     let row = Row {
         rt: &rt,
         cells: cells.as_slice(),
+        names: &names,
         replica: REPLICA,
         accounts: &accounts,
         gate: &Open,

@@ -4,8 +4,9 @@ use block_seq::BlockSeq;
 use pad_core::{Act, PadReply, Present, Reply, Request};
 use pad_model::{Name, Refusal, Row, Who};
 use sessions::Session;
-use shared_pads::{Open, Seat, SharedPad};
+use shared_pads::{Open, Seat, SharedPad, Tally};
 use std::alloc::Global;
+use std::mem::size_of;
 use std::sync::Wait;
 use std::test::Fail;
 
@@ -35,9 +36,9 @@ fn ask<R: Wait>(
     shared.call(rt, alloc, seat, session, &request, &Open)
 }
 
-// A pad that is shared in the first cell.
-fn shared_pad(alloc: Global) -> Result<SharedPad<BlockSeq>, Refusal> {
-    match SharedPad::new(alloc, typed(alloc)?, 0) {
+// A pad that is shared in the first cell, with room for so many seats.
+fn shared_pad(alloc: Global, seats: u32) -> Result<SharedPad<BlockSeq>, Refusal> {
+    match SharedPad::new(alloc, typed(alloc)?, 0, seats) {
         Ok(shared) => Ok(shared),
         Err(_) => Err(Refusal::Memory),
     }
@@ -144,7 +145,7 @@ fn comes_again<R: Wait>(
 #[test]
 fn one_seat(rt: HostRuntime) -> Result<(), Fail> {
     let alloc = rt.alloc();
-    let shared = shared_pad(alloc)?;
+    let shared = shared_pad(alloc, 1)?;
     let mut seat = shared.seat(&rt)?;
     assert!(rt;
         is_named(&rt, alloc, &shared, "p"),
@@ -178,8 +179,33 @@ fn count_seats<R: Wait>(rt: &R, shared: &SharedPad<BlockSeq>) -> u64 {
 #[test]
 fn limit_seats(rt: HostRuntime) -> Result<(), Fail> {
     let alloc = rt.alloc();
-    let shared = shared_pad(alloc)?;
-    let came = count_seats(&rt, &shared);
-    assert!(rt; came == 64, "wanted 64 seats, came {came}");
+    for (room, wanted) in [
+        (0, 0),
+        (1, 1),
+        (8, 8),
+        (95, 95),
+        (96, 96),
+        (97, 96),
+        (u32::MAX, 96),
+    ] {
+        let shared = shared_pad(alloc, room)?;
+        let came = count_seats(&rt, &shared);
+        assert!(rt;
+            came == wanted,
+            "wanted {wanted} seats with room for {room}, came {came}"
+        );
+    }
+    Ok(())
+}
+
+#[test]
+fn a_cell_with_8_seats_takes_a_kilobyte(rt: HostRuntime) -> Result<(), Fail> {
+    let cell = size_of::<SharedPad<BlockSeq>>();
+    let seat = size_of::<Tally>();
+    assert!(rt;
+        cell <= 648,
+        "wanted 648 bytes for a cell without seats, came {cell}"
+    );
+    assert!(rt; seat <= 48, "wanted 48 bytes for a seat, came {seat}");
     Ok(())
 }

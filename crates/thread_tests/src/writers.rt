@@ -10,7 +10,7 @@ use std::sync::Wait;
 use std::test::Fail;
 use std::thread;
 use std::thread::Threads;
-use workers::{Pads, Row, Shared, open_row, take_seats};
+use workers::{Names, Pads, Row, Shared, open_row, take_seats};
 
 // How often each author writes its letter.
 const ROUNDS: u64 = 250;
@@ -280,10 +280,12 @@ fn write_all<R: Threads + Wait + Sync>(
 fn four_writers(rt: HostRuntime) -> Result<(), Fail> {
     let alloc = rt.alloc();
     let accounts = accounts(alloc)?;
-    let cells: Vec<SharedPad<BlockSeq>> = open_row(alloc, 1, 1)?;
+    let cells: Vec<SharedPad<BlockSeq>> = open_row(alloc, 1, 1, 8)?;
+    let names = Names::fill(&rt, alloc, cells.as_slice())?;
     let row = Row {
         rt: &rt,
         cells: cells.as_slice(),
+        names: &names,
         replica: 1,
         accounts: &accounts,
         gate: &Open,

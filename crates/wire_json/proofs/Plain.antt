@@ -147,8 +147,12 @@ outcome_has_no_float outcome = (outcome_of outcome).floatless
 pub outcome_is_shallow : (outcome : Result Reply Refusal) → depth (outcome_data outcome) ≤ 7
 outcome_is_shallow outcome = (outcome_of outcome).shallow
 
-pull_of : (pad : List ℕ) (seen : List Counted) (most : ℕ) → IsPlain 7 (pull_request pad seen most)
-pull_of pad seen most =
+pull_of : (pad : List ℕ) (seen : List Counted) (most : ℕ) (batch : Option ℕ) →
+    IsPlain 7 (pull_request pad seen most batch)
+pull_of pad seen most None =
+    let known = seen_of seen in
+    record { floatless = rw known.floatless refl; shallow = omega (arith, known.shallow) }
+pull_of pad seen most (Some n) =
     let known = seen_of seen in
     record { floatless = rw known.floatless refl; shallow = omega (arith, known.shallow) }
 
@@ -161,8 +165,9 @@ push_of pad op =
 pub peer_has_no_float : (own : ℕ) (token : List ℕ) → has_float (peer_request own token) ≡ false
 peer_has_no_float own token = refl
 
-pub pull_has_no_float : (pad : List ℕ) (seen : List Counted) (most : ℕ) → has_float (pull_request pad seen most) ≡ false
-pull_has_no_float pad seen most = (pull_of pad seen most).floatless
+pub pull_has_no_float : (pad : List ℕ) (seen : List Counted) (most : ℕ) (batch : Option ℕ) →
+    has_float (pull_request pad seen most batch) ≡ false
+pull_has_no_float pad seen most batch = (pull_of pad seen most batch).floatless
 
 pub vector_has_no_float : (pad : List ℕ) → has_float (vector_request pad) ≡ false
 vector_has_no_float pad = refl
@@ -174,8 +179,9 @@ push_has_no_float pad op = (push_of pad op).floatless
 pub peer_is_shallow : (own : ℕ) (token : List ℕ) → depth (peer_request own token) ≤ 7
 peer_is_shallow own token = lit≤ tt
 
-pub pull_is_shallow : (pad : List ℕ) (seen : List Counted) (most : ℕ) → depth (pull_request pad seen most) ≤ 7
-pull_is_shallow pad seen most = (pull_of pad seen most).shallow
+pub pull_is_shallow : (pad : List ℕ) (seen : List Counted) (most : ℕ) (batch : Option ℕ) →
+    depth (pull_request pad seen most batch) ≤ 7
+pull_is_shallow pad seen most batch = (pull_of pad seen most batch).shallow
 
 pub vector_is_shallow : (pad : List ℕ) → depth (vector_request pad) ≤ 7
 vector_is_shallow pad = lit≤ tt

@@ -1,5 +1,5 @@
 -- What a server asks a peer, and what it takes the peer's answers for.
-use Rattle.std.specs.Prelude.{ℕ, Bool, true, false, if◌then◌else◌, ◌==◌, List, [], ◌∷◌, codes, Option, None, Some}
+use Rattle.std.specs.Prelude.{ℕ, Bool, true, false, if◌then◌else◌, ◌==◌, List, [], ◌∷◌, ◌++◌, codes, Option, None, Some}
 use Rattle.std.specs.Prelude.{option_map, option_and_then}
 use Rattle.serde_json.specs.Data.{Data, string}
 use Rattle.serde_json.specs.Find.{get, as_bool}
@@ -9,7 +9,7 @@ use Rattle.pad_model.specs.declared.seen.Counted.{Counted}
 use Rattle.pad_model.specs.declared.who.Version.{Version}
 use Rattle.pad_model.specs.declared.who.Version.TheVariants as version
 use Rattle.pad_core.specs.declared.reply.Pushed.{Pushed}
-use Rattle.wire_json.specs.Forms.{fields_data, number_data, seen_data}
+use Rattle.wire_json.specs.Forms.{Field, fields_data, number_data, seen_data}
 use Rattle.wire_json.specs.Lines.{value_of}
 use Rattle.wire_json.specs.Operations.{op_data}
 use Rattle.wire_json.specs.Reading.{of_two, of_four, field, list_in, number_in, name_in, within_in, seen_in}
@@ -24,10 +24,15 @@ peer_request own token = fields_data
     ((codes "do", string (codes "peer")) ∷ (codes "number", number_data own) ∷ (codes "token", string token)
     ∷ (codes "version", number_data 2) ∷ [])
 
--- it asks for the first operations of a pad that these counts lack
-abbrev pub pull_request : List ℕ → List Counted → ℕ → Data
-pull_request pad seen most = fields_data
-    ((codes "do", string (codes "pull")) ∷ (codes "max", number_data most) ∷ (codes "pad", string pad)
+-- how many operations a batch may give, where one is asked for
+abbrev pub batch_fields : Option ℕ → List Field
+batch_fields None = []
+batch_fields (Some n) = (codes "batch", number_data n) ∷ []
+
+-- it asks for the first operations of a pad that these counts lack, or for a batch of them
+abbrev pub pull_request : List ℕ → List Counted → ℕ → Option ℕ → Data
+pull_request pad seen most batch = fields_data (batch_fields batch
+    ++ (codes "do", string (codes "pull")) ∷ (codes "max", number_data most) ∷ (codes "pad", string pad)
     ∷ (codes "seen", seen_data seen) ∷ [])
 
 -- it asks for the counts of a pad

@@ -65,6 +65,10 @@ absent_or form (Some d) = form d
 abbrev pub optional : {A : Type 0} → (Data → Option A) → List ℕ → Data → Option (Option A)
 optional form key d = absent_or (null_or form) (get key d)
 
+-- what a field stands for that may be absent, but not null
+abbrev pub if_there : {A : Type 0} → (Data → Option A) → List ℕ → Data → Option (Option A)
+if_there form key d = absent_or (λ found. option_map Some (form found)) (get key d)
+
 -- what each item stands for, if each one stands for something
 abbrev pub each_in : {A : Type 0} → (Data → Option A) → Items → Option (List A)
 each_in form no_items = Some []

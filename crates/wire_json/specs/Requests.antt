@@ -12,6 +12,7 @@ use Rattle.pad_core.specs.declared.act.Act.{Act}
 use Rattle.pad_core.specs.declared.act.Act.TheVariants as act
 use Rattle.pad_core.specs.declared.act.Change.{Change}
 use Rattle.pad_core.specs.declared.act.Change.TheVariants as change
+use Rattle.pad_core.specs.declared.exchange.TheConstants.{MAX_BATCH}
 use Rattle.pad_core.specs.declared.reply.Kind.{Kind}
 use Rattle.pad_core.specs.declared.reply.Kind.TheVariants as kind
 use Rattle.pad_core.specs.declared.request.Request.{Request}
@@ -20,7 +21,7 @@ use Rattle.wire_json.specs.declared.act_word.ActWord.{ActWord}
 use Rattle.wire_json.specs.declared.act_word.ActWord.TheVariants as act_word
 use Rattle.wire_json.specs.Words.{kind_of_word, act_word_of}
 use Rattle.wire_json.specs.Reading.{of_two, of_three, of_four, field, null_or, optional, list_in, number_in, name_in}
-use Rattle.wire_json.specs.Reading.{text_in, stamp_in, op_name_in, span_in, seen_in, right_in, version_of}
+use Rattle.wire_json.specs.Reading.{if_there, within_in, text_in, stamp_in, op_name_in, span_in, seen_in, right_in, version_of}
 
 -- the part of a kind
 abbrev pub part_of : Kind → Data → Option Part
@@ -107,7 +108,9 @@ act_of act_word.Grant d = of_two act.Grant (field name_in (codes "author") d) (f
 act_of act_word.Rights d = Some act.Rights
 act_of act_word.Vector d = Some act.Vector
 act_of act_word.Push d = option_map act.Push (field op_in (codes "op") d)
-act_of act_word.Pull d = of_two act.Pull (field seen_in (codes "seen") d) (field number_in (codes "max") d)
+act_of act_word.Pull d =
+    of_three act.Pull (field seen_in (codes "seen") d) (field number_in (codes "max") d)
+    (if_there (within_in MAX_BATCH) (codes "batch") d)
 
 -- an author begins a session
 abbrev pub hello_in : Data → Option Request

@@ -4,12 +4,15 @@ ghost use Rattle.wire_json.specs.Reading.{IsForm, IsRead, right_in, field};
 ghost use Rattle.wire_json.specs.Requests.{act_of, change_of, change_in};
 
 use crate::act_word::ActWord;
-use crate::field::{field, name_field, number_field, optional_number_field, str_field, text_field};
+use crate::field::{
+    field, name_field, number_field, optional_limited_field, optional_number_field, str_field,
+    text_field,
+};
 use crate::form::{op_name_field, seen_field};
 use crate::list::{FromJson, list_field};
 use crate::op_read::read_op;
 use crate::word::granted_by;
-use pad_core::{Act, Change};
+use pad_core::{Act, Change, MAX_BATCH};
 use pad_model::Refusal;
 use rights::Right;
 use serde_json::Value;
@@ -147,8 +150,9 @@ fn read_pull(alloc: Global, value: &Value) -> Result<Act, Refusal>
     ensures { IsRead (act_of ActWord.Pull (view value.now)) result }
 {
     let max = number_field(value, "max")?;
+    let batch = optional_limited_field(value, "batch", MAX_BATCH)?;
     let seen = seen_field(alloc, value, "seen")?;
-    Ok(Act::Pull { seen, max })
+    Ok(Act::Pull { seen, max, batch })
 }
 
 fn read_text(value: &Value) -> Result<Act, Refusal>

@@ -3,7 +3,7 @@ ghost use Rattle.std.specs.Prelude.{◌≡◌, Some, None, IfOk, MatchResult};
 ghost use Rattle.std.specs.Str.{chars};
 ghost use Rattle.serde_json.specs.Find.{get, as_str};
 ghost use Rattle.serde_json.specs.View.{view};
-ghost use Rattle.wire_json.specs.Reading.{IsForm, IsRead, field as field_in, optional, number_in, name_in, text_in};
+ghost use Rattle.wire_json.specs.Reading.{IsForm, IsRead, field as field_in, if_there, optional, number_in, within_in, name_in, text_in};
 
 use pad_model::{Name, Refusal, Text};
 use serde_json::Value;
@@ -43,6 +43,28 @@ pub fn optional_number_field(value: &Value, key: &str) -> Result<Option<u64>, Re
         None => Ok(None),
         Some(found) if found.is_null() => Ok(None),
         Some(found) => Ok(Some(number(found)?)),
+    }
+}
+
+/// A number from 1 to most.
+fn limited(value: &Value, most: u64) -> Result<u64, Refusal>
+    ensures { IsForm (within_in most (view value.now)) result }
+{
+    let number = number(value)?;
+    if 1 <= number && number <= most {
+        Ok(number)
+    } else {
+        Err(Refusal::NotRequest)
+    }
+}
+
+/// A number from 1 to most that may be absent, but not null.
+pub fn optional_limited_field(value: &Value, key: &str, most: u64) -> Result<Option<u64>, Refusal>
+    ensures { IsForm (if_there (within_in most) key.now (view value.now)) result }
+{
+    match value.get(key) {
+        None => Ok(None),
+        Some(found) => Ok(Some(limited(found, most)?)),
     }
 }
 

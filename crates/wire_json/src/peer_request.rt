@@ -18,11 +18,17 @@ pub fn peer_line(alloc: Global, own: u16, token: &str) -> Result<String, AllocEr
     value_line(alloc, peer_value(alloc, own, token))
 }
 
-/// Asks for at most `most` operations of a pad that are not counted in `seen`.
-pub fn pull_line(alloc: Global, pad: &Name, seen: &Seen, most: u64) -> Result<String, AllocError>
-    ensures { IfOk result (λ line. IsWritten (pull_request pad.now seen.now most) (string_bytes line)) }
+/// Asks for at most `most` operations of a pad that are not counted in `seen`, or for a batch of so many.
+pub fn pull_line(
+    alloc: Global,
+    pad: &Name,
+    seen: &Seen,
+    most: u64,
+    batch: Option<u64>,
+) -> Result<String, AllocError>
+    ensures { IfOk result (λ line. IsWritten (pull_request pad.now seen.now most batch) (string_bytes line)) }
 {
-    value_line(alloc, pull_value(alloc, pad, seen, most))
+    value_line(alloc, pull_value(alloc, pad, seen, most, batch))
 }
 
 /// Asks how many operations of each origin a pad has.
@@ -45,12 +51,23 @@ fn peer_value(alloc: Global, own: u16, token: &str) -> Result<Value, AllocError>
     json!(in alloc; {"do": "peer", "number": own, "token": token, "version": 2})
 }
 
-fn pull_value(alloc: Global, pad: &Name, seen: &Seen, most: u64) -> Result<Value, AllocError>
-    ensures { IfOk result (λ v. view v ≡ pull_request pad.now seen.now most) }
+fn pull_value(
+    alloc: Global,
+    pad: &Name,
+    seen: &Seen,
+    most: u64,
+    batch: Option<u64>,
+) -> Result<Value, AllocError>
+    ensures { IfOk result (λ v. view v ≡ pull_request pad.now seen.now most batch) }
 {
     let pad = name_value(alloc, pad)?;
     let seen = seen_value(alloc, seen)?;
-    json!(in alloc; {"do": "pull", "max": most, "pad": pad, "seen": seen})
+    match batch {
+        None => json!(in alloc; {"do": "pull", "max": most, "pad": pad, "seen": seen}),
+        Some(count) => {
+            json!(in alloc; {"batch": count, "do": "pull", "max": most, "pad": pad, "seen": seen})
+        }
+    }
 }
 
 fn vector_value(alloc: Global, pad: &Name) -> Result<Value, AllocError>

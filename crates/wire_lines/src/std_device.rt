@@ -27,6 +27,14 @@ impl<T> Std<T> {
             reads: 0,
         }
     }
+
+    /// The reader or writer, when it is not used by this any more.
+    pub fn into_inner(self) -> T
+        ensures { result ≡ std_inner self }
+    {
+        let Std { inner, .. } = self;
+        inner
+    }
 }
 
 // One more, up to the greatest `u64`.

@@ -7,6 +7,7 @@ pub mod Crews
 pub mod Departures
 pub mod Ends
 pub mod Lent
+pub mod NameBooks
 pub mod Rests
 pub mod RowListings
 pub mod RowScans

@@ -1,5 +1,5 @@
 -- A scan of a row, cell by cell.
-use Rattle.std.proofs.Common.{◌≡◌, inl, ℕ, suc, ◌+◌, ◌-◌, ◌≤◌, Option, None, Result, Ok, sym}
+use Rattle.std.proofs.Common.{◌≡◌, inl, ℕ, suc, ◌+◌, ◌-◌, ◌≤◌, List, Option, None, Result, Ok, sym}
 use Rattle.std.proofs.Common.{◌∙◌, subst, arith}
 use Rattle.pad_model.specs.declared.refusal.Refusal.{Refusal}
 use Rattle.pad_model.specs.declared.who.Who.{Who}
@@ -42,11 +42,8 @@ passes_on cell place who now then request old mid new told low (same, passed) st
     )
 
 -- a search where nothing speaks against the request
-pub searched : (r : Option Refusal) (row cell first : ℕ) (who then : Who) (request : Request) (old new : Seated)
-    (answer : Result Reply Refusal) → r ≡ None → first ≡ cell → then ≡ who →
-    Seeks row first who request old answer new → Searches r row cell who request old answer new × (then ≡ who)
-searched r row cell first who then request old new answer is at same seeks = (
-  subst (λ r. Searches r row cell who request old answer new) (sym is)
-      (subst (λ n. Seeks row n who request old answer new) at seeks),
-  same,
-)
+pub searched : (r : Option Refusal) (row : ℕ) (name : List ℕ) (who then : Who) (request : Request) (old new : Seated)
+    (answer : Result Reply Refusal) → r ≡ None → then ≡ who → Seeks row name who request old answer new →
+    Searches r row name who request old answer new × (then ≡ who)
+searched r row name who then request old new answer is same seeks =
+    (subst (λ r. Searches r row name who request old answer new) (sym is) seeks, same)

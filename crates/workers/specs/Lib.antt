@@ -5,6 +5,7 @@ pub mod Crew
 pub mod Delivered
 pub mod Fuel
 pub mod Laws
+pub mod Names
 pub mod Row
 pub mod Seating
 pub mod Session

@@ -1,12 +1,14 @@
 -- What a session asks of a row of shared pads.
 use Rattle.std.specs.Prelude.{◌≡◌, ◌⊎◌, ℕ, zero, suc, ◌+◌, ◌≤◌, true, List, slice_get, slice_set, Option, None, Some}
 use Rattle.std.specs.Prelude.{length, Result, Ok, Err}
-use Rattle.std.specs.List.{AllByRecursion}
+use Rattle.std.specs.List.{AllByRecursion, find}
+use Rattle.std.specs.Option.{option_map}
 use Rattle.pad_model.specs.Answers.{Answers}
 use Rattle.pad_model.specs.declared.refusal.Refusal.{Refusal}
 use Rattle.pad_model.specs.declared.refusal.Refusal.TheVariants.{Memory, SeatsOut, StoreFull}
 use Rattle.pad_model.specs.declared.who.Who.{Who}
 use Rattle.sessions.specs.Accounts.{Accounts}
+use Rattle.sessions.specs.Session.{is_of}
 use Rattle.sessions.specs.declared.session.Room.{Room}
 use Rattle.pad_core.specs.Listing.{pads_of}
 use Rattle.pad_core.specs.Machine.{Machine}
@@ -14,12 +16,12 @@ use Rattle.pad_core.specs.declared.reply.Reply.{Reply}
 use Rattle.pad_core.specs.declared.reply.Reply.TheVariants.{Pads}
 use Rattle.pad_core.specs.declared.request.Request.{Request}
 use Rattle.pad_core.specs.declared.request.Request.TheVariants as request
-use Rattle.server_core.specs.Actor.{first_cell}
 use Rattle.server_core.specs.AtCell.{past_row}
 use Rattle.server_core.specs.Opening.{act_refusal, create_refusal, hello, pads_refusal, peer}
 use Rattle.records.specs.Leaves.{may_leave}
 use Rattle.shared_pads.specs.Kept.{Called, CanBe}
 use Rattle.shared_pads.specs.declared.seat.Seat.{Seat}
+use Rattle.workers.specs.Names.{Starts}
 
 -- a session's pads, and a seat at each cell of the row
 pub record Seated : Type 0 where
@@ -51,16 +53,37 @@ Scans row cell who request old answer new =
     × (VisitsAt who request (cell + count) mid (of_cell answer) new
     ⊎ ((row ≤ cell + count) × (answer ≡ Err (past_row request)) × (new ≡ mid)))
 
--- a scan, or the refusal of a request that may leave records, where they cannot be kept or there is no memory to find out
-abbrev pub Seeks : ℕ → ℕ → Who → Request → Seated → Result Reply Refusal → Seated → Type 0
-Seeks row cell who request old answer new =
-    ((may_leave request ≡ true) × ((answer ≡ Err StoreFull) ⊎ (answer ≡ Err Memory)) × (new ≡ old))
-    ⊎ Scans row cell who request old answer new
+-- the cell of a pad that a session has joined
+abbrev pub room_cell : List ℕ → List Room → Option ℕ
+room_cell name rooms = option_map (λ room. room.cell) (find (is_of name) rooms)
 
--- a request on a pad, where nothing speaks against it
-abbrev pub Searches : Option Refusal → ℕ → ℕ → Who → Request → Seated → Result Reply Refusal → Seated → Type 0
-Searches (Some refusal) row cell who request old answer new = (answer ≡ Err refusal) × (new ≡ old)
-Searches None row cell who request old answer new = Seeks row cell who request old answer new
+-- a scan from where a request is asked first; where it is asked nowhere, there is no such pad
+abbrev pub ScansFrom : Option ℕ → ℕ → Who → Request → Seated → Result Reply Refusal → Seated → Type 0
+ScansFrom (Some start) row who request old answer new = Scans row start who request old answer new
+ScansFrom None row who request old answer new = (answer ≡ Err (past_row request)) × (new ≡ old)
+
+-- a scan from where the names of the first cells say. Each cell that it passes over has another name, and a pad keeps its
+-- name, so a scan of all cells would pass it too
+abbrev pub Finds : ℕ → List ℕ → Who → Request → Seated → Result Reply Refusal → Seated → Type 0
+Finds row name who request old answer new =
+    (start : Option ℕ) × Starts name request start × ScansFrom start row who request old answer new
+
+-- a scan from the cell of the session's room on, where it has joined the pad, or else from where the names say
+abbrev pub Goes : Option ℕ → ℕ → List ℕ → Who → Request → Seated → Result Reply Refusal → Seated → Type 0
+Goes (Some cell) row name who request old answer new = Scans row cell who request old answer new
+Goes None row name who request old answer new = Finds row name who request old answer new
+
+-- the refusal of a request that may leave records, where they cannot be kept or there is no memory to find out; or its
+-- scan
+abbrev pub Seeks : ℕ → List ℕ → Who → Request → Seated → Result Reply Refusal → Seated → Type 0
+Seeks row name who request old answer new =
+    ((may_leave request ≡ true) × ((answer ≡ Err StoreFull) ⊎ (answer ≡ Err Memory)) × (new ≡ old))
+    ⊎ Goes (room_cell name old.rooms) row name who request old answer new
+
+-- a request on the pad of a name, where nothing speaks against it
+abbrev pub Searches : Option Refusal → ℕ → List ℕ → Who → Request → Seated → Result Reply Refusal → Seated → Type 0
+Searches (Some refusal) row name who request old answer new = (answer ≡ Err refusal) × (new ≡ old)
+Searches None row name who request old answer new = Seeks row name who request old answer new
 
 -- a list of the pads that somebody may read: what each pad of the row tells, in some state that it can have, one cell
 -- after the other
@@ -82,10 +105,10 @@ RowAsked replica accounts row who old (request.Hello name token) answer then new
 RowAsked replica accounts row who old (request.Peer number token version) answer then new =
     (peer replica accounts number token version who ≡ (answer, then)) × (new ≡ old)
 RowAsked replica accounts row who old (request.Create name) answer then new =
-    Searches (create_refusal who name) row (first_cell name old.rooms) who (request.Create name) old answer new
+    Searches (create_refusal who name) row name who (request.Create name) old answer new
     × (then ≡ who)
 RowAsked replica accounts row who old request.Pads answer then new =
     Lists (pads_refusal who) row who answer × (new ≡ old) × (then ≡ who)
 RowAsked replica accounts row who old (request.On name act) answer then new =
-    Searches (act_refusal who name act) row (first_cell name old.rooms) who (request.On name act) old answer new
+    Searches (act_refusal who name act) row name who (request.On name act) old answer new
     × (then ≡ who)

@@ -4,23 +4,26 @@ ghost use Rattle.std.specs.List.{range_with_len};
 ghost use Rattle.pad_model.specs.Checked.{is_name};
 ghost use Rattle.server_core.specs.Rooms.{IsAsked};
 ghost use Rattle.workers.specs.Crew.{LeavesRoom, LeavesRooms};
-ghost use Rattle.workers.specs.Row.{ListsRow, RowAsked, Scans, Seeks, VisitsAt};
+ghost use Rattle.workers.specs.Row.{Finds, ListsRow, RowAsked, Scans, Seeks, VisitsAt, room_cell};
 ghost use Rattle.workers.specs.Seating.{cells_in};
 
+use crate::names::Names;
 use pad_core::{Pad, Reply, Request};
 use pad_model::{Name, Refusal, Sequence, Who};
 use records::leaves_records;
-use server_core::{act_refusal, create_refusal, first_cell, hello, pads_refusal, past_row, peer};
+use server_core::{act_refusal, create_refusal, hello, pads_refusal, past_row, peer};
 use sessions::{Accounts, Room, Session};
 use shared_pads::{Gate, Seat, SharedPad};
 use std::alloc::Global;
 use std::sync::Wait;
 
-/// Pads without names, as many as a server is to have room for: 1 to 64, each in the cell of its place.
+/// Pads without names, as many as a server is to have room for: 1 to 4,096, each in the cell of its place. Each has room
+/// for so many seats.
 pub fn open_row<S: Sequence>(
     alloc: Global,
     replica: u16,
     cells: u32,
+    seats: u32,
 ) -> Result<Vec<SharedPad<S>>, Refusal>
     requires replica { 1 ≤ replica }
     ensures cells { IfOk result (λ row. cells_in row.items ≡ range_with_len 0 cells) }
@@ -28,7 +31,7 @@ pub fn open_row<S: Sequence>(
 {
     let mut row = Vec::new(alloc);
     for cell in 0..cells {
-        let Ok(pad) = SharedPad::new(alloc, Pad::new(alloc, replica)?, cell) else {
+        let Ok(pad) = SharedPad::new(alloc, Pad::new(alloc, replica)?, cell, seats) else {
             return Err(Refusal::Memory);
         };
         row.push(pad)?;
@@ -36,13 +39,25 @@ pub fn open_row<S: Sequence>(
     Ok(row)
 }
 
+// The cell of a pad that a session has joined.
+fn cell_of(session: &Session, pad: &Name) -> Option<u32>
+    ensures { result ≡ room_cell pad.now session.now.rooms }
+{
+    match session.room(pad.as_str()) {
+        Some(room) => Some(room.cell),
+        None => None,
+    }
+}
+
 /// The pads that the threads of a server share, and its accounts.
 #[derive(Drop)]
 pub struct Row<'a, S: Sequence, R: Wait, G: Gate> {
     /// What threads wait by.
     pub rt: &'a R,
-    /// At most 64, each in the cell of its place.
+    /// At most 4,096, each in the cell of its place.
     pub cells: &'a [SharedPad<S>],
+    /// The names that the pads of these cells have, by which a request finds its cell.
+    pub names: &'a Names,
     /// The server's own number.
     pub replica: u16,
     pub accounts: &'a Accounts,
@@ -79,7 +94,7 @@ impl<'a, S: Sequence, R: Wait, G: Gate> Row<'a, S, R, G> {
             ),
             Request::Create { pad } => match create_refusal(session.who(), pad) {
                 Some(refusal) => Err(refusal),
-                None => self.search(alloc, seats, session, first_cell(session, pad), request),
+                None => self.search(alloc, seats, session, pad, request),
             },
             Request::Pads => match pads_refusal(session.who()) {
                 Some(refusal) => Err(refusal),
@@ -87,7 +102,7 @@ impl<'a, S: Sequence, R: Wait, G: Gate> Row<'a, S, R, G> {
             },
             Request::On { pad, act } => match act_refusal(session.who(), pad, act) {
                 Some(refusal) => Err(refusal),
-                None => self.search(alloc, seats, session, first_cell(session, pad), request),
+                None => self.search(alloc, seats, session, pad, request),
             },
         }
     }
@@ -105,23 +120,54 @@ impl<'a, S: Sequence, R: Wait, G: Gate> Row<'a, S, R, G> {
         Ok(Reply::Pads { pads })
     }
 
-    /// A scan, unless the request may leave what cannot be kept.
+    /// A scan from the cell of the session's room on, or else from where the names say, unless the request may leave what
+    /// cannot be kept.
     fn search(
         &self,
         alloc: Global,
         seats: &mut Vec<Seat>,
         session: &mut Session,
-        start: u32,
+        pad: &Name,
         request: &Request,
     ) -> Result<Reply, Refusal>
         requires { IsAsked request.now }
         ensures who { session.new.who ≡ session.old.who }
-        ensures seeks { Seeks (length self.now.cells.now) start session.old.who request.now (record { rooms = session.old.rooms; seats = seats.old.items }) result (record { rooms = session.new.rooms; seats = seats.new.items }) }
+        ensures seeks { Seeks (length self.now.cells.now) pad.now session.old.who request.now (record { rooms = session.old.rooms; seats = seats.old.items }) result (record { rooms = session.new.rooms; seats = seats.new.items }) }
     {
         if leaves_records(request) {
             self.gate.keeps(alloc, request)?;
         }
-        self.scan(alloc, seats, session, start, request)
+        match cell_of(session, pad) {
+            Some(cell) => self.scan(alloc, seats, session, cell as usize, request),
+            None => self.find(alloc, seats, session, pad, request),
+        }
+    }
+
+    /// A scan from where the names say, for a session that has not joined the pad.
+    fn find(
+        &self,
+        alloc: Global,
+        seats: &mut Vec<Seat>,
+        session: &mut Session,
+        pad: &Name,
+        request: &Request,
+    ) -> Result<Reply, Refusal>
+        requires { IsAsked request.now }
+        ensures who { session.new.who ≡ session.old.who }
+        ensures finds { Finds (length self.now.cells.now) pad.now session.old.who request.now (record { rooms = session.old.rooms; seats = seats.old.items }) result (record { rooms = session.new.rooms; seats = seats.new.items }) }
+    {
+        let Some(start) = self.names.start(self.rt, pad, request) else {
+            return Err(past_row(request));
+        };
+        let answer = self.scan(alloc, seats, session, start, request);
+        if let Request::Create { .. } = request {
+            if start >= self.cells.len() {
+                self.gate.passed(request);
+            }
+            let made = cell_of(session, pad);
+            self.names.conclude(self.rt, alloc, self.cells, made);
+        }
+        answer
     }
 
     /// A request goes from cell to cell, from this one on, until one answers it.
@@ -130,7 +176,7 @@ impl<'a, S: Sequence, R: Wait, G: Gate> Row<'a, S, R, G> {
         alloc: Global,
         seats: &mut Vec<Seat>,
         session: &mut Session,
-        start: u32,
+        start: usize,
         request: &Request,
     ) -> Result<Reply, Refusal>
         requires { IsAsked request.now }
@@ -138,7 +184,7 @@ impl<'a, S: Sequence, R: Wait, G: Gate> Row<'a, S, R, G> {
         ensures scans { Scans (length self.now.cells.now) start session.old.who request.now (record { rooms = session.old.rooms; seats = seats.old.items }) result (record { rooms = session.new.rooms; seats = seats.new.items }) }
     {
         for place in 0..self.cells.len() {
-            if place < start as usize {
+            if place < start {
                 continue;
             }
             if let Some(reply) = self.visit(alloc, seats, session, place, request)? {

@@ -1,7 +1,8 @@
-//! A server whose steps are words: `move`, `end`, `look 0`, `relay 2`, or a line of JSON that is asked.
+//! A server whose steps are words: `move`, `end`, `look 0`, `relay 2`, or a line of JSON that is asked. In a run, the lines of an
+//! accounts file are its new accounts.
 use block_seq::BlockSeq;
 use pad_model::Refusal;
-use server_core::{MAX_CELLS, Moved, Server, Step};
+use server_core::{Event, MAX_CELLS, Moved, Server, Step};
 use sessions::Accounts;
 use std::alloc::Global;
 use std::process::Abort;
@@ -59,11 +60,11 @@ pub fn runs_so(
     server: &mut Server<BlockSeq>,
     turns: &[Turn<'_>],
 ) -> Result<(), Fail> {
-    let mut steps = Vec::new(alloc);
+    let mut events = Vec::new(alloc);
     for turn in turns {
-        steps.push((turn.0, step_of(alloc, turn.1)?))?;
+        events.push(event_of(alloc, turn.0, turn.1)?)?;
     }
-    let answers = server.run(alloc, steps.as_slice())?;
+    let answers = server.run(alloc, events)?;
     let count = answers.len();
     assert!(rt;
         count == turns.len(),
@@ -86,6 +87,13 @@ fn answer(
     let step = step_of(alloc, words)?;
     let moved = server.step(alloc, actor, &step);
     Ok(show(alloc, moved)?)
+}
+
+fn event_of(alloc: Global, actor: u32, words: &str) -> Result<Event, Fail> {
+    if words.starts_with("author ") {
+        return Ok(Event::Accounts(Accounts::read(alloc, words.as_bytes())?));
+    }
+    Ok(Event::Step(actor, step_of(alloc, words)?))
 }
 
 fn step_of(alloc: Global, words: &str) -> Result<Step, Refusal> {

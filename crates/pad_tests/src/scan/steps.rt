@@ -186,6 +186,47 @@ fn limit_actors(rt: HostRuntime) -> Result<(), Fail> {
     Ok(())
 }
 
+/// Who is logged in goes on under new accounts; who logs in needs one of them.
+const NEW_ACCOUNTS: &[Turn<'static>] = &[
+    HELLO_ANN,
+    (0, "author bob t9\npeer 3 p3 127.0.0.1:7403\n", "idle"),
+    (0, r#"{"do":"create","pad":"x"}"#, "scanning"),
+    (0, "move", r#"{"now":0,"ok":true,"visit":1}"#),
+    (
+        1,
+        r#"{"do":"hello","name":"ann","token":"t1"}"#,
+        r#"{"code":201,"error":"BadToken","ok":false}"#,
+    ),
+    (
+        1,
+        r#"{"do":"hello","name":"bob","token":"t2"}"#,
+        r#"{"code":201,"error":"BadToken","ok":false}"#,
+    ),
+    (
+        1,
+        r#"{"do":"hello","name":"bob","token":"t9"}"#,
+        r#"{"author":"bob@1","ok":true}"#,
+    ),
+    (
+        2,
+        r#"{"do":"peer","number":2,"token":"p2"}"#,
+        r#"{"code":201,"error":"BadToken","ok":false}"#,
+    ),
+    (0, "end", "scanning"),
+    (0, "move", r#"{"ok":true}"#),
+    (
+        0,
+        r#"{"do":"hello","name":"ann","token":"t1"}"#,
+        r#"{"code":201,"error":"BadToken","ok":false}"#,
+    ),
+];
+
+#[test]
+fn a_run_goes_on_under_new_accounts(rt: HostRuntime) -> Result<(), Fail> {
+    let mut server = open(rt.alloc(), 1)?;
+    runs_so(&rt, rt.alloc(), &mut server, NEW_ACCOUNTS)
+}
+
 #[test]
 fn a_run_tells_what_its_steps_do(rt: HostRuntime) -> Result<(), Fail> {
     let mut server = open(rt.alloc(), 1)?;

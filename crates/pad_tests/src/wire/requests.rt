@@ -1,9 +1,10 @@
 //! A line for each request, and texts and lists in them.
 use pad_core::{Act, Request};
+use pad_model::{Name, Seen};
 use std::alloc::{AllocError, Global};
 use std::process::Abort;
 use std::test::Fail;
-use wire_json::read_request;
+use wire_json::{pull_line, read_request};
 
 const REQUESTS: &[(&str, &str)] = &[
     (
@@ -133,11 +134,19 @@ const REQUESTS: &[(&str, &str)] = &[
     ),
     (
         r#"{"do":"pull","pad":"p","seen":[],"max":4}"#,
-        r#"On { pad: Name { text: "p" }, act: Pull { seen: Seen { pairs: [] }, max: 4 } }"#,
+        r#"On { pad: Name { text: "p" }, act: Pull { seen: Seen { pairs: [] }, max: 4, batch: None } }"#,
+    ),
+    (
+        r#"{"do":"pull","pad":"p","seen":[],"max":4,"batch":1}"#,
+        r#"On { pad: Name { text: "p" }, act: Pull { seen: Seen { pairs: [] }, max: 4, batch: Some(1) } }"#,
+    ),
+    (
+        r#"{"do":"pull","pad":"p","seen":[],"max":0,"batch":256}"#,
+        r#"On { pad: Name { text: "p" }, act: Pull { seen: Seen { pairs: [] }, max: 0, batch: Some(256) } }"#,
     ),
     (
         r#"{"do":"pull","pad":"p","seen":[[1,1],[65535,18446744073709551615]],"max":0}"#,
-        r#"On { pad: Name { text: "p" }, act: Pull { seen: Seen { pairs: [Counted { origin: 1, count: 1 }, Counted { origin: 65535, count: 18446744073709551615 }] }, max: 0 } }"#,
+        r#"On { pad: Name { text: "p" }, act: Pull { seen: Seen { pairs: [Counted { origin: 1, count: 1 }, Counted { origin: 65535, count: 18446744073709551615 }] }, max: 0, batch: None } }"#,
     ),
     (
         r#"{"d\u006f":"text","pad":"\u0070","do":"revs"}"#,
@@ -254,6 +263,39 @@ fn shows_nested(rt: &impl Abort, alloc: Global, depth: u32, want: &str) -> Resul
 fn lists_nest_127_deep(rt: HostRuntime) -> Result<(), Fail> {
     for (depth, want) in NESTED {
         shows_nested(&rt, rt.alloc(), *depth, want)?;
+    }
+    Ok(())
+}
+
+/// The batch that a server asks a peer for, and its line.
+const PULLS: &[(Option<u64>, &str)] = &[
+    (
+        None,
+        concat!(r#"{"do":"pull","max":4,"pad":"p","seen":[]}"#, "\n"),
+    ),
+    (
+        Some(256),
+        concat!(
+            r#"{"batch":256,"do":"pull","max":4,"pad":"p","seen":[]}"#,
+            "\n"
+        ),
+    ),
+];
+
+fn asks(rt: &impl Abort, alloc: Global, batch: Option<u64>, want: &str) -> Result<(), AllocError> {
+    let pad = Name::from_str(alloc, "p")?;
+    let came = pull_line(alloc, &pad, &Seen::new(alloc), 4, batch)?;
+    assert!(rt;
+        came.as_str() == want,
+        "{batch:?}: wanted {want}, came {came}"
+    );
+    Ok(())
+}
+
+#[test]
+fn pulls_are_asked_for(rt: HostRuntime) -> Result<(), Fail> {
+    for (batch, want) in PULLS {
+        asks(&rt, rt.alloc(), *batch, want)?;
     }
     Ok(())
 }

@@ -3,7 +3,7 @@ use Rattle.clap.specs.Faults.{fault_of, is_simple_and_free}
 use Rattle.clap.specs.Words.{App, HasKind, found_of, is_simple, one_of, one_text}
 use Rattle.clap.proofs.WalkLemmas.{one_text-rows}
 use Rattle.command_line.proofs.CallerLemmas.{gives_number, gives_text, rows_found}
-use Rattle.server_core.specs.declared.limits.TheConstants.{MAX_CELLS}
+use Rattle.server_core.specs.declared.limits.TheConstants.{DEFAULT_CELLS, MAX_CELLS}
 use Rattle.pad_server.specs.declared.options.TheConstants.{DEFAULT_CLIENTS}
 use Rattle.pad_server.specs.CommandLine.{line}
 use Rattle.pad_server.proofs.args.parse.Goals as goal
@@ -25,7 +25,7 @@ returns-clause-asked c =
     record {
       replica = gives_number line words m (codes "replica") 1 65535 1 c.replica_of.result rows
           c.replica_of.ensures.value;
-      cells = gives_number line words m (codes "cells") 0 MAX_CELLS MAX_CELLS c.cells_of.result rows
+      cells = gives_number line words m (codes "cells") 0 MAX_CELLS DEFAULT_CELLS c.cells_of.result rows
           c.cells_of.ensures.value;
       accounts = c.get_str.ensures ∙ gives_text line words m (codes "accounts") rows;
       stdin = record {

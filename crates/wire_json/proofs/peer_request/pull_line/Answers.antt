@@ -6,6 +6,7 @@ use Rattle.wire_json.proofs.Spelled.{said}
 use Rattle.wire_json.proofs.peer_request.pull_line.Goals as goal
 
 pub returns : goal.returns
-returns c = said string_bytes (pull_request c.args.pad.now c.args.seen.now c.args.most) c.pull_value.result _
-    (pull_has_no_float c.args.pad.now c.args.seen.now c.args.most)
-    (pull_is_shallow c.args.pad.now c.args.seen.now c.args.most) (search rules) c.value_line.ensures
+returns c =
+    said string_bytes (pull_request c.args.pad.now c.args.seen.now c.args.most c.args.batch) c.pull_value.result _
+    (pull_has_no_float c.args.pad.now c.args.seen.now c.args.most c.args.batch)
+    (pull_is_shallow c.args.pad.now c.args.seen.now c.args.most c.args.batch) (search rules) c.value_line.ensures

@@ -9,7 +9,7 @@ use Rattle.shared_pads.proofs.kept.Kept.sum.Goals as goal
 pub returns-in_err-sums-clause-all : goal.returns-in_err-sums-clause-all
 returns-in_err-sums-clause-all g c =
     not_all _ c.args.cell c.args.self.now c.args.seats.now c.from_residual.ensures
-    (λ all. let made = all_made _ _ c.self.inside.tallies.items _ _ c.args.cell c.args.self.now c.args.seats.now c.self.view_is
+    (λ all. let made = all_made _ _ c.self.inside.tallies.items _ _ _ c.args.cell c.args.self.now c.args.seats.now c.self.view_is
     c.self.invariant all in
     let revision = c.revision-revision.ensures.value in
     let fits = c.revision-revision.type_inv in
@@ -18,7 +18,7 @@ returns-in_err-sums-clause-all g c =
 pub returns-in_err-made-clause-all : goal.returns-in_err-made-clause-all
 returns-in_err-made-clause-all g c =
     not_all _ c.args.cell c.args.self.now c.args.seats.now c.from_residual-in_err-made.ensures
-    (λ all. let made = all_made _ _ c.self.inside.tallies.items _ _ c.args.cell c.args.self.now c.args.seats.now c.self.view_is
+    (λ all. let made = all_made _ _ c.self.inside.tallies.items _ _ _ c.args.cell c.args.self.now c.args.seats.now c.self.view_is
     c.self.invariant all in
     let revision = c.revision-revision.ensures.value in
     let fits = c.revision-revision.type_inv in
@@ -29,7 +29,7 @@ returns-in_err-made-clause-all g c =
 pub returns-then-revision-made-clause-all : goal.returns-then-revision-made-clause-all
 returns-then-revision-made-clause-all g c =
     not_all _ c.args.cell c.args.self.now c.args.seats.now refl
-    (λ all. let made = all_made _ _ c.self.inside.tallies.items _ _ c.args.cell c.args.self.now c.args.seats.now c.self.view_is
+    (λ all. let made = all_made _ _ c.self.inside.tallies.items _ _ _ c.args.cell c.args.self.now c.args.seats.now c.self.view_is
     c.self.invariant all in
     let revision = c.revision-revision.ensures.value in
     let sums = c.in_ok-sums.ensures.sums in

@@ -1,14 +1,14 @@
 -- the cells so far lead to the next one
 use Rattle.std.proofs.Common.{◌-◌, ◌<◌}
-use Rattle.relay.specs.Kept.{begun, world}
+use Rattle.relay.specs.Kept.{ready, world}
 use Rattle.relay.specs.Round.{Reaches}
-use Rattle.relay.specs.Round.Stage.{Greeting, Next}
-use Rattle.relay.proofs.round.make_round.Given as goal
+use Rattle.relay.specs.Round.Stage.{Next}
+use Rattle.relay.proofs.round.visit_cells.Given as goal
 
 abbrev pub invariant-loop-talk : goal.invariant-loop-talk
 invariant-loop-talk g l = record {
-  goes : Reaches g.P.Pads.calls g.P.Pads.names (Greeting l.fn.own l.fn.token)
-      (begun (g.P.Pads.width l.fn.pads) l.fn.pads (g.L.Exchange.wire l.fn.link))
+  goes : Reaches g.P.Pads.calls g.P.Pads.names Next
+      (ready l.fn.version (g.P.Pads.width l.fn.pads) l.fn.pads (g.L.Exchange.wire l.fn.link))
       Next (world l.talk l.pads (g.L.Exchange.wire l.link));
   fits : l.talk.cells < 4294967296;
 }

@@ -1,0 +1,96 @@
+//! A visit to the cells in a list.
+ghost use Rattle.std.specs.Prelude.{◌≡◌, IfErr, IfOk};
+ghost use Rattle.relay.specs.Breaks.{Breaks};
+ghost use Rattle.relay.specs.Kept.{ready, Visited};
+ghost use Rattle.relay.specs.Listed.{by_place, count_of};
+ghost use Rattle.relay.specs.Round.Stage.{Next};
+
+use crate::link::Exchange;
+use crate::relayed::Relayed;
+use crate::round::visit_cells;
+use pad_core::{Reply, Request};
+use pad_model::{Name, Refusal, Version};
+use std::alloc::Global;
+use wire_lines::Fault;
+use workers::Pads;
+
+/// Exchanges the operations of the pads of the cells in a list alone, in its order, as `visit_cells` does of all cells. A
+/// cell without a pad is passed, and so is a number that is no cell's. An empty list writes nothing and reads nothing.
+///
+/// A list of more than 4,294,967,295 numbers, which is more than there can be cells, counts as its first 4,294,967,295.
+pub fn visit_listed<P: Pads, L: Exchange>(
+    alloc: Global,
+    pads: &mut P,
+    link: &mut L,
+    version: Version,
+    cells: &[u32],
+) -> Result<Relayed, Fault>
+    // The stages are those of a visit whose cells are the places in the list.
+    ensures all { IfOk result (λ relayed. Visited P.calls (by_place cells.now P.names)
+        (ready version (count_of cells.now) pads.old (L.wire link.old)) relayed (L.wire link.new) pads.new) }
+    ensures fault { IfErr result (λ fault. Breaks P.calls (by_place cells.now P.names) fault Next
+        (ready version (count_of cells.now) pads.old (L.wire link.old)) pads.new (L.wire link.new)) }
+{
+    let mut chosen = Chosen { pads, cells };
+    visit_chosen(alloc, &mut chosen, link, version)
+}
+
+// The same of pads that are borrowed, which they stay.
+fn visit_chosen<P: Pads, L: Exchange>(
+    alloc: Global,
+    chosen: &mut Chosen<'_, P>,
+    link: &mut L,
+    version: Version,
+) -> Result<Relayed, Fault>
+    ensures same_reference { chosen.new.pads.ghost_name ≡ chosen.old.pads.ghost_name }
+    ensures all { IfOk result (λ relayed. Visited P.calls (by_place chosen.old.cells.now P.names)
+        (ready version (count_of chosen.old.cells.now) chosen.old.pads.now (L.wire link.old)) relayed (L.wire link.new) chosen.new.pads.now) }
+    ensures fault { IfErr result (λ fault. Breaks P.calls (by_place chosen.old.cells.now P.names) fault Next
+        (ready version (count_of chosen.old.cells.now) chosen.old.pads.now (L.wire link.old)) chosen.new.pads.now (L.wire link.new)) }
+{
+    visit_cells(alloc, chosen, link, version)
+}
+
+/// The pads of the cells in a list, in its order: the place of a cell in the list is its number here.
+#[derive(Drop)]
+struct Chosen<'a, P> {
+    pads: &'a mut P,
+    cells: &'a [u32],
+}
+
+impl<'a, P: Pads> Pads for Chosen<'a, P> {
+    ghost use Rattle.relay.specs.Chosen.{CallsChosen, IsSame, NamesChosen};
+
+    ghost calls = { λ old request answer new. CallsChosen P.calls old request answer new };
+
+    ghost relays = { λ old number answer new. P.relays old.pads.now number answer new.pads.now × IsSame old new };
+
+    ghost ends = { λ old new. P.ends old.pads.now new.pads.now × IsSame old new };
+
+    ghost names = { λ old place answer new. NamesChosen P.names old place answer new };
+
+    ghost width = { λ c. count_of c.cells.now };
+
+    fn call(&mut self, alloc: Global, request: &Request) -> Result<Reply, Refusal> {
+        self.pads.call(alloc, request)
+    }
+
+    fn relay(&mut self, alloc: Global, number: u16) -> Result<Reply, Refusal> {
+        self.pads.relay(alloc, number)
+    }
+
+    fn end(&mut self, alloc: Global) {
+        self.pads.end(alloc);
+    }
+
+    fn name_of(&mut self, alloc: Global, cell: u32) -> Result<Option<Name>, Refusal> {
+        match self.cells.get(cell as usize) {
+            Some(listed) => self.pads.name_of(alloc, *listed),
+            None => Ok(None),
+        }
+    }
+
+    fn cells(&self) -> u32 {
+        u32::try_from(self.cells.len()).unwrap_or(u32::MAX)
+    }
+}

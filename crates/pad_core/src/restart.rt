@@ -29,7 +29,7 @@ pub fn own_again(
     Ok(())
 }
 
-/// One more visit, which has ended. How many may be present doesn't matter.
+/// One more visit, which has ended. It counts towards no limit of those present.
 pub fn visit_again(alloc: Global, presence: &mut PresenceBook, author: &str) -> Result<(), Refusal>
     ensures { Answers presence.old (visited author.now presence.old) result presence.new }
 {

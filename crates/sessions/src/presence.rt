@@ -9,10 +9,10 @@ use pad_model::{Name, Refusal, Row, Stamp};
 use std::alloc::{AllocError, Global};
 use std::marker::Model;
 
-/// The most visits that a server may be told to have present on a pad at once.
+/// The most visits that a server may let be present on a pad at once.
 pub const MAX_PRESENT: u64 = 1_024;
 
-/// How many may be present on a pad at once, if a server is not told.
+/// How many visits may be present on a pad at once, unless the server is told otherwise.
 pub const DEFAULT_PRESENT: u64 = 64;
 
 /// The most visit numbers that a pad gives.
@@ -77,8 +77,8 @@ impl PresenceBook {
         self.enter(alloc, author)
     }
 
-    /// Gives the next number to an author, who is then present, with no caret, however many may be: so does the first one of
-    /// a pad, its owner.
+    /// Gives the next number to an author, who is then present, with no caret. The limit is not checked: the creator of a pad
+    /// is present whatever it is.
     pub fn enter(&mut self, alloc: Global, author: &str) -> Result<u64, Refusal>
         ensures ok { IfOk result (λ visit. (spent_refusal self.old ≡ None) × (visit ≡ self.old.given + 1) × (self.new ≡ joined author.now self.old)) }
         ensures refused { IfErr result (λ e. (e ≡ unwrap_or (spent_refusal self.old) Refusal.Memory) × (self.new ≡ self.old)) }

@@ -1,7 +1,7 @@
 //! Who is present on a pad, and which pads a session has joined, as someone counts them.
 use crate::presence::VisitCase::{Caret, Holds, Join, Leave, Present};
 use pad_model::{Name, Refusal, Stamp, Version, Who};
-use sessions::{PresenceBook, Room, Session, Visit};
+use sessions::{DEFAULT_PRESENT, MAX_PRESENT, PresenceBook, Room, Session, Visit};
 use std::alloc::Global;
 use std::process::Abort;
 use std::test::Fail;
@@ -130,7 +130,7 @@ const VISITS: &[VisitCase] = &[
 
 #[test]
 fn join_and_leave(rt: HostRuntime) -> Result<(), Fail> {
-    let mut book = PresenceBook::new(rt.alloc());
+    let mut book = PresenceBook::new(rt.alloc(), DEFAULT_PRESENT);
     Ok(play_all(&rt, rt.alloc(), &mut book, VISITS)?)
 }
 
@@ -141,19 +141,76 @@ const CROWDED: &[VisitCase] = &[
     Join("ann", Ok(65)),
 ];
 
-#[test]
-fn limit_presence(rt: HostRuntime) -> Result<(), Fail> {
-    let mut book = PresenceBook::new(rt.alloc());
-    for number in 1..65 {
-        let came = book.join(rt.alloc(), "ann");
+/// Where 1,024 are present.
+const CROWDED_AT_MOST: &[VisitCase] = &[
+    Join("ann", Err(Refusal::Crowded)),
+    Leave(1, Ok(())),
+    Join("ann", Ok(1_025)),
+    Join("ann", Err(Refusal::Crowded)),
+];
+
+/// So many visits of ann's, one after the other, and then the steps.
+fn after_joins(
+    rt: &impl Abort,
+    alloc: Global,
+    book: &mut PresenceBook,
+    count: u64,
+    steps: &[VisitCase],
+) -> Result<(), Refusal> {
+    for number in 1..=count {
+        let came = book.join(alloc, "ann");
         assert!(rt; came == Ok(number), "join {number}: came {came:?}");
     }
-    Ok(play_all(&rt, rt.alloc(), &mut book, CROWDED)?)
+    play_all(rt, alloc, book, steps)
+}
+
+#[test]
+fn limit_presence(rt: HostRuntime) -> Result<(), Fail> {
+    let mut book = PresenceBook::new(rt.alloc(), DEFAULT_PRESENT);
+    Ok(after_joins(&rt, rt.alloc(), &mut book, 64, CROWDED)?)
+}
+
+#[test]
+fn limit_presence_at_most(rt: HostRuntime) -> Result<(), Fail> {
+    let mut book = PresenceBook::new(rt.alloc(), MAX_PRESENT);
+    let steps = CROWDED_AT_MOST;
+    Ok(after_joins(&rt, rt.alloc(), &mut book, 1_024, steps)?)
+}
+
+/// Where two may be present.
+const TWO: &[VisitCase] = &[
+    Join("ann", Ok(1)),
+    Join("bob", Ok(2)),
+    Join("ann", Err(Refusal::Crowded)),
+    Join("eve", Err(Refusal::Crowded)),
+    Leave(1, Ok(())),
+    Join("eve", Ok(3)),
+    Join("ann", Err(Refusal::Crowded)),
+    Present(&[(2, "bob", None), (3, "eve", None)]),
+];
+
+#[test]
+fn limit_presence_of_two(rt: HostRuntime) -> Result<(), Fail> {
+    let mut book = PresenceBook::new(rt.alloc(), 2);
+    Ok(play_all(&rt, rt.alloc(), &mut book, TWO)?)
+}
+
+#[test]
+fn enter_whatever_the_limit(rt: HostRuntime) -> Result<(), Fail> {
+    let mut book = PresenceBook::new(rt.alloc(), 0);
+    let came = book.join(rt.alloc(), "ann");
+    assert!(rt;
+        came == Err(Refusal::Crowded),
+        "wanted Crowded, came {came:?}"
+    );
+    let came = book.enter(rt.alloc(), "ann");
+    assert!(rt; came == Ok(1), "wanted visit 1, came {came:?}");
+    Ok(play_all(&rt, rt.alloc(), &mut book, &[Present(&[(1, "ann", None)])])?)
 }
 
 #[test]
 fn limit_visits(rt: HostRuntime) {
-    let mut book = PresenceBook::new(rt.alloc());
+    let mut book = PresenceBook::new(rt.alloc(), DEFAULT_PRESENT);
     for number in 1..1_000_001 {
         let came = book.join(rt.alloc(), "ann");
         assert!(rt; came == Ok(number), "join {number}: came {came:?}");

@@ -7,7 +7,10 @@ ghost use Rattle.server_core.specs.declared.limits.TheConstants.{MAX_CELLS};
 ghost use Rattle.pad_replay.specs.CommandLine.{AsksFor, line, mandatory};
 
 use clap::{Arg, ArgAction, Command, Error};
-use command_line::{VERSION, accounts_option, cells_of, cells_option, replica_of, replica_option};
+use command_line::{
+    VERSION, accounts_option, cells_of, cells_option, present_of, present_option, replica_of,
+    replica_option,
+};
 use std::alloc::{AllocError, Global};
 
 /// What the command line asks for.
@@ -17,6 +20,8 @@ pub struct Asked<'a> {
     pub replica: u16,
     /// How many pads a server has room for, 1 to 4,096.
     pub cells: u32,
+    /// How many visits may be present on a pad at once, 1 to 1,024.
+    pub present: u64,
     /// The path of the accounts file.
     pub accounts: &'a str,
     /// Whether pads keep their characters in the plain sequence, which is slow, and not as blocks. No reply differs.
@@ -46,11 +51,13 @@ fn command<'a>(alloc: Global) -> Result<Command<'a>, AllocError>
 {
     let replica_help = "The replica number of a server whose title names none, 1 to 65535";
     let cells_help = "How many pads a server has room for, 1 to 4,096 [default: 64]";
+    let present_help = "How many visits may be present on a pad at once, 1 to 1,024 [default: 64]";
     Command::new(alloc, "pad_replay")
         .about("Plays sessions against a pad server, from lines NAME<TAB>REQUEST")
         .version(VERSION)
         .arg(replica_option(alloc, replica_help))?
         .arg(mandatory(cells_option(alloc, cells_help)))?
+        .arg(present_option(alloc, present_help))?
         .arg(mandatory(accounts_option(alloc, "The accounts file")))?
         .arg(plain_flag(alloc))
 }
@@ -61,10 +68,14 @@ pub fn parse<'a>(alloc: Global, words: &'a [String]) -> Result<Asked<'a>, Error>
     ensures refused { FailsBy (fault_of line (map string_bytes words.now)) result }
     ensures limits { IfOk result (λ asked. (1 ≤ asked.replica) × (asked.cells ≤ MAX_CELLS)) }
 {
-    let matches = command(alloc)?.try_get_matches_from(words)?;
+    let matches = match command(alloc)?.try_get_matches_from(words) {
+        Ok(matches) => matches,
+        Err(error) => return Err(error),
+    };
     Ok(Asked {
         replica: replica_of(&matches),
         cells: cells_of(&matches),
+        present: present_of(&matches),
         accounts: matches.get_str("accounts").unwrap_or(""),
         plain: matches.get_flag("plain"),
     })

@@ -61,7 +61,13 @@ fn play_all<S: Sequence>(rt: &HostRuntime, asked: Asked<'_>, accounts: Vec<u8>) 
     requires { (1 ≤ asked.replica) × (asked.cells ≤ MAX_CELLS) }
 {
     let alloc = rt.alloc();
-    let mut server: StoryServer<S> = StoryServer::new(alloc, asked.replica, asked.cells, accounts)?;
+    let mut server: StoryServer<S> = StoryServer::new(
+        alloc,
+        asked.replica,
+        asked.present,
+        asked.cells,
+        accounts,
+    )?;
     let mut input = BufReader::new(alloc, rt.reader())?;
     let mut output = BufWriter::new(alloc, std::io::writer(rt))?;
     play(alloc, &mut server, &mut input, &mut output)

@@ -16,6 +16,8 @@ use wire_json::{read_request, reply_line};
 pub struct StoryServer<S: Sequence> {
     /// The replica number of a server whose title names none.
     replica: u16,
+    /// How many visits may be present on a pad at once.
+    present: u64,
     cells: u32,
     accounts: Vec<u8>,
     server: Server<S>,
@@ -27,6 +29,7 @@ pub struct StoryServer<S: Sequence> {
 fn make_server<S: Sequence>(
     alloc: Global,
     replica: u16,
+    present: u64,
     cells: u32,
     accounts: &[u8],
 ) -> Result<Server<S>, Fault>
@@ -34,7 +37,7 @@ fn make_server<S: Sequence>(
     requires row { cells ≤ MAX_CELLS }
 {
     let accounts = Accounts::read(alloc, accounts)?;
-    Ok(Server::new(alloc, replica, cells, accounts)?)
+    Ok(Server::new(alloc, replica, present, cells, accounts)?)
 }
 
 fn step_of(alloc: Global, line: &[u8]) -> Result<Step, Refusal> {
@@ -46,15 +49,17 @@ impl<S: Sequence> StoryServer<S> {
     pub fn new(
         alloc: Global,
         replica: u16,
+        present: u64,
         cells: u32,
         accounts: Vec<u8>,
     ) -> Result<StoryServer<S>, Fault>
         requires numbered { 1 ≤ replica }
         requires row { cells ≤ MAX_CELLS }
     {
-        let server = make_server(alloc, replica, cells, accounts.as_slice())?;
+        let server = make_server(alloc, replica, present, cells, accounts.as_slice())?;
         Ok(StoryServer {
             replica,
+            present,
             cells,
             accounts,
             server,
@@ -65,7 +70,13 @@ impl<S: Sequence> StoryServer<S> {
     /// Begins again with a new server, of this replica number.
     pub fn renew(&mut self, alloc: Global, replica: Option<u16>) -> Result<(), Fault> {
         let replica = replica_or(replica, self.replica);
-        self.server = make_server(alloc, replica, self.cells, self.accounts.as_slice())?;
+        self.server = make_server(
+            alloc,
+            replica,
+            self.present,
+            self.cells,
+            self.accounts.as_slice(),
+        )?;
         self.names = Vec::new(alloc);
         Ok(())
     }

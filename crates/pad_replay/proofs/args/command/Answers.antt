@@ -1,7 +1,7 @@
 use Rattle.std.proofs.Common.{◌≡◌, ◌∙◌, ap, ap₂, codes, false, rules}
 use Rattle.std.proofs.lemmas.Result.{IfOk-weaker}
 use Rattle.clap.specs.Words.{app_of, new_app, rule_of, with_rule}
-use Rattle.command_line.specs.Options.{accounts_rule, cells_rule, replica_rule, versioned}
+use Rattle.command_line.specs.Options.{accounts_rule, cells_rule, present_rule, replica_rule, versioned}
 use Rattle.pad_replay.specs.CommandLine.{mandatory}
 use Rattle.pad_replay.proofs.args.command.Goals as goal
 
@@ -22,7 +22,11 @@ returns c =
     c.in_ok-arg-2.ensures.shape cells_local ∙ ap₂ with_rule one cells_is in
     let three : app_of c.in_ok-arg-3.field-0
     ≡ with_rule (with_rule (with_rule (versioned (new_app (codes "pad_replay"))) replica_rule) (mandatory cells_rule))
-    (mandatory accounts_rule) =
-    c.in_ok-arg-3.ensures.shape path_local ∙ ap₂ with_rule two path_is in
-    IfOk-weaker c.arg-4.result _ _ (λ command added. added.shape c.plain_flag.ensures.1
-    ∙ ap₂ with_rule three c.plain_flag.ensures.0) c.arg-4.ensures
+    present_rule =
+    c.in_ok-arg-3.ensures.shape c.present_option.ensures.rest.0 ∙ ap₂ with_rule two c.present_option.ensures.rule in
+    let four : app_of c.in_ok-arg-4.field-0
+    ≡ with_rule (with_rule (with_rule (with_rule (versioned (new_app (codes "pad_replay"))) replica_rule)
+    (mandatory cells_rule)) present_rule) (mandatory accounts_rule) =
+    c.in_ok-arg-4.ensures.shape path_local ∙ ap₂ with_rule three path_is in
+    IfOk-weaker c.arg-5.result _ _ (λ command added. added.shape c.plain_flag.ensures.1
+    ∙ ap₂ with_rule four c.plain_flag.ensures.0) c.arg-5.ensures

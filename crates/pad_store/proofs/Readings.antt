@@ -18,6 +18,7 @@ use Rattle.pad_core.specs.declared.event.PadEvent.{PadEvent}
 use Rattle.pad_core.specs.declared.owned.Owned.{Owned}
 use Rattle.pad_core.specs.declared.reply.PadReply.{PadReply}
 use Rattle.pad_core.specs.declared.reply.PadReply.TheVariants.{Elsewhere, Text}
+use Rattle.sessions.specs.declared.presence.TheConstants.{DEFAULT_PRESENT}
 use Rattle.store.specs.Files.{Read, pad_read}
 use Rattle.store.specs.declared.reader.Damage.{Damage}
 use Rattle.store.specs.declared.reader.Damage.TheVariants as damage
@@ -165,12 +166,12 @@ pub if_err : {A E : Type 0} (Q : E → Type 0) (r : Result A E) (e : E) → r �
 if_err Q r e is h = subst (λ q. IfErr q Q) is h
 
 -- the bytes of a file lead to the pad that was loaded
-pub leads : (bytes name : List ℕ) (read : Read) → pad_read 1 name bytes ≡ Ok read → LeadTo bytes read.pad.log
+pub leads : (bytes name : List ℕ) (read : Read) → pad_read 1 DEFAULT_PRESENT name bytes ≡ Ok read → LeadTo bytes read.pad.log
 unfolding LeadTo
 leads bytes name read is = (name, read, is, refl)
 
 -- or they are damaged so
-pub damaged : (bytes name : List ℕ) (found : Damage) → (found ≡ damage.Memory) ⊎ (pad_read 1 name bytes ≡ Err found) →
+pub damaged : (bytes name : List ℕ) (found : Damage) → (found ≡ damage.Memory) ⊎ (pad_read 1 DEFAULT_PRESENT name bytes ≡ Err found) →
     IsFault bytes (trouble_after found)
 unfolding IsFault
 damaged bytes name damage.Memory h = tt

@@ -8,6 +8,7 @@ use Rattle.pad_core.specs.declared.act.Act.{Act}
 use Rattle.pad_core.specs.declared.act.Act.TheVariants as act
 use Rattle.pad_core.specs.declared.reply.PadReply.{PadReply}
 use Rattle.pad_core.specs.declared.reply.PadReply.TheVariants.{Elsewhere, Text}
+use Rattle.sessions.specs.declared.presence.TheConstants.{DEFAULT_PRESENT}
 use Rattle.store.specs.Files.{Read, pad_read}
 use Rattle.store.specs.declared.reader.Damage.{Damage}
 use Rattle.store.specs.declared.reader.Damage.TheVariants as damage
@@ -16,7 +17,7 @@ use Rattle.pad_store.specs.declared.trouble.Trouble.TheVariants.{Memory, Damaged
 
 -- the bytes of a file lead to a pad with this log, under some name
 unfoldable pub LeadTo : List ℕ → List Op → Type 0
-LeadTo bytes log = (name : List ℕ) × (read : Read) × (pad_read 1 name bytes ≡ Ok read) × (log ≡ read.pad.log)
+LeadTo bytes log = (name : List ℕ) × (read : Read) × (pad_read 1 DEFAULT_PRESENT name bytes ≡ Ok read) × (log ≡ read.pad.log)
 
 -- a text in UTF-8 is that of a revision of the pad that the bytes of a file lead to; None is the present revision
 unfoldable pub Shows : List ℕ → Option ℕ → List ℕ → Type 0
@@ -36,7 +37,7 @@ trouble_after other = Damaged other
 
 -- where the bytes of a file are said to be damaged, they are so
 unfoldable pub IsFault : List ℕ → Trouble → Type 0
-IsFault bytes (Damaged found) = (name : List ℕ) × (pad_read 1 name bytes ≡ Err found)
+IsFault bytes (Damaged found) = (name : List ℕ) × (pad_read 1 DEFAULT_PRESENT name bytes ≡ Err found)
 IsFault bytes other = Unit {0}
 
 -- nothing is said to be damaged

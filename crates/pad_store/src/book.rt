@@ -10,6 +10,7 @@ use anchors::Shown;
 use block_seq::BlockSeq;
 use pad_core::{Act, Pad, PadEvent, PadReply};
 use pad_model::{AuthorRun, Name, Piece, Row, Text, Who};
+use sessions::DEFAULT_PRESENT;
 use std::alloc::Global;
 use store::{Loaded, load};
 
@@ -133,7 +134,7 @@ impl Book {
 fn load_pad(alloc: Global, name: &str, bytes: &[u8]) -> Result<Loaded<BlockSeq>, Trouble>
     ensures { MatchResult result (λ loaded. LeadTo bytes.now loaded.pad.log) (λ trouble. IsFault bytes.now trouble) }
 {
-    match load(alloc, 1, name, bytes) {
+    match load(alloc, 1, DEFAULT_PRESENT, name, bytes) {
         Ok(loaded) => Ok(loaded),
         Err(damage) => Err(Trouble::of_damage(damage)),
     }

@@ -6,7 +6,7 @@ use block_seq::BlockSeq;
 use pad_core::Request;
 use pad_model::{Name, Refusal};
 use server_core::Server;
-use sessions::{Accounts, Word};
+use sessions::{Accounts, DEFAULT_PRESENT, Word};
 use std::alloc::Global;
 use std::process::Abort;
 use std::test::Fail;
@@ -22,7 +22,7 @@ fn hello(alloc: Global) -> Result<Request, Refusal> {
 
 fn server(alloc: Global) -> Result<Server<BlockSeq>, Fail> {
     let accounts = Accounts::read(alloc, b"author solo solo\n")?;
-    Ok(Server::new(alloc, 1, 64, accounts)?)
+    Ok(Server::new(alloc, 1, DEFAULT_PRESENT, 64, accounts)?)
 }
 
 fn opened(alloc: Global) -> Result<Alone<BlockSeq>, Fail> {

@@ -2,12 +2,13 @@
 use block_seq::BlockSeq;
 use pad_core::{Act, Claim, Pad, PadEvent, PadReply};
 use pad_model::{Name, Refusal, Text, Who};
+use sessions::DEFAULT_PRESENT;
 use std::alloc::Global;
 use std::test::Fail;
 
 // The pad `p` of ann, on the server with number 1.
 fn claimed(alloc: Global) -> Result<Pad<BlockSeq>, Refusal> {
-    let mut pad = Pad::new(alloc, 1)?;
+    let mut pad = Pad::new(alloc, 1, DEFAULT_PRESENT)?;
     match pad.claim(alloc, "p", "ann")? {
         Claim::Created { .. } => Ok(pad),
         Claim::Exists | Claim::Other => Err(Refusal::PadExists),

@@ -3,7 +3,7 @@ ghost use Rattle.std.specs.Prelude.{None};
 
 use block_seq::BlockSeq;
 use server_core::Server;
-use sessions::Accounts;
+use sessions::{Accounts, DEFAULT_PRESENT};
 use std::alloc::Global;
 use std::sync::atomic::{AtomicU64, Ordering};
 use std::test::Fail;
@@ -90,7 +90,7 @@ fn serve<W: Sink>(
     gate: &Heard,
 ) -> Result<Served, Fail> {
     let accounts = Accounts::read(alloc, b"author a1 t\n")?;
-    let mut server: Server<BlockSeq> = Server::new(alloc, 1, 1, accounts)?;
+    let mut server: Server<BlockSeq> = Server::new(alloc, 1, DEFAULT_PRESENT, 1, accounts)?;
     let actor = server.open(alloc)?;
     let mut pads = Alone::new(server, actor);
     let mut reader = Input::new(lines.as_bytes());

@@ -3,7 +3,7 @@ use block_seq::BlockSeq;
 use pad_core::Reply;
 use pad_model::Refusal;
 use relay::{Link, Relayed, relay_round};
-use sessions::{Accounts, Session};
+use sessions::{Accounts, DEFAULT_PRESENT, Session};
 use shared_pads::{Open, Seat, SharedPad};
 use std::alloc::Global;
 use std::net::{Net, TcpListener, TcpStream};
@@ -203,8 +203,8 @@ fn one_round_over_loopback(rt: HostRuntime) -> Result<(), Fail> {
         alloc,
         b"author ann t\npeer 1 secret h:1\npeer 2 secret h:2\n",
     )?;
-    let first_cells: Vec<SharedPad<BlockSeq>> = open_row(alloc, 1, 1, 8)?;
-    let second_cells: Vec<SharedPad<BlockSeq>> = open_row(alloc, 2, 1, 8)?;
+    let first_cells: Vec<SharedPad<BlockSeq>> = open_row(alloc, 1, DEFAULT_PRESENT, 1, 8)?;
+    let second_cells: Vec<SharedPad<BlockSeq>> = open_row(alloc, 2, DEFAULT_PRESENT, 1, 8)?;
     let first_names = Names::fill(&rt, alloc, first_cells.as_slice())?;
     let second_names = Names::fill(&rt, alloc, second_cells.as_slice())?;
     let first = row_of(&rt, first_cells.as_slice(), &first_names, 1, &accounts);

@@ -4,7 +4,7 @@ use pad_core::Request;
 use pad_model::Refusal;
 use relay::{Link, Relayed, relay_round};
 use server_core::Server;
-use sessions::Accounts;
+use sessions::{Accounts, DEFAULT_PRESENT};
 use std::alloc::Global;
 use std::test::Fail;
 use wire_json::read_request;
@@ -45,7 +45,7 @@ pub fn request(alloc: Global, line: &str) -> Result<Request, Refusal> {
 // Server 1 with the pad `p`, after ann has asked these lines.
 fn typed(alloc: Global, lines: &[&str]) -> Result<Alone<BlockSeq>, Fail> {
     let accounts = Accounts::read(alloc, b"author ann t\npeer 2 p2 host:1\n")?;
-    let mut server: Server<BlockSeq> = Server::new(alloc, 1, 1, accounts)?;
+    let mut server: Server<BlockSeq> = Server::new(alloc, 1, DEFAULT_PRESENT, 1, accounts)?;
     let actor = server.open(alloc)?;
     let mut pads = Alone::new(server, actor);
     for line in [HELLO, CREATE] {
@@ -71,7 +71,13 @@ pub fn talk(alloc: Global, lines: &[&str], peer: &[u8]) -> Result<Talked, Fail> 
 /// Server 1 with so many pads, `p0`, `p1` and on, in a session of peer 2, after ann has typed a letter so often on one.
 pub fn typed_on(alloc: Global, pads: u32, typed: u32, letters: u32) -> Result<TypedPads, Fail> {
     let accounts = Accounts::read(alloc, b"author ann t\npeer 2 p2 host:1\n")?;
-    let mut server: Server<BlockSeq> = Server::new(alloc, 1, pads.min(64), accounts)?;
+    let mut server: Server<BlockSeq> = Server::new(
+        alloc,
+        1,
+        DEFAULT_PRESENT,
+        pads.min(64),
+        accounts,
+    )?;
     let actor = server.open(alloc)?;
     let mut alone = Alone::new(server, actor);
     let _hello = alone.call(alloc, &request(alloc, HELLO)?)?;

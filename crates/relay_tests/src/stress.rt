@@ -5,7 +5,7 @@ use block_seq::BlockSeq;
 use pad_core::{Act, PadReply, Recorded, Reply, Request};
 use pad_model::{Name, Refusal, Text};
 use relay::{Link, relay_round};
-use sessions::{Accounts, Session};
+use sessions::{Accounts, DEFAULT_PRESENT, Session};
 use shared_pads::{Seat, SharedPad};
 use std::alloc::Global;
 use std::net::{Net, TcpListener, TcpStream};
@@ -383,8 +383,8 @@ fn play<R: Threads + Wait + Sync + Net<Stream = TcpStream, Listener = TcpListene
 fn two_servers_under_stress(rt: HostRuntime) -> Result<(), Fail> {
     let alloc = rt.alloc();
     let accounts = Accounts::read(alloc, ACCOUNTS)?;
-    let first_cells = open_row(alloc, 1, 1, 64)?;
-    let second_cells = open_row(alloc, 2, 1, 64)?;
+    let first_cells = open_row(alloc, 1, DEFAULT_PRESENT, 1, 64)?;
+    let second_cells = open_row(alloc, 2, DEFAULT_PRESENT, 1, 64)?;
     let names = [
         Names::fill(&rt, alloc, first_cells.as_slice())?,
         Names::fill(&rt, alloc, second_cells.as_slice())?,

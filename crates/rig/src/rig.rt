@@ -6,7 +6,7 @@ use block_seq::BlockSeq;
 use pad_core::{Reply, Request};
 use pad_model::Refusal;
 use server_core::{Moved, Server, Step};
-use sessions::Accounts;
+use sessions::{Accounts, DEFAULT_PRESENT};
 use std::alloc::Global;
 use wire_json::{read_request, reply_line};
 
@@ -35,7 +35,7 @@ fn make_server(alloc: Global, replica: u16) -> Result<Server<BlockSeq>, Refusal>
     let Ok(accounts) = Accounts::read(alloc, text) else {
         return Err(Refusal::Memory);
     };
-    Server::new(alloc, replica, 1, accounts)
+    Server::new(alloc, replica, DEFAULT_PRESENT, 1, accounts)
 }
 
 impl Rig {

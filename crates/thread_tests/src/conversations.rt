@@ -5,7 +5,7 @@ ghost use Rattle.workers.specs.Talk.{unwritten};
 use crate::stage::accounts;
 use block_seq::BlockSeq;
 use pad_model::Refusal;
-use sessions::{Accounts, Session};
+use sessions::{Accounts, DEFAULT_PRESENT, Session};
 use shared_pads::{Open, Seat, SharedPad};
 use std::alloc::{AllocError, Global};
 use std::process::Abort;
@@ -121,7 +121,7 @@ struct Stage {
 
 impl Stage {
     fn new<R: Wait>(rt: &R, alloc: Global) -> Result<Stage, Refusal> {
-        let cells = open_row(alloc, 1, 2, 2)?;
+        let cells = open_row(alloc, 1, DEFAULT_PRESENT, 2, 2)?;
         let names = Names::fill(rt, alloc, cells.as_slice())?;
         Ok(Stage {
             accounts: accounts(alloc)?,

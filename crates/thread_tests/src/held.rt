@@ -2,7 +2,7 @@
 use crate::stage::{accounts, ask_all};
 use block_seq::BlockSeq;
 use pad_model::Refusal;
-use sessions::Session;
+use sessions::{DEFAULT_PRESENT, Session};
 use shared_pads::{Gate, Seat, SharedPad};
 use std::alloc::Global;
 use std::sync::Wait;
@@ -126,7 +126,7 @@ fn read_second<R: Wait + Clock>(
 fn cells_do_not_block_each_other(rt: HostRuntime) -> Result<(), Fail> {
     let alloc = rt.alloc();
     let accounts = accounts(alloc)?;
-    let cells: Vec<SharedPad<BlockSeq>> = open_row(alloc, 1, 2, 2)?;
+    let cells: Vec<SharedPad<BlockSeq>> = open_row(alloc, 1, DEFAULT_PRESENT, 2, 2)?;
     let names = Names::fill(&rt, alloc, cells.as_slice())?;
     let gate = FirstCellHeld {
         rt: &rt,
@@ -243,7 +243,7 @@ fn is_closed(
 fn connections_do_not_block_each_other(rt: HostRuntime) -> Result<(), Fail> {
     let alloc = rt.alloc();
     let accounts = accounts(alloc)?;
-    let cells: Vec<SharedPad<BlockSeq>> = open_row(alloc, 1, 1, 2)?;
+    let cells: Vec<SharedPad<BlockSeq>> = open_row(alloc, 1, DEFAULT_PRESENT, 1, 2)?;
     let names = Names::fill(&rt, alloc, cells.as_slice())?;
     let gate = FirstConnectionHeld {
         rt: &rt,

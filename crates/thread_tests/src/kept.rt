@@ -3,7 +3,7 @@ use crate::stage::{accounts, ask, ask_all, tells};
 use block_seq::BlockSeq;
 use pad_core::Request;
 use pad_model::Refusal;
-use sessions::Session;
+use sessions::{DEFAULT_PRESENT, Session};
 use shared_pads::{Gate, SharedPad};
 use std::alloc::Global;
 use std::process::Abort;
@@ -75,7 +75,7 @@ fn are_refused<P: Pads>(rt: &impl Abort, alloc: Global, pads: &mut P, lines: &[&
 fn what_cannot_be_kept_is_refused(rt: HostRuntime) -> Result<(), Fail> {
     let alloc = rt.alloc();
     let accounts = accounts(alloc)?;
-    let cells: Vec<SharedPad<BlockSeq>> = open_row(alloc, 1, 2, 1)?;
+    let cells: Vec<SharedPad<BlockSeq>> = open_row(alloc, 1, DEFAULT_PRESENT, 2, 1)?;
     let names = Names::fill(&rt, alloc, cells.as_slice())?;
     let gate = Disk {
         has_room: AtomicBool::new(true),

@@ -3,7 +3,7 @@ use crate::stage::{accounts, ask, ask_all};
 use block_seq::BlockSeq;
 use pad_core::Reply;
 use pad_model::Refusal;
-use sessions::{Accounts, Session};
+use sessions::{Accounts, DEFAULT_PRESENT, Session};
 use shared_pads::{Gate, Seat, SharedPad};
 use std::alloc::Global;
 use std::process::Abort;
@@ -63,7 +63,7 @@ impl Stage {
     fn new(alloc: Global, cells: u32, seats: u32) -> Result<Stage, Refusal> {
         Ok(Stage {
             accounts: accounts(alloc)?,
-            cells: open_row(alloc, 1, cells, seats)?,
+            cells: open_row(alloc, 1, DEFAULT_PRESENT, cells, seats)?,
             gate: Steps::new(),
         })
     }

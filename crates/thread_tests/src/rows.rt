@@ -1,8 +1,8 @@
-//! A row of two pads: each cell has a pad of its own, and all have the number of their server.
+//! A row of two pads: each cell has a pad of its own, and all have the numbers of their server.
 use crate::stage::{accounts, ask_all, tells};
 use block_seq::BlockSeq;
 use pad_model::Refusal;
-use sessions::Session;
+use sessions::{DEFAULT_PRESENT, Session};
 use shared_pads::{Open, SharedPad};
 use std::alloc::Global;
 use std::process::Abort;
@@ -12,8 +12,10 @@ use workers::{Names, Pads, Row, Shared, open_row, take_seats};
 // A number that takes more than a byte.
 const REPLICA: u16 = 300;
 
+const HELLO: &str = r#"{"do":"hello","name":"a1","token":"t"}"#;
+
 const BEGINNING: [&str; 3] = [
-    r#"{"do":"hello","name":"a1","token":"t"}"#,
+    HELLO,
     r#"{"do":"create","pad":"one"}"#,
     r#"{"do":"create","pad":"two"}"#,
 ];
@@ -55,7 +57,7 @@ fn have_names<P: Pads>(
 fn each_cell_has_a_pad_of_its_own(rt: HostRuntime) -> Result<(), Fail> {
     let alloc = rt.alloc();
     let accounts = accounts(alloc)?;
-    let cells: Vec<SharedPad<BlockSeq>> = open_row(alloc, REPLICA, 2, 1)?;
+    let cells: Vec<SharedPad<BlockSeq>> = open_row(alloc, REPLICA, DEFAULT_PRESENT, 2, 1)?;
     let names = Names::fill(&rt, alloc, cells.as_slice())?;
     let row = Row {
         rt: &rt,
@@ -74,4 +76,40 @@ fn each_cell_has_a_pad_of_its_own(rt: HostRuntime) -> Result<(), Fail> {
     let insert = r#"{"do":"insert","pad":"two","rev":0,"at":0,"text":"x"}"#;
     let made = concat!(r#"{"name":[300,1],"now":1,"ok":true}"#, "\n");
     Ok(tells(&rt, alloc, &mut pads, insert, made)?)
+}
+
+const JOIN: &str = r#"{"do":"join","pad":"two"}"#;
+
+const CROWDED: &str = concat!(r#"{"code":313,"error":"Crowded","ok":false}"#, "\n");
+
+// Two sessions, where one visit may be present on a pad: its creator's, until that leaves.
+#[test]
+fn each_pad_has_room_for_as_many_as_the_row_was_told(rt: HostRuntime) -> Result<(), Fail> {
+    let alloc = rt.alloc();
+    let accounts = accounts(alloc)?;
+    let cells: Vec<SharedPad<BlockSeq>> = open_row(alloc, REPLICA, 1, 2, 2)?;
+    let names = Names::fill(&rt, alloc, cells.as_slice())?;
+    let row = Row {
+        rt: &rt,
+        cells: cells.as_slice(),
+        names: &names,
+        replica: REPLICA,
+        accounts: &accounts,
+        gate: &Open,
+    };
+    let mut seats = Vec::new(alloc);
+    take_seats(&rt, cells.as_slice(), &mut seats)?;
+    let mut creator = Shared::new(&row, seats, Session::new(alloc));
+    let mut seats = Vec::new(alloc);
+    take_seats(&rt, cells.as_slice(), &mut seats)?;
+    let mut guest = Shared::new(&row, seats, Session::new(alloc));
+    ask_all(alloc, &mut creator, &BEGINNING)?;
+    ask_all(alloc, &mut guest, &[HELLO])?;
+    tells(&rt, alloc, &mut guest, JOIN, CROWDED)?;
+    let leave = r#"{"do":"leave","pad":"two"}"#;
+    let left = concat!(r#"{"now":0,"ok":true}"#, "\n");
+    tells(&rt, alloc, &mut creator, leave, left)?;
+    let joined = concat!(r#"{"now":0,"ok":true,"visit":2}"#, "\n");
+    tells(&rt, alloc, &mut guest, JOIN, joined)?;
+    Ok(tells(&rt, alloc, &mut creator, JOIN, CROWDED)?)
 }

@@ -2,7 +2,7 @@
 use block_seq::BlockSeq;
 use pad_core::{Act, Claim, Pad, PadEvent, Reply};
 use pad_model::{Name, Refusal, Text, Who};
-use sessions::Accounts;
+use sessions::{Accounts, DEFAULT_PRESENT};
 use std::alloc::Global;
 use std::process::Abort;
 use wire_json::{read_request, reply_line};
@@ -49,7 +49,7 @@ pub fn tells<P: Pads>(
 
 // The pad `p` of ann, on the server with number 1.
 fn claimed(alloc: Global) -> Result<Pad<BlockSeq>, Refusal> {
-    let mut pad = Pad::new(alloc, 1)?;
+    let mut pad = Pad::new(alloc, 1, DEFAULT_PRESENT)?;
     match pad.claim(alloc, "p", "ann")? {
         Claim::Created { .. } => Ok(pad),
         Claim::Exists | Claim::Other => Err(Refusal::PadExists),

@@ -3,7 +3,7 @@ use crate::stage::{accounts, ask, ask_all};
 use block_seq::BlockSeq;
 use pad_core::{PadReply, Recorded, Reply, audit};
 use pad_model::{AuthorRun, Refusal, Text};
-use sessions::Session;
+use sessions::{DEFAULT_PRESENT, Session};
 use shared_pads::{Open, Seat, SharedPad};
 use std::alloc::Global;
 use std::sync::Wait;
@@ -280,7 +280,7 @@ fn write_all<R: Threads + Wait + Sync>(
 fn four_writers(rt: HostRuntime) -> Result<(), Fail> {
     let alloc = rt.alloc();
     let accounts = accounts(alloc)?;
-    let cells: Vec<SharedPad<BlockSeq>> = open_row(alloc, 1, 1, 8)?;
+    let cells: Vec<SharedPad<BlockSeq>> = open_row(alloc, 1, DEFAULT_PRESENT, 1, 8)?;
     let names = Names::fill(&rt, alloc, cells.as_slice())?;
     let row = Row {
         rt: &rt,

@@ -3,7 +3,7 @@
 use block_seq::BlockSeq;
 use pad_model::Refusal;
 use server_core::{Event, MAX_CELLS, Moved, Server, Step};
-use sessions::Accounts;
+use sessions::{Accounts, DEFAULT_PRESENT};
 use std::alloc::Global;
 use std::process::Abort;
 use std::test::Fail;
@@ -14,11 +14,16 @@ pub type Turn<'a> = (u32, &'a str, &'a str);
 
 /// A server of replica 1 that knows ann, bob and peer 2, with three actors.
 pub fn open(alloc: Global, cells: u32) -> Result<Server<BlockSeq>, Fail> {
+    open_with_room(alloc, DEFAULT_PRESENT, cells)
+}
+
+/// The same, where so many visits may be present on a pad at once.
+pub fn open_with_room(alloc: Global, present: u64, cells: u32) -> Result<Server<BlockSeq>, Fail> {
     let accounts = Accounts::read(
         alloc,
         b"author ann t1\nauthor bob t2\npeer 2 p2 127.0.0.1:7402\n",
     )?;
-    let mut server = Server::new(alloc, 1, cells.min(MAX_CELLS), accounts)?;
+    let mut server = Server::new(alloc, 1, present, cells.min(MAX_CELLS), accounts)?;
     open_more(alloc, &mut server, 3)?;
     Ok(server)
 }

@@ -1,15 +1,15 @@
 //! Actors in turn.
-use crate::scan::stage::{Turn, are_told, open, open_more, runs_so};
+use crate::scan::stage::{Turn, are_told, open, open_more, open_with_room, runs_so};
 use pad_model::Refusal;
 use std::alloc::Global;
 use std::process::Abort;
 use std::test::Fail;
 
-const HELLO_ANN: Turn<'static> = (
-    0,
-    r#"{"do":"hello","name":"ann","token":"t1"}"#,
-    r#"{"author":"ann@1","ok":true}"#,
-);
+const HELLO: &str = r#"{"do":"hello","name":"ann","token":"t1"}"#;
+
+const WELCOME: &str = r#"{"author":"ann@1","ok":true}"#;
+
+const HELLO_ANN: Turn<'static> = (0, HELLO, WELCOME);
 
 const HELLO_BOB: Turn<'static> = (
     1,
@@ -231,4 +231,44 @@ fn a_run_goes_on_under_new_accounts(rt: HostRuntime) -> Result<(), Fail> {
 fn a_run_tells_what_its_steps_do(rt: HostRuntime) -> Result<(), Fail> {
     let mut server = open(rt.alloc(), 1)?;
     runs_so(&rt, rt.alloc(), &mut server, RACE)
+}
+
+const CROWDED: &str = r#"{"code":313,"error":"Crowded","ok":false}"#;
+
+/// Five sessions of ann's, where three visits may be present on a pad: the owner's counts, and a place that becomes free is
+/// given again. Another pad has room of its own.
+const THREE_PRESENT: &[Turn<'static>] = &[
+    HELLO_ANN,
+    (1, HELLO, WELCOME),
+    (2, HELLO, WELCOME),
+    (3, HELLO, WELCOME),
+    (4, HELLO, WELCOME),
+    (0, r#"{"do":"create","pad":"x"}"#, "scanning"),
+    (0, "move", r#"{"now":0,"ok":true,"visit":1}"#),
+    (1, r#"{"do":"join","pad":"x"}"#, "scanning"),
+    (1, "move", r#"{"now":0,"ok":true,"visit":2}"#),
+    (2, r#"{"do":"join","pad":"x"}"#, "scanning"),
+    (2, "move", r#"{"now":0,"ok":true,"visit":3}"#),
+    (3, r#"{"do":"join","pad":"x"}"#, "scanning"),
+    (3, "move", CROWDED),
+    (1, r#"{"do":"leave","pad":"x"}"#, "scanning"),
+    (1, "move", r#"{"now":0,"ok":true}"#),
+    (3, r#"{"do":"join","pad":"x"}"#, "scanning"),
+    (3, "move", r#"{"now":0,"ok":true,"visit":4}"#),
+    (4, r#"{"do":"join","pad":"x"}"#, "scanning"),
+    (4, "move", CROWDED),
+    (4, r#"{"do":"create","pad":"y"}"#, "scanning"),
+    (4, "move", "scanning"),
+    (4, "move", r#"{"now":0,"ok":true,"visit":1}"#),
+    (0, "end", "scanning"),
+    (0, "move", r#"{"ok":true}"#),
+    (4, r#"{"do":"join","pad":"x"}"#, "scanning"),
+    (4, "move", r#"{"now":0,"ok":true,"visit":5}"#),
+];
+
+#[test]
+fn limit_presence_of_three(rt: HostRuntime) -> Result<(), Fail> {
+    let mut server = open_with_room(rt.alloc(), 3, 2)?;
+    open_more(rt.alloc(), &mut server, 2)?;
+    are_told(&rt, rt.alloc(), &mut server, THREE_PRESENT)
 }

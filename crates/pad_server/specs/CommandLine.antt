@@ -2,7 +2,8 @@
 use Rattle.std.specs.Prelude.{◌≡◌, List, ℕ, codes, option_map, unwrap_or}
 use Rattle.clap.specs.Words.{App, Rule, matches_of, new_app, one_of, with_rule}
 use Rattle.command_line.specs.Options.{Gives, IsFlag, accounts_rule, cells_rule, flag_rule, number_rule, option_rule}
-use Rattle.command_line.specs.Options.{replica_rule, text_given, versioned}
+use Rattle.command_line.specs.Options.{present_rule, replica_rule, text_given, versioned}
+use Rattle.sessions.specs.declared.presence.TheConstants.{DEFAULT_PRESENT, MAX_PRESENT}
 use Rattle.server_core.specs.declared.limits.TheConstants.{DEFAULT_CELLS, MAX_CELLS}
 use Rattle.pad_server.specs.declared.args.Asked.{Asked}
 use Rattle.pad_server.specs.declared.options.TheConstants.{MAX_WORKERS, DEFAULT_CLIENTS}
@@ -52,13 +53,14 @@ abbrev pub first_line : App
 first_line = with_rule (with_rule (with_rule (with_rule (versioned (new_app (codes "pad_server"))) stdin_rule)
     listen_rule) replica_rule) accounts_rule
 
--- with those that say how many pads, threads, connections and clients there are
+-- with those that say how many pads, visits on a pad, threads and connections there are
 abbrev pub second_line : App
-second_line = with_rule (with_rule (with_rule (with_rule first_line cells_rule) workers_rule) connections_rule) clients_rule
+second_line = with_rule (with_rule (with_rule (with_rule first_line cells_rule) present_rule) workers_rule)
+    connections_rule
 
--- with those that say when a silent connection is closed, and where the pads are kept
+-- with those that say how many clients there are, when a silent connection is closed, and where the pads are kept
 abbrev pub third_line : App
-third_line = with_rule (with_rule (with_rule second_line idle_rule) store_rule) new_replica_rule
+third_line = with_rule (with_rule (with_rule (with_rule second_line clients_rule) idle_rule) store_rule) new_replica_rule
 
 -- the command line: clap's words say which words it takes, and what they give under a name
 abbrev pub line : App
@@ -68,6 +70,7 @@ line = with_rule (with_rule third_line web_rule) web_origins_rule
 pub record AsksFor (words : List (List ℕ)) (asked : Asked) : Type 0 where
   pub replica : Gives line words (codes "replica") 1 65535 1 asked.replica
   pub cells : Gives line words (codes "cells") 0 MAX_CELLS DEFAULT_CELLS asked.cells
+  pub present : Gives line words (codes "present") 0 MAX_PRESENT DEFAULT_PRESENT asked.present
   pub accounts : option_map (λ path. path.now) asked.accounts ≡ text_given line words (codes "accounts")
   pub stdin : IsFlag (one_of (codes "stdin") (matches_of line words)) asked.stdin
   pub listen : option_map (λ address. address.now) asked.listen ≡ text_given line words (codes "listen")

@@ -11,7 +11,10 @@ use crate::options::{
     workers_of, workers_option,
 };
 use clap::{Command, Error};
-use command_line::{VERSION, accounts_option, cells_of, cells_option, replica_of, replica_option};
+use command_line::{
+    VERSION, accounts_option, cells_of, cells_option, present_of, present_option, replica_of,
+    replica_option,
+};
 use std::alloc::{AllocError, Global};
 
 /// What the words of the command line give.
@@ -21,6 +24,8 @@ pub struct Asked<'a> {
     pub replica: u16,
     /// How many pads the server has room for, 1 to 4,096.
     pub cells: u32,
+    /// How many visits may be present on a pad at once, 1 to 1,024.
+    pub present: u64,
     /// The path of the accounts file.
     pub accounts: Option<&'a str>,
     /// Whether standard input and output are served.
@@ -45,7 +50,8 @@ pub struct Asked<'a> {
     pub web_origins: Option<&'a str>,
 }
 
-const USAGE: &str = "pad_server --stdin --replica <N> [--accounts <PATH>] [--cells <N>]
+const USAGE: &str =
+    "pad_server --stdin --replica <N> [--accounts <PATH>] [--cells <N>] [--present <N>]
        pad_server --listen <ADDR> --replica <N> --accounts <PATH> [OPTIONS]";
 
 const ACCOUNTS_HELP: &str =
@@ -66,23 +72,25 @@ fn first_options<'a>(alloc: Global) -> Result<Command<'a>, AllocError>
         .arg(accounts_option(alloc, ACCOUNTS_HELP))
 }
 
-// How many pads and connections there are.
+// How many pads, visits on one, threads and connections there are.
 fn second_options<'a>(alloc: Global) -> Result<Command<'a>, AllocError>
     ensures { IfOk result (λ command. app_of command ≡ second_line) }
 {
     let cells_help = "How many pads the server has room for, 1 to 4,096 [default: 64]";
+    let present_help = "How many visits may be present on a pad at once, 1 to 1,024 [default: 64]";
     first_options(alloc)?
         .arg(cells_option(alloc, cells_help))?
+        .arg(present_option(alloc, present_help))?
         .arg(workers_option(alloc))?
-        .arg(connections_option(alloc))?
-        .arg(clients_option(alloc))
+        .arg(connections_option(alloc))
 }
 
-// When a silent connection is closed, and where the pads are kept.
+// How many clients there are, when a silent connection is closed, and where the pads are kept.
 fn third_options<'a>(alloc: Global) -> Result<Command<'a>, AllocError>
     ensures { IfOk result (λ command. app_of command ≡ third_line) }
 {
     second_options(alloc)?
+        .arg(clients_option(alloc))?
         .arg(idle_option(alloc))?
         .arg(store_option(alloc))?
         .arg(new_replica_flag(alloc))
@@ -109,6 +117,7 @@ pub fn parse<'a>(alloc: Global, words: &'a [String]) -> Result<Asked<'a>, Error>
     Ok(Asked {
         replica: replica_of(&matches),
         cells: cells_of(&matches),
+        present: present_of(&matches),
         accounts: matches.get_str("accounts"),
         stdin: matches.get_flag("stdin"),
         listen: matches.get_str("listen"),

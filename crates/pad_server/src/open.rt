@@ -29,7 +29,7 @@ where
         Some(path) => read_accounts(rt, path)?.0,
         None => solo_accounts(alloc)?,
     };
-    let mut pads = open_server(alloc, asked.replica, asked.cells, accounts)?;
+    let mut pads = open_server(alloc, asked.replica, asked.present, asked.cells, accounts)?;
     if asked.accounts.is_none() {
         greet(alloc, &mut pads)?;
     }
@@ -45,12 +45,13 @@ fn solo_accounts(alloc: Global) -> Result<Accounts, Failure<'static>> {
 fn open_server(
     alloc: Global,
     replica: u16,
+    present: u64,
     cells: u32,
     accounts: Accounts,
 ) -> Result<Alone<BlockSeq>, Refusal>
     requires { (1 ≤ replica) × (cells ≤ MAX_CELLS) }
 {
-    let mut server = Server::new(alloc, replica, cells, accounts)?;
+    let mut server = Server::new(alloc, replica, present, cells, accounts)?;
     let actor = server.open(alloc)?;
     Ok(Alone::new(server, actor))
 }

@@ -65,13 +65,19 @@ where
         seats: seats_for(rt, asked, accounts.peers().len()),
     };
     let Some(folder) = asked.store else {
-        let cells = open_row(rt.alloc(), asked.replica, size.cells, size.seats)?;
+        let cells = open_row(
+            rt.alloc(),
+            asked.replica,
+            asked.present,
+            size.cells,
+            size.seats,
+        )?;
         let mut revisions = Vec::new(rt.alloc());
         revisions.resize(cells.len(), 0)?;
         let opened = open_row_of(rt, cells, revisions, None, accounts)?;
         return Ok((opened, bytes));
     };
-    let owner = Owner::new(asked.replica, asked.new_replica);
+    let owner = Owner::new(asked.replica, asked.new_replica, asked.present);
     let Stored {
         cells,
         revisions,

@@ -3,12 +3,13 @@ ghost use Rattle.std.specs.Prelude.{◌≡◌, ◌≤◌};
 
 use std::marker::Model;
 
-/// The number of a server that opens a store.
+/// The number of a server that opens a store, and how many visits may be present there on a pad at once.
 #[derive(Drop)]
 pub struct Owner {
     replica: u16,
     /// Whether the number is new, so that the store may be that of another one.
     is_new: bool,
+    present: u64,
 }
 
 impl Model for Owner {
@@ -22,12 +23,16 @@ impl Model for Owner {
 }
 
 impl Owner {
-    /// A server with this number, which may be new.
-    pub fn new(replica: u16, is_new: bool) -> Owner
+    /// A server with this number, which may be new, where this many visits may be present on a pad at once.
+    pub fn new(replica: u16, is_new: bool, present: u64) -> Owner
         requires { 1 ≤ replica }
         ensures { result ≡ replica }
     {
-        Owner { replica, is_new }
+        Owner {
+            replica,
+            is_new,
+            present,
+        }
     }
 
     /// Its number.
@@ -36,6 +41,11 @@ impl Owner {
         ensures least { 1 ≤ result }
     {
         self.replica
+    }
+
+    /// How many visits may be present on a pad at once.
+    pub fn present(&self) -> u64 {
+        self.present
     }
 
     /// Whether the number is new.

@@ -65,7 +65,13 @@ pub fn load_file(
     let path = path_of(alloc, folder, name)?;
     let bytes = fs::read(files, path.as_str())?;
     let pad = name.strip_suffix(".pad").unwrap_or(name);
-    match load(alloc, owner.replica(), pad, bytes.as_slice()) {
+    match load(
+        alloc,
+        owner.replica(),
+        owner.present(),
+        pad,
+        bytes.as_slice(),
+    ) {
         Ok(loaded) => {
             check_owner(owner, &loaded)?;
             let opened = open_loaded(files, path.as_str(), owner.replica(), loaded)?;

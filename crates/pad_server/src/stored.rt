@@ -1,6 +1,4 @@
 //! The pads of a store at the start of the server.
-ghost use Rattle.std.specs.Prelude.{◌≤◌};
-
 use crate::failure::Failure;
 use crate::keeper::{Book, Books, Handle, Held, Keeper};
 use crate::owner::Owner;
@@ -126,7 +124,7 @@ where
     }
     let taken = row.cells.len().min(size.cells as usize) as u32;
     for cell in taken..size.cells {
-        row.add_free(alloc, owner.replica(), cell)?;
+        row.add_free(alloc, owner, cell)?;
     }
     Ok(row)
 }
@@ -165,10 +163,9 @@ impl Loading {
     }
 
     // One more cell without a pad.
-    fn add_free(&mut self, alloc: Global, replica: u16, cell: u32) -> Result<(), Refusal>
-        requires { 1 ≤ replica }
-    {
-        let Ok(pad) = SharedPad::new(alloc, Pad::new(alloc, replica)?, cell, self.seats) else {
+    fn add_free(&mut self, alloc: Global, owner: &Owner, cell: u32) -> Result<(), Refusal> {
+        let pad = Pad::new(alloc, owner.replica(), owner.present())?;
+        let Ok(pad) = SharedPad::new(alloc, pad, cell, self.seats) else {
             return Err(Refusal::Memory);
         };
         self.cells.push(pad)?;

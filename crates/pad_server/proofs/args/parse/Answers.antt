@@ -3,6 +3,7 @@ use Rattle.clap.specs.Faults.{fault_of, is_simple_and_free}
 use Rattle.clap.specs.Words.{App, HasKind, found_of, is_simple, one_of, one_text}
 use Rattle.clap.proofs.WalkLemmas.{one_text-rows}
 use Rattle.command_line.proofs.CallerLemmas.{gives_number, gives_text, rows_found}
+use Rattle.sessions.specs.declared.presence.TheConstants.{DEFAULT_PRESENT, MAX_PRESENT}
 use Rattle.server_core.specs.declared.limits.TheConstants.{DEFAULT_CELLS, MAX_CELLS}
 use Rattle.pad_server.specs.declared.options.TheConstants.{DEFAULT_CLIENTS}
 use Rattle.pad_server.specs.CommandLine.{line}
@@ -27,6 +28,8 @@ returns-clause-asked c =
           c.replica_of.ensures.value;
       cells = gives_number line words m (codes "cells") 0 MAX_CELLS DEFAULT_CELLS c.cells_of.result rows
           c.cells_of.ensures.value;
+      present = gives_number line words m (codes "present") 0 MAX_PRESENT DEFAULT_PRESENT c.present_of.result rows
+          c.present_of.ensures.value;
       accounts = c.get_str.ensures ∙ gives_text line words m (codes "accounts") rows;
       stdin = record {
         absent = λ e. c.get_flag.ensures.none (flag ∙ e);

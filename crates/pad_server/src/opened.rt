@@ -56,7 +56,7 @@ pub fn open_pads<'a, R>(
     path: &'a str,
 ) -> Result<(Opened, Vec<u8>), Failure<'a>>
 where
-    R: Runtime<A = Global, File = File> + Threads + Wait + Eprint,
+    R: Runtime<A = Global, File = File> + Threads + Wait + Eprint + Sync,
     requires { (1 ≤ asked.replica) × (asked.cells ≤ MAX_CELLS) }
 {
     let (accounts, bytes) = read_accounts(rt, path)?;

@@ -3,6 +3,8 @@ use crate::owner::Owner;
 use crate::pad_file::{PadFile, Unloaded, load_file};
 use std::alloc::AllocError;
 use std::sync::atomic::{AtomicU64, Ordering};
+use std::thread;
+use std::thread::Threads;
 use std::time::{Clock, Instant};
 
 /// After how many seconds a start tells how far it is, and then again each second.
@@ -53,17 +55,10 @@ impl Tally {
     }
 }
 
-/// What is read, and how far that is.
-#[derive(Clone, Copy)]
-struct Reading<'a> {
-    files: &'a HostRuntime,
-    folder: &'a str,
-    owner: &'a Owner,
-    tally: &'a Tally,
-}
-
-/// Reads the files of a folder, one after the other. A start that takes long tells each second how far it is.
-pub fn read_all(
+/// Reads the files of a folder, in as many threads as there are processors. A start that takes long tells each second how
+/// far it is.
+pub fn read_all<R: Threads + Sync>(
+    rt: &R,
     files: &HostRuntime,
     folder: &str,
     names: Vec<String>,
@@ -82,24 +77,16 @@ pub fn read_all(
         read: AtomicU64::new(0),
         told: AtomicU64::new(SILENCE - 1),
     };
-    let reading = Reading {
-        files,
-        folder,
-        owner,
-        tally: &tally,
-    };
-    read_rest(reading, reads.as_mut_slice());
+    let threads = thread::available_parallelism(rt).map_or(1, |count| count.get());
+    let tally = &tally;
+    thread::for_each_mut(
+        rt,
+        reads.as_mut_slice(),
+        threads,
+        &|_place: usize, read: &mut Read| {
+            read.outcome = Some(load_file(files, folder, read.name.as_str(), owner));
+            tally.note(files);
+        },
+    );
     Ok(reads)
-}
-
-// Reads the files that were not read yet.
-fn read_rest(reading: Reading<'_>, reads: &mut [Read]) {
-    for read in reads {
-        if read.outcome.is_none() {
-            let name = read.name.as_str();
-            let outcome = load_file(reading.files, reading.folder, name, reading.owner);
-            read.outcome = Some(outcome);
-            reading.tally.note(reading.files);
-        }
-    }
 }

@@ -19,6 +19,7 @@ use std::fs::{DirBuilder, File, OpenOptions};
 use std::os::unix::fs::{DirBuilderExt, OpenOptionsExt};
 use std::rt::Runtime;
 use std::sync::{Mutex, Wait};
+use std::thread::Threads;
 use std::{fs, io};
 
 /// Who may look into the folder of a store that the server makes: its user alone.
@@ -50,7 +51,7 @@ pub fn restore<'f, R>(
     size: Size,
 ) -> Result<Stored, Failure<'f>>
 where
-    R: Runtime<A = Global, File = File> + Wait,
+    R: Runtime<A = Global, File = File> + Threads + Wait + Sync,
 {
     let kept_in = String::from_str(rt.alloc(), folder)?;
     let (held, names) = open_folder(rt, folder)?;
@@ -101,7 +102,7 @@ fn load_row<'f, R>(
     size: Size,
 ) -> Result<Loading, Failure<'f>>
 where
-    R: Runtime<A = Global, File = File> + Wait,
+    R: Runtime<A = Global, File = File> + Threads + Wait + Sync,
 {
     let alloc = rt.alloc();
     let mut row = Loading {
@@ -113,7 +114,7 @@ where
             handles: Vec::new(alloc),
         },
     };
-    for read in read_all(files, folder, names, owner)? {
+    for read in read_all(rt, files, folder, names, owner)? {
         let loaded = match read.into_pad() {
             Ok(Some(loaded)) => loaded,
             Ok(None) => continue,

@@ -1,10 +1,11 @@
 """The map of the code in docs/ARCHITECTURE.md, compared with the folders, NOTICE, with what the programs depend on, and
-docs/PROOF.md, with the definitions that it names.
+docs/PROOF.md and docs/DEFINITIONS.md, with the definitions that stand there.
 
 In the map a line `crates/NAME` begins a crate, and the indented lines below it name its source files.
 """
 import os
 import re
+import subprocess
 
 from harness import ROOT, Test, want
 
@@ -79,7 +80,14 @@ def definitions_are_there():
             want(stands is not None, True, f"that {name} stands in {path}")
 
 
+def page_of_definitions_is_written():
+    """docs/DEFINITIONS.md is what docs/definitions writes, and each definition has a sentence."""
+    done = subprocess.run([f"{ROOT}/docs/definitions", "--check"], capture_output=True, text=True)
+    want((done.returncode, done.stderr), (0, ""), "what docs/definitions says")
+
+
 TESTS = [
+    Test("map: docs/DEFINITIONS.md is what docs/definitions writes", page_of_definitions_is_written),
     Test("map: docs/PROOF.md names definitions that are there", definitions_are_there),
     Test("map: docs/ARCHITECTURE.md names every source file", map_is_whole),
     Test("map: NOTICE names every crate that the programs link", notice_is_whole),

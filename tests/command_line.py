@@ -6,10 +6,11 @@ CREATED = '{"now":0,"ok":true,"visit":1}\n'
 INSERT = '{"do":"insert","pad":"p","rev":0,"at":0,"text":"hello"}\n'
 NO_SLOT = '{"code":302,"error":"NoSlot","ok":false}\n'
 NO_PAD = '{"code":300,"error":"NoPad","ok":false}\n'
-USAGE = """Usage: pad_server --stdin --replica <N> [--accounts <PATH>] [--cells <N>]
+USAGE = """Usage: pad_server --stdin --replica <N> [--accounts <PATH>] [--cells <N>] [--present <N>]
        pad_server --listen <ADDR> --replica <N> --accounts <PATH> [OPTIONS]
 """
-OPTIONS = Has(USAGE, "--workers <N>", "--clients <N>", "--idle <SECONDS>", "--store <DIR>", "--new-replica", "--help")
+PRESENT_HELP = "How many visits may be present on a pad at once, 1 to 1,024 [default: 64]"
+OPTIONS = Has(USAGE, "--present <N>", PRESENT_HELP, "--workers <N>", "--clients <N>", "--idle <SECONDS>", "--store <DIR>", "--new-replica", "--help")
 
 
 def refused(name, args, *parts):
@@ -61,6 +62,7 @@ CASES = [
     refused("--stdin with a value", "--stdin=yes --replica 1", "--stdin"),
     refused("--replica twice", "--stdin --replica 1 --replica 2", "--replica"),
     refused("--cells twice", "--stdin --replica 1 --cells 1 --cells 2", "--cells"),
+    refused("--present twice", "--stdin --replica 1 --present 1 --present 2", "--present"),
     *[refused(f"--idle {text}", f"--stdin --replica 1 --idle={text}", "--idle") for text in ["0", "-1", "x", ""]],
     *[refused(f"--workers {text}", f"--stdin --replica 1 --workers={text}", "--workers") for text in ["0", "64", "x"]],
     *[refused(f"--connections {text}", f"--stdin --replica 1 --connections={text}", "--connections") for text in ["0", "x"]],
@@ -69,12 +71,15 @@ CASES = [
     refused("--accounts twice", "--stdin --replica 1 --accounts a --accounts b", "--accounts"),
     refused("--replica without a number", "--stdin --replica", "--replica"),
     refused("--cells without a number", "--stdin --replica 1 --cells", "--cells"),
+    refused("--present without a number", "--stdin --replica 1 --present", "--present"),
     refused("--accounts without a path", "--stdin --replica 1 --accounts", "--accounts"),
     *[
         refused(f"replica {text or 'of no digits'}", f"--stdin --replica={text}", "--replica")
         for text in ["0", "65536", "70000", "-1", "1.0", "one", "0x1", "18446744073709551617", ""]
     ],
     *[refused(f"cells {text}", f"--stdin --replica 1 --cells={text}", "--cells") for text in ["0", "4097", "-1", "two", "4294967297"]],
+    *[refused(f"present {text}", f"--stdin --replica 1 --present={text}", "--present") for text in ["0", "1025", "-1", "two", "4294967297"]],
+    *[Case(f"present {count}", f"--stdin --replica 1 --present {count}", CREATE, CREATED) for count in [1, 64, 1024]],
     Case("--workers, --clients and --connections change nothing with --stdin", "--stdin --replica 1 --workers 2 --clients 1 --connections 1", CREATE, CREATED),
     Case(
         "an address without a host",

@@ -302,6 +302,46 @@ def a_pad_with_64_sessions_is_crowded():
     last.join("p")
 
 
+def three_are_present(server, pad):
+    """Three sessions of ann's are present on a pad that she creates, a fourth is refused until one leaves."""
+    owner = server.author("ann")
+    owner.does(do="create", pad=pad)
+    guests = [server.author("ann", pad) for _ in range(2)]
+    last = server.author("ann")
+    last.wants({"do": "join", "pad": pad}, {"code": 313, "error": "Crowded", "ok": False})
+    guests[0].does(do="leave", pad=pad)
+    last.join(pad)
+
+
+def a_pad_is_as_large_as_the_server_says():
+    """Without a store; with one; and where the store is read again with another number."""
+    three_are_present(Server("--present 3"), "p")
+    server = Server("--present 3 --store kept")
+    three_are_present(server, "p")
+    server.process.kill()
+    server.process.wait()
+    again = Server("--present 2 --store kept")
+    guests = [again.author("ann", "p") for _ in range(2)]
+    last = again.author("ann")
+    last.wants({"do": "join", "pad": "p"}, {"code": 313, "error": "Crowded", "ok": False})
+    guests[0].does(do="leave", pad="p")
+    last.join("p")
+
+
+def an_assembly_of_1024():
+    """A thousand and twenty-four are present, and `who` tells all of them."""
+    server = Server("--present 1024 --clients 1100 --workers 4")
+    owner = server.author("ann")
+    owner.does(do="create", pad="p")
+    guests = [server.author("ann", "p") for _ in range(1023)]
+    last = server.author("ann")
+    last.wants({"do": "join", "pad": "p"}, {"code": 313, "error": "Crowded", "ok": False})
+    who = owner.does(do="who", pad="p")["who"]
+    want([visit["visit"] for visit in who], list(range(1, 1025)), "the visits that are present")
+    guests[500].does(do="leave", pad="p")
+    want(last.join("p"), 1025, "the visit of the last one")
+
+
 def refused(name, args, *parts):
     return Case(f"crowds: {name}", args, status=2, stderr=Has(*parts), files=ACCOUNTS)
 
@@ -325,6 +365,8 @@ FUNCTIONS = [
     who_waits_is_not_silent,
     a_hundred_wait_for_one_change,
     a_pad_with_64_sessions_is_crowded,
+    a_pad_is_as_large_as_the_server_says,
+    an_assembly_of_1024,
 ]
 
 TESTS = [case.test() for case in CASES]

@@ -183,6 +183,19 @@ STORIES = [
         ("old", pull("[[1,1]]", 1), OLD_PEER),
     ),
     story("one room", BEGIN, ("ann", '{"do":"create","pad":"q"}', refusal(302, "NoSlot")), args=ARGS.replace("cells 2", "cells 1")),
+    story(
+        "two may be present",
+        BEGIN,
+        ("ann", grant("bob", "read"), '{"now":0,"ok":true}'),
+        ("bob", JOIN, '{"now":0,"ok":true,"visit":2}'),
+        ("s", HELLO["ann"], welcome("ann")),
+        ("s", JOIN, refusal(313, "Crowded")),
+        ("bob", '{"do":"leave","pad":"p"}', '{"now":0,"ok":true}'),
+        ("s", JOIN, '{"now":0,"ok":true,"visit":3}'),
+        ("bob", JOIN, refusal(313, "Crowded")),
+        args=f"{ARGS} --present 2",
+    ),
+    story("one may be present", BEGIN, ("s", HELLO["ann"], welcome("ann")), ("s", JOIN, refusal(313, "Crowded")), args=f"{ARGS} --present 1"),
     story("a connection begins unauthenticated", ("eve", CREATE, NO_SESSION), BEGIN),
     run(
         "a title begins with a new server and no session",
@@ -223,13 +236,16 @@ LINES = [
 ]
 
 COMMAND_LINE = [
-    run("help", "", Has("Usage: pad_replay", "--replica <N>", "--cells <N>", "--accounts <PATH>"), args="--help"),
+    run("help", "", Has("Usage: pad_replay", "--replica <N>", "--cells <N>", "--present <N>", "--accounts <PATH>"), args="--help"),
     refused("no words", "", "--replica"),
     refused("no accounts", "--replica 1 --cells 1", "--accounts"),
     refused("no cells", "--replica 1 --accounts accounts", "--cells"),
     refused("no replica", "--cells 1 --accounts accounts", "--replica"),
     refused("replica 0", ARGS.replace("replica 1", "replica 0"), "--replica"),
     refused("cells 4097", ARGS.replace("cells 2", "cells 4097"), "--cells"),
+    *[refused(f"present {text}", f"{ARGS} --present={text}", "--present") for text in ["0", "1025", "x"]],
+    refused("--present twice", f"{ARGS} --present 1 --present 2", "--present"),
+    run("present 1024", "# x\n", "# x\n", args=f"{ARGS} --present 1024"),
     refused("an unknown word", ARGS + " more", "more"),
     run("an unknown word, standard error closed", "", status=2, args="--wrong", errors_to=CLOSED),
     Case("a bad line of accounts", ARGS, "# x\n", "", 2, "pad_replay: 500 BadAccounts line 2\n", (("accounts", "author ann t1\nauthor ann t1\n"),), "pad_replay"),

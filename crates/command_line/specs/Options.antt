@@ -7,6 +7,7 @@ use Rattle.clap.specs.declared.builder.value_parser.ValueParser.TheVariants as p
 use Rattle.clap.specs.declared.error.kind.ErrorKind.{ErrorKind}
 use Rattle.clap.specs.declared.error.kind.ErrorKind.TheVariants as kind
 use Rattle.clap.specs.declared.parser.matches.ArgMatches.{ArgMatches}
+use Rattle.sessions.specs.declared.presence.TheConstants.{MAX_PRESENT}
 use Rattle.server_core.specs.declared.limits.TheConstants.{MAX_CELLS}
 
 -- an option `--name` that takes one value, as clap's words have it
@@ -28,6 +29,10 @@ replica_rule = record (number_rule (codes "replica") 1 65535) { required = true 
 -- `--cells N`
 abbrev pub cells_rule : Rule
 cells_rule = number_rule (codes "cells") 1 MAX_CELLS
+
+-- `--present N`
+abbrev pub present_rule : Rule
+present_rule = number_rule (codes "present") 1 MAX_PRESENT
 
 -- `--accounts PATH`
 abbrev pub accounts_rule : Rule

@@ -1,10 +1,12 @@
 //! The numbers that the options hold.
 ghost use Rattle.std.specs.Prelude.{◌≡◌, ◌≤◌, codes};
 ghost use Rattle.server_core.specs.declared.limits.TheConstants.{DEFAULT_CELLS, MAX_CELLS};
+ghost use Rattle.sessions.specs.declared.presence.TheConstants.{DEFAULT_PRESENT, MAX_PRESENT};
 ghost use Rattle.command_line.specs.Options.{Holds, named_or};
 
 use clap::ArgMatches;
 use server_core::{DEFAULT_CELLS, MAX_CELLS};
+use sessions::{DEFAULT_PRESENT, MAX_PRESENT};
 
 /// `named`, or `other` if it is None or 0.
 pub fn replica_or(named: Option<u16>, other: u16) -> u16
@@ -33,5 +35,16 @@ pub fn cells_of(matches: &ArgMatches<'_>) -> u32
     match matches.get_one::<u32>("cells") {
         Some(cells) if cells <= MAX_CELLS => cells,
         _ => DEFAULT_CELLS,
+    }
+}
+
+/// The number of `--present`, or `DEFAULT_PRESENT` without one.
+pub fn present_of(matches: &ArgMatches<'_>) -> u64
+    ensures value { Holds (codes "present") 0 MAX_PRESENT DEFAULT_PRESENT matches.now result }
+    ensures most { result ≤ MAX_PRESENT }
+{
+    match matches.get_one::<u32>("present") {
+        Some(present) if u64::from(present) <= MAX_PRESENT => u64::from(present),
+        _ => DEFAULT_PRESENT,
     }
 }

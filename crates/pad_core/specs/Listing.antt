@@ -34,7 +34,7 @@ pads_of who cells = flat_map (λ m. one_or_none (listing who m)) cells
 
 -- a cell as it is without its pad
 abbrev pub emptied : Machine → Machine
-emptied m = record { owned = None; replica = m.replica; log = []; held = []; presence = nobody_present }
+emptied m = record { owned = None; replica = m.replica; log = []; held = []; presence = nobody_present m.presence.limit }
 
 -- a pad that somebody is told of, or the cell without it
 abbrev pub as_told : Who → Machine → Machine

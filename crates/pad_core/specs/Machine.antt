@@ -224,9 +224,9 @@ abbrev pub name_of : Option Owned → Option (List ℕ)
 name_of None = None
 name_of (Some owned) = Some owned.name
 
--- nobody is present, and nobody was
-abbrev pub nobody_present : Presence
-nobody_present = record { given = 0; present = [] }
+-- nobody is present, and nobody was, where this many may be at once
+abbrev pub nobody_present : ℕ → Presence
+nobody_present limit = record { limit = limit; given = 0; present = [] }
 
 -- a claim of a pad for a name and an owner, who is then present
 abbrev pub claim : List ℕ → List ℕ → Machine → Result Claim Refusal × Machine
@@ -246,7 +246,7 @@ IsAdmitted (Some owned) p name visit act = author_refusal owned.rights p name vi
 
 -- a pad without a name was never joined; one with a name has a well-formed one, and so has whoever has a right on it
 abbrev pub IsOwned : Option Owned → Presence → Type 0
-IsOwned None presence = presence ≡ nobody_present
+IsOwned None presence = presence ≡ nobody_present presence.limit
 IsOwned (Some owned) presence = IsTrue (is_name owned.rights.owner)
     × AllByRecursion (λ e. IsTrue (is_name e.0)) owned.rights.grants × IsTrue (is_name owned.name)
 

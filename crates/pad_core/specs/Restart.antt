@@ -10,7 +10,7 @@ use Rattle.pad_model.specs.declared.refusal.Refusal.{Refusal}
 use Rattle.pad_model.specs.declared.refusal.Refusal.TheVariants.{NoPad, PadExists, BadName, BadOp, PeerFault}
 use Rattle.rights.specs.Rights.{Rights, grant}
 use Rattle.rights.specs.declared.right.Right.{Right}
-use Rattle.sessions.specs.Presence.{Presence, join_refusal, joined, left}
+use Rattle.sessions.specs.Presence.{Presence, joined, left, spent_refusal}
 use Rattle.pad_core.specs.Counts.{vector_of}
 use Rattle.pad_core.specs.Delivered.{delivery_refusal}
 use Rattle.pad_core.specs.Machine.{Machine, claim}
@@ -20,9 +20,9 @@ use Rattle.pad_core.specs.declared.owned.Owned.{Owned}
 abbrev pub ended : Presence → Presence
 ended p = record p { present = left p.given p.present }
 
--- one more visit, which has ended
+-- one more visit, which has ended: so it is refused only where no further number is given, however many may be present
 abbrev pub visited : List ℕ → Presence → Result (Unit {0}) Refusal × Presence
-visited author p = unless_refused (join_refusal p)
+visited author p = unless_refused (spent_refusal p)
   where
     unless_refused : Option Refusal → Result (Unit {0}) Refusal × Presence
     unless_refused (Some refusal) = (Err refusal, p)
@@ -89,4 +89,4 @@ restore_operation op m = let done = delivered_again op m.log in (done.0, record 
 
 -- the pad after a restart: the same name, rights, operations and count of visits. Nobody is present and nothing is held
 abbrev pub restarted : Machine → Machine
-restarted m = record m { held = []; presence = record { given = m.presence.given; present = [] } }
+restarted m = record m { held = []; presence = record m.presence { present = [] } }

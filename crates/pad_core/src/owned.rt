@@ -39,11 +39,11 @@ pub fn own(
     name: &str,
     owner: &str,
 ) -> Result<Claim, Refusal>
-    requires { presence.old ≡ nobody_present }
+    requires { presence.old ≡ nobody_present presence.old.limit }
     ensures { Answers {S = Option Owned × Presence} (owned.old, presence.old) (Ok (Claim.Created (presence.old.given + 1)), (Some (record { name = name.now; rights = record { owner = owner.now; grants = [] } }), joined owner.now presence.old)) result (owned.new, presence.new) }
 {
     let named = Owned::new(alloc, name, owner)?;
-    let visit = presence.join(alloc, owner)?;
+    let visit = presence.enter(alloc, owner)?;
     *owned = Some(named);
     Ok(Claim::Created { visit })
 }

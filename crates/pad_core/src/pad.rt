@@ -55,10 +55,10 @@ impl<S: Sequence> Model for Pad<S> {
 }
 
 impl<S: Sequence> Pad<S> {
-    /// A pad without a name on the server with this replica number.
-    pub fn new(alloc: Global, replica: u16) -> Result<Pad<S>, Refusal>
+    /// A pad without a name on the server with this replica number, where this many visits may be present at once.
+    pub fn new(alloc: Global, replica: u16, present: u64) -> Result<Pad<S>, Refusal>
         requires { 1 ≤ replica }
-        ensures { MatchResult result (λ pad. pad ≡ record { owned = None; replica = replica; log = []; held = []; presence = nobody_present }) (λ e. e ≡ Refusal.Memory) }
+        ensures { MatchResult result (λ pad. pad ≡ record { owned = None; replica = replica; log = []; held = []; presence = nobody_present present }) (λ e. e ≡ Refusal.Memory) }
     {
         let ledger = Ledger::new(alloc)?;
         Ok(Pad {
@@ -66,7 +66,7 @@ impl<S: Sequence> Pad<S> {
             replica,
             ledger,
             held: Hold::new(alloc),
-            presence: PresenceBook::new(alloc),
+            presence: PresenceBook::new(alloc, present),
         })
     }
 

@@ -21,7 +21,7 @@ pub fn own_again(
     name: &str,
     owner: &str,
 ) -> Result<(), Refusal>
-    requires { presence.old ≡ nobody_present }
+    requires { presence.old ≡ nobody_present presence.old.limit }
     ensures { Answers {S = Option Owned × Presence} (owned.old, presence.old) (Ok tt, (Some (record { name = name.now; rights = record { owner = owner.now; grants = [] } }), ended (joined owner.now presence.old))) result (owned.new, presence.new) }
 {
     own(alloc, owned, presence, name, owner)?;
@@ -29,11 +29,11 @@ pub fn own_again(
     Ok(())
 }
 
-/// One more visit, which has ended.
+/// One more visit, which has ended. It counts towards no limit of those present.
 pub fn visit_again(alloc: Global, presence: &mut PresenceBook, author: &str) -> Result<(), Refusal>
     ensures { Answers presence.old (visited author.now presence.old) result presence.new }
 {
-    let visit = presence.join(alloc, author)?;
+    let visit = presence.enter(alloc, author)?;
     let _left = presence.leave(visit);
     Ok(())
 }

@@ -25,8 +25,8 @@ use Rattle.records.specs.Records.{replay_all, replayed, unless_refused}
 use Rattle.records.specs.declared.kept_record.Record.TheVariants.{Delivered}
 
 -- a restarted pad with these
-abbrev pub bare : Option Owned → ℕ → List Op → ℕ → Machine
-bare o replica log given = record { owned = o; replica = replica; log = log; held = []; presence = record { given = given; present = [] } }
+abbrev pub bare : Option Owned → ℕ → ℕ → List Op → ℕ → Machine
+bare o replica limit log given = record { owned = o; replica = replica; log = log; held = []; presence = record { limit = limit; given = given; present = [] } }
 
 checked_at : (before log : List Op) (op : Op) (more : List Op) → Continues before (log ++ op ∷ more) →
     IsTrue (is_checked op) × IsTrue (is_valid op (before ++ log))
@@ -80,45 +80,49 @@ again_at log op more d =
     rw (checked, next) (not_refused log op (allowed_at log op more d))
 
 -- and so a restarted pad has it
-one_again : (o : Option Owned) (replica : ℕ) (log : List Op) (given : ℕ) (op : Op) → restore_refusal op log ≡ None →
-    replayed (Ok (bare o replica log given)) (Delivered op) ≡ Ok (bare o replica (log ++ op ∷ []) given)
-one_again o replica log given op e = ap (λ (d : Result (Unit {0}) Refusal × List Op). unless_refused (
+one_again : (o : Option Owned) (replica limit : ℕ) (log : List Op) (given : ℕ) (op : Op) →
+    restore_refusal op log ≡ None →
+    replayed (Ok (bare o replica limit log given)) (Delivered op) ≡ Ok (bare o replica limit (log ++ op ∷ []) given)
+one_again o replica limit log given op e = ap (λ (d : Result (Unit {0}) Refusal × List Op). unless_refused (
   d.0,
-  bare o replica d.1 given,
+  bare o replica limit d.1 given,
 )) again
   where
     again : delivered_again op log ≡ (Ok tt, log ++ op ∷ [])
     again = rw e refl
 
 -- and all of them
-pub all_again : (o : Option Owned) (replica : ℕ) (log more : List Op) (given : ℕ) → IsDelivered (log ++ more) →
-    replay_all (map Delivered more) (bare o replica log given) ≡ Ok (bare o replica (log ++ more) given)
-all_again o replica log [] given d = ap (λ (l : List Op). Ok (bare o replica l given)) (sym (append-nil log))
-all_again o replica log (op ∷ more) given d =
+pub all_again : (o : Option Owned) (replica limit : ℕ) (log more : List Op) (given : ℕ) → IsDelivered (log ++ more) →
+    replay_all (map Delivered more) (bare o replica limit log given) ≡ Ok (bare o replica limit (log ++ more) given)
+all_again o replica limit log [] given d = ap (λ (l : List Op). Ok (bare o replica limit l given)) (sym (append-nil log))
+all_again o replica limit log (op ∷ more) given d =
     ap (λ (m : Result Machine Refusal). fold replayed m (map Delivered more))
-    (one_again o replica log given op (again_at log op more d))
-    ∙ (all_again o replica (log ++ op ∷ []) more given (subst IsDelivered (sym (append_assoc log (op ∷ []) more)) d)
-    ∙ ap (λ (l : List Op). Ok (bare o replica l given)) (append_assoc log (op ∷ []) more))
+    (one_again o replica limit log given op (again_at log op more d))
+    ∙ (all_again o replica limit (log ++ op ∷ []) more given
+    (subst IsDelivered (sym (append_assoc log (op ∷ []) more)) d)
+    ∙ ap (λ (l : List Op). Ok (bare o replica limit l given)) (append_assoc log (op ∷ []) more))
 
 -- and the first of them alone
-pub front_again : (o : Option Owned) (replica : ℕ) (log first rest : List Op) (given : ℕ) →
-    IsDelivered (log ++ (first ++ rest)) → replay_all (map Delivered first) (bare o replica log given)
-    ≡ Ok (bare o replica (log ++ first) given)
-front_again o replica log [] rest given d = ap (λ (l : List Op). Ok (bare o replica l given)) (sym (append-nil log))
-front_again o replica log (op ∷ first) rest given d =
+pub front_again : (o : Option Owned) (replica limit : ℕ) (log first rest : List Op) (given : ℕ) →
+    IsDelivered (log ++ (first ++ rest)) → replay_all (map Delivered first) (bare o replica limit log given)
+    ≡ Ok (bare o replica limit (log ++ first) given)
+front_again o replica limit log [] rest given d = ap (λ (l : List Op). Ok (bare o replica limit l given))
+    (sym (append-nil log))
+front_again o replica limit log (op ∷ first) rest given d =
     ap (λ (m : Result Machine Refusal). fold replayed m (map Delivered first))
-    (one_again o replica log given op (again_at log op (first ++ rest) d))
-    ∙ (front_again o replica (log ++ op ∷ []) first rest given
+    (one_again o replica limit log given op (again_at log op (first ++ rest) d))
+    ∙ (front_again o replica limit (log ++ op ∷ []) first rest given
     (subst IsDelivered (sym (append_assoc log (op ∷ []) (first ++ rest))) d)
-    ∙ ap (λ (l : List Op). Ok (bare o replica l given)) (append_assoc log (op ∷ []) first))
+    ∙ ap (λ (l : List Op). Ok (bare o replica limit l given)) (append_assoc log (op ∷ []) first))
 
 -- where nothing but the log and those present has changed
 pub quiet : (old after : Machine) (more : List Op) → after.owned ≡ old.owned → after.replica ≡ old.replica →
-    after.presence.given ≡ old.presence.given → after.log ≡ old.log ++ more → IsDelivered after.log →
-    replay_all (map Delivered more) (restarted old) ≡ Ok (restarted after)
-quiet old after more owned replica given grown d =
-    all_again old.owned old.replica old.log more old.presence.given (subst IsDelivered grown d)
-    ∙ (ap (λ (l : List Op). Ok (bare old.owned old.replica l old.presence.given)) (sym grown)
-    ∙ (ap (λ (o : Option Owned). Ok (bare o old.replica after.log old.presence.given)) (sym owned)
-    ∙ (ap (λ (r : ℕ). Ok (bare after.owned r after.log old.presence.given)) (sym replica)
-    ∙ ap (λ (g : ℕ). Ok (bare after.owned after.replica after.log g)) (sym given))))
+    after.presence.limit ≡ old.presence.limit → after.presence.given ≡ old.presence.given → after.log ≡ old.log ++ more →
+    IsDelivered after.log → replay_all (map Delivered more) (restarted old) ≡ Ok (restarted after)
+quiet old after more owned replica limit given grown d =
+    all_again old.owned old.replica old.presence.limit old.log more old.presence.given (subst IsDelivered grown d)
+    ∙ (ap (λ (l : List Op). Ok (bare old.owned old.replica old.presence.limit l old.presence.given)) (sym grown)
+    ∙ (ap (λ (o : Option Owned). Ok (bare o old.replica old.presence.limit after.log old.presence.given)) (sym owned)
+    ∙ (ap (λ (r : ℕ). Ok (bare after.owned r old.presence.limit after.log old.presence.given)) (sym replica)
+    ∙ (ap (λ (n : ℕ). Ok (bare after.owned after.replica n after.log old.presence.given)) (sym limit)
+    ∙ ap (λ (g : ℕ). Ok (bare after.owned after.replica after.presence.limit after.log g)) (sym given)))))

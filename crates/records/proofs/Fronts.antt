@@ -26,13 +26,13 @@ use Rattle.records.specs.Records.{Answer, act_records, claim_records, rebuilt, r
 use Rattle.records.specs.declared.kept_record.Record.{Record}
 use Rattle.records.specs.declared.kept_record.Record.TheVariants.{Delivered}
 use Rattle.records.proofs.Deliveries.{front_again}
-use Rattle.records.proofs.Numbers.{any_number}
+use Rattle.records.proofs.Numbers.{any_numbers}
 use Rattle.records.proofs.Steps.{life_again}
 
--- some records lead to a pad that was there on the way, whatever the server's number is
-abbrev Found : ℕ → List Record → Machine → List Record → Type 0
-Found replica records m front = (had : Machine) × Had replica records m front had
-    × ((number : ℕ) → rebuilt number front ≡ Ok (restarted_by number had))
+-- some records lead to a pad that was there on the way, whatever the server's numbers are
+abbrev Found : ℕ → ℕ → List Record → Machine → List Record → Type 0
+Found replica present records m front = (had : Machine) × Had replica present records m front had
+    × ((number most : ℕ) → rebuilt number most front ≡ Ok (restarted_by number most had))
 
 -- one record at most, or one for each operation
 abbrev IsFew : List Record → List Op → Type 0
@@ -57,35 +57,35 @@ few w request.Pads answer more = inl (omega arith)
 few w (request.Hello name token) answer more = inl (omega arith)
 few w (request.Peer number token version) answer more = inl (omega arith)
 
-whole : (replica : ℕ) (records : List Record) (m : Machine) → Life replica records m → Found replica records m records
-whole replica records m life = (
+whole : (replica present : ℕ) (records : List Record) (m : Machine) → Life replica present records m → Found replica present records m records
+whole replica present records m life = (
   m,
-  last replica records m life,
-  any_number replica records m (life_again replica records m life),
+  last replica present records m life,
+  any_numbers replica present records m (life_again replica present records m life),
 )
 
 -- the operations that a request delivered first are delivered again
-part_again : (replica : ℕ) (records : List Record) (old : Machine) (first rest : List Op) → Life replica records old →
+part_again : (replica present : ℕ) (records : List Record) (old : Machine) (first rest : List Op) → Life replica present records old →
     IsDelivered (old.log ++ (first ++ rest)) →
-    rebuilt replica (records ++ map Delivered first) ≡ Ok (restarted (record old { log = old.log ++ first }))
-part_again replica records old first rest life d =
-    fold-append replayed (Ok (unnamed replica)) records (map Delivered first)
-    ∙ (ap (λ (r : Result Machine Refusal). fold replayed r (map Delivered first)) (life_again replica records old life)
-    ∙ front_again old.owned old.replica old.log first rest old.presence.given d)
+    rebuilt replica present (records ++ map Delivered first) ≡ Ok (restarted (record old { log = old.log ++ first }))
+part_again replica present records old first rest life d =
+    fold-append replayed (Ok (unnamed replica present)) records (map Delivered first)
+    ∙ (ap (λ (r : Result Machine Refusal). fold replayed r (map Delivered first)) (life_again replica present records old life)
+    ∙ front_again old.owned old.replica old.presence.limit old.log first rest old.presence.given d)
 
 -- within a request
-part : (replica : ℕ) (records : List Record) (w : Who) (this : Request) (cell : ℕ) (rooms : List Room) (old : Machine)
+part : (replica present : ℕ) (records : List Record) (w : Who) (this : Request) (cell : ℕ) (rooms : List Room) (old : Machine)
     (answer : Answer) (new : List Room) (after : Machine) (more first rest : List Op) →
-    first ++ rest ≡ more → Life replica records old → Left w this cell rooms old answer new after more →
-    Found replica (records ++ records_of w this answer more) after (records ++ map Delivered first)
-part replica records w this cell rooms old answer new after more first rest is life l =
-    subst (λ (all : List Op). Found replica (records ++ records_of w this answer all) after
+    first ++ rest ≡ more → Life replica present records old → Left w this cell rooms old answer new after more →
+    Found replica present (records ++ records_of w this answer more) after (records ++ map Delivered first)
+part replica present records w this cell rooms old answer new after more first rest is life l =
+    subst (λ (all : List Op). Found replica present (records ++ records_of w this answer all) after
     (records ++ map Delivered first)) is (
       record old { log = old.log ++ first },
-      within replica records w this cell rooms old answer new after first rest life
+      within replica present records w this cell rooms old answer new after first rest life
           parted,
-      any_number replica (records ++ map Delivered first) (record old { log = old.log ++ first })
-          (part_again replica records old first rest life delivered),
+      any_numbers replica present (records ++ map Delivered first) (record old { log = old.log ++ first })
+          (part_again replica present records old first rest life delivered),
     )
   where
     parted : Left w this cell rooms old answer new after (first ++ rest)
@@ -95,70 +95,70 @@ part replica records w this cell rooms old answer new after more first rest is l
     delivered = subst IsDelivered parted.grown parted.delivered
 
 -- a front of what a request leaves
-asked_front : (replica : ℕ) (records : List Record) (w : Who) (this : Request) (cell : ℕ) (rooms : List Room)
+asked_front : (replica present : ℕ) (records : List Record) (w : Who) (this : Request) (cell : ℕ) (rooms : List Room)
     (old : Machine) (answer : Answer) (new : List Room) (after : Machine) (more : List Op) (n : ℕ) →
-    Life replica records old → Left w this cell rooms old answer new after more → 1 ≤ n →
-    Found replica (records ++ records_of w this answer more) after (records ++ take n (records_of w this answer more))
-asked_front replica records w this cell rooms old answer new after more n life l some = at (few w this answer more)
+    Life replica present records old → Left w this cell rooms old answer new after more → 1 ≤ n →
+    Found replica present (records ++ records_of w this answer more) after (records ++ take n (records_of w this answer more))
+asked_front replica present records w this cell rooms old answer new after more n life l some = at (few w this answer more)
   where
-    at : IsFew (records_of w this answer more) more → Found replica (records ++ records_of w this answer more) after
+    at : IsFew (records_of w this answer more) more → Found replica present (records ++ records_of w this answer more) after
         (records ++ take n (records_of w this answer more))
     at (inl one) =
-        subst (λ (rs : List Record). Found replica (records ++ records_of w this answer more) after (records ++ rs))
+        subst (λ (rs : List Record). Found replica present (records ++ records_of w this answer more) after (records ++ rs))
         (sym (take_all n (records_of w this answer more) (omega arith)))
-        (whole replica (records ++ records_of w this answer more) after
-        (asked replica records w this cell rooms old answer new after more life l))
+        (whole replica present (records ++ records_of w this answer more) after
+        (asked replica present records w this cell rooms old answer new after more life l))
     at (inr is) =
-        subst (λ (rs : List Record). Found replica (records ++ records_of w this answer more) after (records ++ rs))
+        subst (λ (rs : List Record). Found replica present (records ++ records_of w this answer more) after (records ++ rs))
         (sym (ap (take n) is ∙ take-map Delivered n more))
-        (part replica records w this cell rooms old answer new after more (take n more) (drop n more)
+        (part replica present records w this cell rooms old answer new after more (take n more) (drop n more)
         (take-append-drop n more) life l)
 
-pub front : (replica : ℕ) (records : List Record) (m : Machine) (count : ℕ) → Life replica records m →
-    Found replica records m (take count records)
-front replica records m count (begins same) = subst (Found replica [] (unnamed replica)) (sym (take-nil count))
-    (whole replica [] (unnamed replica) (begins replica))
-front replica records m count (asked same before w this cell rooms old answer new after more life l) =
-    at (leb_tells count (length before)) (front replica before old count life)
+pub front : (replica present : ℕ) (records : List Record) (m : Machine) (count : ℕ) → Life replica present records m →
+    Found replica present records m (take count records)
+front replica present records m count (begins same most) = subst (Found replica present [] (unnamed replica present)) (sym (take-nil count))
+    (whole replica present [] (unnamed replica present) (begins replica present))
+front replica present records m count (asked same most before w this cell rooms old answer new after more life l) =
+    at (leb_tells count (length before)) (front replica present before old count life)
   where
     at : ((nat_le count (length before) ≡ true) × (count ≤ length before))
         ⊎ ((nat_le count (length before) ≡ false) × (length before < count)) →
-        Found replica before old (take count before) →
-        Found replica (before ++ records_of w this answer more) after
+        Found replica present before old (take count before) →
+        Found replica present (before ++ records_of w this answer more) after
         (take count (before ++ records_of w this answer more))
     at (inl (_, low)) (had, there, is) =
-        subst (Found replica (before ++ records_of w this answer more) after)
+        subst (Found replica present (before ++ records_of w this answer more) after)
         (sym (take-append-le count before (records_of w this answer more) low))
-        (had, earlier replica before w this cell rooms old answer new after more (take count before) had there l, is)
+        (had, earlier replica present before w this cell rooms old answer new after more (take count before) had there l, is)
     at (inr (_, high)) found = past (count - length before) (omega arith) (omega arith)
       where
         past : (n : ℕ) → count ≡ length before + n → 1 ≤ n →
-            Found replica (before ++ records_of w this answer more) after
+            Found replica present (before ++ records_of w this answer more) after
             (take count (before ++ records_of w this answer more))
         past n is some =
-            subst (Found replica (before ++ records_of w this answer more) after)
+            subst (Found replica present (before ++ records_of w this answer more) after)
             (sym (ap (λ k. take k (before ++ records_of w this answer more)) is
             ∙ take-append-add before (records_of w this answer more) n))
-            (asked_front replica before w this cell rooms old answer new after more n life l some)
-front replica records m count (left same before name w visit old life) = at (front replica before old count life)
+            (asked_front replica present before w this cell rooms old answer new after more n life l some)
+front replica present records m count (left same most before name w visit old life) = at (front replica present before old count life)
   where
-    at : Found replica before old (take count before) → Found replica before m (take count before)
-    at (had, there, is) = (had, unended replica before name w visit old (take count before) had there, is)
-front replica records m count (starts_again was before old few number again life leads) =
-    at (leb_tells count few) (λ n. front was before old n life)
+    at : Found replica present before old (take count before) → Found replica present before m (take count before)
+    at (had, there, is) = (had, unended replica present before name w visit old (take count before) had there, is)
+front replica present records m count (starts_again was had_room before old few number most again life leads) =
+    at (leb_tells count few) (λ n. front was had_room before old n life)
   where
     at : ((nat_le count few ≡ true) × (count ≤ few)) ⊎ ((nat_le count few ≡ false) × (few < count)) →
-        ((n : ℕ) → Found was before old (take n before)) → Found replica records m (take count records)
-    at (inl (_, low)) fronts = subst (Found replica records m) (sym (take-take count few before low)) (kept (fronts count))
+        ((n : ℕ) → Found was had_room before old (take n before)) → Found replica present records m (take count records)
+    at (inl (_, low)) fronts = subst (Found replica present records m) (sym (take-take count few before low)) (kept (fronts count))
       where
-        kept : Found was before old (take count before) → Found replica records m (take count before)
-        kept (had, there, is) = (had, before_start was before old few number again (take count before) had there leads, is)
+        kept : Found was had_room before old (take count before) → Found replica present records m (take count before)
+        kept (had, there, is) = (had, before_start was had_room before old few number most again (take count before) had there leads, is)
     at (inr (_, high)) fronts =
-        subst (Found replica records m) (sym (take_all count (take few before) (short (length-take few before))))
+        subst (Found replica present records m) (sym (take_all count (take few before) (short (length-take few before))))
         (kept (fronts few))
       where
         short : length (take few before) ≡ min few (length before) → length (take few before) ≤ count
         short is = omega (arith, high, is)
 
-        kept : Found was before old (take few before) → Found replica records m (take few before)
-        kept (had, there, is) = (had, before_start was before old few number again (take few before) had there leads, is)
+        kept : Found was had_room before old (take few before) → Found replica present records m (take few before)
+        kept (had, there, is) = (had, before_start was had_room before old few number most again (take few before) had there leads, is)

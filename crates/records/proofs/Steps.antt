@@ -12,11 +12,11 @@ use Rattle.pad_model.specs.declared.who.Who.TheVariants as who
 use Rattle.pad_model.specs.declared.who.Version.{Version}
 use Rattle.rights.specs.Rights.{Rights, grant, is_full}
 use Rattle.rights.specs.declared.right.Right.{Right}
-use Rattle.sessions.specs.Presence.{Presence, join_refusal, joined}
-use Rattle.sessions.specs.declared.presence.TheConstants.{MAX_PRESENT}
+use Rattle.sessions.specs.Presence.{Presence, join_refusal, joined, spent_refusal, with_caret}
 use Rattle.sessions.specs.declared.session.Room.{Room}
 use Rattle.pad_core.specs.Counts.{characters_at}
 use Rattle.pad_core.specs.Delivered.{IsDelivered}
+use Rattle.pad_core.specs.Edits.{before_place}
 use Rattle.pad_core.specs.Grants.{grant as granted, told_done}
 use Rattle.pad_core.specs.Machine.{Machine, author_act, author_refusal, author_step, now_of, nobody_refusal}
 use Rattle.pad_core.specs.Machine.{peer_act, session_step, step, need_of}
@@ -60,23 +60,23 @@ either P false x y p q = q
 abbrev machine : Option Owned → ℕ → List Op → List Op → Presence → Machine
 machine o replica log held p = record { owned = o; replica = replica; log = log; held = held; presence = p }
 
--- whoever can join can join an empty pad
-can_join : (p : Presence) → join_refusal p ≡ None → join_refusal (record { given = p.given; present = [] }) ≡ None
-can_join p e = (unless (nat_le MAX_PRESENT (length p.present)) Crowded _ e).1
+-- where somebody can join, a further number is given
+can_join : (p : Presence) → join_refusal p ≡ None → spent_refusal p ≡ None
+can_join p e = (unless (nat_le p.limit (length p.present)) Crowded _ e).1
 
 visit_again : (owned : Owned) (replica : ℕ) (log : List Op) (p : Presence) → join_refusal p ≡ None →
-    replay_all (kept.Visited ∷ []) (bare (Some owned) replica log p.given)
-    ≡ Ok (bare (Some owned) replica log (p.given + 1))
+    replay_all (kept.Visited ∷ []) (bare (Some owned) replica p.limit log p.given)
+    ≡ Ok (bare (Some owned) replica p.limit log (p.given + 1))
 visit_again owned replica log p e =
     ap (λ (d : Result (Unit {0}) Refusal × Presence). unless_refused (
       d.0,
       record { owned = Some owned; replica = replica; log = log; held = []; presence = d.1 },
     )) counts
   where
-    counts : visited owned.rights.owner (record { given = p.given; present = [] })
-        ≡ (Ok tt, record { given = p.given + 1; present = [] })
+    counts : visited owned.rights.owner (record { limit = p.limit; given = p.given; present = [] })
+        ≡ (Ok tt, record { limit = p.limit; given = p.given + 1; present = [] })
     counts = rw (can_join p e) (ap (λ (q : Presence). (let r : Result (Unit {0}) Refusal × Presence = (Ok tt, q) in r))
-        (alone p.given owned.rights.owner))
+        (alone p.limit p.given owned.rights.owner))
 
 joins : (owned : Owned) (name : List ℕ) (m : Machine) → m.owned ≡ Some owned →
     Leads (act_records act.Join) m (passed_on (join (now_of m) name m.presence).0)
@@ -94,24 +94,25 @@ joins owned name m is = at (join_refusal m.presence) refl
     allowed q = rw q refl
 
     at : (r : Option Refusal) → join_refusal m.presence ≡ r → Goal (join (now_of m) name m.presence)
-    at (Some e) q = subst Goal (sym (refused e q)) (λ more grown d. quiet m m more refl refl refl grown d)
+    at (Some e) q = subst Goal (sym (refused e q)) (λ more grown d. quiet m m more refl refl refl refl grown d)
     at None q =
         subst Goal (sym (allowed q))
         (λ more grown d. subst (λ (o : Option Owned). replay_all (kept.Visited ∷ [])
-        (bare o m.replica m.log m.presence.given) ≡ Ok (bare o m.replica m.log (m.presence.given + 1))) (sym is)
+        (bare o m.replica m.presence.limit m.log m.presence.given)
+        ≡ Ok (bare o m.replica m.presence.limit m.log (m.presence.given + 1))) (sym is)
         (visit_again owned m.replica m.log m.presence q))
 
-grant_again : (owned : Owned) (replica : ℕ) (log : List Op) (given : ℕ) (author : List ℕ) (right : Option Right)
+grant_again : (owned : Owned) (replica limit : ℕ) (log : List Op) (given : ℕ) (author : List ℕ) (right : Option Right)
     (book : Rights) → is_name author ≡ true → grant owned.rights author right ≡ (Ok tt, book) →
-    replay_all (kept.Granted author right ∷ []) (bare (Some owned) replica log given)
-    ≡ Ok (bare (Some (record owned { rights = book })) replica log given)
-grant_again owned replica log given author right book named is =
+    replay_all (kept.Granted author right ∷ []) (bare (Some owned) replica limit log given)
+    ≡ Ok (bare (Some (record owned { rights = book })) replica limit log given)
+grant_again owned replica limit log given author right book named is =
     ap unless_refused grants_it
   where
-    grants_it : restore_grant author right (bare (Some owned) replica log given)
-        ≡ (Ok tt, bare (Some (record owned { rights = book })) replica log given)
+    grants_it : restore_grant author right (bare (Some owned) replica limit log given)
+        ≡ (Ok tt, bare (Some (record owned { rights = book })) replica limit log given)
     grants_it = rw named (ap (λ (d : Result (Unit {0}) Refusal × Rights). (let r : Result (Unit {0}) Refusal
-        × Machine = (d.0, bare (Some (record owned { rights = d.1 })) replica log given) in r)) is)
+        × Machine = (d.0, bare (Some (record owned { rights = d.1 })) replica limit log given) in r)) is)
 
 -- a grant is refused and changes nothing, or stands
 abbrev Grants : Rights → Result (Unit {0}) Refusal × Rights → Type 0
@@ -135,13 +136,13 @@ gives owned author right m is named = at (grant owned.rights author right) refl 
     at : (done : Result (Unit {0}) Refusal × Rights) → grant owned.rights author right ≡ done →
         Grants owned.rights done → Goal done
     at done q (inl (e, same)) = subst Goal (sym same)
-        (λ more grown d. quiet m (record m { owned = Some owned }) more (sym is) refl refl grown d)
+        (λ more grown d. quiet m (record m { owned = Some owned }) more (sym is) refl refl refl grown d)
     at done q (inr (new, same)) =
         subst Goal (sym same)
         (λ more grown d. subst (λ (o : Option Owned). replay_all (kept.Granted author right ∷ [])
-        (bare o m.replica m.log m.presence.given)
-        ≡ Ok (bare (Some (record owned { rights = new })) m.replica m.log m.presence.given)) (sym is)
-        (grant_again owned m.replica m.log m.presence.given author right new named (q ∙ same)))
+        (bare o m.replica m.presence.limit m.log m.presence.given)
+        ≡ Ok (bare (Some (record owned { rights = new })) m.replica m.presence.limit m.log m.presence.given)) (sym is)
+        (grant_again owned m.replica m.presence.limit m.log m.presence.given author right new named (q ∙ same)))
 
 -- the operations alone lead from a pad to another one
 abbrev Moves : Machine → Machine → Type 0
@@ -149,24 +150,31 @@ Moves old after = (more : List Op) → after.log ≡ old.log ++ more → IsDeliv
     replay_all (map kept.Delivered more) (restarted old) ≡ Ok (restarted after)
 
 same : (m : Machine) → Moves m m
-same m more grown d = quiet m m more refl refl refl grown d
+same m more grown d = quiet m m more refl refl refl refl grown d
 
 logs : (m : Machine) (log : List Op) → Moves m (record m { log = log })
-logs m log more grown d = quiet m (record m { log = log }) more refl refl refl grown d
+logs m log more grown d = quiet m (record m { log = log }) more refl refl refl refl grown d
 
-present_alone : (m : Machine) (p : Presence) → p.given ≡ m.presence.given → Moves m (record m { presence = p })
-present_alone m p is more grown d = quiet m (record m { presence = p }) more refl refl is grown d
+present_alone : (m : Machine) (p : Presence) → p.limit ≡ m.presence.limit → p.given ≡ m.presence.given →
+    Moves m (record m { presence = p })
+present_alone m p limit given more grown d = quiet m (record m { presence = p }) more refl refl limit given grown d
 
 carets : (rev at visit : ℕ) (log : List Op) (m : Machine) →
     Moves m (record m { presence = (put_caret rev at visit log m.presence).1 })
-carets rev at visit log m = present_alone m (put_caret rev at visit log m.presence).1 caret_given
+carets rev at visit log m = present_alone m (put_caret rev at visit log m.presence).1 (keeps (λ p. p.limit) refl)
+    (keeps (λ p. p.given) refl)
   where
-    caret_given : (put_caret rev at visit log m.presence).1.given ≡ m.presence.given
-    caret_given =
-        either (λ (done : Result PadReply Refusal × Presence). done.1.given ≡ m.presence.given)
+    keeps : (part : Presence → ℕ) →
+        part (record m.presence {
+          present = with_caret (before_place (characters_at rev log) at) visit
+              m.presence.present;
+        }) ≡ part m.presence →
+        part (put_caret rev at visit log m.presence).1 ≡ part m.presence
+    keeps part same_part =
+        either (λ (done : Result PadReply Refusal × Presence). part done.1 ≡ part m.presence)
         (ltb (length log) rev) _ _ refl
-        (either (λ (done : Result PadReply Refusal × Presence). done.1.given ≡ m.presence.given)
-        (ltb (length (visible (characters_at rev log))) at) _ _ refl refl)
+        (either (λ (done : Result PadReply Refusal × Presence). part done.1 ≡ part m.presence)
+        (ltb (length (visible (characters_at rev log))) at) _ _ refl same_part)
 
 -- what an author's act does
 author_leads : (owned : Owned) (name : List ℕ) (visit : ℕ) (this : Act) (m : Machine) → m.owned ≡ Some owned →
@@ -174,7 +182,7 @@ author_leads : (owned : Owned) (name : List ℕ) (visit : ℕ) (this : Act) (m :
     Leads (act_records this) m (passed_on (author_act owned name visit this m).0) (author_act owned name visit this m).1
 author_leads owned name visit act.Join m is named = joins owned name m is
 author_leads owned name visit act.Leave m is named =
-    λ more grown d. quiet m (author_act owned name visit act.Leave m).1 more refl refl refl grown d
+    λ more grown d. quiet m (author_act owned name visit act.Leave m).1 more refl refl refl refl grown d
 author_leads owned name visit (act.Insert rev at text) m is named = logs m _
 author_leads owned name visit (act.Delete rev at len) m is named = logs m _
 author_leads owned name visit (act.Edit rev changes) m is named = logs m _
@@ -199,7 +207,7 @@ elsewhere other m = same m
 peer_leads : (version : Version) (this : Act) (m : Machine) →
     Leads (act_records this) m (passed_on (peer_act version this m).0) (peer_act version this m).1
 peer_leads version (act.Push op) m = λ more grown d. quiet m (peer_act version (act.Push op) m).1 more refl refl refl
-    grown d
+    refl grown d
 peer_leads version other m = same m
 
 session_leads : (owned : Owned) (w : Who) (visit : Option ℕ) (this : Act) (m : Machine) → m.owned ≡ Some owned →
@@ -241,23 +249,24 @@ step_leads name w visit this (Some owned) replica log held p =
     (elsewhere this (machine (Some owned) replica log held p))
     (session_leads owned w visit this (machine (Some owned) replica log held p) refl)
 
-claim_again : (replica : ℕ) (log : List Op) (given : ℕ) (name owner : List ℕ) → is_name name ≡ true → is_name owner
+claim_again : (replica limit : ℕ) (log : List Op) (given : ℕ) (name owner : List ℕ) → is_name name ≡ true → is_name owner
     ≡ true →
-    replay_all (kept.Named name owner ∷ []) (bare None replica log given)
-    ≡ Ok (bare (Some (record { name = name; rights = record { owner = owner; grants = [] } })) replica log (given + 1))
-claim_again replica log given name owner named owned =
+    replay_all (kept.Named name owner ∷ []) (bare None replica limit log given)
+    ≡ Ok (bare (Some (record { name = name; rights = record { owner = owner; grants = [] } })) replica limit log
+    (given + 1))
+claim_again replica limit log given name owner named owned =
     ap unless_refused claims_it
   where
-    claims_it : restore_claim name owner (bare None replica log given)
+    claims_it : restore_claim name owner (bare None replica limit log given)
         ≡ (
           Ok tt,
-          bare (Some (record { name = name; rights = record { owner = owner; grants = [] } })) replica log
+          bare (Some (record { name = name; rights = record { owner = owner; grants = [] } })) replica limit log
               (given + 1),
         )
     claims_it =
         rw (named, owned)
         (ap (λ (q : Presence). (let r : Result (Unit {0}) Refusal
-        × Machine = (Ok tt, record { owned = Some (record { name = name; rights = record { owner = owner; grants = [] } }); replica = replica; log = log; held = []; presence = q }) in r)) (alone given owner))
+        × Machine = (Ok tt, record { owned = Some (record { name = name; rights = record { owner = owner; grants = [] } }); replica = replica; log = log; held = []; presence = q }) in r)) (alone limit given owner))
 
 -- nothing is recorded where a claim fails
 unclaimed : (m : Machine) → replay_all [] (restarted m) ≡ Ok (restarted m)
@@ -272,7 +281,7 @@ create_leads : (name : List ℕ) (w : Who) (cell : ℕ) (rooms : List Room) (o :
 create_leads name who.Nobody cell rooms o replica log held p named owns more = refl
 create_leads name (who.Peer number version) cell rooms o replica log held p named owns more = refl
 create_leads name (who.Author owner) cell rooms None replica log held p named owns more =
-    claim_again replica log p.given name owner named (owns owner refl)
+    claim_again replica p.limit log p.given name owner named (owns owner refl)
 create_leads name (who.Author owner) cell rooms (Some owned) replica log held p named owns more =
     either (λ (done : Result Claim Refusal × Machine). replay_all
     (claim_records (who.Author owner) name (created name cell rooms done).0)
@@ -309,7 +318,7 @@ cut : (w : Who) (name : List ℕ) (op : Op) (old after : Machine) →
     after ≡ record old { log = after.log; held = after.held } → Leads (records_of w (request.On name (act.Push op))) old
     (Err Memory) after
 cut w name op old after is more grown d = quiet old after more (ap (λ m. m.owned) is) (ap (λ m. m.replica) is)
-    (ap (λ m. m.presence.given) is) grown d
+    (ap (λ m. m.presence.limit) is) (ap (λ m. m.presence.given) is) grown d
 
 -- the records of a request
 pub request_again : (w : Who) (this : Request) (cell : ℕ) (rooms : List Room) (old : Machine) (answer : Answer)
@@ -337,39 +346,41 @@ leave_again name w visit m = at m.owned m.replica m.log m.held m.presence
   where
     author_at : (owned : Owned) (author : List ℕ) (replica : ℕ) (log held : List Op) (p : Presence) →
         restarted (author_step owned author (Some visit) act.Leave (machine (Some owned) replica log held p)).1
-        ≡ bare (Some owned) replica log p.given
+        ≡ bare (Some owned) replica p.limit log p.given
     author_at owned author replica log held p = case (author_refusal owned.rights p author (Some visit) act.Leave) refl
       where
         case : (r : Option Refusal) → author_refusal owned.rights p author (Some visit) act.Leave ≡ r →
             restarted (author_step owned author (Some visit) act.Leave (machine (Some owned) replica log held p)).1
-            ≡ bare (Some owned) replica log p.given
+            ≡ bare (Some owned) replica p.limit log p.given
         case (Some e) is = rw is refl
         case None is = rw is refl
 
     session_at : (owned : Owned) (w : Who) (replica : ℕ) (log held : List Op) (p : Presence) →
         restarted (session_step owned w (Some visit) act.Leave (machine (Some owned) replica log held p)).1
-        ≡ bare (Some owned) replica log p.given
+        ≡ bare (Some owned) replica p.limit log p.given
     session_at owned who.Nobody replica log held p = refl
     session_at owned (who.Peer number version) replica log held p = refl
     session_at owned (who.Author author) replica log held p = author_at owned author replica log held p
 
     at : (o : Option Owned) (replica : ℕ) (log held : List Op) (p : Presence) →
-        restarted (step name w (Some visit) act.Leave (machine o replica log held p)).1 ≡ bare o replica log p.given
+        restarted (step name w (Some visit) act.Leave (machine o replica log held p)).1 ≡ bare o replica p.limit log p.given
     at None replica log held p = refl
     at (Some owned) replica log held p =
-        either (λ (done : Result PadReply Refusal × Machine). restarted done.1 ≡ bare (Some owned) replica log p.given)
+        either (λ (done : Result PadReply Refusal × Machine). restarted done.1 ≡ bare (Some owned) replica p.limit log p.given)
         (not (bytes_eq owned.name name)) (Ok pad.Elsewhere, machine (Some owned) replica log held p) _ refl
         (session_at owned w replica log held p)
 
 -- a pad's lives
-pub life_again : (replica : ℕ) (records : List Record) (m : Machine) → Life replica records m → rebuilt replica records
-    ≡ Ok (restarted m)
-life_again replica records m (begins same) = refl
-life_again replica records m (asked same before w request cell rooms old answer new after more life step_left) =
-    fold-append replayed (Ok (unnamed replica)) before (records_of w request answer more)
+pub life_again : (replica present : ℕ) (records : List Record) (m : Machine) → Life replica present records m →
+    rebuilt replica present records ≡ Ok (restarted m)
+life_again replica present records m (begins same most) = refl
+life_again replica present records m
+    (asked same most before w request cell rooms old answer new after more life step_left) =
+    fold-append replayed (Ok (unnamed replica present)) before (records_of w request answer more)
     ∙ (ap (λ (r : Result Machine Refusal). fold replayed r (records_of w request answer more))
-    (life_again replica before old life) ∙ request_again w request cell rooms old answer new after more step_left)
-life_again replica records m (left same before name w visit old life) = life_again replica before old life
-    ∙ ap Ok (sym (leave_again name w visit old))
-life_again replica records m (starts_again was before old count number again life leads) =
-    leads ∙ ap Ok (bare_stays replica records m leads)
+    (life_again replica present before old life)
+    ∙ request_again w request cell rooms old answer new after more step_left)
+life_again replica present records m (left same most before name w visit old life) =
+    life_again replica present before old life ∙ ap Ok (sym (leave_again name w visit old))
+life_again replica present records m (starts_again was had before old count number most again life leads) =
+    leads ∙ ap Ok (bare_stays replica present records m leads)

@@ -48,54 +48,58 @@ abbrev pub DeparturesLaw : Type 0
 DeparturesLaw = (name : List ℕ) (who : Who) (visit : ℕ) (m : Machine) → restarted (step name who (Some visit) Leave m).1
     ≡ restarted m
 
--- the pad as a server with this number starts again with it
-abbrev pub restarted_by : ℕ → Machine → Machine
-restarted_by number m = record (restarted m) { replica = number }
+-- the pad as a server with this replica number starts again with it, where so many visits may be present at once
+abbrev pub restarted_by : ℕ → ℕ → Machine → Machine
+restarted_by number most m = record (restarted m) { replica = number; presence = record (restarted m).presence { limit = most } }
 
--- the lives of a pad, by the number of its present server, what is kept of it, and what it is: requests and the ends of
--- visits, one after the other, and starts of a server with any number, with what some of the first records lead to
-pub data Life : ℕ → List Record → Machine → Type 0 where
-  begins : (replica : ℕ) → Life replica [] (unnamed replica)
-  asked : (replica : ℕ) (records : List Record) (who : Who) (request : Request) (cell : ℕ) (rooms : List Room)
+-- the lives of a pad, by the numbers of its present server, which are its replica number and how many visits may be
+-- present at once, what is kept of it, and what it is: requests and the ends of visits, one after the other, and starts of
+-- a server with any numbers, with what some of the first records lead to
+pub data Life : ℕ → ℕ → List Record → Machine → Type 0 where
+  begins : (replica present : ℕ) → Life replica present [] (unnamed replica present)
+  asked : (replica present : ℕ) (records : List Record) (who : Who) (request : Request) (cell : ℕ) (rooms : List Room)
       (old : Machine) (answer : Answer) (new : List Room) (after : Machine) (more : List Op) →
-      Life replica records old → Left who request cell rooms old answer new after more →
-      Life replica (records ++ records_of who request answer more) after
-  left : (replica : ℕ) (records : List Record) (name : List ℕ) (who : Who) (visit : ℕ) (m : Machine) →
-      Life replica records m → Life replica records (step name who (Some visit) Leave m).1
-  starts_again : (replica : ℕ) (records : List Record) (old : Machine) (count number : ℕ) (m : Machine) →
-      Life replica records old → rebuilt number (take count records) ≡ Ok m → Life number (take count records) m
+      Life replica present records old → Left who request cell rooms old answer new after more →
+      Life replica present (records ++ records_of who request answer more) after
+  left : (replica present : ℕ) (records : List Record) (name : List ℕ) (who : Who) (visit : ℕ) (m : Machine) →
+      Life replica present records m → Life replica present records (step name who (Some visit) Leave m).1
+  starts_again : (replica present : ℕ) (records : List Record) (old : Machine) (count number most : ℕ) (m : Machine) →
+      Life replica present records old → rebuilt number most (take count records) ≡ Ok m →
+      Life number most (take count records) m
 
 -- what a pad left in all its lives is never refused, and leads to the restarted pad
 abbrev pub LivesLaw : Type 0
-LivesLaw = (replica : ℕ) (records : List Record) (m : Machine) → Life replica records m → rebuilt replica records
-    ≡ Ok (restarted m)
+LivesLaw = (replica present : ℕ) (records : List Record) (m : Machine) → Life replica present records m →
+    rebuilt replica present records ≡ Ok (restarted m)
 
 -- a state that a pad had in lives that left some records and led to a pad, with the records that it had left by then:
 -- before and after each request, within a request between the operations that it delivered, and before a start
-pub data Had : ℕ → List Record → Machine → List Record → Machine → Type 0 where
-  last : (replica : ℕ) (records : List Record) (m : Machine) → Life replica records m → Had replica records m records m
-  within : (replica : ℕ) (records : List Record) (who : Who) (request : Request) (cell : ℕ) (rooms : List Room)
+pub data Had : ℕ → ℕ → List Record → Machine → List Record → Machine → Type 0 where
+  last : (replica present : ℕ) (records : List Record) (m : Machine) → Life replica present records m →
+      Had replica present records m records m
+  within : (replica present : ℕ) (records : List Record) (who : Who) (request : Request) (cell : ℕ) (rooms : List Room)
       (old : Machine) (answer : Answer) (new : List Room) (after : Machine) (first rest : List Op) →
-      Life replica records old → Left who request cell rooms old answer new after (first ++ rest) →
-      Had replica (records ++ records_of who request answer (first ++ rest)) after (records ++ map Delivered first)
-      (record old { log = old.log ++ first })
-  earlier : (replica : ℕ) (records : List Record) (who : Who) (request : Request) (cell : ℕ) (rooms : List Room)
+      Life replica present records old → Left who request cell rooms old answer new after (first ++ rest) →
+      Had replica present (records ++ records_of who request answer (first ++ rest)) after
+      (records ++ map Delivered first) (record old { log = old.log ++ first })
+  earlier : (replica present : ℕ) (records : List Record) (who : Who) (request : Request) (cell : ℕ) (rooms : List Room)
       (old : Machine) (answer : Answer) (new : List Room) (after : Machine) (more : List Op) (before : List Record)
       (m : Machine) →
-      Had replica records old before m → Left who request cell rooms old answer new after more →
-      Had replica (records ++ records_of who request answer more) after before m
-  unended : (replica : ℕ) (records : List Record) (name : List ℕ) (who : Who) (visit : ℕ) (old : Machine)
+      Had replica present records old before m → Left who request cell rooms old answer new after more →
+      Had replica present (records ++ records_of who request answer more) after before m
+  unended : (replica present : ℕ) (records : List Record) (name : List ℕ) (who : Who) (visit : ℕ) (old : Machine)
       (before : List Record) (m : Machine) →
-      Had replica records old before m → Had replica records (step name who (Some visit) Leave old).1 before m
-  before_start : (replica : ℕ) (records : List Record) (old : Machine) (count number : ℕ) (again : Machine)
+      Had replica present records old before m →
+      Had replica present records (step name who (Some visit) Leave old).1 before m
+  before_start : (replica present : ℕ) (records : List Record) (old : Machine) (count number most : ℕ) (again : Machine)
       (before : List Record) (m : Machine) →
-      Had replica records old before m → rebuilt number (take count records) ≡ Ok again →
-      Had number (take count records) again before m
+      Had replica present records old before m → rebuilt number most (take count records) ≡ Ok again →
+      Had number most (take count records) again before m
 
--- the first records of a pad's lives, however many, are never refused, and on a server with any number they lead to the
+-- the first records of a pad's lives, however many, are never refused, and on a server with any numbers they lead to the
 -- restarted pad that it was when it had left just these
 abbrev pub FrontsLaw : Type 0
 FrontsLaw =
-    (replica : ℕ) (records : List Record) (m : Machine) (count : ℕ) → Life replica records m →
-    (had : Machine) × Had replica records m (take count records) had
-    × ((number : ℕ) → rebuilt number (take count records) ≡ Ok (restarted_by number had))
+    (replica present : ℕ) (records : List Record) (m : Machine) (count : ℕ) → Life replica present records m →
+    (had : Machine) × Had replica present records m (take count records) had
+    × ((number most : ℕ) → rebuilt number most (take count records) ≡ Ok (restarted_by number most had))

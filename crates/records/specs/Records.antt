@@ -35,13 +35,13 @@ replayed (Err refusal) kept = Err refusal
 abbrev pub replay_all : List Record → Machine → Result Machine Refusal
 replay_all records m = fold replayed (Ok m) records
 
--- a pad without a name on the server with a number
-abbrev pub unnamed : ℕ → Machine
-unnamed replica = record { owned = None; replica = replica; log = []; held = []; presence = nobody_present }
+-- a pad without a name on the server with a replica number, where so many visits may be present at once
+abbrev pub unnamed : ℕ → ℕ → Machine
+unnamed replica present = record { owned = None; replica = replica; log = []; held = []; presence = nobody_present present }
 
 -- the pad that records lead to from the beginning
-abbrev pub rebuilt : ℕ → List Record → Result Machine Refusal
-rebuilt replica records = replay_all records (unnamed replica)
+abbrev pub rebuilt : ℕ → ℕ → List Record → Result Machine Refusal
+rebuilt replica present records = replay_all records (unnamed replica present)
 
 -- what a cell answers, or nothing where its pad has another name
 abbrev pub Answer : Type 0

@@ -20,16 +20,17 @@ pub fn replay<S: Sequence>(alloc: Global, pad: &mut Pad<S>, kept: Record) -> Res
     }
 }
 
-/// The pad of a server that some records lead to. An error is the first record's refusal, or out of memory.
+/// The pad of a server that some records lead to, where this many visits may be present at once. An error is the first record's refusal, or out of memory.
 pub fn rebuild<S: Sequence>(
     alloc: Global,
     replica: u16,
+    present: u64,
     records: Vec<Record>,
 ) -> Result<Pad<S>, Refusal>
     requires { 1 ≤ replica }
-    ensures { MatchResult result (λ pad. rebuilt replica records.items ≡ Ok pad) (λ e. (e ≡ Refusal.Memory) ⊎ (rebuilt replica records.items ≡ Err e)) }
+    ensures { MatchResult result (λ pad. rebuilt replica present records.items ≡ Ok pad) (λ e. (e ≡ Refusal.Memory) ⊎ (rebuilt replica present records.items ≡ Err e)) }
 {
-    let mut pad = Pad::new(alloc, replica)?;
+    let mut pad = Pad::new(alloc, replica, present)?;
     for kept in records {
         replay(alloc, &mut pad, kept)?;
     }

@@ -173,18 +173,21 @@ run-goes (e ∷ events) s h =
     let rest = run-goes events (server_event e s).1 one.0 in
     (rest.0, λ cell name there. rest.1 cell name (one.1 cell name there))
 
-unnamed-row : (replica cells : ℕ) → AllByRecursion (λ n. n ≡ None) (names_of (repeat cells (unnamed replica ∷ [])))
-unnamed-row replica Rattle.std.proofs.Common.zero = tt
-unnamed-row replica (Rattle.std.proofs.Common.suc cells) = (refl, unnamed-row replica cells)
+unnamed-row : (replica present cells : ℕ) →
+    AllByRecursion (λ n. n ≡ None) (names_of (repeat cells (unnamed replica present ∷ [])))
+unnamed-row replica present Rattle.std.proofs.Common.zero = tt
+unnamed-row replica present (Rattle.std.proofs.Common.suc cells) = (refl, unnamed-row replica present cells)
 
-start-stands : (replica cells actors : ℕ) (accounts : Accounts) → Stands (opened_server replica cells accounts actors)
-start-stands replica cells actors accounts = (
-  none-turn (names_of (repeat cells (unnamed replica ∷ []))) (unnamed-row replica cells),
-  each-repeat (ActorStands (names_of (repeat cells (unnamed replica ∷ [])))) actors nobody (tt, tt),
+start-stands : (replica present cells actors : ℕ) (accounts : Accounts) →
+    Stands (opened_server replica present cells accounts actors)
+start-stands replica present cells actors accounts = (
+  none-turn (names_of (repeat cells (unnamed replica present ∷ []))) (unnamed-row replica present cells),
+  each-repeat (ActorStands (names_of (repeat cells (unnamed replica present ∷ [])))) actors nobody (tt, tt),
 )
 
 -- the names are in turn, and stay
 pub names_in_turn : NamesLaw
-names_in_turn replica cells actors accounts events more =
-    let s = run-goes events (opened_server replica cells accounts actors) (start-stands replica cells actors accounts) in
-    (s.0.0, (run-goes more (run events (opened_server replica cells accounts actors)).1 s.0).1)
+names_in_turn replica present cells actors accounts events more =
+    let s = run-goes events (opened_server replica present cells accounts actors)
+    (start-stands replica present cells actors accounts) in
+    (s.0.0, (run-goes more (run events (opened_server replica present cells accounts actors)).1 s.0).1)

@@ -22,14 +22,14 @@ pub record Server : Type 0 where
   pub cells : List Machine
   pub actors : List Actor
 
--- a cell without a name
-abbrev pub unnamed : ℕ → Machine
-unnamed replica = record { owned = None; replica = replica; log = []; held = []; presence = nobody_present }
+-- a cell without a name, on the server with a replica number, where so many visits may be present at once
+abbrev pub unnamed : ℕ → ℕ → Machine
+unnamed replica present = record { owned = None; replica = replica; log = []; held = []; presence = nobody_present present }
 
 -- a row of cells without names, and nobody who asks
-abbrev pub new_server : ℕ → ℕ → Accounts → Server
-new_server replica cells accounts = record
-    { replica = replica; accounts = accounts; cells = repeat cells (unnamed replica ∷ []); actors = [] }
+abbrev pub new_server : ℕ → ℕ → ℕ → Accounts → Server
+new_server replica present cells accounts = record
+    { replica = replica; accounts = accounts; cells = repeat cells (unnamed replica present ∷ []); actors = [] }
 
 -- a row is no longer than it may be
 abbrev pub IsRow : List Machine → Type 0

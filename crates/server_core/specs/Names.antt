@@ -23,13 +23,13 @@ NamesStay old new = (cell : ℕ) → (name : List ℕ) → slice_get old cell �
     ≡ Some (Some name)
 
 -- a new server whose actors are opened
-abbrev pub opened_server : ℕ → ℕ → Accounts → ℕ → Server
-opened_server replica cells accounts actors = record (new_server replica cells accounts)
+abbrev pub opened_server : ℕ → ℕ → ℕ → Accounts → ℕ → Server
+opened_server replica present cells accounts actors = record (new_server replica present cells accounts)
     { actors = repeat actors (nobody ∷ []) }
 
 -- after any events, steps of any actors and new accounts, the names are in turn, and stay whatever follows
 abbrev pub NamesLaw : Type 0
 NamesLaw =
-    (replica cells actors : ℕ) → (accounts : Accounts) → (events more : List Event) →
-    let s : Server = (run events (opened_server replica cells accounts actors)).1 in
+    (replica present cells actors : ℕ) → (accounts : Accounts) → (events more : List Event) →
+    let s : Server = (run events (opened_server replica present cells accounts actors)).1 in
     AreNamedInTurn (names_of s.cells) × NamesStay (names_of s.cells) (names_of (run more s).1.cells)

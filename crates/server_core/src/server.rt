@@ -41,21 +41,23 @@ impl<S: Sequence> Model for Server<S> {
 }
 
 impl<S: Sequence> Server<S> {
-    /// A server with this replica number, with a row of cells without names, and no actors.
+    /// A server with this replica number, with a row of cells without names, on each of which this many visits may be present at
+    /// once, and no actors.
     pub fn new(
         alloc: Global,
         replica: u16,
+        present: u64,
         cells: u32,
         accounts: Accounts,
     ) -> Result<Server<S>, Refusal>
         requires replica { 1 ≤ replica }
         requires cells { cells ≤ MAX_CELLS }
-        ensures { MatchResult result (λ server. server ≡ new_server replica cells accounts) (λ e. e ≡ Refusal.Memory) }
+        ensures { MatchResult result (λ server. server ≡ new_server replica present cells accounts) (λ e. e ≡ Refusal.Memory) }
     {
         Ok(Server {
             replica,
             accounts,
-            cells: make_row(alloc, replica, cells)?,
+            cells: make_row(alloc, replica, present, cells)?,
             actors: Vec::new(alloc),
         })
     }
@@ -160,13 +162,18 @@ fn know_delivered<S: Sequence>(cells: &[Pad<S>])
 }
 
 /// Cells without names.
-fn make_row<S: Sequence>(alloc: Global, replica: u16, count: u32) -> Result<Vec<Pad<S>>, Refusal>
+fn make_row<S: Sequence>(
+    alloc: Global,
+    replica: u16,
+    present: u64,
+    count: u32,
+) -> Result<Vec<Pad<S>>, Refusal>
     requires { 1 ≤ replica }
-    ensures { MatchResult result (λ cells. cells.items ≡ repeat count (unnamed replica ∷ [])) (λ e. e ≡ Refusal.Memory) }
+    ensures { MatchResult result (λ cells. cells.items ≡ repeat count (unnamed replica present ∷ [])) (λ e. e ≡ Refusal.Memory) }
 {
     let mut cells = Vec::new(alloc);
     for _ in 0..count {
-        cells.push(Pad::new(alloc, replica)?)?;
+        cells.push(Pad::new(alloc, replica, present)?)?;
     }
     Ok(cells)
 }

@@ -1,5 +1,5 @@
 -- The visits of a pad, as the entries of the map that keeps them.
-use Rattle.std.proofs.Common.{◌≡◌, ℕ, ◌+◌, ◌<◌, Bool, true, false, ◌||◌, List, [], ◌∷◌, ◌++◌, length, Option, None}
+use Rattle.std.proofs.Common.{◌≡◌, ℕ, ◌+◌, ◌<◌, Bool, true, false, ◌||◌, List, [], ◌∷◌, ◌++◌, Option, None}
 use Rattle.std.proofs.Common.{Some, Ok, Err, is_some, refl, sym, ap, subst, ◌∙◌, arith, nat_eq, bytes_eq}
 use Rattle.std.specs.List.{AllByRecursion, list_any}
 use Rattle.std.specs.Map.{lookup, remove_entry, set_value}
@@ -11,8 +11,8 @@ use Rattle.pad_model.proofs.Newer.{split}
 use Rattle.pad_model.proofs.Each.{each-append, each-imply}
 use Rattle.sessions.specs.declared.presence.Visit.{Visit}
 use Rattle.sessions.specs.declared.presence.Visitor.{Visitor}
-use Rattle.sessions.specs.declared.presence.TheConstants.{MAX_PRESENT, MAX_VISITS}
-use Rattle.sessions.specs.Presence.{Presence, join_refusal, joined, OnVisit, AreNumbered, has_number, left, with_caret}
+use Rattle.sessions.specs.declared.presence.TheConstants.{MAX_VISITS}
+use Rattle.sessions.specs.Presence.{Presence, joined, spent_refusal, OnVisit, AreNumbered, has_number, left, with_caret}
 use Rattle.sessions.specs.Presence.{is_joined_by}
 use Rattle.sessions.specs.Inside.{visit_of, visits_of}
 
@@ -141,34 +141,34 @@ nobody_where_absent author n (e ∷ es) at =
     (λ f. rw f (nobody_where_absent author n es (sym (cond-false _ _ _ f) ∙ at)))
 
 -- what was asked of a visit that is present, and of one that is not
-pub done : (n given : ℕ) (vs new : List Visit) (change : ℕ → List Visit → List Visit) (old : Presence) →
-    record { given = given; present = vs } ≡ old
-    → list_any (has_number n) vs ≡ true → new ≡ change n vs → OnVisit n old (record { given = given; present = new })
-    (Ok tt) change
-done n given vs new change old is there e =
-    subst (λ (p : Presence). OnVisit n p (record { given = given; present = new }) (Ok tt) change) is
-    (there, ap (λ (r : List Visit). let p : Presence = record { given = given; present = r } in p) e)
+pub done : (n limit given : ℕ) (vs new : List Visit) (change : ℕ → List Visit → List Visit) (old : Presence) →
+    record { limit = limit; given = given; present = vs } ≡ old
+    → list_any (has_number n) vs ≡ true → new ≡ change n vs
+    → OnVisit n old (record { limit = limit; given = given; present = new }) (Ok tt) change
+done n limit given vs new change old is there e =
+    subst (λ (p : Presence). OnVisit n p (record { limit = limit; given = given; present = new }) (Ok tt) change) is
+    (there, ap (λ (r : List Visit). let p : Presence = record { limit = limit; given = given; present = r } in p) e)
 
-pub refused : (n given : ℕ) (vs new : List Visit) (change : ℕ → List Visit → List Visit) (old : Presence) →
-    record { given = given; present = vs } ≡ old
-    → list_any (has_number n) vs ≡ false → new ≡ vs → OnVisit n old (record { given = given; present = new })
-    (Err NotJoined) change
-refused n given vs new change old is absent e =
-    subst (λ (p : Presence). OnVisit n p (record { given = given; present = new }) (Err NotJoined) change) is
-    (absent, refl, ap (λ (r : List Visit). let p : Presence = record { given = given; present = r } in p) e)
+pub refused : (n limit given : ℕ) (vs new : List Visit) (change : ℕ → List Visit → List Visit) (old : Presence) →
+    record { limit = limit; given = given; present = vs } ≡ old
+    → list_any (has_number n) vs ≡ false → new ≡ vs
+    → OnVisit n old (record { limit = limit; given = given; present = new }) (Err NotJoined) change
+refused n limit given vs new change old is absent e =
+    subst (λ (p : Presence). OnVisit n p (record { limit = limit; given = given; present = new }) (Err NotJoined)
+    change) is
+    (absent, refl, ap (λ (r : List Visit). let p : Presence = record { limit = limit; given = given; present = r } in p) e)
 
-pub join_done : (author : List ℕ) (given : ℕ) (vs new : List Visit) (old : Presence) →
-    record { given = given; present = vs } ≡ old
-    → length vs < MAX_PRESENT → given < MAX_VISITS → new ≡ vs
-    ++ record { number = given + 1; author = author; caret = None } ∷ []
-    → (join_refusal old ≡ None) × (given + 1 ≡ old.given + 1)
-    × (record { given = given + 1; present = new } ≡ joined author old)
-join_done author given vs new old is few spent e =
-    subst (λ (p : Presence). (join_refusal p ≡ None) × (given + 1 ≡ p.given + 1)
-    × (record { given = given + 1; present = new } ≡ joined author p)) is (
-      cond-false _ _ _ (lt-leb MAX_PRESENT (length vs) few) ∙ cond-false _ _ _ (lt-leb MAX_VISITS given spent),
+pub enter_done : (author : List ℕ) (limit given : ℕ) (vs new : List Visit) (old : Presence) →
+    record { limit = limit; given = given; present = vs } ≡ old
+    → given < MAX_VISITS → new ≡ vs ++ record { number = given + 1; author = author; caret = None } ∷ []
+    → (spent_refusal old ≡ None) × (given + 1 ≡ old.given + 1)
+    × (record { limit = limit; given = given + 1; present = new } ≡ joined author old)
+enter_done author limit given vs new old is spent e =
+    subst (λ (p : Presence). (spent_refusal p ≡ None) × (given + 1 ≡ p.given + 1)
+    × (record { limit = limit; given = given + 1; present = new } ≡ joined author p)) is (
+      cond-false _ _ _ (lt-leb MAX_VISITS given spent),
       refl,
-      ap (λ (r : List Visit). let p : Presence = record { given = given + 1; present = r } in p) e,
+      ap (λ (r : List Visit). let p : Presence = record { limit = limit; given = given + 1; present = r } in p) e,
     )
 
 -- one more entry is one more visit

@@ -1,9 +1,9 @@
 -- What is kept of those who are present and of a session, and what is shown of it.
-use Rattle.std.specs.Prelude.{ℕ, ◌-◌, ◌≤◌, List, length, map, vec_len}
+use Rattle.std.specs.Prelude.{ℕ, ◌-◌, ◌≤◌, List, map, vec_len}
 use Rattle.std.specs.Vec.{vec_capacity}
 use Rattle.sessions.specs.Presence.{Presence, AreNumbered}
 use Rattle.sessions.specs.Session.{Session, IsNamed}
-use Rattle.sessions.specs.declared.presence.TheConstants.{MAX_PRESENT, MAX_VISITS}
+use Rattle.sessions.specs.declared.presence.TheConstants.{MAX_VISITS}
 use Rattle.sessions.specs.declared.presence.Visit.{Visit}
 use Rattle.sessions.specs.declared.presence.Visitor.{Visitor}
 use Rattle.sessions.specs.declared.presence.PresenceBook.TheInside.{Inside as KeptPresence}
@@ -19,12 +19,11 @@ visits_of entries = map (λ entry. visit_of entry.0 entry.1) entries
 
 -- the visits, in the order of the map
 abbrev pub shown : KeptPresence → Presence
-shown book = record { given = book.given; present = visits_of book.visitors.entries }
+shown book = record { limit = book.limit; given = book.given; present = visits_of book.visitors.entries }
 
--- the numbers rise up to the one given last, and the limits hold
+-- the numbers rise up to the one given last, which is in the limits
 pub record IsSound (book : KeptPresence) : Type 0 where
   pub numbered : AreNumbered book.given (visits_of book.visitors.entries)
-  pub few : length book.visitors.entries ≤ MAX_PRESENT
   pub spent : book.given ≤ MAX_VISITS
 
 -- whose it is, the rooms, and the room that their vector has

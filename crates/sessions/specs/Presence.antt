@@ -5,11 +5,12 @@ use Rattle.std.specs.List.{AllByRecursion, filter, list_any}
 use Rattle.pad_model.specs.Stamp.{Stamp}
 use Rattle.pad_model.specs.declared.refusal.Refusal.{Refusal}
 use Rattle.pad_model.specs.declared.refusal.Refusal.TheVariants.{Crowded, VisitsSpent, NotJoined}
-use Rattle.sessions.specs.declared.presence.TheConstants.{MAX_PRESENT, MAX_VISITS}
+use Rattle.sessions.specs.declared.presence.TheConstants.{MAX_VISITS}
 use Rattle.sessions.specs.declared.presence.Visit.{Visit}
 
--- how many visit numbers were given, and the visits that are present in order of joining
+-- how many may be present at once, how many visit numbers were given, and the visits that are present in order of joining
 pub record Presence : Type 0 where
+  pub limit : ℕ
   pub given : ℕ
   pub present : List Visit
 
@@ -20,18 +21,19 @@ AreNumbered last (visit ∷ visits) =
     (1 ≤ visit.number) × (visit.number ≤ last) × AllByRecursion (λ later. visit.number < later.number) visits
     × AreNumbered last visits
 
+-- why no further number is given, if so
+abbrev pub spent_refusal : Presence → Option Refusal
+spent_refusal p = if nat_le MAX_VISITS p.given then Some VisitsSpent else None
+
 -- why nobody can join, memory aside
 abbrev pub join_refusal : Presence → Option Refusal
-join_refusal p =
-    if nat_le MAX_PRESENT (length p.present) then Some Crowded
-    else if nat_le MAX_VISITS p.given then Some VisitsSpent
-    else None
+join_refusal p = if nat_le p.limit (length p.present) then Some Crowded else spent_refusal p
 
 -- the next number is given to an author, who is present behind the others, without a caret
 abbrev pub joined : List ℕ → Presence → Presence
 joined author p =
     let number = p.given + 1 in
-    record { given = number; present = p.present ++ record { number = number; author = author; caret = None } ∷ [] }
+    record p { given = number; present = p.present ++ record { number = number; author = author; caret = None } ∷ [] }
 
 -- whether a visit has a number
 abbrev pub has_number : ℕ → Visit → Bool

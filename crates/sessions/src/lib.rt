@@ -14,6 +14,6 @@ mod word;
 pub use accounts::{Accounts, AccountsError, MAX_ACCOUNTS, Peer};
 pub use line::{MAX_ADDRESS, MAX_TOKEN};
 pub use mistake::Mistake;
-pub use presence::{MAX_PRESENT, MAX_VISITS, PresenceBook, Visit};
+pub use presence::{DEFAULT_PRESENT, MAX_PRESENT, MAX_VISITS, PresenceBook, Visit};
 pub use session::{Room, Session};
 pub use word::Word;

@@ -1,7 +1,7 @@
 //! Who is present on a pad.
 ghost use Rattle.std.specs.Prelude.{◌≡◌, ◌+◌, [], None, IfOk, IfErr, IsTrue, MatchResult, unwrap_or};
 ghost use Rattle.pad_model.specs.declared.refusal.Refusal.{Refusal};
-ghost use Rattle.sessions.specs.Presence.{is_joined_by, join_refusal, joined, left, with_caret, OnVisit, AreNumbered};
+ghost use Rattle.sessions.specs.Presence.{is_joined_by, join_refusal, joined, left, spent_refusal, with_caret, OnVisit, AreNumbered};
 ghost use Rattle.sessions.specs.Inside.{visit_of};
 
 use indexmap::IndexMap;
@@ -9,8 +9,11 @@ use pad_model::{Name, Refusal, Row, Stamp};
 use std::alloc::{AllocError, Global};
 use std::marker::Model;
 
-/// The most visits that are present on a pad at once.
-pub const MAX_PRESENT: u64 = 64;
+/// The most visits that a server may let be present on a pad at once.
+pub const MAX_PRESENT: u64 = 1_024;
+
+/// How many visits may be present on a pad at once, unless the server is told otherwise.
+pub const DEFAULT_PRESENT: u64 = 64;
 
 /// The most visit numbers that a pad gives.
 pub const MAX_VISITS: u64 = 1_000_000;
@@ -36,6 +39,7 @@ pub struct Visitor {
 pub struct PresenceBook {
     visitors: IndexMap<u64, Visitor>,
     given: u64,
+    limit: u64,
 }
 
 impl Model for PresenceBook {
@@ -51,24 +55,34 @@ impl Model for PresenceBook {
 }
 
 impl PresenceBook {
-    /// Nobody is present, and no number has been given. It allocates no memory yet.
-    pub fn new(alloc: Global) -> PresenceBook
-        ensures { result ≡ record { given = 0; present = [] } }
+    /// Nobody is present, and no number has been given. This many may be present at once. It allocates no memory yet.
+    pub fn new(alloc: Global, limit: u64) -> PresenceBook
+        ensures { result ≡ record { limit = limit; given = 0; present = [] } }
     {
         PresenceBook {
             visitors: IndexMap::new(alloc),
             given: 0,
+            limit,
         }
     }
 
-    /// Gives the next number to an author, who is then present, with no caret.
+    /// Gives the next number to an author, who is then present, with no caret, unless as many are present as may be.
     pub fn join(&mut self, alloc: Global, author: &str) -> Result<u64, Refusal>
         ensures ok { IfOk result (λ visit. (join_refusal self.old ≡ None) × (visit ≡ self.old.given + 1) × (self.new ≡ joined author.now self.old)) }
         ensures refused { IfErr result (λ e. (e ≡ unwrap_or (join_refusal self.old) Refusal.Memory) × (self.new ≡ self.old)) }
     {
-        if self.visitors.len() as u64 >= MAX_PRESENT {
+        if self.visitors.len() as u64 >= self.limit {
             return Err(Refusal::Crowded);
         }
+        self.enter(alloc, author)
+    }
+
+    /// Gives the next number to an author, who is then present, with no caret. The limit is not checked: the creator of a pad
+    /// is present whatever it is.
+    pub fn enter(&mut self, alloc: Global, author: &str) -> Result<u64, Refusal>
+        ensures ok { IfOk result (λ visit. (spent_refusal self.old ≡ None) × (visit ≡ self.old.given + 1) × (self.new ≡ joined author.now self.old)) }
+        ensures refused { IfErr result (λ e. (e ≡ unwrap_or (spent_refusal self.old) Refusal.Memory) × (self.new ≡ self.old)) }
+    {
         if self.given >= MAX_VISITS {
             return Err(Refusal::VisitsSpent);
         }

@@ -222,17 +222,17 @@ left_lines texts disk bytes some plain written (cut left synced is first) = at (
         reach n a b = omega arith
 
 -- the first line is a header, and what stands behind it is read
-file_again : (number : ℕ) (name : List ℕ) (header : Header) (says : List Entry) (text : List ℕ)
+file_again : (number most : ℕ) (name : List ℕ) (header : Header) (says : List Entry) (text : List ℕ)
     (texts rest : List (List ℕ)) (m : Machine) →
     entry_said text ≡ Some (entry.Header header) → header.pad ≡ name → AreOf name says → Say says texts →
-    rebuilt number (records_in says) ≡ Ok m → IsTorn (last_sum [] (text ∷ texts)) rest →
-    Leads (file_read number name (lines_behind [] (text ∷ texts) ++ rest)) m (length (file_of (text ∷ texts)))
-file_again number name header says text texts rest m is called are says_so leads none =
+    rebuilt number most (records_in says) ≡ Ok m → IsTorn (last_sum [] (text ∷ texts)) rest →
+    Leads (file_read number most name (lines_behind [] (text ∷ texts) ++ rest)) m (length (file_of (text ∷ texts)))
+file_again number most name header says text texts rest m is called are says_so leads none =
     subst (λ (r : Result Read Damage). Leads r m (length (file_of (text ∷ texts))))
     (sym (ap (read_on on)
-    (ap (by_text (Err (torn_front line all)) (λ t. read_on (begun number name line (sum_after [] t))
+    (ap (by_text (Err (torn_front line all)) (λ t. read_on (begun number most name line (sum_after [] t))
     (said_at 1 (entry_said t)))) (text_found [] text)
-    ∙ (ap (λ (o : Option Entry). read_on (begun number name line (sum_after [] text)) (said_at 1 o)) is
+    ∙ (ap (λ (o : Option Entry). read_on (begun number most name line (sum_after [] text)) (said_at 1 o)) is
     ∙ cond-true (bytes_eq header.pad name) (Ok first) (Err OtherPad) ((bytes_eq-Decides header.pad name).1 called)))))
     (subst (Leads (on first) m) (first_one line (lines_behind (sum_after [] text) texts))
     (entries_read 2 name says texts rest first m says_so are leads none))
@@ -247,100 +247,100 @@ file_again number name header says text texts rest m is called are says_so leads
     on read = read_lines 2 name read (lines_behind (sum_after [] text) texts ++ rest)
 
     first : Read
-    first = record { pad = unnamed number; header = header; sum = sum_after [] text; whole = suc (length line) }
+    first = record { pad = unnamed number most; header = header; sum = sum_after [] text; whole = suc (length line) }
 
 -- what was read of lines is what the file's bytes lead to, if the pad has the name
-pub named_read : (replica : ℕ) (name bytes : List ℕ) (read : Read) → file_read replica name (whole_lines bytes)
-    ≡ Ok read → pad_read replica name bytes ≡ if_named name read
-named_read replica name bytes read is = at (whole_lines bytes) is
+pub named_read : (replica present : ℕ) (name bytes : List ℕ) (read : Read) → file_read replica present name (whole_lines bytes)
+    ≡ Ok read → pad_read replica present name bytes ≡ if_named name read
+named_read replica present name bytes read is = at (whole_lines bytes) is
   where
     no_line : (let r : Result Read Damage = Err Empty in r) ≡ Ok read → ⊥
     no_line e = cc
 
-    at : (lines : List (List ℕ)) → file_read replica name lines ≡ Ok read → lines_read replica name bytes lines
+    at : (lines : List (List ℕ)) → file_read replica present name lines ≡ Ok read → lines_read replica present name bytes lines
         ≡ if_named name read
     at [] e = absurd (no_line e)
     at (first ∷ lines) e = ap (read_on (if_named name)) e
 
--- what a server with this number reads of what is left
-abbrev Again : ℕ → List ℕ → List ℕ → List Entry → List (List ℕ) → Machine → Type 0
-Again number name bytes says texts had =
-    (read : Read) × (read.pad ≡ restarted_by number had) × (read.whole ≡ length (file_of texts))
-    × (file_read number name (whole_lines bytes) ≡ Ok read) × (pad_read number name bytes ≡ if_named name read)
-    × ((owner : List ℕ) (more : List Record) → records_in says ≡ Named name owner ∷ more → pad_read number name bytes
+-- what a server with these numbers reads of what is left
+abbrev Again : ℕ → ℕ → List ℕ → List ℕ → List Entry → List (List ℕ) → Machine → Type 0
+Again number most name bytes says texts had =
+    (read : Read) × (read.pad ≡ restarted_by number most had) × (read.whole ≡ length (file_of texts))
+    × (file_read number most name (whole_lines bytes) ≡ Ok read) × (pad_read number most name bytes ≡ if_named name read)
+    × ((owner : List ℕ) (more : List Record) → records_in says ≡ Named name owner ∷ more → pad_read number most name bytes
     ≡ Ok read)
-    × (records_in says ≡ [] → pad_read number name bytes ≡ Err Empty)
-    × Life number (records_in says) read.pad × IsFile name says
+    × (records_in says ≡ [] → pad_read number most name bytes ≡ Err Empty)
+    × Life number most (records_in says) read.pad × IsFile name says
 
 -- and in which state the pad was then
-abbrev AllAgain : ℕ → List ℕ → List Entry → Machine → List (List ℕ) → Disk → List ℕ → Type 0
-AllAgain replica name says m texts disk bytes =
+abbrev AllAgain : ℕ → ℕ → List ℕ → List Entry → Machine → List (List ℕ) → Disk → List ℕ → Type 0
+AllAgain replica present name says m texts disk bytes =
     (lines : ℕ) × HasSynced disk texts lines
-    × (had : Machine) × Had replica (records_in says) m (records_in (take lines says)) had
-    × ((number : ℕ) → Again number name bytes (take lines says) (take lines texts) had)
+    × (had : Machine) × Had replica present (records_in says) m (records_in (take lines says)) had
+    × ((number most : ℕ) → Again number most name bytes (take lines says) (take lines texts) had)
 
-read_again : (number : ℕ) (name bytes : List ℕ) (header : Header) (says : List Entry) (text : List ℕ)
+read_again : (number most : ℕ) (name bytes : List ℕ) (header : Header) (says : List Entry) (text : List ℕ)
     (texts rest : List (List ℕ)) (had : Machine) →
     entry_said text ≡ Some (entry.Header header) → header.pad ≡ name → AreOf name says → Say says texts →
     whole_lines bytes ≡ lines_behind [] (text ∷ texts) ++ rest → IsTorn (last_sum [] (text ∷ texts)) rest →
-    rebuilt number (records_in says) ≡ Ok (restarted_by number had) →
-    Life number (records_in says) (restarted_by number had) →
-    Again number name bytes (entry.Header header ∷ says) (text ∷ texts) had
-read_again number name bytes header says text texts rest had is called are says_so lines none leads life =
-    at (file_again number name header says text texts rest (restarted_by number had) is called are says_so leads none)
+    rebuilt number most (records_in says) ≡ Ok (restarted_by number most had) →
+    Life number most (records_in says) (restarted_by number most had) →
+    Again number most name bytes (entry.Header header ∷ says) (text ∷ texts) had
+read_again number most name bytes header says text texts rest had is called are says_so lines none leads life =
+    at (file_again number most name header says text texts rest (restarted_by number most had) is called are says_so leads none)
   where
-    at : Leads (file_read number name (lines_behind [] (text ∷ texts) ++ rest)) (restarted_by number had)
+    at : Leads (file_read number most name (lines_behind [] (text ∷ texts) ++ rest)) (restarted_by number most had)
         (length (file_of (text ∷ texts))) →
-        Again number name bytes (entry.Header header ∷ says) (text ∷ texts) had
+        Again number most name bytes (entry.Header header ∷ says) (text ∷ texts) had
     at (read, pad, whole, found) = (
       read,
       pad,
       whole,
-      ap (file_read number name) lines ∙ found,
-      named_read number name bytes read (ap (file_read number name) lines ∙ found),
-      λ owner more first. named_read number name bytes read (ap (file_read number name) lines ∙ found)
-          ∙ is_taken number name owner (records_in says) more read (leads ∙ ap Ok (sym pad)) first,
-      λ none_left. named_read number name bytes read (ap (file_read number name) lines ∙ found)
-          ∙ is_empty number name (records_in says) read (leads ∙ ap Ok (sym pad)) none_left,
-      subst (Life number (records_in says)) (sym pad) life,
+      ap (file_read number most name) lines ∙ found,
+      named_read number most name bytes read (ap (file_read number most name) lines ∙ found),
+      λ owner more first. named_read number most name bytes read (ap (file_read number most name) lines ∙ found)
+          ∙ is_taken number most name owner (records_in says) more read (leads ∙ ap Ok (sym pad)) first,
+      λ none_left. named_read number most name bytes read (ap (file_read number most name) lines ∙ found)
+          ∙ is_empty number most name (records_in says) read (leads ∙ ap Ok (sym pad)) none_left,
+      subst (Life number most (records_in says)) (sym pad) life,
       (called, are),
     )
 
-pub left_again : (replica : ℕ) (name : List ℕ) (says : List Entry) (m : Machine) (texts : List (List ℕ)) (disk : Disk)
+pub left_again : (replica present : ℕ) (name : List ℕ) (says : List Entry) (m : Machine) (texts : List (List ℕ)) (disk : Disk)
     (bytes : List ℕ) →
-    Life replica (records_in says) m → IsFile name says → Say says texts → disk.written ≡ file_of texts →
-    MayLeave disk texts bytes → AllAgain replica name says m texts disk bytes
-left_again replica name [] m texts disk bytes life file says written may = absurd file
-left_again replica name (entry.Record kept ∷ more) m texts disk bytes life file says written may = absurd file
-left_again replica name (entry.Header header ∷ more) m [] disk bytes life file says written may = absurd says
-left_again replica name (entry.Header header ∷ more) m (text ∷ texts) disk bytes life (called, are) (plain, is, says)
+    Life replica present (records_in says) m → IsFile name says → Say says texts → disk.written ≡ file_of texts →
+    MayLeave disk texts bytes → AllAgain replica present name says m texts disk bytes
+left_again replica present name [] m texts disk bytes life file says written may = absurd file
+left_again replica present name (entry.Record kept ∷ more) m texts disk bytes life file says written may = absurd file
+left_again replica present name (entry.Header header ∷ more) m [] disk bytes life file says written may = absurd says
+left_again replica present name (entry.Header header ∷ more) m (text ∷ texts) disk bytes life (called, are) (plain, is, says)
     written may =
     at (left_lines (text ∷ texts) disk bytes (omega arith) (plain, plain_texts more texts says) written may)
   where
     none_left : 1 ≤ 0 → ⊥
     none_left h = omega arith
 
-    at : LeftLines disk (text ∷ texts) bytes → AllAgain replica name (entry.Header header ∷ more) m (text ∷ texts) disk
+    at : LeftLines disk (text ∷ texts) bytes → AllAgain replica present name (entry.Header header ∷ more) m (text ∷ texts) disk
         bytes
     at (zero, rest, some, synced, lines, none) = absurd (none_left some)
     at (suc k, rest, some, synced, lines, none) =
-        found (records_front replica (records_in more) m (length (records_in (take k more))) life)
+        found (records_front replica present (records_in more) m (length (records_in (take k more))) life)
       where
         found : ((had : Machine)
-            × Had replica (records_in more) m (take (length (records_in (take k more))) (records_in more)) had
-            × ((number : ℕ) → rebuilt number (take (length (records_in (take k more))) (records_in more))
-            ≡ Ok (restarted_by number had))) →
-            AllAgain replica name (entry.Header header ∷ more) m (text ∷ texts) disk bytes
+            × Had replica present (records_in more) m (take (length (records_in (take k more))) (records_in more)) had
+            × ((number most : ℕ) → rebuilt number most (take (length (records_in (take k more))) (records_in more))
+            ≡ Ok (restarted_by number most had))) →
+            AllAgain replica present name (entry.Header header ∷ more) m (text ∷ texts) disk bytes
         found (had, there, leads) = (
           suc k,
           synced,
           had,
-          subst (λ (rs : List Record). Had replica (records_in more) m rs had) (records_of_front k more) there,
-          λ number. read_again number name bytes header (take k more) text (take k texts) rest had is called
+          subst (λ (rs : List Record). Had replica present (records_in more) m rs had) (records_of_front k more) there,
+          λ number most. read_again number most name bytes header (take k more) text (take k texts) rest had is called
               (are_front k name more are) (say_front k more texts says) lines none
-              (subst (λ (rs : List Record). rebuilt number rs ≡ Ok (restarted_by number had)) (records_of_front k more)
-              (leads number))
-              (subst (λ (rs : List Record). Life number rs (restarted_by number had)) (records_of_front k more)
-              (starts_again replica (records_in more) m (length (records_in (take k more))) number
-              (restarted_by number had) life (leads number))),
+              (subst (λ (rs : List Record). rebuilt number most rs ≡ Ok (restarted_by number most had)) (records_of_front k more)
+              (leads number most))
+              (subst (λ (rs : List Record). Life number most rs (restarted_by number most had)) (records_of_front k more)
+              (starts_again replica present (records_in more) m (length (records_in (take k more))) number most
+              (restarted_by number most had) life (leads number most))),
         )

@@ -202,48 +202,48 @@ ends number name before bytes all is so =
     sym so ∙ ap (read_lines (suc number) name before) (none_whole bytes (sym is))
 
 -- a file without a whole line
-pub unread : (replica : ℕ) (name bytes : List ℕ) (damage : Damage) → None ≡ position is_feed bytes →
-    damage ≡ unbegun bytes → pad_read replica name bytes ≡ Err damage
-unread replica name bytes damage is so = ap (lines_read replica name bytes) (none_whole bytes (sym is))
+pub unread : (replica present : ℕ) (name bytes : List ℕ) (damage : Damage) → None ≡ position is_feed bytes →
+    damage ≡ unbegun bytes → pad_read replica present name bytes ≡ Err damage
+unread replica present name bytes damage is so = ap (lines_read replica present name bytes) (none_whole bytes (sym is))
     ∙ ap Err (sym so)
 
 -- a file with whole lines is read, if its pad has the name
-pub lines_there : (replica : ℕ) (name bytes : List ℕ) (end : ℕ) → Some end ≡ position is_feed bytes →
-    pad_read replica name bytes ≡ read_on (if_named name) (file_read replica name (whole_lines bytes))
-lines_there replica name bytes end is =
-    subst (λ lines. lines_read replica name bytes lines ≡ read_on (if_named name) (file_read replica name lines))
+pub lines_there : (replica present : ℕ) (name bytes : List ℕ) (end : ℕ) → Some end ≡ position is_feed bytes →
+    pad_read replica present name bytes ≡ read_on (if_named name) (file_read replica present name (whole_lines bytes))
+lines_there replica present name bytes end is =
+    subst (λ lines. lines_read replica present name bytes lines ≡ read_on (if_named name) (file_read replica present name lines))
     (sym (first_whole bytes end (sym is))) refl
 
 -- what the file leads to, of which the first line leads so far
-begins_so : (replica : ℕ) (name bytes : List ℕ) (end : ℕ) (found : Result Read Damage) →
-    Some end ≡ position is_feed bytes → first_read replica name (take end bytes) (whole_lines bytes) ≡ found →
-    file_read replica name (whole_lines bytes)
+begins_so : (replica present : ℕ) (name bytes : List ℕ) (end : ℕ) (found : Result Read Damage) →
+    Some end ≡ position is_feed bytes → first_read replica present name (take end bytes) (whole_lines bytes) ≡ found →
+    file_read replica present name (whole_lines bytes)
     ≡ read_on (λ before. read_lines 2 name before (whole_lines (drop (suc end) bytes))) found
-begins_so replica name bytes end found is leads =
-    ap (file_read replica name) (first_whole bytes end (sym is))
+begins_so replica present name bytes end found is leads =
+    ap (file_read replica present name) (first_whole bytes end (sym is))
     ∙ ap (read_on (λ before. read_lines 2 name before (whole_lines (drop (suc end) bytes))))
-    (ap (first_read replica name (take end bytes)) (sym (first_whole bytes end (sym is))) ∙ leads)
+    (ap (first_read replica present name (take end bytes)) (sym (first_whole bytes end (sym is))) ∙ leads)
 
 -- the damage of the first line is that of the file
-pub begin_fails : (replica : ℕ) (name bytes : List ℕ) (end : ℕ) (damage : Damage) → Some end ≡ position is_feed bytes →
+pub begin_fails : (replica present : ℕ) (name bytes : List ℕ) (end : ℕ) (damage : Damage) → Some end ≡ position is_feed bytes →
     (damage ≡ Memory)
-    ⊎ ((number : ℕ) → first_read number name (take end bytes) (whole_lines bytes) ≡ Err damage) →
-    (damage ≡ Memory) ⊎ (file_read replica name (whole_lines bytes) ≡ Err damage)
-begin_fails replica name bytes end damage is (inl memory) = inl memory
-begin_fails replica name bytes end damage is (inr wrong) =
-    inr (begins_so replica name bytes end (Err damage) is (wrong replica))
+    ⊎ ((number most : ℕ) → first_read number most name (take end bytes) (whole_lines bytes) ≡ Err damage) →
+    (damage ≡ Memory) ⊎ (file_read replica present name (whole_lines bytes) ≡ Err damage)
+begin_fails replica present name bytes end damage is (inl memory) = inl memory
+begin_fails replica present name bytes end damage is (inr wrong) =
+    inr (begins_so replica present name bytes end (Err damage) is (wrong replica present))
 
 -- behind the first line
-pub begins : (replica : ℕ) (name bytes rest : List ℕ) (end k : ℕ) (first : Tail) → k ≡ suc end →
+pub begins : (replica present : ℕ) (name bytes rest : List ℕ) (end k : ℕ) (first : Tail) → k ≡ suc end →
     take (length bytes - k) (drop k bytes) ≡ rest → Some end ≡ position is_feed bytes →
-    ((number : ℕ) → first_read number name (take end bytes) (whole_lines bytes)
-    ≡ Ok (so_far (unnamed number) first)) →
-    file_read replica name (whole_lines bytes)
-    ≡ read_lines 2 name (so_far (unnamed replica) first) (whole_lines rest)
-begins replica name bytes rest end k first behind left is leads =
-    subst (λ bs. file_read replica name (whole_lines bytes) ≡ read_lines 2 name (so_far (unnamed replica) first)
+    ((number most : ℕ) → first_read number most name (take end bytes) (whole_lines bytes)
+    ≡ Ok (so_far (unnamed number most) first)) →
+    file_read replica present name (whole_lines bytes)
+    ≡ read_lines 2 name (so_far (unnamed replica present) first) (whole_lines rest)
+begins replica present name bytes rest end k first behind left is leads =
+    subst (λ bs. file_read replica present name (whole_lines bytes) ≡ read_lines 2 name (so_far (unnamed replica present) first)
     (whole_lines bs)) (ap (λ i. drop i bytes) (sym behind) ∙ (sym (take_rest bytes k) ∙ left))
-    (begins_so replica name bytes end (Ok (so_far (unnamed replica) first)) is (leads replica))
+    (begins_so replica present name bytes end (Ok (so_far (unnamed replica present) first)) is (leads replica present))
 
 -- what one result is told of holds of the other one
 pub moved : (damage : Damage) (from to : Result Read Damage) → to ≡ from → (damage ≡ Memory) ⊎ (from ≡ Err damage) →

@@ -67,41 +67,41 @@ named_stays (kept ∷ records) m after n named leads =
     at (Err e, next) is ok on = absurd (err_is_no_ok e after (sym (refused_stays records e) ∙ ok))
 
 -- what records lead to, of which the first names the pad, has this name
-named_first : (number : ℕ) (name owner : List ℕ) (more : List Record) (after : Machine) →
-    rebuilt number (Named name owner ∷ more) ≡ Ok after → name_of after.owned ≡ Some name
-named_first number name owner more after leads = at (is_name name && is_name owner) refl
+named_first : (number most : ℕ) (name owner : List ℕ) (more : List Record) (after : Machine) →
+    rebuilt number most (Named name owner ∷ more) ≡ Ok after → name_of after.owned ≡ Some name
+named_first number most name owner more after leads = at (is_name name && is_name owner) refl
   where
     given : Machine
-    given = record (unnamed number) {
-      owned = (claim name owner (unnamed number)).1.owned;
+    given = record (unnamed number most) {
+      owned = (claim name owner (unnamed number most)).1.owned;
       presence = ended (claim name owner
-          (unnamed number)).1.presence;
+          (unnamed number most)).1.presence;
     }
 
     at : (b : Bool) → (is_name name && is_name owner) ≡ b → name_of after.owned ≡ Some name
     at true is = named_stays more given after name refl (sym (ap (λ (done : Result (Unit {0}) Refusal × Machine). fold
         replayed (unless_refused done) more) (claimed is)) ∙ leads)
       where
-        claimed : (is_name name && is_name owner) ≡ true → restore_claim name owner (unnamed number) ≡ (Ok tt, given)
+        claimed : (is_name name && is_name owner) ≡ true → restore_claim name owner (unnamed number most) ≡ (Ok tt, given)
         claimed is = rw is refl
     at false is = absurd (err_is_no_ok BadName after (sym (refused_stays more BadName) ∙ (sym
         (ap (λ (done : Result (Unit {0}) Refusal × Machine). fold replayed (unless_refused done) more) (refused is)) ∙ leads)))
       where
-        refused : (is_name name && is_name owner) ≡ false → restore_claim name owner (unnamed number)
-            ≡ (Err BadName, unnamed number)
+        refused : (is_name name && is_name owner) ≡ false → restore_claim name owner (unnamed number most)
+            ≡ (Err BadName, unnamed number most)
         refused is = rw is refl
 
 -- so the file of the pad with this name is taken
-pub is_taken : (number : ℕ) (name owner : List ℕ) (records more : List Record) (read : Read) →
-    rebuilt number records ≡ Ok read.pad → records ≡ Named name owner ∷ more → if_named name read ≡ Ok read
-is_taken number name owner records more read leads is =
-    ap (if_called name read) (named_first number name owner more read.pad
-    (sym (ap (rebuilt number) is) ∙ leads))
+pub is_taken : (number most : ℕ) (name owner : List ℕ) (records more : List Record) (read : Read) →
+    rebuilt number most records ≡ Ok read.pad → records ≡ Named name owner ∷ more → if_named name read ≡ Ok read
+is_taken number most name owner records more read leads is =
+    ap (if_called name read) (named_first number most name owner more read.pad
+    (sym (ap (rebuilt number most) is) ∙ leads))
     ∙ cond-true (bytes_eq name name) (Ok read) (Err OtherPad) ((bytes_eq-Decides name name).1 refl)
 
 -- and one without a record is that of no pad
-pub is_empty : (number : ℕ) (name : List ℕ) (records : List Record) (read : Read) → rebuilt number records
+pub is_empty : (number most : ℕ) (name : List ℕ) (records : List Record) (read : Read) → rebuilt number most records
     ≡ Ok read.pad → records ≡ [] → if_named name read ≡ Err Empty
-is_empty number name records read leads is =
+is_empty number most name records read leads is =
     ap (λ (m : Machine). if_called name read (name_of m.owned))
-    (sym (same_ok (unnamed number) read.pad (sym (ap (rebuilt number) is) ∙ leads)))
+    (sym (same_ok (unnamed number most) read.pad (sym (ap (rebuilt number most) is) ∙ leads)))

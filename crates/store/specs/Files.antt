@@ -80,10 +80,10 @@ read_lines number name before (line ∷ lines) =
     (text_behind before.sum line)
 
 -- what the first line says: a header
-abbrev pub begun : ℕ → List ℕ → List ℕ → List ℕ → Entry → Result Read Damage
-begun replica name line sum (entry.Header header) = if bytes_eq header.pad name
-    then Ok (record { pad = unnamed replica; header = header; sum = sum; whole = suc (length line) }) else Err OtherPad
-begun replica name line sum (entry.Record kept) = Err (Unknown 1)
+abbrev pub begun : ℕ → ℕ → List ℕ → List ℕ → List ℕ → Entry → Result Read Damage
+begun replica present name line sum (entry.Header header) = if bytes_eq header.pad name
+    then Ok (record { pad = unnamed replica present; header = header; sum = sum; whole = suc (length line) }) else Err OtherPad
+begun replica present name line sum (entry.Record kept) = Err (Unknown 1)
 
 -- what the file of each pad begins with
 abbrev pub beginning : List ℕ
@@ -99,15 +99,16 @@ abbrev pub torn_front : List ℕ → List (List ℕ) → Damage
 torn_front line lines = if list_any begins_batch lines then Unlinked 1 else unbegun line
 
 -- after the first of some lines
-abbrev pub first_read : ℕ → List ℕ → List ℕ → List (List ℕ) → Result Read Damage
-first_read replica name line lines = by_text (Err (torn_front line lines))
-    (λ text. read_on (begun replica name line (sum_after [] text)) (said_at 1 (entry_said text))) (text_behind [] line)
+abbrev pub first_read : ℕ → ℕ → List ℕ → List ℕ → List (List ℕ) → Result Read Damage
+first_read replica present name line lines = by_text (Err (torn_front line lines))
+    (λ text. read_on (begun replica present name line (sum_after [] text)) (said_at 1 (entry_said text))) (text_behind [] line)
 
--- what the lines of the file of a pad lead to, on the server with this number
-abbrev pub file_read : ℕ → List ℕ → List (List ℕ) → Result Read Damage
-file_read replica name [] = Err Empty
-file_read replica name (first ∷ lines) = read_on (λ before. read_lines 2 name before lines)
-    (first_read replica name first (first ∷ lines))
+-- what the lines of the file of a pad lead to, on the server with this replica number, where so many visits may be present
+-- at once
+abbrev pub file_read : ℕ → ℕ → List ℕ → List (List ℕ) → Result Read Damage
+file_read replica present name [] = Err Empty
+file_read replica present name (first ∷ lines) = read_on (λ before. read_lines 2 name before lines)
+    (first_read replica present name first (first ∷ lines))
 
 -- a file that was read, if its pad has this name
 abbrev pub if_called : List ℕ → Read → Option (List ℕ) → Result Read Damage
@@ -119,11 +120,11 @@ abbrev pub if_named : List ℕ → Read → Result Read Damage
 if_named name read = if_called name read (name_of read.pad.owned)
 
 -- the lines of a file with these bytes are read, if there are any
-abbrev pub lines_read : ℕ → List ℕ → List ℕ → List (List ℕ) → Result Read Damage
-lines_read replica name bytes [] = Err (unbegun bytes)
-lines_read replica name bytes (first ∷ lines) = read_on (if_named name) (file_read replica name (first ∷ lines))
+abbrev pub lines_read : ℕ → ℕ → List ℕ → List ℕ → List (List ℕ) → Result Read Damage
+lines_read replica present name bytes [] = Err (unbegun bytes)
+lines_read replica present name bytes (first ∷ lines) = read_on (if_named name) (file_read replica present name (first ∷ lines))
 
--- what the bytes of a pad's file lead to on the server with this number: its whole lines are read, as far as they were
+-- what the bytes of a pad's file lead to on the server with these numbers: its whole lines are read, as far as they were
 -- synced, and its pad has this name
-abbrev pub pad_read : ℕ → List ℕ → List ℕ → Result Read Damage
-pad_read replica name bytes = lines_read replica name bytes (whole_lines bytes)
+abbrev pub pad_read : ℕ → ℕ → List ℕ → List ℕ → Result Read Damage
+pad_read replica present name bytes = lines_read replica present name bytes (whole_lines bytes)

@@ -89,22 +89,22 @@ IsFile name [] = ⊥
 IsFile name (entry.Header header ∷ entries) = (header.pad ≡ name) × AreOf name entries
 IsFile name (entry.Record kept ∷ entries) = ⊥
 
--- whatever a crash leaves of a pad's file beyond its first line: a server with any number reads it, as the restarted pad
+-- whatever a crash leaves of a pad's file beyond its first line: a server with any numbers reads it, as the restarted pad
 -- that was there when the records among the lines that are left had been left, and these are at least those that were
 -- synced. It takes the pad if its first record names it so, and no pad if no record is left. What is left of the file is
 -- again that of a pad with these lives
 abbrev pub CrashLaw : Type 0
 CrashLaw =
-    (replica : ℕ) (name : List ℕ) (entries : List Entry) (m : Machine) (texts : List (List ℕ)) (disk : Disk)
+    (replica present : ℕ) (name : List ℕ) (entries : List Entry) (m : Machine) (texts : List (List ℕ)) (disk : Disk)
     (bytes : List ℕ) →
-    Life replica (records_in entries) m → IsFile name entries → Say entries texts → disk.written ≡ file_of texts →
+    Life replica present (records_in entries) m → IsFile name entries → Say entries texts → disk.written ≡ file_of texts →
     MayLeave disk texts bytes →
     (lines : ℕ) × HasSynced disk texts lines
-    × (had : Machine) × Had replica (records_in entries) m (records_in (take lines entries)) had
-    × ((number : ℕ) →
-    (read : Read) × (read.pad ≡ restarted_by number had) × (read.whole ≡ length (file_of (take lines texts)))
-    × (file_read number name (whole_lines bytes) ≡ Ok read) × (pad_read number name bytes ≡ if_named name read)
+    × (had : Machine) × Had replica present (records_in entries) m (records_in (take lines entries)) had
+    × ((number most : ℕ) →
+    (read : Read) × (read.pad ≡ restarted_by number most had) × (read.whole ≡ length (file_of (take lines texts)))
+    × (file_read number most name (whole_lines bytes) ≡ Ok read) × (pad_read number most name bytes ≡ if_named name read)
     × ((owner : List ℕ) (more : List Record) → records_in (take lines entries) ≡ Named name owner ∷ more →
-    pad_read number name bytes ≡ Ok read)
-    × (records_in (take lines entries) ≡ [] → pad_read number name bytes ≡ Err Empty)
-    × Life number (records_in (take lines entries)) read.pad × IsFile name (take lines entries))
+    pad_read number most name bytes ≡ Ok read)
+    × (records_in (take lines entries) ≡ [] → pad_read number most name bytes ≡ Err Empty)
+    × Life number most (records_in (take lines entries)) read.pad × IsFile name (take lines entries))

@@ -80,22 +80,23 @@ pub fn record_text(
     value.to_string(alloc)
 }
 
-/// The pad with this name on the server with this replica number, of the bytes of its file. What a crash left at its end is
-/// left aside.
+/// The pad with this name of the bytes of its file, on the server with this replica number, where this many visits may be
+/// present at once. What a crash left at the file's end is left aside.
 pub fn load<S: Sequence>(
     alloc: Global,
     replica: u16,
+    present: u64,
     name: &str,
     bytes: &[u8],
 ) -> Result<Loaded<S>, Damage>
     requires { 1 ≤ replica }
-    ensures read { MatchResult result (λ loaded. pad_read replica name.now bytes.now ≡ Ok (record { pad = loaded.pad; header = loaded.header; sum = string_bytes loaded.sum; whole = loaded.whole })) (λ e. (e ≡ Damage.Memory) ⊎ (pad_read replica name.now bytes.now ≡ Err e)) }
+    ensures read { MatchResult result (λ loaded. pad_read replica present name.now bytes.now ≡ Ok (record { pad = loaded.pad; header = loaded.header; sum = string_bytes loaded.sum; whole = loaded.whole })) (λ e. (e ≡ Damage.Memory) ⊎ (pad_read replica present name.now bytes.now ≡ Err e)) }
     ensures cut { IfOk result (λ loaded. loaded.whole + loaded.cut ≡ length bytes.now) }
 {
     let Some(end) = find_feed(bytes) else {
         return Err(damage_of_front(bytes));
     };
-    let (pad, last) = load_named(alloc, replica, name, bytes, end)?;
+    let (pad, last) = load_named(alloc, replica, present, name, bytes, end)?;
     let Tail { header, sum, whole } = last;
     Ok(Loaded {
         pad,
@@ -110,16 +111,17 @@ pub fn load<S: Sequence>(
 fn load_named<S: Sequence>(
     alloc: Global,
     replica: u16,
+    present: u64,
     name: &str,
     bytes: &[u8],
     end: usize,
 ) -> Result<(Pad<S>, Tail), Damage>
     requires numbered { 1 ≤ replica }
     requires feed { Some end ≡ position is_feed bytes.now }
-    ensures read { MatchResult result (λ done. read_on (if_named name.now) (file_read replica name.now (whole_lines bytes.now)) ≡ Ok (so_far done.0 done.1)) (λ e. (e ≡ Damage.Memory) ⊎ (read_on (if_named name.now) (file_read replica name.now (whole_lines bytes.now)) ≡ Err e)) }
+    ensures read { MatchResult result (λ done. read_on (if_named name.now) (file_read replica present name.now (whole_lines bytes.now)) ≡ Ok (so_far done.0 done.1)) (λ e. (e ≡ Damage.Memory) ⊎ (read_on (if_named name.now) (file_read replica present name.now (whole_lines bytes.now)) ≡ Err e)) }
     ensures within { IfOk result (λ done. done.1.whole ≤ length bytes.now) }
 {
-    let done: (Pad<S>, Tail) = load_lines(alloc, replica, name, bytes, end)?;
+    let done: (Pad<S>, Tail) = load_lines(alloc, replica, present, name, bytes, end)?;
     check_name(&done.0, name)?;
     Ok(done)
 }
@@ -139,33 +141,35 @@ fn check_name<S: Sequence>(pad: &Pad<S>, name: &str) -> Result<(), Damage>
 fn load_lines<S: Sequence>(
     alloc: Global,
     replica: u16,
+    present: u64,
     name: &str,
     bytes: &[u8],
     end: usize,
 ) -> Result<(Pad<S>, Tail), Damage>
     requires numbered { 1 ≤ replica }
     requires feed { Some end ≡ position is_feed bytes.now }
-    ensures read { MatchResult result (λ done. file_read replica name.now (whole_lines bytes.now) ≡ Ok (so_far done.0 done.1)) (λ e. (e ≡ Damage.Memory) ⊎ (file_read replica name.now (whole_lines bytes.now) ≡ Err e)) }
+    ensures read { MatchResult result (λ done. file_read replica present name.now (whole_lines bytes.now) ≡ Ok (so_far done.0 done.1)) (λ e. (e ≡ Damage.Memory) ⊎ (file_read replica present name.now (whole_lines bytes.now) ≡ Err e)) }
     ensures within { IfOk result (λ done. done.1.whole ≤ length bytes.now) }
 {
     let first = first_line(alloc, name, &bytes[..end], bytes)?;
-    load_behind(alloc, replica, name, first, &bytes[end + 1..])
+    load_behind(alloc, replica, present, name, first, &bytes[end + 1..])
 }
 
 // The pad of a file whose first line was read, of the bytes behind that.
 fn load_behind<S: Sequence>(
     alloc: Global,
     replica: u16,
+    present: u64,
     name: &str,
     first: Tail,
     bytes: &[u8],
 ) -> Result<(Pad<S>, Tail), Damage>
     requires numbered { 1 ≤ replica }
     requires room { first.whole + length bytes.now ≤ 18446744073709551615 }
-    ensures read { MatchResult result (λ done. read_lines 2 name.now (so_far (unnamed replica) first) (whole_lines bytes.now) ≡ Ok (so_far done.0 done.1)) (λ e. (e ≡ Damage.Memory) ⊎ (read_lines 2 name.now (so_far (unnamed replica) first) (whole_lines bytes.now) ≡ Err e)) }
+    ensures read { MatchResult result (λ done. read_lines 2 name.now (so_far (unnamed replica present) first) (whole_lines bytes.now) ≡ Ok (so_far done.0 done.1)) (λ e. (e ≡ Damage.Memory) ⊎ (read_lines 2 name.now (so_far (unnamed replica present) first) (whole_lines bytes.now) ≡ Err e)) }
     ensures within { IfOk result (λ done. done.1.whole ≤ first.whole + length bytes.now) }
 {
-    let mut pad = match Pad::new(alloc, replica) {
+    let mut pad = match Pad::new(alloc, replica, present) {
         Ok(pad) => pad,
         Err(_) => return Err(Damage::Memory),
     };
@@ -277,7 +281,7 @@ fn checked(header: Header, name: &str) -> Result<Header, Damage>
 // The first of the lines of these bytes, which is a header.
 fn first_line(alloc: Global, name: &str, line: &[u8], bytes: &[u8]) -> Result<Tail, Damage>
     requires { length line.now < length bytes.now }
-    ensures read { MatchResult result (λ first. (replica : ℕ) → first_read replica name.now line.now (whole_lines bytes.now) ≡ Ok (so_far (unnamed replica) first)) (λ e. (e ≡ Damage.Memory) ⊎ ((replica : ℕ) → first_read replica name.now line.now (whole_lines bytes.now) ≡ Err e)) }
+    ensures read { MatchResult result (λ first. (replica present : ℕ) → first_read replica present name.now line.now (whole_lines bytes.now) ≡ Ok (so_far (unnamed replica present) first)) (λ e. (e ≡ Damage.Memory) ⊎ ((replica present : ℕ) → first_read replica present name.now line.now (whole_lines bytes.now) ≡ Err e)) }
     ensures within { IfOk result (λ first. first.whole ≡ length line.now + 1) }
 {
     let Some((text, sum)) = text_of(alloc, "", line)? else {

@@ -17,11 +17,12 @@ use shared_pads::{Gate, Seat, SharedPad};
 use std::alloc::Global;
 use std::sync::Wait;
 
-/// Pads without names, as many as a server is to have room for: 1 to 4,096, each in the cell of its place. Each has room
-/// for so many seats.
+/// Pads without names, as many as a server is to have room for: 1 to 4,096, each in the cell of its place. On each, this many
+/// visits may be present at once, and it has room for this many seats.
 pub fn open_row<S: Sequence>(
     alloc: Global,
     replica: u16,
+    present: u64,
     cells: u32,
     seats: u32,
 ) -> Result<Vec<SharedPad<S>>, Refusal>
@@ -31,7 +32,7 @@ pub fn open_row<S: Sequence>(
 {
     let mut row = Vec::new(alloc);
     for cell in 0..cells {
-        let Ok(pad) = SharedPad::new(alloc, Pad::new(alloc, replica)?, cell, seats) else {
+        let Ok(pad) = SharedPad::new(alloc, Pad::new(alloc, replica, present)?, cell, seats) else {
             return Err(Refusal::Memory);
         };
         row.push(pad)?;

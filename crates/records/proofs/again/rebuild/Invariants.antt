@@ -5,4 +5,4 @@ use Rattle.records.proofs.again.rebuild.Given as goal
 
 -- the records that are left lead from the pad so far to where all lead
 abbrev pub invariant-loop-kept : goal.invariant-loop-kept
-invariant-loop-kept g l = replay_all l.kept-iterator.rest.items l.pad ≡ rebuilt l.replica l.fn.records.items
+invariant-loop-kept g l = replay_all l.kept-iterator.rest.items l.pad ≡ rebuilt l.replica l.present l.fn.records.items

@@ -2,4 +2,4 @@ use Rattle.records.proofs.Fronts.{front}
 use Rattle.records.proofs.laws.fronts_law.Goals as goal
 
 pub returns : goal.returns
-returns c replica records m count life = front replica records m count life
+returns c replica present records m count life = front replica present records m count life

@@ -6,4 +6,4 @@ use Rattle.server_core.proofs.server.make_row.Given as goal
 
 -- the cells so far
 abbrev pub invariant-loop : goal.invariant-loop
-invariant-loop g l = l.cells.items ≡ repeat l.counter (unnamed l.fn.replica ∷ [])
+invariant-loop g l = l.cells.items ≡ repeat l.counter (unnamed l.fn.replica l.fn.present ∷ [])

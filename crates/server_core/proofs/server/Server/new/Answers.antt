@@ -7,4 +7,4 @@ use Rattle.server_core.proofs.server.Server.new.Goals as goal
 pub invariant_of-result : goal.invariant_of-result
 invariant_of-result g c =
     subst (λ n. n ≤ MAX_CELLS) (sym (ap length c.in_ok-make_row.ensures
-    ∙ length-repeat c.args.cells (unnamed c.args.replica))) c.requires.cells
+    ∙ length-repeat c.args.cells (unnamed c.args.replica c.args.present))) c.requires.cells

@@ -1,9 +1,9 @@
 //! What the server does in the course of its connections.
-use crate::exchange::Exchange;
-use crate::keeper::Keeper;
 use event_loop::Hub;
 use pad_core::Request;
+use pad_files::Keeper;
 use pad_model::Refusal;
+use peering::Exchange;
 use shared_pads::Answered;
 use std::alloc::Global;
 use std::sync::Wait;

@@ -3,6 +3,8 @@ ghost use Rattle.std.specs.Prelude.{◌≡◌};
 ghost use Rattle.std.specs.Process.{exit_status};
 ghost use Rattle.pad_server.specs.Status.{status};
 
+use devices::cause_of;
+use pad_files::StoreError;
 use pad_model::Refusal;
 use sessions::{AccountsError, Mistake};
 use std::alloc::AllocError;
@@ -37,33 +39,8 @@ pub enum Failure<'a> {
         address: &'a str,
         cause: io::Error,
     },
-    #[error("the store {folder} cannot be opened: {cause}")]
-    Unopened {
-        folder: &'a str,
-        cause: io::Error,
-    },
-    #[error("the store {folder} is in use by another process")]
-    InUse {
-        folder: &'a str,
-    },
-    #[error("the store {folder} is damaged")]
-    Damaged {
-        folder: &'a str,
-    },
-    #[error("the store {folder} belongs to the server with replica number {replica}; to continue it under a number that no server has used, add --new-replica")]
-    OtherReplica {
-        folder: &'a str,
-        replica: u64,
-    },
-    #[error("the store {folder} has operations of a server with replica number {number}")]
-    UsedReplica {
-        folder: &'a str,
-        number: u16,
-    },
-    #[error("the store {folder} has more pads than there are cells")]
-    Crowded {
-        folder: &'a str,
-    },
+    #[error("{0}")]
+    Store(StoreError<'a>),
     #[error("the store {folder} failed")]
     Failed {
         folder: &'a str,
@@ -109,12 +86,7 @@ impl<'a> Failure<'a> {
         unread: Option<io::Error>,
         unwritten: Option<io::Error>,
     ) -> Failure<'static> {
-        let cause = match fault {
-            Fault::ReadFault => unread,
-            Fault::WriteFault => unwritten,
-            _ => None,
-        };
-        match cause {
+        match cause_of(fault, unread, unwritten) {
             Some(cause) => Failure::Broken { fault, cause },
             None => Failure::Fault(fault),
         }
@@ -134,8 +106,8 @@ impl<'a> Failure<'a> {
     {
         match self {
             Failure::BadAccounts { .. }
-            | Failure::OtherReplica { .. }
-            | Failure::UsedReplica { .. } => ExitCode::from(2),
+            | Failure::Store(StoreError::OtherReplica { .. })
+            | Failure::Store(StoreError::UsedReplica { .. }) => ExitCode::from(2),
             _ => ExitCode::FAILURE,
         }
     }
@@ -153,6 +125,12 @@ impl From<Refusal> for Failure<'_> {
 impl From<AllocError> for Failure<'_> {
     fn from(_refused: AllocError) -> Self {
         Failure::Fault(Fault::Memory)
+    }
+}
+
+impl<'a> From<StoreError<'a>> for Failure<'a> {
+    fn from(error: StoreError<'a>) -> Self {
+        Failure::Store(error)
     }
 }
 

@@ -4,16 +4,12 @@ ghost use Rattle.server_core.specs.declared.limits.TheConstants.{MAX_CELLS};
 
 use crate::accounts::read_accounts;
 use crate::args::Asked;
-use crate::bell::Bell;
-use crate::exchange::Exchange;
 use crate::failure::Failure;
-use crate::keeper::Keeper;
-use crate::owner::Owner;
-use crate::stop::Stop;
-use crate::stored::{Size, Stored, restore};
 use crate::threads::seats_for;
 use block_seq::BlockSeq;
+use pad_files::{Keeper, Owner, Size, Stored, restore};
 use pad_model::Refusal;
+use peering::{Bell, Exchange, Stop};
 use sessions::Accounts;
 use shared_pads::SharedPad;
 use std::alloc::Global;

@@ -1,14 +1,13 @@
 //! How many threads a server has, and their seats at the pads.
 use crate::args::Asked;
-use crate::exchange::{Group, MAX_THREADS};
 use crate::failure::Failure;
 use crate::listeners::Listeners;
 use crate::opened::Opened;
 use crate::options::{DEFAULT_WORKERS, MAX_WORKERS};
 use crate::room::warn_of_room;
-use crate::stop::Guard;
 use event_loop::{SetUp, set_up};
 use pad_model::Refusal;
+use peering::{Group, Guard, MAX_THREADS};
 use std::net::{Net, TcpListener, TcpStream};
 use std::sync::Wait;
 use std::thread;

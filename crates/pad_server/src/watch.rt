@@ -1,9 +1,9 @@
 //! The accounts file of a server that runs. It is read again when it has changed.
 use crate::accounts::{reason_of, warn_of_ports};
-use crate::bell::Bell;
 use event_loop::Hub;
 use journal::Journal;
 use log::{info, warn};
+use peering::Bell;
 use sessions::{Accounts, AccountsError};
 use std::alloc::{AllocError, Global};
 use std::sync::Wait;

@@ -1,7 +1,7 @@
 //! A peer that this server exchanges with, and how its rounds went.
 use crate::connection::{Broken, Connection};
-use crate::failure::Failure;
 use crate::stop::Guard;
+use devices::cause_of;
 use event_loop::CellSet;
 use journal::Journal;
 use log::warn;
@@ -231,10 +231,10 @@ where
         let number = self.peer.number;
         match broken {
             Broken::Apart(error) => warn!(Journal(rt); "peer {number}: no connection: {error}"),
-            Broken::Off { fault, cause } => {
-                let failure = Failure::of(fault, cause, cause);
-                warn!(Journal(rt); "peer {number}: {failure}");
-            }
+            Broken::Off { fault, cause } => match cause_of(fault, cause, cause) {
+                Some(cause) => warn!(Journal(rt); "peer {number}: {fault}: {cause}"),
+                None => warn!(Journal(rt); "peer {number}: {fault}"),
+            },
         }
     }
 }

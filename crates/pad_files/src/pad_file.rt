@@ -1,6 +1,6 @@
 //! A pad's file at the start of the server.
-use crate::failure::Failure;
 use crate::owner::Owner;
+use crate::store_error::StoreError;
 use block_seq::BlockSeq;
 use journal::Journal;
 use log::warn;
@@ -38,12 +38,12 @@ pub enum Unloaded {
 
 impl Unloaded {
     /// Why the server does not start then.
-    pub fn in_folder(self, folder: &str) -> Failure<'_> {
+    pub fn in_folder(self, folder: &str) -> StoreError<'_> {
         match self {
-            Unloaded::Untouched(cause) => Failure::Unopened { folder, cause },
-            Unloaded::Damaged => Failure::Damaged { folder },
-            Unloaded::OtherReplica(replica) => Failure::OtherReplica { folder, replica },
-            Unloaded::UsedReplica(number) => Failure::UsedReplica { folder, number },
+            Unloaded::Untouched(cause) => StoreError::Unopened { folder, cause },
+            Unloaded::Damaged => StoreError::Damaged { folder },
+            Unloaded::OtherReplica(replica) => StoreError::OtherReplica { folder, replica },
+            Unloaded::UsedReplica(number) => StoreError::UsedReplica { folder, number },
         }
     }
 }

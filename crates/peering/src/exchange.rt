@@ -1,4 +1,7 @@
 //! The threads that exchange the operations of the pads with the peers of the accounts file.
+ghost use Rattle.std.specs.Prelude.{◌≡◌, IfOk, length, min};
+ghost use Rattle.peering.specs.declared.exchange.TheConstants.{MAX_THREADS};
+
 use crate::bell::Bell;
 use crate::contact::{Brought, Contact, PATIENCE};
 use crate::stop::Guard;
@@ -22,7 +25,8 @@ const LOOK: u64 = 1;
 
 const LONG_LOOK: u64 = 60;
 
-/// What the threads that exchange with peers share: the bell of each, and how many have ended.
+/// What the threads that exchange with peers share: the bell of each, and how many have ended. The gate of the pads notes and
+/// rings; `finish` is for the thread that has started the others.
 #[derive(Drop)]
 pub struct Exchange {
     bells: Vec<Bell>,
@@ -33,9 +37,11 @@ pub struct Exchange {
 
 impl Exchange {
     /// Of a server with so many peers and cells: a thread for each peer, up to 16.
-    pub fn new(alloc: Global, peers: usize, cells: usize) -> Result<Exchange, AllocError> {
+    pub fn new(alloc: Global, peers: usize, cells: usize) -> Result<Exchange, AllocError>
+        ensures { IfOk result (λ exchange. length exchange.bells.items ≡ min peers MAX_THREADS) }
+    {
         let mut bells = Vec::new(alloc);
-        for _ in 0..peers.min(MAX_THREADS) {
+        for _place in 0..peers.min(MAX_THREADS) {
             bells.push(Bell::new(alloc, cells)?)?;
         }
         Ok(Exchange {
@@ -46,26 +52,28 @@ impl Exchange {
     }
 
     /// How many threads there are.
-    pub fn threads(&self) -> usize {
+    pub fn threads(&self) -> usize
+        ensures { result ≡ length self.now.bells.items }
+    {
         self.bells.len()
     }
 
-    /// The pad of a cell has moved, or was created.
+    /// The pad of a cell has moved, or was created. It is called under the pad's lock, and wakes nobody.
     pub fn note(&self, cell: u32) {
         for bell in &self.bells {
             bell.note(cell);
         }
     }
 
-    /// Wakes all threads.
+    /// Wakes all threads, which then visit the cells that were noted.
     pub fn ring<R: Wait>(&self, rt: &R) {
         for bell in &self.bells {
             bell.ring(rt);
         }
     }
 
-    /// Has all threads end after their last rounds, and waits for so many of them, but no longer than for a peer. Exchanges that
-    /// are still under way then are broken off.
+    /// Has all threads end after their last rounds, and waits for so many of them, but no longer than for a peer: 30 seconds.
+    /// Exchanges that are still under way then are broken off.
     pub fn finish<R: Wait + Clock>(&self, rt: &R, threads: u64, guard: Guard<'_>) {
         for bell in &self.bells {
             bell.ring_last(rt);

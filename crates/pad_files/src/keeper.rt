@@ -81,7 +81,7 @@ pub struct Books {
     pub handles: Vec<Handle>,
 }
 
-/// Keeps the pads of a server in files, one for each pad that has a name.
+/// Keeps the pads of a server in files, one for each pad that has a name. `restore` makes it, and all threads share it.
 #[derive(Drop)]
 pub struct Keeper {
     // By which files are made, the time is read and faults are logged.
@@ -108,8 +108,8 @@ pub struct Held {
 }
 
 impl Keeper {
-    /// A keeper of these books.
-    pub fn new(
+    // A keeper of these books.
+    pub(crate) fn new(
         files: HostRuntime,
         folder: String,
         replica: u16,
@@ -132,7 +132,9 @@ impl Keeper {
         }
     }
 
-    /// Notes what a request leaves to be kept. A failure is logged, and from then on nothing is settled any more.
+    /// Notes what a request leaves to be kept, by a line for each record at the end of the pad's file. It is called under the
+    /// pad's lock, so that the lines have the order of the steps. A failure is logged, and from then on nothing is settled
+    /// any more.
     pub fn note<R: Wait>(&self, rt: &R, alloc: Global, told: &Answered<'_>) {
         // What stands behind a line that was not written whole would be damage at the next start.
         if self.progress.has_failed() {
@@ -151,7 +153,7 @@ impl Keeper {
         }
     }
 
-    /// A creation that was promised a file came to no cell.
+    /// A creation that was promised a file came to no cell. If it came to one, `note` finds out itself.
     pub fn release<R: Wait>(&self, rt: &R) {
         self.spares.release(rt);
     }
@@ -233,7 +235,8 @@ impl Keeper {
     }
 
     /// Whether what a request leaves can be kept, as far as that is known: 901 where it can't, 900 where there is no memory
-    /// to make a file with. A creation is promised a file.
+    /// to make a file with. It is called before any pad is asked. A creation is promised a file, which `note` or `release`
+    /// takes back.
     pub fn keeps<R: Wait>(&self, rt: &R, alloc: Global, request: &Request) -> Result<(), Refusal>
         ensures { IfErr result (λ e. (e ≡ Refusal.StoreFull) ⊎ (e ≡ Refusal.Memory)) }
     {
@@ -351,7 +354,8 @@ impl Keeper {
         self.progress.has_failed()
     }
 
-    /// Waits until all that was noted before is synced, or fails.
+    /// Waits until all that was noted before is synced, or fails. It is called before a reply is written, under no pad's lock.
+    /// One thread syncs for all that wait; after a failed write or sync each call fails.
     pub fn settle<R: Wait>(&self, rt: &R) -> io::Result<()> {
         match self.progress.turn(rt) {
             Turn::Done => Ok(()),

@@ -3,7 +3,8 @@ ghost use Rattle.std.specs.Prelude.{◌≡◌, ◌≤◌};
 
 use std::marker::Model;
 
-/// The number of a server that opens a store.
+/// The number of a server that opens a store. It is taken if each file is that of a server with this number, or if the number
+/// is new and no operation has it.
 #[derive(Drop)]
 pub struct Owner {
     replica: u16,
@@ -22,7 +23,7 @@ impl Model for Owner {
 }
 
 impl Owner {
-    /// A server with this number, which may be new.
+    /// A server with this number, 1 to 65,535, which is new if no server has used it before.
     pub fn new(replica: u16, is_new: bool) -> Owner
         requires { 1 ≤ replica }
         ensures { result ≡ replica }
@@ -30,16 +31,16 @@ impl Owner {
         Owner { replica, is_new }
     }
 
-    /// Its number.
-    pub fn replica(&self) -> u16
+    // Its number.
+    pub(crate) fn replica(&self) -> u16
         ensures number { result ≡ self.now }
         ensures least { 1 ≤ result }
     {
         self.replica
     }
 
-    /// Whether the number is new.
-    pub fn is_new(&self) -> bool {
+    // Whether the number is new.
+    pub(crate) fn is_new(&self) -> bool {
         self.is_new
     }
 }

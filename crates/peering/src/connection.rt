@@ -1,7 +1,6 @@
 //! A connection to a peer.
-use crate::keeper::Keeper;
-use crate::settled::Settled;
-use crate::watched::Watched;
+use devices::Watched;
+use pad_files::{Keeper, Settled};
 use pad_model::Version;
 use relay::{Link, Relayed, greet, visit_listed};
 use sessions::Peer;

@@ -1,18 +1,17 @@
 //! The pads of a store at the start of the server.
 ghost use Rattle.std.specs.Prelude.{◌≤◌};
 
-use crate::failure::Failure;
 use crate::keeper::{Book, Books, Handle, Held, Keeper};
 use crate::owner::Owner;
 use crate::pad_file::PadFile;
 use crate::reading::read_all;
 use crate::reserve::Reserve;
 use crate::spares::PRIVATE;
+use crate::store_error::StoreError;
 use block_seq::BlockSeq;
 use journal::Journal;
 use log::warn;
 use pad_core::Pad;
-use pad_model::Refusal;
 use shared_pads::SharedPad;
 use std::alloc::{AllocError, Global};
 use std::fs::{DirBuilder, File, OpenOptions};
@@ -27,28 +26,33 @@ const PRIVATE_FOLDER: u32 = 0o700;
 /// The row of a server, and who keeps it in files.
 #[derive(Drop)]
 pub struct Stored {
+    /// The pads of the files, in the order of the files' names, and after them the free cells.
     pub cells: Vec<SharedPad<BlockSeq>>,
     /// The revision of the pad at each cell.
     pub revisions: Vec<u64>,
+    /// Who notes what is answered at these cells. It holds the folder's lock until it is dropped.
     pub keeper: Keeper,
 }
 
 /// How large a row is to be.
 #[derive(Clone, Copy)]
 pub struct Size {
+    /// How many cells there are to be.
     pub cells: u32,
     /// How many threads are to have a seat at each pad.
     pub seats: u32,
 }
 
-/// Loads the pads of a folder, each from its file, in the order of the files' names. The other cells are free.
+/// Loads the pads of a folder, each from its file, in the order of the files' names. The other cells are free. A server calls
+/// it once, before it serves anyone. The folder is made if it is not there, and its lock is taken; each file is cut off
+/// behind its last whole line, and 16 MiB of the disk are taken as a reserve.
 pub fn restore<'f, R>(
     rt: &R,
     files: HostRuntime,
     folder: &'f str,
     owner: &Owner,
     size: Size,
-) -> Result<Stored, Failure<'f>>
+) -> Result<Stored, StoreError<'f>>
 where
     R: Runtime<A = Global, File = File> + Wait,
 {
@@ -63,7 +67,7 @@ where
     let path = format!(in rt.alloc(); "{folder}/reserve")?;
     let reserve = match Reserve::open(&files, path.as_str()) {
         Ok(reserve) => reserve,
-        Err(cause) => return Err(Failure::Unopened { folder, cause }),
+        Err(cause) => return Err(StoreError::Unopened { folder, cause }),
     };
     if !reserve.is_whole(rt) {
         warn!(Journal(rt); "the disk of the store {folder} is full: nothing is taken that has to be kept");
@@ -76,18 +80,18 @@ where
 }
 
 // The folder and its lock, and the names of its files.
-fn open_folder<'f, R>(rt: &R, folder: &'f str) -> Result<(Held, Vec<String>), Failure<'f>>
+fn open_folder<'f, R>(rt: &R, folder: &'f str) -> Result<(Held, Vec<String>), StoreError<'f>>
 where
     R: Runtime<A = Global, File = File>,
 {
     let held = match lock_folder(rt, folder) {
         Ok(Some(held)) => held,
-        Ok(None) => return Err(Failure::InUse { folder }),
-        Err(cause) => return Err(Failure::Unopened { folder, cause }),
+        Ok(None) => return Err(StoreError::InUse { folder }),
+        Err(cause) => return Err(StoreError::Unopened { folder, cause }),
     };
     match names_of(rt, folder) {
         Ok(names) => Ok((held, names)),
-        Err(cause) => Err(Failure::Unopened { folder, cause }),
+        Err(cause) => Err(StoreError::Unopened { folder, cause }),
     }
 }
 
@@ -99,7 +103,7 @@ fn load_row<'f, R>(
     names: Vec<String>,
     owner: &Owner,
     size: Size,
-) -> Result<Loading, Failure<'f>>
+) -> Result<Loading, StoreError<'f>>
 where
     R: Runtime<A = Global, File = File> + Wait,
 {
@@ -120,7 +124,7 @@ where
             Err(unloaded) => return Err(unloaded.in_folder(folder)),
         };
         if row.cells.len() >= size.cells as usize {
-            return Err(Failure::Crowded { folder });
+            return Err(StoreError::Crowded { folder });
         }
         row.add(alloc, loaded)?;
     }
@@ -165,11 +169,14 @@ impl Loading {
     }
 
     // One more cell without a pad.
-    fn add_free(&mut self, alloc: Global, replica: u16, cell: u32) -> Result<(), Refusal>
+    fn add_free(&mut self, alloc: Global, replica: u16, cell: u32) -> Result<(), AllocError>
         requires { 1 ≤ replica }
     {
-        let Ok(pad) = SharedPad::new(alloc, Pad::new(alloc, replica)?, cell, self.seats) else {
-            return Err(Refusal::Memory);
+        let Ok(pad) = Pad::new(alloc, replica) else {
+            return Err(AllocError);
+        };
+        let Ok(pad) = SharedPad::new(alloc, pad, cell, self.seats) else {
+            return Err(AllocError);
         };
         self.cells.push(pad)?;
         self.revisions.push(0)?;

@@ -1,10 +1,12 @@
 //! How many threads a server has, and their seats at the pads.
-use crate::args::Asked;
-use crate::failure::Failure;
+ghost use Rattle.std.specs.Prelude.{◌≤◌};
+ghost use Rattle.serving.specs.declared.threads.TheConstants.{MAX_WORKERS};
+
 use crate::listeners::Listeners;
 use crate::opened::Opened;
-use crate::options::{DEFAULT_WORKERS, MAX_WORKERS};
 use crate::room::warn_of_room;
+use crate::serving_error::ServingError;
+use crate::settings::Settings;
 use event_loop::{SetUp, set_up};
 use pad_model::Refusal;
 use peering::{Group, Guard, MAX_THREADS};
@@ -15,14 +17,20 @@ use std::thread::Threads;
 use std::time::Clock;
 use workers::{take_all_seats, take_seats};
 
+/// The most workers. Each has a seat at each pad, and so has each of up to 16 threads that exchange with other servers.
+pub const MAX_WORKERS: u32 = 63;
+
+/// The number of workers where none is asked for and the system does not tell how many processors there are.
+const DEFAULT_WORKERS: u32 = 16;
+
 /// The threads that serve connections, with a seat for each at each pad. It warns if they can't serve as many clients as may
 /// be connected.
 pub fn make_threads<R>(
     rt: &R,
     opened: &Opened,
-    asked: Asked<'_>,
+    asked: Settings<'_>,
     listeners: Listeners,
-) -> Result<SetUp, Failure<'static>>
+) -> Result<SetUp, ServingError<'static>>
 where
     R: AllocGlobal
         + Net<Listener = TcpListener, Stream = TcpStream>
@@ -38,7 +46,7 @@ where
     let Listeners { lines, web } = listeners;
     match set_up(rt, lines, web, crew, opened.revisions.as_slice()) {
         Ok(made) => Ok(made),
-        Err(cause) => Err(Failure::NotSetUp(cause)),
+        Err(cause) => Err(ServingError::NotSetUp(cause)),
     }
 }
 
@@ -65,13 +73,15 @@ where
 
 /// How many threads have a seat at each pad, on a server with so many peers: those that serve connections, and those that exchange
 /// with peers.
-pub fn seats_for<R: Threads>(rt: &R, asked: Asked<'_>, peers: usize) -> u32 {
+pub fn seats_for<R: Threads>(rt: &R, asked: Settings<'_>, peers: usize) -> u32 {
     threads_for(rt, asked).saturating_add(peers.min(MAX_THREADS) as u32)
 }
 
 /// How many threads serve connections: as many as the command line asks for, or as there are processors, and one for long
 /// lines.
-pub fn threads_for<R: Threads>(rt: &R, asked: Asked<'_>) -> u32 {
+pub fn threads_for<R: Threads>(rt: &R, asked: Settings<'_>) -> u32
+    ensures { (2 ≤ result) × (result ≤ MAX_WORKERS) }
+{
     let workers = match asked.workers {
         Some(workers) => workers,
         None => processors(rt),

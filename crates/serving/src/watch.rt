@@ -1,5 +1,5 @@
 //! The accounts file of a server that runs. It is read again when it has changed.
-use crate::accounts::{reason_of, warn_of_ports};
+use accounts_file::{reason_of, warn_of_ports};
 use event_loop::Hub;
 use journal::Journal;
 use log::{info, warn};

@@ -1,5 +1,5 @@
 //! For how many clients the limit of open files leaves room.
-use crate::args::Asked;
+use crate::settings::Settings;
 use journal::Journal;
 use libc::types::rlimit;
 use libc::{RLIMIT_NOFILE, getrlimit};
@@ -15,7 +15,7 @@ const HANDLES: u64 = 3;
 
 /// Warns, if the limit of open files leaves room for fewer clients than may be connected. Each of so many threads has two
 /// files, and so has each pad of a store; each of so many peers has a socket.
-pub fn warn_of_room<R: Clock + Eprint>(rt: &R, asked: Asked<'_>, threads: usize, peers: usize) {
+pub fn warn_of_room<R: Clock + Eprint>(rt: &R, asked: Settings<'_>, threads: usize, peers: usize) {
     let Some(limit) = most_files() else {
         return;
     };

@@ -1,7 +1,7 @@
 //! Where clients connect.
-use crate::accounts::has_port;
-use crate::args::Asked;
-use crate::failure::Failure;
+use crate::serving_error::ServingError;
+use crate::settings::Settings;
+use accounts_file::has_port;
 use std::io;
 use std::net::{Net, TcpListener, TcpStream};
 
@@ -15,9 +15,9 @@ pub struct Listeners {
 /// Binds the addresses, and prints them with their real ports.
 pub fn listen_at<'a, R>(
     rt: &R,
-    asked: Asked<'a>,
+    asked: Settings<'a>,
     address: &'a str,
-) -> Result<Listeners, Failure<'a>>
+) -> Result<Listeners, ServingError<'a>>
 where
     R: Net<Listener = TcpListener, Stream = TcpStream> + Print,
 {
@@ -29,18 +29,18 @@ where
     let listeners = Listeners { lines, web };
     match announce(rt, &listeners) {
         Ok(()) => Ok(listeners),
-        Err(cause) => Err(Failure::Untold(cause)),
+        Err(cause) => Err(ServingError::Untold(cause)),
     }
 }
 
-fn bind<'a, R>(rt: &R, address: &'a str) -> Result<TcpListener, Failure<'a>>
+fn bind<'a, R>(rt: &R, address: &'a str) -> Result<TcpListener, ServingError<'a>>
 where
     R: Net<Listener = TcpListener, Stream = TcpStream>,
 {
     match TcpListener::bind(rt, address) {
         Ok(listener) => Ok(listener),
-        Err(cause) if has_port(address) => Err(Failure::Deaf { address, cause }),
-        Err(_) => Err(Failure::NoPort { address }),
+        Err(cause) if has_port(address) => Err(ServingError::Deaf { address, cause }),
+        Err(_) => Err(ServingError::NoPort { address }),
     }
 }
 

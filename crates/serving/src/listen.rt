@@ -2,11 +2,11 @@
 ghost use Rattle.std.specs.Prelude.{◌≤◌};
 ghost use Rattle.server_core.specs.declared.limits.TheConstants.{MAX_CELLS};
 
-use crate::args::Asked;
 use crate::course::Course;
-use crate::failure::Failure;
 use crate::listeners::listen_at;
 use crate::opened::{Opened, open_pads};
+use crate::serving_error::ServingError;
+use crate::settings::Settings;
 use crate::settling::Settling;
 use crate::threads::{make_groups, make_threads};
 use crate::watch::{Watch, watch_accounts};
@@ -24,17 +24,17 @@ use std::time::Clock;
 use web_wire::{Page, Site};
 use workers::Row;
 
-/// Serves connections at an address, and browsers at another one if the command line says so, until as many have ended as it
-/// says. With a store, the pads come from it, each reply waits until everything that it reveals is synced, and the server
-/// stops if the store fails.
-pub fn listen<'a, R>(
+/// Serves connections at an address, and browsers at another one if the settings say so, until as many have ended as they
+/// say. Each address is printed with its real port. The path is that of the accounts file. With a store, the pads come from
+/// it, each reply waits until everything that it reveals is synced, and the server stops if the store fails.
+pub fn serve_clients<'a, R>(
     rt: &R,
     files: HostRuntime,
-    asked: Asked<'a>,
+    asked: Settings<'a>,
     address: &'a str,
     path: &'a str,
     pages: &[Page],
-) -> Result<(), Failure<'a>>
+) -> Result<(), ServingError<'a>>
 where
     R: Runtime<A = Global, File = File>
         + Net<Listener = TcpListener, Stream = TcpStream>
@@ -60,8 +60,8 @@ where
     let watch = Watch::new(watching, path, bytes);
     serve_row(rt, &opened, &hub, asked, site, acceptor, workers, watch)?;
     match asked.store {
-        Some(folder) if opened.has_failed() => Err(Failure::Failed { folder }),
-        _ if hub.has_stopped() => Err(Failure::Halted),
+        Some(folder) if opened.has_failed() => Err(ServingError::Failed { folder }),
+        _ if hub.has_stopped() => Err(ServingError::Halted),
         _ => Ok(()),
     }
 }
@@ -71,12 +71,12 @@ fn serve_row<'s, R>(
     rt: &'s R,
     opened: &'s Opened,
     hub: &'s Hub,
-    asked: Asked<'_>,
+    asked: Settings<'_>,
     site: Site<'s>,
     acceptor: Acceptor,
     workers: Vec<Worker>,
     watch: Watch<'s>,
-) -> Result<(), Failure<'static>>
+) -> Result<(), ServingError<'static>>
 where
     R: Runtime<A = Global, File = File>
         + Net<Listener = TcpListener, Stream = TcpStream>
@@ -123,8 +123,8 @@ where
     serve(&service, acceptor, workers, others)
 }
 
-/// The origins of the command line, which are separated by commas.
-fn origins_of(alloc: Global, asked: Asked<'_>) -> Result<Vec<String>, AllocError> {
+/// The origins of the settings, which are separated by commas.
+fn origins_of(alloc: Global, asked: Settings<'_>) -> Result<Vec<String>, AllocError> {
     let mut origins = Vec::new(alloc);
     for origin in asked.web_origins.unwrap_or_default().split(',') {
         origins.push(String::from_str(alloc, origin.trim())?)?;
@@ -150,7 +150,7 @@ fn serve<R>(
     acceptor: Acceptor,
     mut workers: Vec<Worker>,
     others: Others<'_, R>,
-) -> Result<(), Failure<'static>>
+) -> Result<(), ServingError<'static>>
 where
     R: AllocGlobal
         + Net<Listener = TcpListener, Stream = TcpStream>
@@ -185,7 +185,7 @@ where
             hub.stop();
             guard.end(rt);
             exchange.ring(rt);
-            return Err(Failure::Alone);
+            return Err(ServingError::Alone);
         }
         serve_all(service, workers.as_mut_slice());
         end.ring_last(rt);

@@ -2,10 +2,10 @@
 ghost use Rattle.std.specs.Prelude.{◌≤◌};
 ghost use Rattle.server_core.specs.declared.limits.TheConstants.{MAX_CELLS};
 
-use crate::accounts::read_accounts;
-use crate::args::Asked;
-use crate::failure::Failure;
+use crate::serving_error::ServingError;
+use crate::settings::Settings;
 use crate::threads::seats_for;
+use accounts_file::read_accounts;
 use block_seq::BlockSeq;
 use pad_files::{Keeper, Owner, Size, Stored, restore};
 use pad_model::Refusal;
@@ -48,9 +48,9 @@ impl Opened {
 pub fn open_pads<'a, R>(
     rt: &R,
     files: HostRuntime,
-    asked: Asked<'a>,
+    asked: Settings<'a>,
     path: &'a str,
-) -> Result<(Opened, Vec<u8>), Failure<'a>>
+) -> Result<(Opened, Vec<u8>), ServingError<'a>>
 where
     R: Runtime<A = Global, File = File> + Threads + Wait + Eprint,
     requires { (1 ≤ asked.replica) × (asked.cells ≤ MAX_CELLS) }

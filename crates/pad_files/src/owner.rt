@@ -1,0 +1,46 @@
+//! Whose store it is.
+ghost use Rattle.std.specs.Prelude.{◌≡◌, ◌≤◌};
+
+use std::marker::Model;
+
+/// The number of a server that opens a store. It is taken if each file is that of a server with this number, or if the number
+/// is new and no operation has it.
+#[derive(Drop)]
+pub struct Owner {
+    replica: u16,
+    /// Whether the number is new, so that the store may be that of another one.
+    is_new: bool,
+}
+
+impl Model for Owner {
+    ghost use Rattle.std.specs.Prelude.{ℕ, ◌≤◌};
+
+    ghost Value = { ℕ };
+
+    ghost view = { λ o. o.replica };
+
+    ghost invariant = { λ o. 1 ≤ o.replica };
+}
+
+impl Owner {
+    /// A server with this number, 1 to 65,535, which is new if no server has used it before.
+    pub fn new(replica: u16, is_new: bool) -> Owner
+        requires { 1 ≤ replica }
+        ensures { result ≡ replica }
+    {
+        Owner { replica, is_new }
+    }
+
+    // Its number.
+    pub(crate) fn replica(&self) -> u16
+        ensures number { result ≡ self.now }
+        ensures least { 1 ≤ result }
+    {
+        self.replica
+    }
+
+    // Whether the number is new.
+    pub(crate) fn is_new(&self) -> bool {
+        self.is_new
+    }
+}

@@ -1,9 +1,11 @@
-"""The map of the code in docs/ARCHITECTURE.md, compared with the folders, and NOTICE, with what the programs depend on.
+"""The map of the code in docs/ARCHITECTURE.md, compared with the folders, NOTICE, with what the programs depend on, and
+docs/PROOF.md and docs/DEFINITIONS.md, with the definitions that stand there.
 
 In the map a line `crates/NAME` begins a crate, and the indented lines below it name its source files.
 """
 import os
 import re
+import subprocess
 
 from harness import ROOT, Test, want
 
@@ -65,7 +67,28 @@ def notice_is_whole():
     want(sorted(linked - named), [], "the crates that NOTICE does not name")
 
 
+def definitions_are_there():
+    """Each definition that docs/PROOF.md has the reader read aloud stands in the file that it names."""
+    with open(f"{ROOT}/docs/PROOF.md", encoding="utf-8") as page:
+        rows = re.findall(r"^\| \d+ \| ([^|]*) \| `([^|`]*)` \|", page.read(), re.M)
+    want(len(rows), 12, "how many definitions the page names")
+    for names, path in rows:
+        with open(f"{ROOT}/crates/{path}", encoding="utf-8") as file:
+            text = file.read()
+        for name in re.findall(r"`(\w+)`", names):
+            stands = re.search(rf"\bpub (?:record |enum |struct )?{name}\b", text)
+            want(stands is not None, True, f"that {name} stands in {path}")
+
+
+def page_of_definitions_is_written():
+    """docs/DEFINITIONS.md is what docs/definitions writes, and each definition has a sentence."""
+    done = subprocess.run([f"{ROOT}/docs/definitions", "--check"], capture_output=True, text=True)
+    want((done.returncode, done.stderr), (0, ""), "what docs/definitions says")
+
+
 TESTS = [
+    Test("map: docs/DEFINITIONS.md is what docs/definitions writes", page_of_definitions_is_written),
+    Test("map: docs/PROOF.md names definitions that are there", definitions_are_there),
     Test("map: docs/ARCHITECTURE.md names every source file", map_is_whole),
     Test("map: NOTICE names every crate that the programs link", notice_is_whole),
 ]

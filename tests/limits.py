@@ -6,7 +6,7 @@ from harness import ROOT, Failed, Test, want
 # The beginning of a row, and the constant whose value its number is: a file of crates/ and the name there.
 ROWS = [
     ("clients connected at once", "pad_server/src/options.rt", "DEFAULT_CLIENTS"),
-    ("threads that serve them", "pad_server/src/options.rt", "MAX_WORKERS"),
+    ("threads that serve them", "serving/src/threads.rt", "MAX_WORKERS"),
     ("requests for the page's files at once", "event_loop/src/limits.rt", "VISITS"),
     ("bytes in a line over TCP", "wire_lines/src/feed.rt", "MAX_LINE"),
     ("bytes in a message of a WebSocket", "web_wire/src/frames.rt", "LONGEST_MESSAGE"),

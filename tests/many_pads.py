@@ -1,7 +1,12 @@
-"""Servers with thousands of pads: names are found, memory stays small, and a store of a thousand pads is read again."""
+"""Servers with thousands of pads: names are found, memory stays small, a store of a thousand pads is read again, also after
+a storm of edits, and two servers exchange all of them."""
+import json
 import os
+import random
+import threading
 import time
 
+import peers
 from harness import Failed, Test, want
 from sockets import ACCOUNTS, Server
 
@@ -73,8 +78,98 @@ def a_store_of_a_thousand_pads_is_read_again():
     want(ann.does(do="create", pad="after")["now"], 0, "the revision of a pad that is created then")
 
 
+class Writer(threading.Thread):
+    """An author who types a letter into pads that are drawn by lot, and breaks the connection off from time to time. It
+    counts the letters of each pad that were answered, and those that were sent before a break."""
+
+    EDITS = 150
+
+    def __init__(self, server, count, seed):
+        super().__init__()
+        self.server, self.count, self.dice = server, count, random.Random(seed)
+        self.answered, self.sent, self.problem = {}, {}, None
+
+    def run(self):
+        try:
+            client = self.server.author("ann")
+            for _ in range(self.EDITS):
+                pad = f"p{self.dice.randrange(self.count)}"
+                edit = {"do": "insert", "pad": pad, "rev": 1, "at": 0, "text": "x"}
+                if self.dice.randrange(20) == 0:
+                    client.does(do="join", pad=pad)
+                    client.send(json.dumps(edit) + "\n")
+                    self.sent[pad] = self.sent.get(pad, 0) + 1
+                    client.reset()
+                    client = self.server.author("ann")
+                else:
+                    visit = client.ask(do="join", pad=pad)
+                    client.does(**edit)
+                    self.answered[pad] = self.answered.get(pad, 0) + 1
+                    if visit["ok"]:
+                        client.does(do="leave", pad=pad)
+        except BaseException as problem:
+            self.problem = repr(problem)
+
+
+def a_storm_over_a_thousand_pads():
+    """Every letter that was answered is there after the server was killed, and no letter that nobody sent."""
+    server = Server(f"--cells {MANY} --workers 3 --store storm")
+    create(server, MANY)
+    writers = [Writer(server, MANY, seed) for seed in range(12)]
+    for writer in writers:
+        writer.start()
+    for writer in writers:
+        writer.join()
+    want([writer.problem for writer in writers if writer.problem], [], "what went wrong")
+    server.process.kill()
+    server.process.wait()
+    again = Server(f"--cells {MANY} --workers 3 --store storm")
+    texts = again.author("ann")
+    for number in range(MANY):
+        pad = f"p{number}"
+        texts.does(do="join", pad=pad)
+        text = texts.does(do="text", pad=pad)["text"]
+        texts.does(do="leave", pad=pad)
+        least = sum(writer.answered.get(pad, 0) for writer in writers)
+        letters = len(text) - len(f"this is {pad}")
+        want(text, "x" * letters + f"this is {pad}", "the text")
+        want(least <= letters <= least + sum(writer.sent.get(pad, 0) for writer in writers), True, f"{least} letters or some more, not {letters}")
+
+
+def two_servers_exchange_a_thousand_pads():
+    """Each has the pads with what the other's author wrote, and what both write afterwards comes to the other one."""
+    ports = dict(zip((1, 2), peers.free_ports(2)))
+    servers = [peers.Server(number, ports, [name], [3 - number], f"--cells {MANY}") for number, name in ((1, "ann"), (2, "bob"))]
+    ann, bob = servers[0].author("ann"), servers[1].author("bob")
+    for number in range(MANY):
+        ann.does(do="create", pad=f"p{number}")
+        ann.does(do="insert", pad=f"p{number}", rev=0, at=0, text=f"this is p{number}")
+        bob.does(do="create", pad=f"p{number}")
+    dice = random.Random(7)
+    typed = 0
+    for author in (ann, bob) * 100:
+        pad = f"p{dice.randrange(MANY)}"
+        author.does(do="insert", pad=pad, rev=0, at=0, text="x")
+        typed += 1
+    for author in (ann, bob):
+        peers.wait_for("as many operations at each server", lambda: operations(author) == MANY + typed)
+    for number in range(MANY):
+        shown = [author.does(do="text", pad=f"p{number}")["text"] for author in (ann, bob)]
+        want(shown[0], shown[1], f"the text of p{number} at both servers")
+        want(shown[0].replace("x", ""), f"this is p{number}", "the text without the later letters")
+    for server in servers:
+        server.stop()
+
+
+def operations(client):
+    """How many operations all pads have."""
+    return sum(pad[2] for pad in client.does(do="pads")["pads"])
+
+
 TESTS = [
     Test("many pads: cells without a name take little", cells_without_a_name_take_little, 30),
     Test("many pads: a thousand pads are found", a_thousand_pads_are_found, 60),
     Test("many pads: a store of a thousand pads is read again", a_store_of_a_thousand_pads_is_read_again, 90),
+    Test("many pads: a storm over a thousand pads", a_storm_over_a_thousand_pads, 120),
+    Test("many pads: two servers exchange a thousand pads", two_servers_exchange_a_thousand_pads, 120),
 ]

@@ -1,11 +1,11 @@
 //! Writers that each send one request at a time over TCP, and how long the replies took.
 //!
-//! drive ADDRESS pads|echo|refused WRITERS PADS SIZE REQUESTS
+//! drive ADDRESS pads|kept|echo|refused WRITERS PADS SIZE REQUESTS
 //!
 //! An author first makes the pads, types SIZE characters into each, a hundred at a time, and lets the writers write. Then each writer inserts a
 //! character at a random place of the revision that its last reply told, REQUESTS times. With `echo` the same lines are
 //! written to a server that echoes them; with `refused` each has a letter before it, so that it is no JSON from its first
-//! byte on. It prints replies a second, and the median, the 99th of 100 and the 999th of 1,000 times from a line to its
+//! byte on. With `kept` the pads are there already, and have SIZE characters and revisions. It prints replies a second, and the median, the 99th of 100 and the 999th of 1,000 times from a line to its
 //! reply, in microseconds. With `pads` a refusal ends it with a failure.
 use std::io::{BufRead, BufReader, Write};
 use std::net::TcpStream;
@@ -55,12 +55,19 @@ fn number_after(text: &str, key: &str) -> Option<u64> {
     rest[..end].parse().ok()
 }
 
-/// Makes the pads, and lets the writers write. The revision of each.
-fn prepare(address: &str, writers: u64, pads: u64, size: u64) -> u64 {
+/// Makes the pads if they are not there, and lets the writers write. The revision of each.
+fn prepare(address: &str, kind: Kind, writers: u64, pads: u64, size: u64) -> u64 {
     let mut owner = Client::connect(address);
     owner.does("{\"do\":\"hello\",\"name\":\"owner\",\"token\":\"t\"}\n");
     let mut now = 0;
     for pad in 0..pads {
+        if kind == Kind::Kept {
+            owner.does(&format!("{{\"do\":\"join\",\"pad\":\"p{pad}\"}}\n"));
+            let_write(&mut owner, writers, pads, pad);
+            owner.does(&format!("{{\"do\":\"leave\",\"pad\":\"p{pad}\"}}\n"));
+            now = size;
+            continue;
+        }
         owner.does(&format!("{{\"do\":\"create\",\"pad\":\"p{pad}\"}}\n"));
         let text = "etaoin shrdlu ".repeat(PIECE as usize / 14 + 1);
         now = 0;
@@ -70,13 +77,18 @@ fn prepare(address: &str, writers: u64, pads: u64, size: u64) -> u64 {
                 "{{\"at\":{at},\"do\":\"insert\",\"pad\":\"p{pad}\",\"rev\":{now},\"text\":\"{piece}\"}}\n"
             ));
         }
-        for writer in (pad..writers).step_by(pads as usize) {
-            owner.does(&format!(
-                "{{\"author\":\"w{writer}\",\"do\":\"grant\",\"pad\":\"p{pad}\",\"right\":\"write\"}}\n"
-            ));
-        }
+        let_write(&mut owner, writers, pads, pad);
     }
     now
+}
+
+/// Lets the writers of a pad write.
+fn let_write(owner: &mut Client, writers: u64, pads: u64, pad: u64) {
+    for writer in (pad..writers).step_by(pads as usize) {
+        owner.does(&format!(
+            "{{\"author\":\"w{writer}\",\"do\":\"grant\",\"pad\":\"p{pad}\",\"right\":\"write\"}}\n"
+        ));
+    }
 }
 
 /// A linear congruential generator, of which the high bits are used.
@@ -92,13 +104,20 @@ impl Dice {
 #[derive(Clone, Copy, PartialEq)]
 enum Kind {
     Pads,
+    Kept,
     Echo,
     Refused,
 }
 
 impl Kind {
+    /// Whether pads are written.
+    fn is_of_pads(self) -> bool {
+        matches!(self, Kind::Pads | Kind::Kept)
+    }
+
     fn of(word: &str) -> Kind {
         match word {
+            "kept" => Kind::Kept,
             "echo" => Kind::Echo,
             "refused" => Kind::Refused,
             _ => Kind::Pads,
@@ -120,7 +139,7 @@ struct Task {
 fn write(task: Task, start: &Barrier) -> (Instant, Instant, Vec<u64>) {
     let mut client = Client::connect(&task.address);
     let (writer, pad) = (task.writer, task.pad);
-    if task.kind == Kind::Pads {
+    if task.kind.is_of_pads() {
         client.does(&format!("{{\"do\":\"hello\",\"name\":\"w{writer}\",\"token\":\"t\"}}\n"));
         client.does(&format!("{{\"do\":\"join\",\"pad\":\"p{pad}\"}}\n"));
     }
@@ -134,7 +153,7 @@ fn write(task: Task, start: &Barrier) -> (Instant, Instant, Vec<u64>) {
         let first = if task.kind == Kind::Refused { "x" } else { "" };
         let line = format!("{first}{{\"at\":{at},\"do\":\"insert\",\"pad\":\"p{pad}\",\"rev\":{rev},\"text\":\"x\"}}\n");
         let asked = Instant::now();
-        if task.kind == Kind::Pads {
+        if task.kind.is_of_pads() {
             rev = client.does(&line);
         } else {
             client.ask(&line);
@@ -148,14 +167,14 @@ fn write(task: Task, start: &Barrier) -> (Instant, Instant, Vec<u64>) {
 fn main() {
     let words: Vec<String> = env::args().collect();
     let [_, address, kind, numbers @ ..] = words.as_slice() else {
-        panic!("drive ADDRESS pads|echo|refused WRITERS PADS SIZE REQUESTS");
+        panic!("drive ADDRESS pads|kept|echo|refused WRITERS PADS SIZE REQUESTS");
     };
     let numbers: Vec<u64> = numbers.iter().map(|word| word.parse().expect("a number")).collect();
     let [writers, pads, size, requests] = numbers[..] else {
-        panic!("drive ADDRESS pads|echo|refused WRITERS PADS SIZE REQUESTS");
+        panic!("drive ADDRESS pads|kept|echo|refused WRITERS PADS SIZE REQUESTS");
     };
     let kind = Kind::of(kind);
-    let rev = if kind == Kind::Pads { prepare(address, writers, pads, size) } else { 1 };
+    let rev = if kind.is_of_pads() { prepare(address, kind, writers, pads, size) } else { 1 };
     let start = Arc::new(Barrier::new(writers as usize));
     let threads: Vec<_> = (0..writers)
         .map(|writer| {

@@ -6,7 +6,8 @@ use Rattle.command_line.specs.Options.{present_rule, replica_rule, text_given, v
 use Rattle.sessions.specs.declared.presence.TheConstants.{DEFAULT_PRESENT, MAX_PRESENT}
 use Rattle.server_core.specs.declared.limits.TheConstants.{DEFAULT_CELLS, MAX_CELLS}
 use Rattle.pad_server.specs.declared.args.Asked.{Asked}
-use Rattle.pad_server.specs.declared.options.TheConstants.{MAX_WORKERS, DEFAULT_CLIENTS}
+use Rattle.serving.specs.declared.threads.TheConstants.{MAX_WORKERS}
+use Rattle.pad_server.specs.declared.options.TheConstants.{DEFAULT_CLIENTS}
 
 -- `--stdin`
 abbrev pub stdin_rule : Rule

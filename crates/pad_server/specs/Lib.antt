@@ -1,4 +1,5 @@
 -- The definitions that the contracts cite, by topic.
+pub mod Asking
 pub mod CommandLine
 pub mod Modes
 pub mod Status

@@ -1,11 +1,15 @@
 -- The status of a program that does not start, or ends early.
 use Rattle.std.specs.Prelude.{ℕ}
+use Rattle.accounts_file.specs.declared.accounts_error.AccountsFileError.TheVariants.{BadLine}
+use Rattle.pad_files.specs.declared.store_error.StoreError.TheVariants.{OtherReplica, UsedReplica}
+use Rattle.serving.specs.declared.serving_error.ServingError.TheVariants.{Accounts as ServingAccounts, Store}
 use Rattle.pad_server.specs.declared.failure.Failure.{Failure}
-use Rattle.pad_server.specs.declared.failure.Failure.TheVariants.{BadAccounts, OtherReplica, UsedReplica}
+use Rattle.pad_server.specs.declared.failure.Failure.TheVariants.{Accounts, Serving}
 
 -- 2 after a bad line of the accounts file, for the store of another server and for a number that is not new, else 1
 abbrev pub status : Failure → ℕ
-status (BadAccounts path line mistake) = 2
-status (OtherReplica folder replica) = 2
-status (UsedReplica folder number) = 2
+status (Accounts (BadLine path line mistake)) = 2
+status (Serving (ServingAccounts (BadLine path line mistake))) = 2
+status (Serving (Store (OtherReplica folder replica))) = 2
+status (Serving (Store (UsedReplica folder number))) = 2
 status other = 1

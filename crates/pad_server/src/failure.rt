@@ -3,8 +3,11 @@ ghost use Rattle.std.specs.Prelude.{◌≡◌};
 ghost use Rattle.std.specs.Process.{exit_status};
 ghost use Rattle.pad_server.specs.Status.{status};
 
+use accounts_file::AccountsFileError;
+use devices::cause_of;
+use pad_files::StoreError;
 use pad_model::Refusal;
-use sessions::{AccountsError, Mistake};
+use serving::ServingError;
 use std::alloc::AllocError;
 use std::io;
 use std::io::ErrorKind;
@@ -17,104 +20,26 @@ use wire_lines::Fault;
 pub enum Failure<'a> {
     #[error("the arguments cannot be read: {0}")]
     Unasked(io::Error),
-    #[error("the accounts file {path} cannot be read: {cause}")]
-    Unread {
-        path: &'a str,
-        cause: io::Error,
-    },
-    #[error("500 BadAccounts line {line}")]
-    BadAccounts {
-        path: &'a str,
-        line: u64,
-        mistake: Mistake,
-    },
-    #[error("cannot listen at {address}: HOST:PORT is needed, such as 127.0.0.1:7878")]
-    NoPort {
-        address: &'a str,
-    },
-    #[error("cannot listen at {address}: {cause}")]
-    Deaf {
-        address: &'a str,
-        cause: io::Error,
-    },
-    #[error("the store {folder} cannot be opened: {cause}")]
-    Unopened {
-        folder: &'a str,
-        cause: io::Error,
-    },
-    #[error("the store {folder} is in use by another process")]
-    InUse {
-        folder: &'a str,
-    },
-    #[error("the store {folder} is damaged")]
-    Damaged {
-        folder: &'a str,
-    },
-    #[error("the store {folder} belongs to the server with replica number {replica}; to continue it under a number that no server has used, add --new-replica")]
-    OtherReplica {
-        folder: &'a str,
-        replica: u64,
-    },
-    #[error("the store {folder} has operations of a server with replica number {number}")]
-    UsedReplica {
-        folder: &'a str,
-        number: u16,
-    },
-    #[error("the store {folder} has more pads than there are cells")]
-    Crowded {
-        folder: &'a str,
-    },
-    #[error("the store {folder} failed")]
-    Failed {
-        folder: &'a str,
-    },
-    #[error("the system makes no thread")]
-    Alone,
-    #[error("the threads that serve connections cannot be set up: {0}")]
-    NotSetUp(io::Error),
-    #[error("a thread that serves connections failed")]
-    Halted,
-    #[error("standard output: {0}")]
-    Untold(io::Error),
+    #[error("{0}")]
+    Accounts(AccountsFileError<'a>),
+    #[error("{0}")]
+    Serving(ServingError<'a>),
     #[error("{code} {name}")]
-    Refused {
-        code: u16,
-        name: &'static str,
-    },
+    Refused { code: u16, name: &'static str },
     #[error("{0}")]
     Fault(Fault),
     #[error("{fault}: {cause}")]
-    Broken {
-        fault: Fault,
-        cause: io::Error,
-    },
+    Broken { fault: Fault, cause: io::Error },
 }
 
 impl<'a> Failure<'a> {
-    /// Why the accounts of a file could not be read.
-    pub fn of_accounts(path: &'a str, error: AccountsError) -> Failure<'a> {
-        match error {
-            AccountsError::BadLine { line, mistake } => Failure::BadAccounts {
-                path,
-                line,
-                mistake,
-            },
-            AccountsError::Memory => Failure::Fault(Fault::Memory),
-        }
-    }
-
     /// A connection's fault, with the system's error if its device reported one.
     pub fn of(
         fault: Fault,
         unread: Option<io::Error>,
         unwritten: Option<io::Error>,
     ) -> Failure<'static> {
-        let cause = match fault {
-            Fault::ReadFault => unread,
-            Fault::WriteFault => unwritten,
-            _ => None,
-        };
-        match cause {
+        match cause_of(fault, unread, unwritten) {
             Some(cause) => Failure::Broken { fault, cause },
             None => Failure::Fault(fault),
         }
@@ -128,16 +53,34 @@ impl<'a> Failure<'a> {
         }
     }
 
+    /// What is wrong with the accounts file. None: it is another failure.
+    pub fn accounts(self) -> Option<AccountsFileError<'a>> {
+        match self {
+            Failure::Accounts(error) => Some(error),
+            Failure::Serving(ServingError::Accounts(error)) => Some(error),
+            _ => None,
+        }
+    }
+
     /// 2 for a bad line of the accounts file, the store of another server or a number that is not new; otherwise 1.
     pub fn status(self) -> ExitCode
         ensures { exit_status result ≡ status self.entry }
     {
         match self {
-            Failure::BadAccounts { .. }
-            | Failure::OtherReplica { .. }
-            | Failure::UsedReplica { .. } => ExitCode::from(2),
+            Failure::Accounts(AccountsFileError::BadLine { .. })
+            | Failure::Serving(ServingError::Accounts(AccountsFileError::BadLine { .. }))
+            | Failure::Serving(ServingError::Store(StoreError::OtherReplica { .. }))
+            | Failure::Serving(ServingError::Store(StoreError::UsedReplica { .. })) => {
+                ExitCode::from(2)
+            }
             _ => ExitCode::FAILURE,
         }
+    }
+}
+
+impl<'a> From<AccountsFileError<'a>> for Failure<'a> {
+    fn from(error: AccountsFileError<'a>) -> Self {
+        Failure::Accounts(error)
     }
 }
 
@@ -153,11 +96,5 @@ impl From<Refusal> for Failure<'_> {
 impl From<AllocError> for Failure<'_> {
     fn from(_refused: AllocError) -> Self {
         Failure::Fault(Fault::Memory)
-    }
-}
-
-impl From<Fault> for Failure<'_> {
-    fn from(fault: Fault) -> Self {
-        Failure::Fault(fault)
     }
 }

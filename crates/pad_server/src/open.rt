@@ -2,9 +2,9 @@
 ghost use Rattle.std.specs.Prelude.{◌≤◌};
 ghost use Rattle.server_core.specs.declared.limits.TheConstants.{MAX_CELLS};
 
-use crate::accounts::read_accounts;
 use crate::args::Asked;
 use crate::failure::Failure;
+use accounts_file::{AccountsFileError, read_accounts};
 use block_seq::BlockSeq;
 use pad_core::Request;
 use pad_model::{Name, Refusal};
@@ -37,8 +37,8 @@ where
 }
 
 /// The accounts of a server without a file of them.
-fn solo_accounts(alloc: Global) -> Result<Accounts, Failure<'static>> {
-    Accounts::read(alloc, b"author solo solo\n").map_err(|error| Failure::of_accounts(SOLO, error))
+fn solo_accounts(alloc: Global) -> Result<Accounts, AccountsFileError<'static>> {
+    Accounts::read(alloc, b"author solo solo\n").map_err(|error| AccountsFileError::of(SOLO, error))
 }
 
 /// A server with one actor, which is nobody yet.

@@ -5,13 +5,8 @@ ghost use Rattle.command_line.specs.Options.{Holds};
 ghost use Rattle.pad_server.specs.CommandLine.{clients_rule, connections_rule, idle_rule, listen_rule, new_replica_rule, stdin_rule, store_rule, web_origins_rule, web_rule, workers_rule};
 
 use clap::{Arg, ArgAction, ArgMatches, value_parser};
+use serving::MAX_WORKERS;
 use std::alloc::Global;
-
-/// The most workers. Each has a seat at each pad, and so has each of up to 16 threads that exchange with other servers.
-pub const MAX_WORKERS: u32 = 63;
-
-/// The number of workers without `--workers`, where the system does not tell how many processors there are.
-pub const DEFAULT_WORKERS: u32 = 16;
 
 /// How many clients may be connected without `--clients`.
 pub const DEFAULT_CLIENTS: u32 = 10_000;

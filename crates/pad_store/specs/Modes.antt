@@ -63,6 +63,7 @@ abbrev pub unless_misused : Option Misuse → Result Mode Misuse → Result Mode
 unless_misused (Some wrong) mode = Err wrong
 unless_misused None mode = mode
 
+-- what is done with a path by a command, if there is such a command
 abbrev pub with_deed : Asked → Bor (List ℕ) → Option Deed → Result Mode Misuse
 with_deed asked path None = Err misuse.NoCommand
 with_deed asked path (Some done) = unless_misused (misuse_of done asked) (done_with asked path done)
@@ -73,5 +74,6 @@ mode_with asked (Some command) (Some path) = with_deed asked path (deed_of comma
 mode_with asked (Some command) None = Err misuse.NoCommand
 mode_with asked None path = Err misuse.NoCommand
 
+-- what a command line asks for
 abbrev pub mode_of : Asked → Result Mode Misuse
 mode_of asked = mode_with asked asked.command asked.path

@@ -126,19 +126,23 @@ is_readable version.One in_v1 = in_v1
 is_readable version.Two in_v1 = true
 
 module _ {P : Type 0} where
-  -- a world with other pads, another wire, other counts, another version; or that looks at the next cell
+  -- a world with other pads
   abbrev pub with_pads : P → World P → World P
   with_pads pads w = record { cells = w.cells; cell = w.cell; version = w.version; relayed = w.relayed; pads = pads; wire = w.wire }
 
+  -- a world with another wire
   abbrev pub with_wire : Wire → World P → World P
   with_wire wire w = record { cells = w.cells; cell = w.cell; version = w.version; relayed = w.relayed; pads = w.pads; wire = wire }
 
+  -- a world with other counts
   abbrev pub counted : (Relayed → Relayed) → World P → World P
   counted more w = record { cells = w.cells; cell = w.cell; version = w.version; relayed = more w.relayed; pads = w.pads; wire = w.wire }
 
+  -- a world where the peer speaks another version
   abbrev pub with_version : Version → World P → World P
   with_version version w = record { cells = w.cells; cell = w.cell; version = version; relayed = w.relayed; pads = w.pads; wire = w.wire }
 
+  -- a world that looks at the next cell
   abbrev pub past : World P → World P
   past w = record { cells = w.cells; cell = w.cell + 1; version = w.version; relayed = w.relayed; pads = w.pads; wire = w.wire }
 

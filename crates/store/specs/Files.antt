@@ -115,6 +115,7 @@ abbrev pub if_called : List ℕ → Read → Option (List ℕ) → Result Read D
 if_called name read None = Err Empty
 if_called name read (Some own) = if bytes_eq own name then Ok read else Err OtherPad
 
+-- the same, by the name that the pad has
 abbrev pub if_named : List ℕ → Read → Result Read Damage
 if_named name read = if_called name read (name_of read.pad.owned)
 

@@ -271,7 +271,7 @@ fn a_name_is_created_meanwhile(rt: HostRuntime) -> Result<(), Fail> {
     let (found, made) = thread::join(
         &rt,
         || finds_in_time(alloc, &row, 5),
-        || creates(alloc, &row, 0, 5),
+        || creates(alloc, &row, FIRST, 5),
     );
     assert!(rt; made == Created::Made, "came {made:?}");
     assert!(rt; found, "the pad is not found after it was created");

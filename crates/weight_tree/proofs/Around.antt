@@ -31,6 +31,10 @@ module _ {X : Type 0} where
       let gap : i - length l ≡ suc j = omega arith in
       insert-append_right l (x ∷ r) (length l) i y refl past ∙ ap (λ k. l ++ insert (x ∷ r) k y) gap
 
+  pub insert_right : (l : List X) (x : X) (r : List X) (i : ℕ) (y : X) → length l < i → insert (l ++ x ∷ r) i y ≡ l ++ x
+      ∷ insert r (i - length l - 1) y
+  insert_right l x r i y h = insert_after l x r i (i - length l - 1) y (omega arith)
+
   pub set_after : (l : List X) (x : X) (r : List X) (i j : ℕ) (y : X) → i ≡ length l + suc j → set (l ++ x ∷ r) i y ≡ l
       ++ x ∷ set r j y
   set_after l x r i j y e =

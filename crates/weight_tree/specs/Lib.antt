@@ -3,5 +3,6 @@ pub mod Balance
 pub mod Find
 pub mod ItemsAndHeight
 pub mod Rank
+pub mod Sides
 pub mod Tree
 pub mod Waiting

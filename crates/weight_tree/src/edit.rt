@@ -3,6 +3,7 @@ ghost use Rattle.std.specs.Prelude.{◌≡◌, ◌+◌, ◌<◌, ◌≤◌, ◌^
 ghost use Rattle.std.specs.List.{remove};
 
 use crate::node::Node;
+use crate::rotate::is_light_enough;
 use crate::tree::WeightTree;
 use crate::weigh::Weigh;
 use std::mem;
@@ -15,25 +16,32 @@ impl<T: Weigh> WeightTree<T> {
         requires weight_fits { sum_by T.weight_of self.old.items + T.weight_of node < 2 ^ 64 }
         ensures items { self.new.items ≡ insert self.old.items rank node }
     {
-        *self = mem::take(self).with_item(rank, node);
-    }
-
-    fn with_item(self, rank: usize, node: Node<T>) -> Self
-        requires in_range { rank ≤ length self.items }
-        requires size_fits { length self.items + 1 < 2 ^ 64 }
-        requires weight_fits { sum_by T.weight_of self.items + T.weight_of node < 2 ^ 64 }
-        ensures items { result.items ≡ insert self.items rank node }
-    {
-        if self.is_empty() {
-            return Self::join(Self::new(), node, Self::new());
+        let Some(branch) = &mut self.root else {
+            *self = Self::join(Self::new(), node, Self::new());
+            return;
+        };
+        let left = branch.left_size;
+        let right = branch.size - left - 1;
+        if rank <= left {
+            if is_light_enough(left + 1, right) {
+                branch.left.insert(rank, node);
+                branch.mend_left();
+                return;
+            }
+        } else if is_light_enough(right + 1, left) {
+            let rest = branch.weight - branch.right.weight();
+            branch.right.insert(rank - left - 1, node);
+            branch.mend_right(rest);
+            return;
         }
-        let (left, middle, right) = self.split();
+        let (mut left, middle, mut right) = mem::take(self).split();
         let left_len = left.len();
         if rank <= left_len {
-            Self::rebalance(left.with_item(rank, node), middle, right)
+            left.insert(rank, node);
+            *self = Self::rebalance(left, middle, right);
         } else {
-            let right = right.with_item(rank - left_len - 1, node);
-            Self::rebalance(left, middle, right)
+            right.insert(rank - left_len - 1, node);
+            *self = Self::rebalance(left, middle, right);
         }
     }
 
@@ -82,15 +90,22 @@ impl<T: Weigh> WeightTree<T> {
         let Some(branch) = &mut self.root else {
             unreachable!()
         };
-        let left = branch.left.len();
-        let replaced = if rank < left {
-            branch.left.replace(rank, item)
+        let left = branch.left_size;
+        if rank < left {
+            let rest = branch.weight - branch.left_weight;
+            let replaced = branch.left.replace(rank, item);
+            branch.left_weight = branch.left.weight();
+            branch.weight = rest + branch.left_weight;
+            replaced
         } else if rank == left {
+            let rest = branch.weight - branch.item.weight();
+            branch.weight = rest + item.weight();
             mem::replace(&mut branch.item, item)
         } else {
-            branch.right.replace(rank - left - 1, item)
-        };
-        branch.weight = branch.left.weight() + branch.item.weight() + branch.right.weight();
-        replaced
+            let rest = branch.weight - branch.right.weight();
+            let replaced = branch.right.replace(rank - left - 1, item);
+            branch.weight = rest + branch.right.weight();
+            replaced
+        }
     }
 }

@@ -25,7 +25,7 @@ impl<T: Weigh> WeightTree<T> {
         let Some(branch) = &self.root else {
             return None;
         };
-        let left_weight = branch.left.weight();
+        let left_weight = branch.left_weight;
         if number < left_weight {
             let found = branch.left.find(number)?;
             return Some(Found {
@@ -36,7 +36,7 @@ impl<T: Weigh> WeightTree<T> {
         }
         let offset = number - left_weight;
         let item_weight = branch.item.weight();
-        let rank = branch.left.len();
+        let rank = branch.left_size;
         if offset < item_weight {
             return Some(Found {
                 rank,

@@ -9,6 +9,7 @@
 mod edit;
 mod find;
 mod iter;
+mod mend;
 mod node;
 mod rank;
 mod rotate;

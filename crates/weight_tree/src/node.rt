@@ -25,11 +25,15 @@ impl<T: Weigh> Node<T> {
     {
         let branch = Branch {
             item,
+            left_size: 0,
+            left: WeightTree::new(),
+            right: WeightTree::new(),
+            left_weight: 0,
             size: 1,
             weight: 0,
             height: 1,
-            left: WeightTree::new(),
-            right: WeightTree::new(),
+            left_height: 0,
+            right_height: 0,
         };
         match Box::new(alloc, branch) {
             Ok(branch) => Ok(Node { branch }),

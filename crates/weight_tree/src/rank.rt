@@ -42,7 +42,7 @@ impl<T: Weigh> WeightTree<T> {
         if below {
             let right = branch.right.place(f);
             Placed {
-                rank: branch.left.len() + 1 + right.rank,
+                rank: branch.left_size + 1 + right.rank,
                 visits: right.visits + 1,
             }
         } else {

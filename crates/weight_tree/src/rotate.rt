@@ -24,6 +24,13 @@ use crate::tree::WeightTree;
 use crate::weigh::Weigh;
 use std::mem;
 
+// Whether a side of this size may stand beside another.
+pub(crate) fn is_light_enough(size: usize, other: usize) -> bool
+    ensures { IsTrue result ↔ (size + 1 ≤ 3 * (other + 1)) }
+{
+    size as u128 + 1 <= 3 * (other as u128 + 1)
+}
+
 impl<T: Weigh> WeightTree<T> {
     // In 128 bits, where three times the weight fits.
     fn balance_weight(&self) -> u128
@@ -53,9 +60,13 @@ impl<T: Weigh> WeightTree<T> {
         ensures height { result.height ≡ max left.height right.height + 1 }
     {
         let branch = &mut *node.branch;
+        branch.left_size = left.len();
+        branch.left_weight = left.weight();
+        branch.left_height = left.height() as u8;
+        branch.right_height = right.height() as u8;
         branch.size = left.len() + right.len() + 1;
         branch.weight = left.weight() + branch.item.weight() + right.weight();
-        branch.height = left.height().max(right.height()) + 1;
+        branch.height = branch.left_height.max(branch.right_height) + 1;
         branch.left = left;
         branch.right = right;
         WeightTree {

@@ -15,16 +15,21 @@ pub struct WeightTree<T: Weigh> {
     pub(crate) root: Option<Box<Branch<T>>>,
 }
 
-// An item between two subtrees, with the sums of all three.
+// An item between two subtrees, with the sums of all three and those of the left side. So a descent reads no
+// node beside its path. Fields are laid out as declared: what a descent reads lies together, behind the item.
 #[cycle(tree)]
 #[derive(Drop)]
 pub(crate) struct Branch<T: Weigh> {
     pub(crate) item: T,
-    pub(crate) size: usize,
-    pub(crate) weight: u64,
-    pub(crate) height: usize,
+    pub(crate) left_size: usize,
     pub(crate) left: WeightTree<T>,
     pub(crate) right: WeightTree<T>,
+    pub(crate) left_weight: u64,
+    pub(crate) size: usize,
+    pub(crate) weight: u64,
+    pub(crate) height: u8,
+    pub(crate) left_height: u8,
+    pub(crate) right_height: u8,
 }
 
 impl<T: Weigh> Model for WeightTree<T> {
@@ -95,7 +100,7 @@ impl<T: Weigh> WeightTree<T> {
     {
         match &self.root {
             None => 0,
-            Some(branch) => branch.height,
+            Some(branch) => branch.height as usize,
         }
     }
 
@@ -106,7 +111,7 @@ impl<T: Weigh> WeightTree<T> {
         let Some(branch) = &self.root else {
             unreachable!()
         };
-        let left = branch.left.len();
+        let left = branch.left_size;
         if rank < left {
             branch.left.get(rank)
         } else if rank == left {
@@ -124,11 +129,11 @@ impl<T: Weigh> WeightTree<T> {
         let Some(branch) = &self.root else {
             return 0;
         };
-        let left = branch.left.len();
+        let left = branch.left_size;
         if rank <= left {
             branch.left.before(rank)
         } else {
-            let up_to_here = branch.left.weight() + branch.item.weight();
+            let up_to_here = branch.left_weight + branch.item.weight();
             up_to_here + branch.right.before(rank - left - 1)
         }
     }

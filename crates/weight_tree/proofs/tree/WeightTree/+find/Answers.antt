@@ -1,5 +1,6 @@
-use Rattle.std.proofs.Common.{◌≡◌, ◌+◌, ◌-◌, ◌<◌, ◌≤◌, length, sum_by, arith}
+use Rattle.std.proofs.Common.{◌-◌, sum_by, arith}
 use Rattle.std.proofs.lemmas.Grind.{common_steps}
+use Rattle.weight_tree.specs.Find.{FallsIn}
 use Rattle.weight_tree.proofs.AtBranch.{items_at}
 use Rattle.weight_tree.proofs.Falls.{falls_left, falls_here, falls_right}
 use Rattle.weight_tree.proofs.tree.WeightTree.+find.Goals as goal
@@ -15,23 +16,16 @@ pub returns-then-offset-item_weight-clause-some : goal.returns-then-offset-item_
 returns-then-offset-item_weight-clause-some g t c =
     let b = c.in-Some.branch.value in
     let is = items_at _ _ c.args.self.now c.self.view_is c.in-Some.is in
-    let rank : c.len-rank.result ≡ length b.left.items = grind arith in
-    let before : sum_by g.T.Weigh.weight_of b.left.items + (c.args.number - c.weight-left_weight.result)
-    ≡ c.args.number = grind arith in
-    let inside : c.args.number - c.weight-left_weight.result < g.T.Weigh.weight_of b.item = grind arith in
-    rw is (falls_here g.T.Weigh.weight_of b.left.items b.item b.right.items _ _ _ rank before inside)
+    rw is (falls_here g.T.Weigh.weight_of b.left.items b.item b.right.items _ _ _ (grind arith) (grind arith) (grind arith))
 
 pub returns-clause-some : goal.returns-clause-some
 returns-clause-some g t c =
     let b = c.in-Some.branch.value in
     let is = items_at _ _ c.args.self.now c.self.view_is c.in-Some.is in
-    let left : c.weight-left_weight.result ≡ sum_by g.T.Weigh.weight_of b.left.items = grind arith in
-    let own : c.weight-item_weight.result ≡ g.T.Weigh.weight_of b.item = grind arith in
-    let rank : c.len-rank.result + 1 + c.in_ok-found-2.found.rank ≡ length b.left.items + 1
-    + c.in_ok-found-2.found.rank = grind arith in
-    let past : sum_by g.T.Weigh.weight_of b.left.items + g.T.Weigh.weight_of b.item ≤ c.args.number = omega arith in
-    let below = rw (c.deref-4.ensures, left, own) at c.in_ok-found-2.ensures.some in
-    rw is (falls_right g.T.Weigh.weight_of b.left.items b.item b.right.items _ _ _ _ rank past below)
+    let w = g.T.Weigh.weight_of in
+    let below : FallsIn w b.right.items (c.args.number - sum_by w b.left.items - w b.item) c.in_ok-found-2.found.rank
+    c.in_ok-found-2.found.offset = grind arith in
+    rw is (falls_right w b.left.items b.item b.right.items _ _ _ _ (grind arith) (grind arith) below)
 
 pub find-requires : goal.find-requires
 find-requires g t c = grind (arith, common_steps)

@@ -16,7 +16,7 @@ returns-then-below-clause-rank g t c =
     let spread = subst (IsRising order) is rising in
     let below = (rw c.deref-then-below.ensures at c.place-right.ensures.rank) order asked.0
     (rising_right order b.left.items b.item b.right.items spread) in
-    let left : c.len.result ≡ length b.left.items = grind arith in
+    let left : c.deref-then-below-2.result.now.left_size ≡ length b.left.items = grind arith in
     rw (is, left, below) (sym (count_past order b.left.items b.item b.right.items spread less))
 
 pub returns-else-below-clause-rank : goal.returns-else-below-clause-rank

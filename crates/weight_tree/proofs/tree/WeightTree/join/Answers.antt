@@ -11,6 +11,10 @@ invariant_of-result g c =
     let height : c.max.result + 1 ≡ max left.height right.height + 1 = cc in
     let low = low_join left.height right.height _ _ c.height.ensures.low c.height-2.ensures.low c.requires.balanced in
     record {
+      left_size = cc;
+      left_weight = cc;
+      left_height = cc;
+      right_height = cc;
       size = omega arith;
       size_fits = omega arith;
       weight = cc;
@@ -19,4 +23,6 @@ invariant_of-result g c =
       height_fits = omega arith;
       balanced = c.requires.balanced;
       low = rw (height, size) low;
+      left_low = c.height.ensures.low;
+      right_low = c.height-2.ensures.low;
     }

@@ -1,0 +1,29 @@
+//! The mistakes of an accounts file in words.
+use sessions::Mistake;
+
+/// What is wrong with a line of the accounts file, and what is wanted.
+pub fn reason_of(mistake: Mistake) -> &'static str {
+    match mistake {
+        Mistake::Tab => "the line has a tab; words are separated by one space",
+        Mistake::ExtraSpace => "a space is at the start, at the end or after another space",
+        Mistake::UnknownWord => "the first word is neither author nor peer",
+        Mistake::NoName => "the name is missing: author NAME TOKEN",
+        Mistake::NoNumber => "the number is missing: peer NUMBER TOKEN HOST:PORT",
+        Mistake::NoToken => "the token is missing",
+        Mistake::NoAddress => "the address is missing: peer NUMBER TOKEN HOST:PORT",
+        Mistake::ExtraWord => "the line has too many words",
+        Mistake::LongName => "the name is longer than 32 bytes",
+        Mistake::NameByte => "the name has a character other than a-z, 0-9 and -",
+        Mistake::NotDigits => "the number has a character that is not a digit",
+        Mistake::LeadingZero => "the number is 0 or begins with 0",
+        Mistake::LargeNumber => "the number is above 65535",
+        Mistake::LongToken => "the token is longer than 64 bytes",
+        Mistake::TokenByte => "the token has a byte other than 0x21 to 0x7E",
+        Mistake::LongAddress => "the address is longer than 255 bytes",
+        Mistake::AddressByte => "the address has a byte other than 0x21 to 0x7E",
+        Mistake::NoColon => "the address has no colon: HOST:PORT",
+        Mistake::NameTwice => "an earlier line has this author's name",
+        Mistake::NumberTwice => "an earlier line has this peer's number",
+        Mistake::TooManyAccounts => "there are more than 1000 accounts",
+    }
+}

@@ -1,0 +1,393 @@
+//! The files of a server's pads while it runs: what was answered is noted under the pad's lock, and synced before a reply is
+//! written.
+ghost use Rattle.std.specs.Prelude.{◌≡◌, ◌⊎◌, IfErr};
+
+use crate::progress::{Progress, Turn};
+use crate::reserve::{Reserve, is_full};
+use crate::spares::{Spare, Spares};
+use journal::Journal;
+use log::{error, warn};
+use pad_core::Request;
+use pad_model::Refusal;
+use records::{Record, records_of};
+use shared_pads::Answered;
+use std::alloc::Global;
+use std::fs::File;
+use std::io;
+use std::io::{ErrorKind, Write};
+use std::sync::atomic::{AtomicBool, AtomicU64, Ordering};
+use std::sync::{Mutex, Wait};
+use std::thread::yield_now;
+use std::time::{SystemTime, UNIX_EPOCH};
+use store::{header_text, link, record_text};
+
+/// How often at most a thread that is about to sync lets others run first, whose notes then go with its own. It waits for no more
+/// notes than went with the last sync, so that one author alone is never kept waiting.
+const LOOKS: u32 = 16;
+
+/// A pad's file, open for appending, and the sum of its last line.
+#[derive(Drop)]
+pub struct Book {
+    pub file: Option<File>,
+    pub sum: String,
+}
+
+/// A second handle of a pad's file, by which it is synced while others append.
+#[derive(Drop)]
+pub struct Handle {
+    file: Mutex<Option<File>>,
+    /// How many notes were appended, and how many of these are synced.
+    appended: AtomicU64,
+    synced: AtomicU64,
+}
+
+impl Handle {
+    /// Of a file of which all is synced; None: it is still to be made.
+    pub fn new(file: Option<File>) -> Handle {
+        Handle {
+            file: Mutex::new(file),
+            appended: AtomicU64::new(0),
+            synced: AtomicU64::new(0),
+        }
+    }
+
+    // One more note was appended.
+    fn note(&self) {
+        self.appended.fetch_add(1, Ordering::SeqCst);
+    }
+
+    // Whether all that was appended is synced.
+    fn is_synced(&self) -> bool {
+        self.synced.load(Ordering::SeqCst) == self.appended.load(Ordering::SeqCst)
+    }
+
+    // Syncs what was appended so far.
+    fn sync<R: Wait>(&self, rt: &R) -> io::Result<()> {
+        let appended = self.appended.load(Ordering::SeqCst);
+        if self.synced.load(Ordering::SeqCst) != appended {
+            if let Some(file) = &*self.file.lock(rt) {
+                file.sync_data()?;
+            }
+            self.synced.store(appended, Ordering::SeqCst);
+        }
+        Ok(())
+    }
+}
+
+/// The files of all cells.
+#[derive(Drop)]
+pub struct Books {
+    pub all: Vec<Mutex<Book>>,
+    pub handles: Vec<Handle>,
+}
+
+/// Keeps the pads of a server in files, one for each pad that has a name. `restore` makes it, and all threads share it.
+#[derive(Drop)]
+pub struct Keeper {
+    // By which files are made, the time is read and faults are logged.
+    files: HostRuntime,
+    folder: String,
+    replica: u16,
+    books: Vec<Mutex<Book>>,
+    handles: Vec<Handle>,
+    progress: Progress,
+    reserve: Reserve,
+    spares: Spares,
+    // Whether it was said that no file can be made for a pad.
+    is_short: AtomicBool,
+    held: Held,
+}
+
+/// What is held open of a store as long as the server runs.
+#[derive(Drop)]
+pub struct Held {
+    /// The lock of the folder.
+    pub lock: File,
+    /// The folder, which is synced when a file gets its name.
+    pub folder: File,
+}
+
+impl Keeper {
+    // A keeper of these books.
+    pub(crate) fn new(
+        files: HostRuntime,
+        folder: String,
+        replica: u16,
+        books: Books,
+        reserve: Reserve,
+        held: Held,
+    ) -> Keeper {
+        let spares = Spares::new(files.alloc());
+        Keeper {
+            files,
+            folder,
+            replica,
+            books: books.all,
+            handles: books.handles,
+            progress: Progress::new(),
+            reserve,
+            spares,
+            is_short: AtomicBool::new(false),
+            held,
+        }
+    }
+
+    /// Notes what a request leaves to be kept, by a line for each record at the end of the pad's file. It is called under the
+    /// pad's lock, so that the lines have the order of the steps. A failure is logged, and from then on nothing is settled
+    /// any more.
+    pub fn note<R: Wait>(&self, rt: &R, alloc: Global, told: &Answered<'_>) {
+        // What stands behind a line that was not written whole would be damage at the next start.
+        if self.progress.has_failed() {
+            return;
+        }
+        match self.write(rt, alloc, told) {
+            Ok(false) => {}
+            Ok(true) => self.progress.note(),
+            Err(cause) => {
+                self.progress.fail();
+                error!(Journal(&self.files); "the store {} cannot be written: {cause}", self.folder);
+            }
+        }
+        if self.has_named_nothing(told) {
+            self.spares.release(rt);
+        }
+    }
+
+    /// A creation that was promised a file came to no cell. If it came to one, `note` finds out itself.
+    pub fn release<R: Wait>(&self, rt: &R) {
+        self.spares.release(rt);
+    }
+
+    // Whether a creation has ended and has named no pad: it was refused, or went past the last cell.
+    fn has_named_nothing(&self, told: &Answered<'_>) -> bool {
+        match (told.request, told.answer) {
+            (Request::Create { .. }, Err(_)) => true,
+            (Request::Create { .. }, Ok(None)) => {
+                (told.cell as usize).saturating_add(1) >= self.books.len()
+            }
+            _ => false,
+        }
+    }
+
+    // Appends the records of a request to the pad's file, and says whether there were any.
+    fn write<R: Wait>(&self, rt: &R, alloc: Global, told: &Answered<'_>) -> io::Result<bool> {
+        let records = records_of(alloc, told.who, told.request, told.answer, told.more)?;
+        let Some(first) = records.first() else {
+            return Ok(false);
+        };
+        let cell = told.cell as usize;
+        if cell >= self.books.len() {
+            return Err(io::Error::from(ErrorKind::NotFound));
+        }
+        let mut book = self.books[cell].lock(rt);
+        let mut lines = String::new(alloc);
+        if book.file.is_none() {
+            let (file, sum) = self.begin(rt, alloc, cell, first, &mut lines)?;
+            book.file = Some(file);
+            book.sum = sum;
+        }
+        let together = !lines.is_empty() || !self.is_synced(cell);
+        let sum = self.append(
+            alloc,
+            book.sum.as_str(),
+            together,
+            records.as_slice(),
+            &mut lines,
+        )?;
+        book.sum = sum;
+        match &mut book.file {
+            Some(file) => self.put(rt, file, lines.as_bytes())?,
+            None => return Err(io::Error::from(ErrorKind::NotFound)),
+        }
+        if let Some(handle) = self.handles.get(cell) {
+            handle.note();
+        }
+        Ok(true)
+    }
+
+    // Whether all that was appended to the file of a cell is synced.
+    fn is_synced(&self, cell: usize) -> bool {
+        match self.handles.get(cell) {
+            Some(handle) => handle.is_synced(),
+            None => false,
+        }
+    }
+
+    // Appends lines. Where the disk is full, what was written of them is cut off, and they get the room of the reserve.
+    fn put<R: Wait>(&self, rt: &R, file: &mut File, lines: &[u8]) -> io::Result<()> {
+        let before = file.metadata()?.len();
+        match file.write_all(lines) {
+            Err(cause) if is_full(&cause) => {
+                file.set_len(before)?;
+                self.make_room(rt)?;
+                file.write_all(lines)
+            }
+            done => done,
+        }
+    }
+
+    // Spends the reserve.
+    fn make_room<R: Wait>(&self, rt: &R) -> io::Result<()> {
+        if self.reserve.spend(rt)? {
+            warn!(Journal(&self.files); "the disk of the store {} is full: nothing more is taken that has to be kept", self.folder);
+        }
+        Ok(())
+    }
+
+    /// Whether what a request leaves can be kept, as far as that is known: 901 where it can't, 900 where there is no memory
+    /// to make a file with. It is called before any pad is asked. A creation is promised a file, which `note` or `release`
+    /// takes back.
+    pub fn keeps<R: Wait>(&self, rt: &R, alloc: Global, request: &Request) -> Result<(), Refusal>
+        ensures { IfErr result (λ e. (e ≡ Refusal.StoreFull) ⊎ (e ≡ Refusal.Memory)) }
+    {
+        if !self.has_room(rt, alloc) {
+            return Err(Refusal::StoreFull);
+        }
+        match request {
+            Request::Create { .. } => self.promise_file(rt),
+            _ => Ok(()),
+        }
+    }
+
+    // Promises a file to a creation. Where none can be made, that is said, once until one can be made again.
+    fn promise_file<R: Wait>(&self, rt: &R) -> Result<(), Refusal>
+        ensures { IfErr result (λ e. (e ≡ Refusal.StoreFull) ⊎ (e ≡ Refusal.Memory)) }
+    {
+        match self.spares.promise(rt, &self.files, self.folder.as_str()) {
+            Ok(()) => {
+                self.is_short.store(false, Ordering::SeqCst);
+                Ok(())
+            }
+            Err(cause) if cause.kind() == ErrorKind::OutOfMemory => Err(Refusal::Memory),
+            Err(cause) => {
+                if !self.is_short.swap(true, Ordering::SeqCst) {
+                    warn!(Journal(&self.files); "the store {} has no file for a new pad: {cause}", self.folder);
+                }
+                Err(Refusal::StoreFull)
+            }
+        }
+    }
+
+    // Whether there is room on the disk. Where it was full, it is found out once in a second whether there is room again.
+    fn has_room<R: Wait>(&self, rt: &R, alloc: Global) -> bool {
+        if self.reserve.is_whole(rt) {
+            return true;
+        }
+        let has_room = self.reserve.renew(rt, alloc, self.seconds());
+        if has_room {
+            warn!(Journal(&self.files); "the disk of the store {} has room again", self.folder);
+        }
+        has_room
+    }
+
+    // The lines of records behind a line with this sum, which is synced or not, and the sum of the last.
+    fn append(
+        &self,
+        alloc: Global,
+        before: &str,
+        together: bool,
+        records: &[Record],
+        lines: &mut String,
+    ) -> io::Result<String> {
+        let at = self.seconds();
+        let mut sum = String::from_str(alloc, before)?;
+        let mut is_together = together;
+        for kept in records {
+            let text = record_text(alloc, at, is_together, kept)?;
+            let linked = link(alloc, sum.as_str(), text.as_str())?;
+            lines.push_str(linked.line.as_str())?;
+            sum = linked.sum;
+            is_together = true;
+        }
+        Ok(sum)
+    }
+
+    // Gives the file that was promised its pad's name, and makes the first line.
+    fn begin<R: Wait>(
+        &self,
+        rt: &R,
+        alloc: Global,
+        cell: usize,
+        first: &Record,
+        lines: &mut String,
+    ) -> io::Result<(File, String)> {
+        let Record::Named { name, .. } = first else {
+            return Err(io::Error::from(ErrorKind::InvalidData));
+        };
+        let Some(spare) = self.spares.take(rt) else {
+            return Err(io::Error::from(ErrorKind::NotFound));
+        };
+        let folder = self.folder.as_str();
+        let pad = name.as_str();
+        let path = format!(in alloc; "{folder}/{pad}.pad")?;
+        match spare.rename(&self.files, path.as_str()) {
+            Err(cause) if is_full(&cause) => {
+                self.make_room(rt)?;
+                spare.rename(&self.files, path.as_str())?;
+            }
+            done => done?,
+        }
+        self.held.folder.sync_all()?;
+        let Spare { file, handle, .. } = spare;
+        if let Some(kept) = self.handles.get(cell) {
+            *kept.file.lock(rt) = Some(handle);
+        }
+        let text = header_text(alloc, name, self.replica)?;
+        let linked = link(alloc, "", text.as_str())?;
+        lines.push_str(linked.line.as_str())?;
+        Ok((file, linked.sum))
+    }
+
+    // The time of day in seconds since 1970, or 0 where the clock does not tell.
+    fn seconds(&self) -> u64 {
+        match SystemTime::now(&self.files) {
+            Ok(now) => match now.duration_since(UNIX_EPOCH) {
+                Ok(passed) => passed.as_secs(),
+                Err(_) => 0,
+            },
+            Err(_) => 0,
+        }
+    }
+
+    /// Whether a write or a sync has failed, after which nothing is settled any more.
+    pub fn has_failed(&self) -> bool {
+        self.progress.has_failed()
+    }
+
+    /// Waits until all that was noted before is synced, or fails. It is called before a reply is written, under no pad's lock.
+    /// One thread syncs for all that wait; after a failed write or sync each call fails.
+    pub fn settle<R: Wait>(&self, rt: &R) -> io::Result<()> {
+        match self.progress.turn(rt) {
+            Turn::Done => Ok(()),
+            Turn::Failed => Err(io::Error::from(ErrorKind::Other)),
+            Turn::Leads => {
+                self.gather();
+                let noted = self.progress.noted();
+                let synced = self.sync(rt);
+                self.progress.finish(noted, synced.is_ok());
+                synced
+            }
+        }
+    }
+
+    // Lets other threads run, whose notes can go with a sync that is about to begin.
+    fn gather(&self) {
+        for _look in 0..LOOKS {
+            if self.progress.is_crowded() {
+                return;
+            }
+            yield_now();
+        }
+    }
+
+    // Syncs the files to which something was appended.
+    fn sync<R: Wait>(&self, rt: &R) -> io::Result<()> {
+        for handle in &self.handles {
+            if let Err(cause) = handle.sync(rt) {
+                error!(Journal(&self.files); "the store {} cannot be synced: {cause}", self.folder);
+                return Err(cause);
+            }
+        }
+        Ok(())
+    }
+}

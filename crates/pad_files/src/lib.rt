@@ -1,0 +1,22 @@
+//! The files of a store: read at a server's start, and appended to and synced while it runs.
+//!
+//! It depends on `store` for the lines of a file, on `records` for what a request leaves, and on `shared_pads` for the row
+//! of pads. It knows no clients and no peers: who writes replies calls `Keeper::settle` first, or writes through `Settled`.
+#![tactic(auto)]
+
+mod keeper;
+mod owner;
+mod pad_file;
+mod progress;
+mod reading;
+mod reserve;
+mod settled;
+mod spares;
+mod store_error;
+mod stored;
+
+pub use keeper::Keeper;
+pub use owner::Owner;
+pub use settled::Settled;
+pub use store_error::StoreError;
+pub use stored::{Size, Stored, restore};

@@ -1,0 +1,92 @@
+//! The files of a store at the start of the server.
+use crate::owner::Owner;
+use crate::pad_file::{PadFile, Unloaded, load_file};
+use std::alloc::AllocError;
+use std::sync::atomic::{AtomicU64, Ordering};
+use std::thread;
+use std::thread::Threads;
+use std::time::{Clock, Instant};
+
+/// After how many seconds a start tells how far it is, and then again each second.
+const SILENCE: u64 = 2;
+
+/// A file that is to be read, or was.
+#[derive(Drop)]
+pub struct Read {
+    name: String,
+    /// None: it was not read yet.
+    outcome: Option<Result<Option<PadFile>, Unloaded>>,
+}
+
+impl Read {
+    /// The pad of the file; None where no pad was named in it.
+    pub fn into_pad(self) -> Result<Option<PadFile>, Unloaded> {
+        self.outcome.unwrap_or(Ok(None))
+    }
+}
+
+/// How far a start is.
+#[derive(Drop)]
+struct Tally {
+    files: usize,
+    began: Option<Instant>,
+    read: AtomicU64,
+    /// Up to which second it was told.
+    told: AtomicU64,
+}
+
+impl Tally {
+    // One more file was read. If a second has passed since that was told last, it is told how many are.
+    fn note<R: Clock + Eprint>(&self, rt: &R) {
+        let read = self.read.fetch_add(1, Ordering::SeqCst).saturating_add(1);
+        let Some(Ok(passed)) = self.began.map(|began| began.elapsed(rt)) else {
+            return;
+        };
+        let (second, told) = (passed.as_secs(), self.told.load(Ordering::SeqCst));
+        if second > told
+            && self
+                .told
+                .compare_exchange(told, second, Ordering::SeqCst, Ordering::SeqCst)
+                .is_ok()
+        {
+            let files = self.files;
+            let _told = eprintln!(rt; "pad_server: {read} of {files} pads are read");
+        }
+    }
+}
+
+/// Reads the files of a folder, in as many threads as there are processors. A start that takes long tells each second how
+/// far it is.
+pub fn read_all<R: Threads + Sync>(
+    rt: &R,
+    files: &HostRuntime,
+    folder: &str,
+    names: Vec<String>,
+    owner: &Owner,
+) -> Result<Vec<Read>, AllocError> {
+    let mut reads = Vec::new(files.alloc());
+    for name in names {
+        reads.push(Read {
+            name,
+            outcome: None,
+        })?;
+    }
+    let tally = Tally {
+        files: reads.len(),
+        began: Instant::now(files).ok(),
+        read: AtomicU64::new(0),
+        told: AtomicU64::new(SILENCE - 1),
+    };
+    let threads = thread::available_parallelism(rt).map_or(1, |count| count.get());
+    let tally = &tally;
+    thread::for_each_mut(
+        rt,
+        reads.as_mut_slice(),
+        threads,
+        &|_place: usize, read: &mut Read| {
+            read.outcome = Some(load_file(files, folder, read.name.as_str(), owner));
+            tally.note(files);
+        },
+    );
+    Ok(reads)
+}

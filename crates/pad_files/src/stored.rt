@@ -1,0 +1,221 @@
+//! The pads of a store at the start of the server.
+use crate::keeper::{Book, Books, Handle, Held, Keeper};
+use crate::owner::Owner;
+use crate::pad_file::PadFile;
+use crate::reading::read_all;
+use crate::reserve::Reserve;
+use crate::spares::PRIVATE;
+use crate::store_error::StoreError;
+use block_seq::BlockSeq;
+use journal::Journal;
+use log::warn;
+use pad_core::Pad;
+use shared_pads::SharedPad;
+use std::alloc::{AllocError, Global};
+use std::fs::{DirBuilder, File, OpenOptions};
+use std::os::unix::fs::{DirBuilderExt, OpenOptionsExt};
+use std::rt::Runtime;
+use std::sync::{Mutex, Wait};
+use std::thread::Threads;
+use std::{fs, io};
+
+/// Who may look into the folder of a store that the server makes: its user alone.
+const PRIVATE_FOLDER: u32 = 0o700;
+
+/// The row of a server, and who keeps it in files.
+#[derive(Drop)]
+pub struct Stored {
+    /// The pads of the files, in the order of the files' names, and after them the free cells.
+    pub cells: Vec<SharedPad<BlockSeq>>,
+    /// The revision of the pad at each cell.
+    pub revisions: Vec<u64>,
+    /// Who notes what is answered at these cells. It holds the folder's lock until it is dropped.
+    pub keeper: Keeper,
+}
+
+/// How large a row is to be.
+#[derive(Clone, Copy)]
+pub struct Size {
+    /// How many cells there are to be.
+    pub cells: u32,
+    /// How many threads are to have a seat at each pad.
+    pub seats: u32,
+}
+
+/// Loads the pads of a folder, each from its file, in the order of the files' names. The other cells are free. A server calls
+/// it once, before it serves anyone. The folder is made if it is not there, and its lock is taken; each file is cut off
+/// behind its last whole line, and 16 MiB of the disk are taken as a reserve.
+pub fn restore<'f, R>(
+    rt: &R,
+    files: HostRuntime,
+    folder: &'f str,
+    owner: &Owner,
+    size: Size,
+) -> Result<Stored, StoreError<'f>>
+where
+    R: Runtime<A = Global, File = File> + Threads + Wait + Sync,
+{
+    let kept_in = String::from_str(rt.alloc(), folder)?;
+    let (held, names) = open_folder(rt, folder)?;
+    let Loading {
+        cells,
+        revisions,
+        books,
+        ..
+    } = load_row(rt, &files, folder, names, owner, size)?;
+    let path = format!(in rt.alloc(); "{folder}/reserve")?;
+    let reserve = match Reserve::open(&files, path.as_str()) {
+        Ok(reserve) => reserve,
+        Err(cause) => return Err(StoreError::Unopened { folder, cause }),
+    };
+    if !reserve.is_whole(rt) {
+        warn!(Journal(rt); "the disk of the store {folder} is full: nothing is taken that has to be kept");
+    }
+    Ok(Stored {
+        cells,
+        revisions,
+        keeper: Keeper::new(files, kept_in, owner.replica(), books, reserve, held),
+    })
+}
+
+// The folder and its lock, and the names of its files.
+fn open_folder<'f, R>(rt: &R, folder: &'f str) -> Result<(Held, Vec<String>), StoreError<'f>>
+where
+    R: Runtime<A = Global, File = File>,
+{
+    let held = match lock_folder(rt, folder) {
+        Ok(Some(held)) => held,
+        Ok(None) => return Err(StoreError::InUse { folder }),
+        Err(cause) => return Err(StoreError::Unopened { folder, cause }),
+    };
+    match names_of(rt, folder) {
+        Ok(names) => Ok((held, names)),
+        Err(cause) => Err(StoreError::Unopened { folder, cause }),
+    }
+}
+
+// The pads of these files, and free cells behind them.
+fn load_row<'f, R>(
+    rt: &R,
+    files: &HostRuntime,
+    folder: &'f str,
+    names: Vec<String>,
+    owner: &Owner,
+    size: Size,
+) -> Result<Loading, StoreError<'f>>
+where
+    R: Runtime<A = Global, File = File> + Threads + Wait + Sync,
+{
+    let alloc = rt.alloc();
+    let mut row = Loading {
+        seats: size.seats,
+        cells: Vec::new(alloc),
+        revisions: Vec::new(alloc),
+        books: Books {
+            all: Vec::new(alloc),
+            handles: Vec::new(alloc),
+        },
+    };
+    for read in read_all(rt, files, folder, names, owner)? {
+        let loaded = match read.into_pad() {
+            Ok(Some(loaded)) => loaded,
+            Ok(None) => continue,
+            Err(unloaded) => return Err(unloaded.in_folder(folder)),
+        };
+        if row.cells.len() >= size.cells as usize {
+            return Err(StoreError::Crowded { folder });
+        }
+        row.add(alloc, loaded)?;
+    }
+    let taken = row.cells.len().min(size.cells as usize) as u32;
+    for cell in taken..size.cells {
+        row.add_free(alloc, owner, cell)?;
+    }
+    Ok(row)
+}
+
+// The pads so far, each with its file.
+#[derive(Drop)]
+struct Loading {
+    /// How many threads are to have a seat at each pad.
+    seats: u32,
+    cells: Vec<SharedPad<BlockSeq>>,
+    revisions: Vec<u64>,
+    books: Books,
+}
+
+impl Loading {
+    // One more pad.
+    fn add(&mut self, alloc: Global, opened: PadFile) -> Result<(), AllocError> {
+        let cell = u32::try_from(self.cells.len()).unwrap_or(u32::MAX);
+        let PadFile {
+            pad,
+            sum,
+            file,
+            handle,
+        } = opened;
+        self.revisions.push(pad.since(0).len() as u64)?;
+        let Ok(pad) = SharedPad::new(alloc, pad, cell, self.seats) else {
+            return Err(AllocError);
+        };
+        self.cells.push(pad)?;
+        self.books.all.push(Mutex::new(Book {
+            file: Some(file),
+            sum,
+        }))?;
+        self.books.handles.push(Handle::new(Some(handle)))?;
+        Ok(())
+    }
+
+    // One more cell without a pad.
+    fn add_free(&mut self, alloc: Global, owner: &Owner, cell: u32) -> Result<(), AllocError> {
+        let Ok(pad) = Pad::new(alloc, owner.replica(), owner.present()) else {
+            return Err(AllocError);
+        };
+        let Ok(pad) = SharedPad::new(alloc, pad, cell, self.seats) else {
+            return Err(AllocError);
+        };
+        self.cells.push(pad)?;
+        self.revisions.push(0)?;
+        self.books.all.push(Mutex::new(Book {
+            file: None,
+            sum: String::new(alloc),
+        }))?;
+        self.books.handles.push(Handle::new(None))?;
+        Ok(())
+    }
+}
+
+// Makes the folder where it is not there, and takes its lock. None: another process has it.
+fn lock_folder<R: Runtime<A = Global, File = File>>(
+    rt: &R,
+    folder: &str,
+) -> io::Result<Option<Held>> {
+    let mut builder = DirBuilder::new();
+    builder.recursive(true).mode(PRIVATE_FOLDER);
+    builder.create(rt, folder)?;
+    let path = format!(in rt.alloc(); "{folder}/lock")?;
+    let mut options = OpenOptions::new();
+    options.write(true).create(true).mode(PRIVATE);
+    let lock = options.open(rt, path.as_str())?;
+    let open = File::open(rt, folder)?;
+    open.sync_all()?;
+    match lock.try_lock() {
+        Ok(()) => Ok(Some(Held { lock, folder: open })),
+        Err(_) => Ok(None),
+    }
+}
+
+// The names of the files of pads, in order.
+fn names_of<R: Runtime<A = Global, File = File>>(rt: &R, folder: &str) -> io::Result<Vec<String>> {
+    let alloc = rt.alloc();
+    let mut names = Vec::new(alloc);
+    for entry in fs::read_dir(rt, folder)? {
+        let entry = entry?;
+        if entry.file_name().ends_with(".pad") {
+            names.push(String::from_str(alloc, entry.file_name())?)?;
+        }
+    }
+    names.sort()?;
+    Ok(names)
+}

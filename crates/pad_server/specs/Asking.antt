@@ -1,0 +1,19 @@
+-- What the command line asks of a server over TCP.
+use Rattle.pad_server.specs.declared.args.Asked.{Asked}
+use Rattle.serving.specs.declared.settings.Settings.{Settings}
+
+-- all that a server over TCP has to know beside its address and its accounts
+abbrev pub settings_of : Asked → Settings
+settings_of asked = record {
+  replica = asked.replica;
+  cells = asked.cells;
+  present = asked.present;
+  workers = asked.workers;
+  connections = asked.connections;
+  clients = asked.clients;
+  idle = asked.idle;
+  store = asked.store;
+  new_replica = asked.new_replica;
+  web = asked.web;
+  web_origins = asked.web_origins;
+}

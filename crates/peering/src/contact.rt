@@ -1,0 +1,278 @@
+//! A peer that this server exchanges with, and how its rounds went.
+use crate::connection::{Broken, Connection};
+use crate::stop::Guard;
+use devices::cause_of;
+use event_loop::CellSet;
+use journal::Journal;
+use log::warn;
+use relay::Relayed;
+use sessions::Peer;
+use std::alloc::{AllocError, Global};
+use std::io;
+use std::io::ErrorKind;
+use std::net::{Net, SocketAddr, TcpListener, TcpStream, ToSocketAddrs};
+use std::sync::Wait;
+use std::time::{Clock, Duration, Instant};
+use wire_lines::Fault;
+use workers::Pads;
+
+/// How long this server waits for a peer, in seconds: to connect, for each reply, and for each line to be taken.
+pub const PATIENCE: u64 = 30;
+
+/// For how many seconds of these it tries one connection. No further one is tried once the server has stopped.
+const TURN: u64 = 3;
+
+/// The pause after a failed round, in seconds. After each further one it is twice as long.
+const FIRST_PAUSE: u64 = 1;
+
+/// The longest pause, in seconds.
+const LONGEST_PAUSE: u64 = 60;
+
+/// What a round with a peer brought.
+#[derive(Clone, Copy, Debug, PartialEq, Eq)]
+pub enum Brought {
+    /// No operation that this server lacked.
+    Nothing,
+    /// Operations, which other peers may lack.
+    Operations,
+    /// The round broke off, perhaps after it had brought some.
+    Unknown,
+}
+
+/// A peer, the connection to it, and how its last round went.
+#[derive(Drop)]
+pub struct Contact<'a, R> {
+    peer: &'a Peer,
+    /// Its place among the peers.
+    place: usize,
+    guard: Guard<'a>,
+    connection: Option<Connection<'a, R>>,
+    /// The cells that have moved since they were visited last.
+    moved: CellSet,
+    /// The pause before the next round, in seconds; 0 if the last round succeeded.
+    pause: u64,
+    failed_at: Option<Instant>,
+    told: Option<(Option<Fault>, Option<ErrorKind>)>,
+}
+
+impl<'a, R> Contact<'a, R>
+where
+    R: Net<Listener = TcpListener, Stream = TcpStream> + Clock + Wait + Eprint,
+{
+    /// A peer without a round yet, by its place among the peers, of a server with so many cells.
+    pub fn new(
+        alloc: Global,
+        peer: &'a Peer,
+        place: usize,
+        guard: Guard<'a>,
+        cells: usize,
+    ) -> Result<Contact<'a, R>, AllocError> {
+        Ok(Contact {
+            peer,
+            place,
+            guard,
+            connection: None,
+            moved: CellSet::new(alloc, cells)?,
+            pause: 0,
+            failed_at: None,
+            told: None,
+        })
+    }
+
+    /// Whether its last round failed.
+    pub fn has_failed(&self) -> bool {
+        self.pause > 0
+    }
+
+    /// These cells have moved.
+    pub fn note(&self, moved: &CellSet) {
+        self.moved.add_all(moved);
+    }
+
+    /// Whether it is time for a round: after the pause that follows a failed one, or else if there is no connection, a pad has
+    /// moved, or all cells are to be visited again.
+    pub fn is_due(&self, clock: &R) -> bool {
+        if let Some(at) = self.failed_at {
+            return match at.elapsed(clock) {
+                Ok(passed) => passed.as_secs() >= self.pause,
+                Err(_) => true,
+            };
+        }
+        match &self.connection {
+            Some(connection) => !self.moved.is_empty() || connection.needs_whole(clock),
+            None => true,
+        }
+    }
+
+    /// Makes a round. Where the connection has stood for a while and breaks, the peer may have closed it, and a new one is tried
+    /// at once. A failure is logged with its cause, and not again until the cause changes or a round succeeds.
+    pub fn exchange<P: Pads>(
+        &mut self,
+        rt: &'a R,
+        alloc: Global,
+        pads: &mut P,
+        own: u16,
+    ) -> Brought {
+        let has_stood = self.connection.is_some();
+        let mut made = self.make_round(rt, alloc, pads, own);
+        if has_stood && made.is_err() && !self.guard.has_stopped() {
+            made = self.make_round(rt, alloc, pads, own);
+        }
+        self.guard.check();
+        match made {
+            Ok(relayed) => {
+                self.pause = 0;
+                self.failed_at = None;
+                self.told = None;
+                if relayed.pulled > 0 {
+                    Brought::Operations
+                } else {
+                    Brought::Nothing
+                }
+            }
+            Err(broken) => {
+                self.note_failure(rt, broken);
+                match broken {
+                    Broken::Apart(_) if !has_stood => Brought::Nothing,
+                    _ => Brought::Unknown,
+                }
+            }
+        }
+    }
+
+    // Makes a round over the cells that have moved, or over all, by the connection that there is, or by a new one.
+    fn make_round<P: Pads>(
+        &mut self,
+        rt: &'a R,
+        alloc: Global,
+        pads: &mut P,
+        own: u16,
+    ) -> Result<Relayed, Broken> {
+        let connection = match self.connection.take() {
+            Some(connection) => connection,
+            None => self.connect(rt, alloc, own)?,
+        };
+        let is_whole = connection.needs_whole(rt);
+        let visited = self.visit(alloc, pads, connection, is_whole);
+        pads.end(alloc);
+        match visited {
+            Ok((mut connection, relayed)) => {
+                if is_whole {
+                    connection.note_whole(rt);
+                }
+                self.moved.clear();
+                self.connection = Some(connection);
+                Ok(relayed)
+            }
+            Err(broken) => {
+                self.guard.leave(rt, self.place);
+                Err(broken)
+            }
+        }
+    }
+
+    // Visits cells as the peer's session.
+    fn visit<P: Pads>(
+        &self,
+        alloc: Global,
+        pads: &mut P,
+        connection: Connection<'a, R>,
+        is_whole: bool,
+    ) -> Result<(Connection<'a, R>, Relayed), Broken> {
+        let cells = match self.cells(alloc, pads.cells(), is_whole) {
+            Ok(cells) => cells,
+            Err(_) => {
+                return Err(Broken::Off {
+                    fault: Fault::Memory,
+                    cause: None,
+                });
+            }
+        };
+        let _session = pads.relay(alloc, self.peer.number);
+        connection.visit(alloc, pads, cells.as_slice())
+    }
+
+    // The cells that a round visits, in their order.
+    fn cells(&self, alloc: Global, count: u32, is_whole: bool) -> Result<Vec<u32>, AllocError> {
+        if !is_whole {
+            return self.moved.list(alloc);
+        }
+        let mut cells = Vec::new(alloc);
+        for cell in 0..count {
+            cells.push(cell)?;
+        }
+        Ok(cells)
+    }
+
+    // Connects to the peer, and greets it.
+    fn connect(&self, rt: &'a R, alloc: Global, own: u16) -> Result<Connection<'a, R>, Broken> {
+        let address = self.peer.address.as_str();
+        let stream = connect_to(rt, address, self.guard).map_err(Broken::Apart)?;
+        self.guard.enter(rt, self.place, &stream);
+        let opened = Connection::open(rt, alloc, stream, self.guard.keeper, own, self.peer);
+        if opened.is_err() {
+            self.guard.leave(rt, self.place);
+        }
+        opened
+    }
+
+    // Sets the pause before the next round, and logs a new cause.
+    fn note_failure(&mut self, rt: &R, broken: Broken) {
+        self.pause = match self.pause {
+            0 => FIRST_PAUSE,
+            pause => pause.saturating_mul(2).min(LONGEST_PAUSE),
+        };
+        self.failed_at = Instant::now(rt).ok();
+        let kind = broken.kind();
+        if self.told == Some(kind) {
+            return;
+        }
+        self.told = Some(kind);
+        let number = self.peer.number;
+        match broken {
+            Broken::Apart(error) => warn!(Journal(rt); "peer {number}: no connection: {error}"),
+            Broken::Off { fault, cause } => match cause_of(fault, cause, cause) {
+                Some(cause) => warn!(Journal(rt); "peer {number}: {fault}: {cause}"),
+                None => warn!(Journal(rt); "peer {number}: {fault}"),
+            },
+        }
+    }
+}
+
+// A connection to the first address that answers, with time limits for reading and writing.
+fn connect_to<R>(rt: &R, address: &str, guard: Guard<'_>) -> io::Result<TcpStream>
+where
+    R: Net<Listener = TcpListener, Stream = TcpStream> + Wait,
+{
+    let patience = Duration::from_secs(PATIENCE);
+    let mut last = io::Error::from(ErrorKind::NotFound);
+    for address in address.to_socket_addrs(rt)? {
+        match connect_in_turns(rt, &address, guard) {
+            Ok(stream) => {
+                stream.set_nodelay(true)?;
+                stream.set_read_timeout(Some(patience))?;
+                stream.set_write_timeout(Some(patience))?;
+                return Ok(stream);
+            }
+            Err(error) => last = error,
+        }
+    }
+    Err(last)
+}
+
+// A connection to an address, which is tried for some seconds at a time.
+fn connect_in_turns<R>(rt: &R, address: &SocketAddr, guard: Guard<'_>) -> io::Result<TcpStream>
+where
+    R: Net<Listener = TcpListener, Stream = TcpStream> + Wait,
+{
+    for _turn in 0..PATIENCE / TURN {
+        if guard.has_stopped() {
+            return Err(io::Error::from(ErrorKind::ConnectionAborted));
+        }
+        match TcpStream::connect_timeout(rt, address, Duration::from_secs(TURN)) {
+            Err(cause) if matches!(cause.kind(), ErrorKind::TimedOut) => {}
+            done => return done,
+        }
+    }
+    Err(io::Error::from(ErrorKind::TimedOut))
+}

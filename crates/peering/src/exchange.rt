@@ -1,0 +1,239 @@
+//! The threads that exchange the operations of the pads with the peers of the accounts file.
+ghost use Rattle.std.specs.Prelude.{◌≡◌, IfOk, length, min};
+ghost use Rattle.peering.specs.declared.exchange.TheConstants.{MAX_THREADS};
+
+use crate::bell::Bell;
+use crate::contact::{Brought, Contact, PATIENCE};
+use crate::stop::Guard;
+use event_loop::CellSet;
+use pad_model::Sequence;
+use sessions::{Peer, Session};
+use shared_pads::{Gate, Seat};
+use std::alloc::{AllocError, Global};
+use std::net::{Net, TcpListener, TcpStream};
+use std::sync::Wait;
+use std::sync::atomic::{AtomicU64, Ordering};
+use std::time::{Clock, Instant};
+use workers::{Pads, Row, Shared};
+
+/// The most threads that exchange with peers. Where there are more peers, a thread has several of them.
+pub const MAX_THREADS: usize = 16;
+
+/// For how many seconds a thread waits at most for pads to move, before it looks whether a round is due: where a round has failed,
+/// and else.
+const LOOK: u64 = 1;
+
+const LONG_LOOK: u64 = 60;
+
+/// What the threads that exchange with peers share: the bell of each, and how many have ended. The gate of the pads notes and
+/// rings; `finish` is for the thread that has started the others.
+#[derive(Drop)]
+pub struct Exchange {
+    bells: Vec<Bell>,
+    ended: AtomicU64,
+    /// It is rung by each thread that ends.
+    end: Bell,
+}
+
+impl Exchange {
+    /// Of a server with so many peers and cells: a thread for each peer, up to 16.
+    pub fn new(alloc: Global, peers: usize, cells: usize) -> Result<Exchange, AllocError>
+        ensures { IfOk result (λ exchange. length exchange.bells.items ≡ min peers MAX_THREADS) }
+    {
+        let mut bells = Vec::new(alloc);
+        for _place in 0..peers.min(MAX_THREADS) {
+            bells.push(Bell::new(alloc, cells)?)?;
+        }
+        Ok(Exchange {
+            bells,
+            ended: AtomicU64::new(0),
+            end: Bell::new(alloc, 0)?,
+        })
+    }
+
+    /// How many threads there are.
+    pub fn threads(&self) -> usize
+        ensures { result ≡ length self.now.bells.items }
+    {
+        self.bells.len()
+    }
+
+    /// The pad of a cell has moved, or was created. It is called under the pad's lock, and wakes nobody.
+    pub fn note(&self, cell: u32) {
+        for bell in &self.bells {
+            bell.note(cell);
+        }
+    }
+
+    /// Wakes all threads, which then visit the cells that were noted.
+    pub fn ring<R: Wait>(&self, rt: &R) {
+        for bell in &self.bells {
+            bell.ring(rt);
+        }
+    }
+
+    /// Has all threads end after their last rounds, and waits for so many of them, but no longer than for a peer: 30 seconds.
+    /// Exchanges that are still under way then are broken off.
+    pub fn finish<R: Wait + Clock>(&self, rt: &R, threads: u64, guard: Guard<'_>) {
+        for bell in &self.bells {
+            bell.ring_last(rt);
+        }
+        let began = Instant::now(rt).ok();
+        for _second in 0..PATIENCE {
+            if guard.has_stopped()
+                || self.ended.load(Ordering::SeqCst) >= threads
+                || is_past(rt, began)
+            {
+                break;
+            }
+            self.end.wait(rt, LOOK);
+        }
+        guard.end(rt);
+    }
+
+    // A thread has ended.
+    fn leave<R: Wait>(&self, rt: &R) {
+        self.ended.fetch_add(1, Ordering::SeqCst);
+        self.end.ring(rt);
+    }
+}
+
+// Whether it is longer ago than a server waits for a peer.
+fn is_past<C: Clock>(clock: &C, began: Option<Instant>) -> bool {
+    match began.map(|began| began.elapsed(clock)) {
+        Some(Ok(passed)) => passed.as_secs() >= PATIENCE,
+        _ => false,
+    }
+}
+
+/// The peers of a thread, and its seats at the pads.
+#[derive(Drop)]
+pub struct Group<'a, R> {
+    /// Its place among the threads.
+    place: usize,
+    contacts: Vec<Contact<'a, R>>,
+    /// The cells that have moved since the last turn.
+    moved: CellSet,
+    seats: Vec<Seat>,
+}
+
+impl<'a, R> Group<'a, R>
+where
+    R: Net<Listener = TcpListener, Stream = TcpStream> + Clock + Wait + Eprint,
+{
+    /// The group of the thread at a place, with its seats, one at each cell: of 16 peers that follow one another one is in it,
+    /// unless it is the server itself.
+    pub fn new(
+        alloc: Global,
+        place: usize,
+        peers: &'a [Peer],
+        own: u16,
+        guard: Guard<'a>,
+        seats: Vec<Seat>,
+    ) -> Result<Group<'a, R>, AllocError> {
+        let mut contacts = Vec::new(alloc);
+        for (number, peer) in peers.iter().enumerate() {
+            if number % MAX_THREADS == place && peer.number != own {
+                contacts.push(Contact::new(alloc, peer, number, guard, seats.len())?)?;
+            }
+        }
+        let moved = CellSet::new(alloc, seats.len())?;
+        Ok(Group {
+            place,
+            contacts,
+            moved,
+            seats,
+        })
+    }
+}
+
+/// Makes rounds with the peers of a group until its bell rings for the last ones: over all cells at the start, after each
+/// reconnection and once a minute, and else over those that have moved. Where a peer gave operations, or its round broke off and
+/// may have brought some, all bells are rung, since other peers may lack them. In its last rounds only operations that are known to
+/// have come bring another one, so that a peer that breaks off each time keeps no server from ending. Where exchanges are broken
+/// off, no further round begins.
+pub fn exchange_all<'a, S: Sequence, R, G: Gate>(
+    row: &Row<'a, S, R, G>,
+    exchange: &Exchange,
+    group: Group<'a, R>,
+    guard: Guard<'a>,
+)
+where
+    R: AllocGlobal + Net<Listener = TcpListener, Stream = TcpStream> + Clock + Wait + Eprint,
+{
+    let rt = row.rt;
+    let Group {
+        place,
+        mut contacts,
+        moved,
+        seats,
+    } = group;
+    if let Some(bell) = exchange.bells.get(place) {
+        let mut pads = Shared::new(row, seats, Session::new(rt.alloc()));
+        let mut has_come = true;
+        let mut is_last = false;
+        for _ in rt.forever() {
+            if is_last && !has_come {
+                break;
+            }
+            if !has_come {
+                bell.wait(rt, look_of(&contacts));
+            }
+            if guard.has_stopped() {
+                break;
+            }
+            is_last = is_last || bell.is_last();
+            moved.take_from(bell.moved());
+            has_come = match rounds(rt, &mut contacts, &moved, &mut pads, row.replica, is_last) {
+                Brought::Nothing => false,
+                Brought::Operations => true,
+                Brought::Unknown => !is_last,
+            };
+            moved.clear();
+            if has_come {
+                exchange.ring(rt);
+            }
+        }
+    }
+    exchange.leave(rt);
+}
+
+// For how long to wait.
+fn look_of<R>(contacts: &Vec<Contact<'_, R>>) -> u64
+where
+    R: Net<Listener = TcpListener, Stream = TcpStream> + Clock + Wait + Eprint,
+{
+    if contacts.iter().any(Contact::has_failed) {
+        LOOK
+    } else {
+        LONG_LOOK
+    }
+}
+
+// One round with each peer that is due; in the last rounds with each.
+fn rounds<'a, P: Pads, R>(
+    rt: &'a R,
+    contacts: &mut Vec<Contact<'a, R>>,
+    moved: &CellSet,
+    pads: &mut P,
+    own: u16,
+    is_last: bool,
+) -> Brought
+where
+    R: AllocGlobal + Net<Listener = TcpListener, Stream = TcpStream> + Clock + Wait + Eprint,
+{
+    let mut all = Brought::Nothing;
+    for contact in contacts.iter_mut() {
+        contact.note(moved);
+        if !is_last && !contact.is_due(rt) {
+            continue;
+        }
+        match contact.exchange(rt, rt.alloc(), pads, own) {
+            Brought::Nothing => {}
+            Brought::Operations => all = Brought::Operations,
+            Brought::Unknown if all == Brought::Nothing => all = Brought::Unknown,
+            Brought::Unknown => {}
+        }
+    }
+    all
+}

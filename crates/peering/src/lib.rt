@@ -1,0 +1,15 @@
+//! The threads that exchange operations with peers: a connection to each, rounds over the cells that have moved, and their end.
+//!
+//! It depends on `relay`, which makes a round over a connection, on `pad_files`, since nothing goes to a peer before it is
+//! synced, and on the hub of `event_loop`. It knows no clients.
+#![tactic(auto)]
+
+mod bell;
+mod connection;
+mod contact;
+mod exchange;
+mod stop;
+
+pub use bell::Bell;
+pub use exchange::{Exchange, Group, MAX_THREADS, exchange_all};
+pub use stop::{Guard, Stop};

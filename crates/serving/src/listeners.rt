@@ -1,0 +1,57 @@
+//! Where clients connect.
+use crate::serving_error::ServingError;
+use crate::settings::Settings;
+use accounts_file::has_port;
+use std::io;
+use std::net::{Net, TcpListener, TcpStream};
+
+/// Where clients connect: those that speak lines, and browsers.
+#[derive(Drop)]
+pub struct Listeners {
+    pub lines: TcpListener,
+    pub web: Option<TcpListener>,
+}
+
+/// Binds the addresses, and prints them with their real ports.
+pub fn listen_at<'a, R>(
+    rt: &R,
+    asked: Settings<'a>,
+    address: &'a str,
+) -> Result<Listeners, ServingError<'a>>
+where
+    R: Net<Listener = TcpListener, Stream = TcpStream> + Print,
+{
+    let lines = bind(rt, address)?;
+    let web = match asked.web {
+        Some(address) => Some(bind(rt, address)?),
+        None => None,
+    };
+    let listeners = Listeners { lines, web };
+    match announce(rt, &listeners) {
+        Ok(()) => Ok(listeners),
+        Err(cause) => Err(ServingError::Untold(cause)),
+    }
+}
+
+fn bind<'a, R>(rt: &R, address: &'a str) -> Result<TcpListener, ServingError<'a>>
+where
+    R: Net<Listener = TcpListener, Stream = TcpStream>,
+{
+    match TcpListener::bind(rt, address) {
+        Ok(listener) => Ok(listener),
+        Err(cause) if has_port(address) => Err(ServingError::Deaf { address, cause }),
+        Err(_) => Err(ServingError::NoPort { address }),
+    }
+}
+
+fn announce<R: Print>(rt: &R, listeners: &Listeners) -> io::Result<()> {
+    let local = listeners.lines.local_addr()?;
+    println!(rt; "listening on {local}")?;
+    match &listeners.web {
+        Some(web) => {
+            let local = web.local_addr()?;
+            println!(rt; "web on http://{local}/")
+        }
+        None => Ok(()),
+    }
+}

@@ -1,0 +1,107 @@
+//! The accounts file of a server that runs. It is read again when it has changed.
+use accounts_file::{reason_of, warn_of_ports};
+use event_loop::Hub;
+use journal::Journal;
+use log::{info, warn};
+use peering::Bell;
+use sessions::{Accounts, AccountsError};
+use std::alloc::{AllocError, Global};
+use std::sync::Wait;
+use std::time::Clock;
+use std::{fs, io};
+
+/// Seconds from one look at the file to the next.
+const LOOK: u64 = 5;
+
+/// An accounts file, and what it had when it was looked at last.
+#[derive(Drop)]
+pub struct Watch<'a> {
+    /// By which the file is read.
+    files: HostRuntime,
+    path: &'a str,
+    bytes: Vec<u8>,
+    /// Whether it could not be read then.
+    is_unread: bool,
+}
+
+impl<'a> Watch<'a> {
+    /// Of a file that was read, and had these bytes.
+    pub fn new(files: HostRuntime, path: &'a str, bytes: Vec<u8>) -> Watch<'a> {
+        Watch {
+            files,
+            path,
+            bytes,
+            is_unread: false,
+        }
+    }
+
+    // Looks at the file. Where it has changed and has no fault, the workers are given its accounts.
+    fn look<R>(&mut self, rt: &R, hub: &Hub)
+    where
+        R: AllocGlobal + Clock + Wait + Eprint,
+    {
+        let path = self.path;
+        let bytes = match fs::read(&self.files, path) {
+            Ok(bytes) => bytes,
+            Err(cause) => return self.note_unread(rt, cause),
+        };
+        self.is_unread = false;
+        if bytes.as_slice() == self.bytes.as_slice() {
+            return;
+        }
+        match copies_of(rt.alloc(), bytes.as_slice(), hub.workers()) {
+            Ok(copies) => {
+                if let Some(accounts) = copies.first() {
+                    warn_of_ports(rt, path, accounts);
+                }
+                hub.replace_accounts(rt, copies);
+                info!(Journal(rt); "the accounts file {path} has changed and was read again");
+            }
+            Err(AccountsError::BadLine { line, mistake }) => {
+                let reason = reason_of(mistake);
+                warn!(Journal(rt); "the accounts file {path} has changed, and nothing of it is taken: line {line}: {reason}");
+            }
+            // It is tried again.
+            Err(AccountsError::Memory) => return,
+        }
+        self.bytes = bytes;
+    }
+
+    // Logs that the file cannot be read, once until it can.
+    fn note_unread<R: Clock + Eprint>(&mut self, rt: &R, cause: io::Error) {
+        if !self.is_unread {
+            let path = self.path;
+            warn!(Journal(rt); "the accounts file {path} cannot be read, and the accounts stay as they are: {cause}");
+        }
+        self.is_unread = true;
+    }
+}
+
+/// Looks at an accounts file every five seconds, until the bell rings. A file with a fault changes nothing, and is logged once.
+pub fn watch_accounts<R>(rt: &R, hub: &Hub, mut watch: Watch<'_>, end: &Bell)
+where
+    R: AllocGlobal + Clock + Wait + Eprint,
+{
+    for _ in rt.forever() {
+        end.wait(rt, LOOK);
+        if end.is_last() {
+            return;
+        }
+        watch.look(rt, hub);
+    }
+}
+
+// The accounts that a file's bytes have, as often as there are workers.
+fn copies_of(alloc: Global, bytes: &[u8], workers: usize) -> Result<Vec<Accounts>, AccountsError> {
+    let mut copies = Vec::new(alloc);
+    for _ in 0..workers {
+        let accounts = Accounts::read(alloc, bytes)?;
+        add(&mut copies, accounts)?;
+    }
+    Ok(copies)
+}
+
+fn add(copies: &mut Vec<Accounts>, accounts: Accounts) -> Result<(), AllocError> {
+    copies.push(accounts)?;
+    Ok(())
+}

@@ -1,0 +1,47 @@
+//! What a branch stores of a side that has changed below it.
+ghost use Rattle.std.specs.Prelude.{◌≡◌, ◌+◌, length, sum_by};
+ghost use Rattle.weight_tree.specs.Balance.{IsBalanced};
+ghost use Rattle.weight_tree.specs.Sides.{StoresLeft, StoresRight};
+ghost use Rattle.weight_tree.specs.Tree.{FitTogether, IsMended};
+
+use crate::tree::Branch;
+use crate::weigh::Weigh;
+
+impl<T: Weigh> Branch<T> {
+    // Stores anew what the left side holds, without a look at the right side.
+    pub(crate) fn mend_left(&mut self)
+        requires right { StoresRight T.weight_of self.old }
+        requires balanced { IsBalanced (length self.old.left.items) (length self.old.right.items) }
+        requires fits { FitTogether T.weight_of self.old.left self.old.item self.old.right }
+        ensures mended { IsMended T.weight_of self.new }
+        ensures left { self.new.left ≡ self.old.left }
+        ensures item { self.new.item ≡ self.old.item }
+        ensures right { self.new.right ≡ self.old.right }
+    {
+        let other_size = self.size - self.left_size;
+        let other_weight = self.weight - self.left_weight;
+        self.left_size = self.left.len();
+        self.left_weight = self.left.weight();
+        self.left_height = self.left.height() as u8;
+        self.size = self.left_size + other_size;
+        self.weight = self.left_weight + other_weight;
+        self.height = self.left_height.max(self.right_height) + 1;
+    }
+
+    // Stores anew what the right side holds, without a look at the left side. The rest weighs `rest`.
+    pub(crate) fn mend_right(&mut self, rest: u64)
+        requires rest { rest ≡ sum_by T.weight_of self.old.left.items + T.weight_of self.old.item }
+        requires left { StoresLeft T.weight_of self.old }
+        requires balanced { IsBalanced (length self.old.left.items) (length self.old.right.items) }
+        requires fits { FitTogether T.weight_of self.old.left self.old.item self.old.right }
+        ensures mended { IsMended T.weight_of self.new }
+        ensures left { self.new.left ≡ self.old.left }
+        ensures item { self.new.item ≡ self.old.item }
+        ensures right { self.new.right ≡ self.old.right }
+    {
+        self.right_height = self.right.height() as u8;
+        self.size = self.left_size + self.right.len() + 1;
+        self.weight = rest + self.right.weight();
+        self.height = self.left_height.max(self.right_height) + 1;
+    }
+}

@@ -23,7 +23,7 @@ pub enum StoreError<'a> {
     UsedReplica { folder: &'a str, number: u16 },
     /// More files have a pad than the row is to have cells.
     #[error("the store {folder} has more pads than there are cells")]
-    Crowded { folder: &'a str },
+    TooManyPads { folder: &'a str },
     /// There is no memory for a pad or for a list of them.
     #[error("900 Memory")]
     Memory,

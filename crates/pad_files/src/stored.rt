@@ -123,7 +123,7 @@ where
             Err(unloaded) => return Err(unloaded.in_folder(folder)),
         };
         if row.cells.len() >= size.cells as usize {
-            return Err(StoreError::Crowded { folder });
+            return Err(StoreError::TooManyPads { folder });
         }
         row.add(alloc, loaded)?;
     }

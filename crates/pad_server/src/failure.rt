@@ -19,7 +19,7 @@ use wire_lines::Fault;
 #[derive(Clone, Copy, Debug, Error)]
 pub enum Failure<'a> {
     #[error("the arguments cannot be read: {0}")]
-    Unasked(io::Error),
+    ArgumentsUnread(io::Error),
     #[error("{0}")]
     Accounts(AccountsFileError<'a>),
     #[error("{0}")]
@@ -49,7 +49,7 @@ impl<'a> Failure<'a> {
     pub fn of_arguments(cause: io::Error) -> Failure<'static> {
         match cause.kind() {
             ErrorKind::OutOfMemory => Failure::Fault(Fault::Memory),
-            _ => Failure::Unasked(cause),
+            _ => Failure::ArgumentsUnread(cause),
         }
     }
 

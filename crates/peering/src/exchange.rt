@@ -3,7 +3,7 @@ ghost use Rattle.std.specs.Prelude.{◌≡◌, IfOk, length, min};
 ghost use Rattle.peering.specs.declared.exchange.TheConstants.{MAX_THREADS};
 
 use crate::bell::Bell;
-use crate::contact::{Brought, Contact, PATIENCE};
+use crate::peer_link::{Brought, PATIENCE, PeerLink};
 use crate::stop::Guard;
 use event_loop::CellSet;
 use pad_model::Sequence;
@@ -111,7 +111,7 @@ fn is_past<C: Clock>(clock: &C, began: Option<Instant>) -> bool {
 pub struct Group<'a, R> {
     /// Its place among the threads.
     place: usize,
-    contacts: Vec<Contact<'a, R>>,
+    links: Vec<PeerLink<'a, R>>,
     /// The cells that have moved since the last turn.
     moved: CellSet,
     seats: Vec<Seat>,
@@ -131,16 +131,16 @@ where
         guard: Guard<'a>,
         seats: Vec<Seat>,
     ) -> Result<Group<'a, R>, AllocError> {
-        let mut contacts = Vec::new(alloc);
+        let mut links = Vec::new(alloc);
         for (number, peer) in peers.iter().enumerate() {
             if number % MAX_THREADS == place && peer.number != own {
-                contacts.push(Contact::new(alloc, peer, number, guard, seats.len())?)?;
+                links.push(PeerLink::new(alloc, peer, number, guard, seats.len())?)?;
             }
         }
         let moved = CellSet::new(alloc, seats.len())?;
         Ok(Group {
             place,
-            contacts,
+            links,
             moved,
             seats,
         })
@@ -164,7 +164,7 @@ where
     let rt = row.rt;
     let Group {
         place,
-        mut contacts,
+        mut links,
         moved,
         seats,
     } = group;
@@ -177,14 +177,14 @@ where
                 break;
             }
             if !has_come {
-                bell.wait(rt, look_of(&contacts));
+                bell.wait(rt, look_of(&links));
             }
             if guard.has_stopped() {
                 break;
             }
             is_last = is_last || bell.is_last();
             moved.take_from(bell.moved());
-            has_come = match rounds(rt, &mut contacts, &moved, &mut pads, row.replica, is_last) {
+            has_come = match rounds(rt, &mut links, &moved, &mut pads, row.replica, is_last) {
                 Brought::Nothing => false,
                 Brought::Operations => true,
                 Brought::Unknown => !is_last,
@@ -199,11 +199,11 @@ where
 }
 
 // For how long to wait.
-fn look_of<R>(contacts: &Vec<Contact<'_, R>>) -> u64
+fn look_of<R>(links: &Vec<PeerLink<'_, R>>) -> u64
 where
     R: Net<Listener = TcpListener, Stream = TcpStream> + Clock + Wait + Eprint,
 {
-    if contacts.iter().any(Contact::has_failed) {
+    if links.iter().any(PeerLink::has_failed) {
         LOOK
     } else {
         LONG_LOOK
@@ -213,7 +213,7 @@ where
 // One round with each peer that is due; in the last rounds with each.
 fn rounds<'a, P: Pads, R>(
     rt: &'a R,
-    contacts: &mut Vec<Contact<'a, R>>,
+    links: &mut Vec<PeerLink<'a, R>>,
     moved: &CellSet,
     pads: &mut P,
     own: u16,
@@ -223,12 +223,12 @@ where
     R: AllocGlobal + Net<Listener = TcpListener, Stream = TcpStream> + Clock + Wait + Eprint,
 {
     let mut all = Brought::Nothing;
-    for contact in contacts.iter_mut() {
-        contact.note(moved);
-        if !is_last && !contact.is_due(rt) {
+    for link in links.iter_mut() {
+        link.note(moved);
+        if !is_last && !link.is_due(rt) {
             continue;
         }
-        match contact.exchange(rt, rt.alloc(), pads, own) {
+        match link.exchange(rt, rt.alloc(), pads, own) {
             Brought::Nothing => {}
             Brought::Operations => all = Brought::Operations,
             Brought::Unknown if all == Brought::Nothing => all = Brought::Unknown,

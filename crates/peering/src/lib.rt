@@ -6,8 +6,8 @@
 
 mod bell;
 mod connection;
-mod contact;
 mod exchange;
+mod peer_link;
 mod stop;
 
 pub use bell::Bell;

@@ -4,10 +4,10 @@
 //! `accounts_file` for who may log in. It knows no command line: `Settings` says what is asked for.
 #![tactic(auto)]
 
-mod course;
 mod listen;
 mod listeners;
 mod opened;
+mod pad_gate;
 mod room;
 mod serving_error;
 mod settings;

@@ -2,9 +2,9 @@
 ghost use Rattle.std.specs.Prelude.{◌≤◌};
 ghost use Rattle.server_core.specs.declared.limits.TheConstants.{MAX_CELLS};
 
-use crate::course::Course;
 use crate::listeners::listen_at;
 use crate::opened::{Opened, open_pads};
+use crate::pad_gate::PadGate;
 use crate::serving_error::ServingError;
 use crate::settings::Settings;
 use crate::settling::Settling;
@@ -60,8 +60,8 @@ where
     let watch = Watch::new(watching, path, bytes);
     serve_row(rt, &opened, &hub, asked, site, acceptor, workers, watch)?;
     match asked.store {
-        Some(folder) if opened.has_failed() => Err(ServingError::Failed { folder }),
-        _ if hub.has_stopped() => Err(ServingError::Halted),
+        Some(folder) if opened.has_failed() => Err(ServingError::StoreFailed { folder }),
+        _ if hub.has_stopped() => Err(ServingError::WorkerFailed),
         _ => Ok(()),
     }
 }
@@ -92,7 +92,7 @@ where
         hub,
     };
     let groups = make_groups(rt, opened, asked.replica, guard)?;
-    let gate = Course::new(rt, &opened.exchange, keeper, hub);
+    let gate = PadGate::new(rt, &opened.exchange, keeper, hub);
     let row = Row {
         rt,
         cells,
@@ -146,7 +146,7 @@ struct Others<'a, R> {
 /// Accepts connections in one thread, and serves them in the workers' threads. Others exchange with the peers, and once more after
 /// the last connection.
 fn serve<R>(
-    service: &Service<'_, BlockSeq, R, Course<'_, R>, Settling<'_, R>>,
+    service: &Service<'_, BlockSeq, R, PadGate<'_, R>, Settling<'_, R>>,
     acceptor: Acceptor,
     mut workers: Vec<Worker>,
     others: Others<'_, R>,
@@ -185,7 +185,7 @@ where
             hub.stop();
             guard.end(rt);
             exchange.ring(rt);
-            return Err(ServingError::Alone);
+            return Err(ServingError::NoThread);
         }
         serve_all(service, workers.as_mut_slice());
         end.ring_last(rt);

@@ -29,7 +29,7 @@ where
     let listeners = Listeners { lines, web };
     match announce(rt, &listeners) {
         Ok(()) => Ok(listeners),
-        Err(cause) => Err(ServingError::Untold(cause)),
+        Err(cause) => Err(ServingError::OutputFailed(cause)),
     }
 }
 
@@ -39,7 +39,7 @@ where
 {
     match TcpListener::bind(rt, address) {
         Ok(listener) => Ok(listener),
-        Err(cause) if has_port(address) => Err(ServingError::Deaf { address, cause }),
+        Err(cause) if has_port(address) => Err(ServingError::AddressRefused { address, cause }),
         Err(_) => Err(ServingError::NoPort { address }),
     }
 }

@@ -20,22 +20,22 @@ pub enum ServingError<'a> {
     NoPort { address: &'a str },
     /// The system refused the address.
     #[error("cannot listen at {address}: {cause}")]
-    Deaf { address: &'a str, cause: io::Error },
+    AddressRefused { address: &'a str, cause: io::Error },
     /// The address that was bound could not be printed.
     #[error("standard output: {0}")]
-    Untold(io::Error),
+    OutputFailed(io::Error),
     /// The system gives no sockets or events for the workers.
     #[error("the threads that serve connections cannot be set up: {0}")]
     NotSetUp(io::Error),
     /// The system makes fewer threads than are needed.
     #[error("the system makes no thread")]
-    Alone,
+    NoThread,
     /// The store has failed while the server ran.
     #[error("the store {folder} failed")]
-    Failed { folder: &'a str },
+    StoreFailed { folder: &'a str },
     /// A worker or the acceptor has failed while the server ran.
     #[error("a thread that serves connections failed")]
-    Halted,
+    WorkerFailed,
     /// The pads are refused: they have no room for the seats of all threads, or there is no memory.
     #[error("{} {}", .0.code(), .0.name())]
     Refused(Refusal),

@@ -1,4 +1,4 @@
-//! What the server does in the course of its connections.
+//! The gate of the pads: what else the server does with each answer.
 use event_loop::Hub;
 use pad_core::Request;
 use pad_files::Keeper;
@@ -12,22 +12,22 @@ use workers::Gate;
 /// Wakes the threads that exchange with peers before each reply that tells of a delivered operation. What was answered at a pad
 /// is noted in the store, and that the pad has moved is told to the workers and to those threads, under the pad's lock.
 #[derive(Drop)]
-pub struct Course<'a, R> {
+pub struct PadGate<'a, R> {
     rt: &'a R,
     exchange: &'a Exchange,
     keeper: Option<&'a Keeper>,
     hub: &'a Hub,
 }
 
-impl<'a, R> Course<'a, R> {
+impl<'a, R> PadGate<'a, R> {
     /// Of connections whose threads wait by a runtime.
     pub fn new(
         rt: &'a R,
         exchange: &'a Exchange,
         keeper: Option<&'a Keeper>,
         hub: &'a Hub,
-    ) -> Course<'a, R> {
-        Course {
+    ) -> PadGate<'a, R> {
+        PadGate {
             rt,
             exchange,
             keeper,
@@ -36,7 +36,7 @@ impl<'a, R> Course<'a, R> {
     }
 }
 
-impl<R: Wait> Gate for Course<'_, R> {
+impl<R: Wait> Gate for PadGate<'_, R> {
     fn answered(&self, alloc: Global, told: &Answered<'_>) {
         if let Some(keeper) = self.keeper {
             keeper.note(self.rt, alloc, told);

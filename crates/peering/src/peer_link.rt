@@ -41,7 +41,7 @@ pub enum Brought {
 
 /// A peer, the connection to it, and how its last round went.
 #[derive(Drop)]
-pub struct Contact<'a, R> {
+pub struct PeerLink<'a, R> {
     peer: &'a Peer,
     /// Its place among the peers.
     place: usize,
@@ -55,7 +55,7 @@ pub struct Contact<'a, R> {
     told: Option<(Option<Fault>, Option<ErrorKind>)>,
 }
 
-impl<'a, R> Contact<'a, R>
+impl<'a, R> PeerLink<'a, R>
 where
     R: Net<Listener = TcpListener, Stream = TcpStream> + Clock + Wait + Eprint,
 {
@@ -66,8 +66,8 @@ where
         place: usize,
         guard: Guard<'a>,
         cells: usize,
-    ) -> Result<Contact<'a, R>, AllocError> {
-        Ok(Contact {
+    ) -> Result<PeerLink<'a, R>, AllocError> {
+        Ok(PeerLink {
             peer,
             place,
             guard,

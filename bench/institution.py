@@ -13,6 +13,7 @@ from kept import MOST, write_pad
 from listen import DRIVE, OUT, SERVER, build
 
 WRITERS = 500
+PRESENT = 1_024  # on a pad at once: the writers and their owner, where there is one pad
 # A start that takes at most so many times the memory that is in use after it is aimed at.
 START_AIM = 1.2
 ACCOUNTS = "author owner t\n" + "".join(f"author w{writer} t\n" for writer in range(WRITERS))
@@ -22,7 +23,7 @@ class Served:
     """A server with a store, from its start on."""
 
     def __init__(self, folder, cells, listen="127.0.0.1:0", replica=1, accounts="accounts"):
-        words = ["--listen", listen, "--replica", replica, "--cells", cells, "--store", folder, "--accounts", accounts]
+        words = ["--listen", listen, "--replica", replica, "--cells", cells, "--present", PRESENT, "--store", folder, "--accounts", accounts]
         began = time.monotonic()
         command = [SERVER, *[str(word) for word in words]]
         self.process = subprocess.Popen(command, stdout=subprocess.PIPE, stderr=subprocess.DEVNULL)
@@ -109,8 +110,8 @@ def exchange(folder, pads, each):
 
 def measure(flags, requests, pads=1_000, each=2_000):
     build(flags)
-    # (a full pad would refuse what the writers write)
-    few = pads * each // (MOST * 9 // 10) + 1
+    # (a full pad would refuse what the writers write, and a pad has at most 256 authors)
+    few = max(2, pads * each // (MOST * 9 // 10) + 1)
     stores = [("many pads", pads, each), ("as few as hold it", few, pads * each // few)]
     print(f"load {os.getloadavg()[0]:.1f} on {os.cpu_count()} processors, {pads * each} operations")
     with tempfile.TemporaryDirectory(dir=OUT) as room:

@@ -1,10 +1,10 @@
 //! A pad's file at the start of the server.
 use crate::owner::Owner;
 use crate::store_error::StoreError;
-use block_seq::BlockSeq;
 use journal::Journal;
 use log::warn;
 use pad_core::Pad;
+use pad_model::Sequence;
 use std::alloc::Global;
 use std::fs::{File, OpenOptions};
 use std::io::{ErrorKind, Write};
@@ -16,8 +16,8 @@ const MOST_ASIDE: u32 = 1_000;
 
 /// A pad that was loaded, with its file open for appending, twice.
 #[derive(Drop)]
-pub struct PadFile {
-    pub pad: Pad<BlockSeq>,
+pub struct PadFile<S: Sequence> {
+    pub pad: Pad<S>,
     pub sum: String,
     pub file: File,
     pub handle: File,
@@ -55,12 +55,12 @@ impl From<io::Error> for Unloaded {
 }
 
 /// Loads one pad. Its file is cut behind the last line that was read; a file whose pad was never named is moved aside.
-pub fn load_file(
+pub fn load_file<S: Sequence>(
     files: &HostRuntime,
     folder: &str,
     name: &str,
     owner: &Owner,
-) -> Result<Option<PadFile>, Unloaded> {
+) -> Result<Option<PadFile<S>>, Unloaded> {
     let alloc = files.alloc();
     let path = path_of(alloc, folder, name)?;
     let bytes = fs::read(files, path.as_str())?;
@@ -93,7 +93,7 @@ fn path_of(alloc: Global, folder: &str, name: &str) -> io::Result<String> {
 }
 
 // Whether a pad's file is this server's, or may become so: where the number is new, no operation has it.
-fn check_owner(owner: &Owner, loaded: &Loaded<BlockSeq>) -> Result<(), Unloaded> {
+fn check_owner<S: Sequence>(owner: &Owner, loaded: &Loaded<S>) -> Result<(), Unloaded> {
     let replica = loaded.header.replica;
     if replica == u64::from(owner.replica()) {
         return Ok(());
@@ -126,12 +126,12 @@ fn move_aside(files: &HostRuntime, path: &str) -> io::Result<()> {
 }
 
 // A pad with its file, which is cut behind the last line that was read. A server with a new number begins with a header.
-fn open_loaded(
+fn open_loaded<S: Sequence>(
     files: &HostRuntime,
     path: &str,
     replica: u16,
-    loaded: Loaded<BlockSeq>,
-) -> io::Result<PadFile> {
+    loaded: Loaded<S>,
+) -> io::Result<PadFile<S>> {
     let Loaded {
         pad,
         header,

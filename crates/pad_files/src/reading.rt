@@ -1,6 +1,7 @@
 //! The files of a store at the start of the server.
 use crate::owner::Owner;
 use crate::pad_file::{PadFile, Unloaded, load_file};
+use pad_model::Sequence;
 use std::alloc::AllocError;
 use std::sync::atomic::{AtomicU64, Ordering};
 use std::thread;
@@ -12,15 +13,15 @@ const SILENCE: u64 = 2;
 
 /// A file that is to be read, or was.
 #[derive(Drop)]
-pub struct Read {
+pub struct Read<S: Sequence> {
     name: String,
     /// None: it was not read yet.
-    outcome: Option<Result<Option<PadFile>, Unloaded>>,
+    outcome: Option<Result<Option<PadFile<S>>, Unloaded>>,
 }
 
-impl Read {
+impl<S: Sequence> Read<S> {
     /// The pad of the file; None where no pad was named in it.
-    pub fn into_pad(self) -> Result<Option<PadFile>, Unloaded> {
+    pub fn into_pad(self) -> Result<Option<PadFile<S>>, Unloaded> {
         self.outcome.unwrap_or(Ok(None))
     }
 }
@@ -57,13 +58,13 @@ impl Tally {
 
 /// Reads the files of a folder, in as many threads as there are processors. A start that takes long tells each second how
 /// far it is.
-pub fn read_all<R: Threads + Sync>(
+pub fn read_all<R: Threads + Sync, S: Sequence + Send>(
     rt: &R,
     files: &HostRuntime,
     folder: &str,
     names: Vec<String>,
     owner: &Owner,
-) -> Result<Vec<Read>, AllocError> {
+) -> Result<Vec<Read<S>>, AllocError> {
     let mut reads = Vec::new(files.alloc());
     for name in names {
         reads.push(Read {
@@ -77,13 +78,16 @@ pub fn read_all<R: Threads + Sync>(
         read: AtomicU64::new(0),
         told: AtomicU64::new(SILENCE - 1),
     };
-    let threads = thread::available_parallelism(rt).map_or(1, |count| count.get());
+    let threads = match thread::available_parallelism(rt) {
+        Ok(count) => count.get().max(1),
+        Err(_) => 1,
+    };
     let tally = &tally;
     thread::for_each_mut(
         rt,
         reads.as_mut_slice(),
         threads,
-        &|_place: usize, read: &mut Read| {
+        &|_place: usize, read: &mut Read<S>| {
             read.outcome = Some(load_file(files, folder, read.name.as_str(), owner));
             tally.note(files);
         },

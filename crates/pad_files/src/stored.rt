@@ -2,7 +2,7 @@
 use crate::keeper::{Book, Books, Handle, Held, Keeper};
 use crate::owner::Owner;
 use crate::pad_file::PadFile;
-use crate::reading::read_all;
+use crate::reading::{Read, read_all};
 use crate::reserve::Reserve;
 use crate::spares::PRIVATE;
 use crate::store_error::StoreError;
@@ -116,7 +116,8 @@ where
             handles: Vec::new(alloc),
         },
     };
-    for read in read_all(rt, files, folder, names, owner)? {
+    let reads: Vec<Read<BlockSeq>> = read_all(rt, files, folder, names, owner)?;
+    for read in reads {
         let loaded = match read.into_pad() {
             Ok(Some(loaded)) => loaded,
             Ok(None) => continue,
@@ -146,7 +147,7 @@ struct Loading {
 
 impl Loading {
     // One more pad.
-    fn add(&mut self, alloc: Global, opened: PadFile) -> Result<(), AllocError> {
+    fn add(&mut self, alloc: Global, opened: PadFile<BlockSeq>) -> Result<(), AllocError> {
         let cell = u32::try_from(self.cells.len()).unwrap_or(u32::MAX);
         let PadFile {
             pad,

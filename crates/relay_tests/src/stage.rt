@@ -71,27 +71,39 @@ pub fn talk(alloc: Global, lines: &[&str], peer: &[u8]) -> Result<Talked, Fail> 
 /// Server 1 with so many pads, `p0`, `p1` and on, in a session of peer 2, after ann has typed a letter so often on one.
 pub fn typed_on(alloc: Global, pads: u32, typed: u32, letters: u32) -> Result<TypedPads, Fail> {
     let accounts = Accounts::read(alloc, b"author ann t\npeer 2 p2 host:1\n")?;
-    let mut server: Server<BlockSeq> = Server::new(
-        alloc,
-        1,
-        DEFAULT_PRESENT,
-        pads.min(64),
-        accounts,
-    )?;
+    let count = pads.min(64);
+    let mut server = Server::new(alloc, 1, DEFAULT_PRESENT, count, accounts)?;
     let actor = server.open(alloc)?;
     let mut alone = Alone::new(server, actor);
     let _hello = alone.call(alloc, &request(alloc, HELLO)?)?;
+    create_pads(alloc, &mut alone, pads)?;
+    type_letters(alloc, &mut alone, typed, letters)?;
+    alone.end(alloc);
+    let _session = alone.relay(alloc, 2)?;
+    Ok(alone)
+}
+
+// So many pads are created, `p0`, `p1` and on.
+fn create_pads(alloc: Global, alone: &mut TypedPads, pads: u32) -> Result<(), Fail> {
     for pad in 0..pads {
         let line = format!(in alloc; r#"{{"do":"create","pad":"p{pad}"}}"#)?;
         let _created = alone.call(alloc, &request(alloc, line.as_str())?)?;
     }
+    Ok(())
+}
+
+// A letter is typed so often on one of the pads, each at its front.
+fn type_letters(
+    alloc: Global,
+    alone: &mut TypedPads,
+    typed: u32,
+    letters: u32,
+) -> Result<(), Fail> {
     for rev in 0..letters {
         let line = format!(in alloc;
             r#"{{"at":0,"do":"insert","pad":"p{typed}","rev":{rev},"text":"x"}}"#
         )?;
         let _typed = alone.call(alloc, &request(alloc, line.as_str())?)?;
     }
-    alone.end(alloc);
-    let _session = alone.relay(alloc, 2)?;
-    Ok(alone)
+    Ok(())
 }

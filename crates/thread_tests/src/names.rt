@@ -202,7 +202,18 @@ fn both_create<R: Threads + Wait + Sync>(
 ) -> Result<[Created; 2], Refusal> {
     let stage = Stage::new(alloc, 3, 4)?;
     let names = stage.names(rt, alloc)?;
-    let row = stage.row(rt, &names);
+    both_create_on(rt, alloc, &stage, &names, numbers)
+}
+
+// The same, of a stage without pads.
+fn both_create_on<R: Threads + Wait + Sync>(
+    rt: &R,
+    alloc: Global,
+    stage: &Stage,
+    names: &Names,
+    numbers: [u32; 2],
+) -> Result<[Created; 2], Refusal> {
+    let row = stage.row(rt, names);
     let (first, second) = thread::join(
         rt,
         || creates(alloc, &row, FIRST, numbers[0]),

@@ -36,7 +36,7 @@ pub enum Refusal {
     Joined,
     /// 312: the author lacks the right.
     Denied,
-    /// 313: 64 sessions are present on the pad.
+    /// 313: as many sessions are present on the pad as the server lets be.
     Crowded,
     /// 314: the pad has given all its visit numbers.
     VisitsSpent,

@@ -8,7 +8,7 @@ use crate::tree::Branch;
 use crate::weigh::Weigh;
 
 impl<T: Weigh> Branch<T> {
-    // Stores anew what the left side holds, without a look at the right side.
+    // Updates the sums and the height after a change of the left side. It does not read the right side.
     pub(crate) fn mend_left(&mut self)
         requires right { StoresRight T.weight_of self.old }
         requires balanced { IsBalanced (length self.old.left.items) (length self.old.right.items) }
@@ -28,7 +28,8 @@ impl<T: Weigh> Branch<T> {
         self.height = self.left_height.max(self.right_height) + 1;
     }
 
-    // Stores anew what the right side holds, without a look at the left side. The rest weighs `rest`.
+    // Updates the sums and the height after a change of the right side. It does not read the left side: all but the right
+    // side weighs `rest`.
     pub(crate) fn mend_right(&mut self, rest: u64)
         requires rest { rest ≡ sum_by T.weight_of self.old.left.items + T.weight_of self.old.item }
         requires left { StoresLeft T.weight_of self.old }

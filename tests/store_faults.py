@@ -1,5 +1,6 @@
 """A store whose device fails: each sync and each write once, and what a crash may take that was not synced."""
 import itertools
+import json
 import os
 import random
 import subprocess
@@ -146,7 +147,44 @@ def a_crash_takes_what_was_not_synced():
     server.process.kill()
 
 
+def one_of_many_syncs_fails():
+    """Edits of many pads go with syncs that several threads share. Where one of these fails, no edit that it belongs to is
+    answered, and the server ends."""
+    pads = [f"p{number}" for number in range(12)]
+    lines = "".join(json.dumps({"do": "insert", "pad": pad, "rev": 0, "at": 0, "text": "x"}) + "\n" for pad in pads)
+    faults = Faults()
+    for number in (1, 5, 12, 13):
+        subprocess.run(["rm", "-rf", "kept"], check=True)
+        server = Faulty(faults)
+        ann = server.author("ann")
+        for pad in pads:
+            ann.does(do="create", pad=pad)
+        before = faults.failed()
+        faults.set("syncs", number)
+        ann.send(lines)
+        if number > len(pads):
+            want([json.loads(ann.replies.readline())["ok"] for _ in pads], [True] * len(pads), "the answers where no sync fails")
+            faults.set("syncs", 0)
+            kill(server)
+            continue
+        answered = ann.replies.read().count(b"\n")
+        want(answered < len(pads), True, f"that an edit is not answered where sync {number} fails")
+        faults.set("syncs", 0)
+        want(faults.failed(), before + 1, "the failed syncs")
+        said = server.process.stderr.read().decode()
+        want(server.process.wait(), 1, f"the status where sync {number} fails")
+        want("cannot be synced" in said, True, f"that standard error tells of it, which has {said!r}")
+        server = restarted_told()
+        ann = server.author("ann")
+        for place, pad in enumerate(pads):
+            ann.join(pad)
+            text = ann.does(do="text", pad=pad)["text"]
+            want(text in (["x"] if place < answered else ["", "x"]), True, f"that {pad} has the edit where it was answered: {text!r}")
+        kill(server)
+
+
 TESTS = [
+    Test("store: one of many syncs fails", one_of_many_syncs_fails, 60),
     Test("store: each sync fails once", lambda: each_fails_once("syncs"), 60),
     Test("store: each write fails once", lambda: each_fails_once("writes"), 60),
     Test("store: a crash takes what was not synced", a_crash_takes_what_was_not_synced, 120),

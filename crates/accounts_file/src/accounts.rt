@@ -1,4 +1,4 @@
-//! Who may log in.
+//! Reads the accounts file.
 ghost use Rattle.std.specs.Prelude.{◌≡◌, IfOk, Ok};
 ghost use Rattle.sessions.specs.Accounts.{accounts_of};
 
@@ -10,8 +10,8 @@ use std::fs;
 use std::rt::Files;
 use std::time::Clock;
 
-/// The accounts of a file, and its bytes, by which a later look at the file finds out whether it has changed. A peer whose port
-/// is no number is warned of.
+/// Reads the accounts of a file. It returns the file's bytes too, so that the caller can see later whether the file has
+/// changed. Warns of each peer whose port is not a number.
 pub fn read_accounts<'a, R: AllocGlobal + Files + Clock + Eprint>(
     rt: &R,
     path: &'a str,
@@ -30,7 +30,7 @@ pub fn read_accounts<'a, R: AllocGlobal + Files + Clock + Eprint>(
     Ok((accounts, bytes))
 }
 
-/// Warns of each peer whose port is no number: no round with it can succeed.
+/// Warns of each peer whose port is not a number: no round with it can succeed.
 pub fn warn_of_ports<R: Clock + Eprint>(rt: &R, path: &str, accounts: &Accounts) {
     for peer in accounts.peers() {
         let (number, address) = (peer.number, peer.address.as_str());

@@ -1,6 +1,7 @@
-//! The accounts file of a server: read, with each mistake in words, and looked through for ports that no peer can have.
+//! The accounts file of a server: it is read, mistakes are explained in words, and peers with invalid ports are warned
+//! of.
 //!
-//! It depends on `sessions`, which says what a line of the file may be, and on `journal` for warnings.
+//! It depends on `sessions`, which defines the lines of the file, and on `journal` for warnings.
 #![tactic(auto)]
 
 mod accounts;

@@ -1,4 +1,4 @@
--- What the crates above need of a book that has changed.
+-- What the crates above need to know about a book that has changed.
 use Rattle.std.proofs.Common.{◌≡◌, ℕ, zero, suc, ◌+◌, ◌<◌, nat_le, Bool, true, false, cond, ◌||◌, List, [], ◌∷◌, length}
 use Rattle.std.proofs.Common.{map, Option, Some, None, IsPermutation, refl, sym, ap, ap₂, ◌∙◌, subst, arith}
 use Rattle.std.specs.List.{insert, list_any}
@@ -39,13 +39,13 @@ any-insert t [] (suc i) x = refl
 any-insert t (y ∷ xs) zero x = refl
 any-insert t (y ∷ xs) (suc i) x = ap (λ b. t y || b) (any-insert t xs i x) ∙ or_swap (t y) (t x) (list_any t xs)
 
--- its name is a comment's, and each other name is where it was
+-- its name is that of a comment, and for every other name nothing changes
 pub is_comment-with_comment : (comments : List Comment) (new : Comment) (name : OpName) →
     is_comment name (with_comment new comments) ≡ (same_name new.name name || is_comment name comments)
 is_comment-with_comment comments new name = any-insert (λ c. same_name c.name name) comments
     (place_of new.name comments) new
 
--- an earlier revision does not have it
+-- an earlier revision does not show it
 born-insert : (rev : ℕ) (xs : List Comment) (i : ℕ) (x : Comment) → nat_le x.born rev ≡ false →
     born_by rev (insert xs i x) ≡ born_by rev xs
 born-insert rev [] zero x later = rw later refl
@@ -59,13 +59,13 @@ pub born_by-with_comment : (rev : ℕ) (comments : List Comment) (new : Comment)
 born_by-with_comment rev comments new later = born-insert rev comments (place_of new.name comments) new
     (lt-leb new.born rev later)
 
--- so it shows what it showed
+-- so an earlier revision shows what it showed
 pub comments_at-with_comment : (rev : ℕ) (cells : List Cell) (comments : List Comment) (new : Comment) →
     rev < new.born → comments_at rev cells (with_comment new comments) ≡ comments_at rev cells comments
 comments_at-with_comment rev cells comments new later = ap (map (shown rev cells))
     (born_by-with_comment rev comments new later)
 
--- a resolution makes no comment and takes none away
+-- a resolution neither adds nor removes a comment
 pub is_comment-with_resolution : (name : OpName) (rev : ℕ) (comments : List Comment) (other : OpName) →
     is_comment other (with_resolution name rev comments) ≡ is_comment other comments
 is_comment-with_resolution name rev [] other = refl
@@ -79,7 +79,7 @@ pub length-with_resolution : (name : OpName) (rev : ℕ) (comments : List Commen
 length-with_resolution name rev [] = refl
 length-with_resolution name rev (c ∷ comments) = ap suc (length-with_resolution name rev comments)
 
--- an earlier revision does not have it either
+-- an earlier revision does not show the resolution
 earlier_stays : (before : Option ℕ) (from rev : ℕ) → rev < from → is_resolved rev (Some (earlier before from))
     ≡ is_resolved rev before
 earlier_stays None from rev later = lt-leb from rev later
@@ -124,12 +124,6 @@ comments_at-with_resolution name from rev cells (c ∷ comments) later =
     ap (map (shown rev cells)) ((with_first rev d (with_resolution name from comments)).1 (same_born ∙ unborn)) ∙ rest
     ∙ sym (ap (map (shown rev cells)) ((with_first rev c comments).1 unborn)))
 
--- a revision's range is that of the two places that a sequence tells
-pub range_between-held : (rev : ℕ) (cells : List Cell) (comment : Comment) → has_both cells comment.first comment.last
-    ≡ true
-    → range_between rev cells comment.first comment.last ≡ Some (range_in rev cells comment.first comment.last)
-range_between-held rev cells comment held = rw held refl
-
 held-first : (cells : List Cell) (rev : ℕ) (c : Comment) (comments : List Comment) → has_both cells c.first c.last
     ≡ true → AreHeld cells (born_by rev comments) → AreHeld cells (born_by rev (c ∷ comments))
 held-first cells rev c comments there held =
@@ -155,7 +149,7 @@ held-insert cells rev (y ∷ xs) (suc i) x held there =
     (λ now. held-first cells rev y (insert xs i x) ((subst (AreHeld cells) ((with_first rev y xs).0 now) held).0) rest)
     (λ later. subst (AreHeld cells) (sym ((with_first rev y (insert xs i x)).1 later)) rest)
 
--- a new comment with its stamps there is held, as the others are
+-- a new comment whose stamps are there is held, like the others
 pub held-with_comment : (cells : List Cell) (rev : ℕ) (comments : List Comment) (new : Comment) →
     AreHeld cells (born_by rev comments) → has_both cells new.first new.last ≡ true
     → AreHeld cells (born_by rev (with_comment new comments))

@@ -27,7 +27,7 @@ each_get P [] k d h lt = absurd (omega arith)
 each_get P (x ∷ xs) zero d h lt = h.0
 each_get P (x ∷ xs) (suc k) d h lt = each_get P xs k d h.1 (omega arith)
 
--- where all before an index pass a test and all from it on fail, so many pass in front
+-- if all items before an index pass a test and all from it on fail, the index is the length of the prefix that passes
 pub prefix-parted : {A : Type 0} (p : A → Bool) (xs : List A) (i : ℕ) → i ≤ length xs →
     IsPartitionPoint (λ x. p x ≡ true) (λ x. p x ≡ false) xs i → i ≡ prefix_len p xs
 prefix-parted p [] i h parted = omega arith
@@ -50,7 +50,7 @@ names_rise (c ∷ comments) zero (suc j) d sorted lt within =
 names_rise (c ∷ comments) (suc i) (suc j) d sorted lt within = names_rise comments i j d sorted.1 (omega arith)
     (omega arith)
 
--- comments that stand before a name come first
+-- the comments that come before a name are the first ones
 pub parted_by_name : (comments : List Comment) (name : OpName) → IsByName comments →
     IsPartitionedBy (λ c. precedes c.name name) comments
 parted_by_name comments name sorted i j d le within later = go (cases_eq i j)
@@ -72,7 +72,7 @@ none_found : (name : OpName) (comments : List Comment) → AllByRecursion (λ c.
 none_found name [] h = refl
 none_found name (c ∷ comments) h = rw h.0 (none_found name comments h.1)
 
--- the place of a name behind a comment that stands before it, and in front of one that does not
+-- the place of a name after a comment that comes before it, and before one that does not
 place_later : (x : Comment) (comments : List Comment) (name : OpName) → precedes x.name name ≡ true →
     place_of name (x ∷ comments) ≡ suc (place_of name comments)
 place_later x comments name before = rw before (omega arith)
@@ -89,7 +89,7 @@ at_here : (x : Comment) (comments : List Comment) (name : OpName) → precedes x
     slice_get (x ∷ comments) (place_of name (x ∷ comments)) ≡ Some x
 at_here x comments name stops = ap (slice_get (x ∷ comments)) (place_here x comments name stops)
 
--- the comment at a name's place, where it has that name
+-- the comment at a name's place, if it has that name
 pub found_there : (comments : List Comment) (name : OpName) (c : Comment) → IsByName comments →
     slice_get comments (place_of name comments) ≡ Some c → same_name c.name name ≡ true
     → comment_of name comments ≡ Some c
@@ -104,7 +104,7 @@ found_there (x ∷ comments) name c sorted is same =
     (sym here) same in
     rw is_named (ap (λ (y : Comment). Some y) here))
 
--- no comment has a name where the one at its place has another
+-- no comment has a name if the one at its place has another
 pub none_there : (comments : List Comment) (name : OpName) (c : Comment) → IsByName comments →
     slice_get comments (place_of name comments) ≡ Some c → same_name c.name name ≡ false
     → comment_of name comments ≡ None
@@ -119,7 +119,7 @@ none_there (x ∷ comments) name c sorted is other =
     (sym here) other in
     rw is_other (none_found name comments (others name x.name comments stops sorted.0)))
 
--- nor where all stand before it
+-- nor if all come before it
 pub none_behind : (comments : List Comment) (name : OpName) → slice_get comments (place_of name comments) ≡ None →
     comment_of name comments ≡ None
 none_behind [] name is = refl
@@ -129,7 +129,7 @@ none_behind (x ∷ comments) name is =
     (none_behind comments name (sym (at_later x comments name before) ∙ is)))
     (λ stops. absurd (let at : Some x ≡ None = sym (at_here x comments name stops) ∙ is in cc))
 
--- a name is a comment's where one is found
+-- there is a comment with a name if one is found
 pub some_found : (name : OpName) (comments : List Comment) → is_some (comment_of name comments)
     ≡ is_comment name comments
 some_found name [] = refl
@@ -198,7 +198,7 @@ stays : (name : OpName) (rev : ℕ) (comments : List Comment) →
 stays name rev [] h = refl
 stays name rev (c ∷ comments) h = rw h.0 (ap (λ cs. c ∷ cs) (stays name rev comments h.1))
 
--- the comment of a name, written over with its resolution
+-- the comment with a name, replaced by the resolved one
 pub set_resolved : (comments : List Comment) (name : OpName) (rev : ℕ) (c : Comment) → IsByName comments →
     slice_get comments (place_of name comments) ≡ Some c → same_name c.name name ≡ true
     → set comments (place_of name comments) (resolved_at rev c) ≡ with_resolution name rev comments
@@ -217,14 +217,14 @@ set_resolved (x ∷ comments) name rev c sorted is same =
     ∙ rw is_named (ap₂ (λ (y : Comment) cs. y ∷ cs) (ap (resolved_at rev) (sym here))
     (sym (stays name rev comments (others name x.name comments stops sorted.0)))))
 
--- what was read at a name's place stands there
+-- what was read at a name's place is there
 pub read_there : (comments : List Comment) (name : OpName) (place : ℕ) (c : Comment) → place ≡ place_of name comments →
     place < length comments → c ≡ get_or comments place c
     → slice_get comments (place_of name comments) ≡ Some c
 read_there comments name place c same within read = ap (slice_get comments) (sym same)
     ∙ slice_get_read comments (length comments) place c refl within read
 
--- what a search by name answers: where the comment is, or that there is none
+-- the result of a search by name: where the comment is, or that there is none
 abbrev pub Finds : List Comment → OpName → ℕ → Type 0
 Finds comments name place = (place < length comments) × (place ≡ place_of name comments)
     × (slice_get comments place ≡ comment_of name comments)
@@ -245,7 +245,7 @@ found_named (x ∷ comments) name c is =
     subst (λ (y : Comment). same_name y.name name ≡ true) here same)
     (λ other. found_named comments name c (sym (rw other refl) ∙ is))
 
--- the comment that was found, written over with its resolution
+-- the comment that was found, replaced by the resolved one
 pub resolved_there : (comments : List Comment) (name : OpName) (rev place : ℕ) (c : Comment) → IsByName comments →
     Finds comments name place → c ≡ get_or comments place c
     → (is_comment name comments ≡ true) × (set comments place (resolved_at rev c) ≡ with_resolution name rev comments)
@@ -276,7 +276,7 @@ book-with_resolution comments name rev book = record {
   few = omega (arith, book.few, length-map comments (λ c. cond (same_name c.name name) (resolved_at rev c) c));
 }
 
--- a comment that a revision has is held where all of them are
+-- a comment of a revision is held if all comments are
 pub held_at : (cells : List Cell) (rev : ℕ) (comments : List Comment) (i : ℕ) (c : Comment) →
     AreHeld cells (born_by rev comments) → i < length comments → c ≡ get_or comments i c → c.born ≤ rev
     → has_both cells c.first c.last ≡ true

@@ -17,23 +17,24 @@ use Rattle.anchors.specs.declared.show.Shown.{Shown}
 -- the names rise
 abbrev pub IsByName : List Comment → Type 0
 IsByName [] = Unit {0}
-IsByName (comment ∷ comments) = AllByRecursion (λ later. precedes comment.name later.name ≡ true) comments
+IsByName (comment ∷ comments) = AllByRecursion (λ later. precedes comment.name later.name ≡ true)
+    comments
     × IsByName comments
 
--- the names rise, and there are no more comments than a pad may have
+-- the names rise, and there are at most as many comments as a pad may have
 pub record IsBook (comments : List Comment) : Type 0 where
   pub by_name : IsByName comments
   pub few : length comments ≤ MAX_COMMENTS
 
--- whether a name is a comment's
+-- whether there is a comment with a name
 abbrev pub is_comment : OpName → List Comment → Bool
 is_comment name comments = list_any (λ c. same_name c.name name) comments
 
--- the comment of a name, if there is one
+-- the comment with a name, if there is one
 abbrev pub comment_of : OpName → List Comment → Option Comment
 comment_of name comments = find (λ c. same_name c.name name) comments
 
--- how many comments stand before a name
+-- the number of comments that come before a name
 abbrev pub place_of : OpName → List Comment → ℕ
 place_of name comments = prefix_len (λ c. precedes c.name name) comments
 
@@ -41,33 +42,34 @@ place_of name comments = prefix_len (λ c. precedes c.name name) comments
 abbrev pub with_comment : Comment → List Comment → List Comment
 with_comment comment comments = insert comments (place_of comment.name comments) comment
 
--- why a new comment is refused: there are as many as a pad may have, or there was no memory
+-- why a new comment is refused: the pad has as many as it may have, or memory ran out
 abbrev pub refusal_of : List Comment → Refusal
 refusal_of comments = if length comments == MAX_COMMENTS then CommentsFull else Memory
 
--- the revision that resolves a comment, with one more that does: the earlier one
+-- the revision that resolves a comment after one more resolution: the earlier one
 abbrev pub earlier : Option ℕ → ℕ → ℕ
 earlier None rev = rev
 earlier (Some before) rev = min before rev
 
--- the comment once it is resolved at a revision
+-- the comment after a resolution at a revision
 abbrev pub resolved_at : ℕ → Comment → Comment
 resolved_at rev comment = record comment { resolved = Some (earlier comment.resolved rev) }
 
--- the comments once the one of a name is resolved
+-- the comments after the one with a name is resolved
 abbrev pub with_resolution : OpName → ℕ → List Comment → List Comment
-with_resolution name rev comments = map (λ c. if same_name c.name name then resolved_at rev c else c) comments
+with_resolution name rev comments = map
+    (λ c. if same_name c.name name then resolved_at rev c else c) comments
 
 -- the comments that a revision has
 abbrev pub born_by : ℕ → List Comment → List Comment
 born_by rev comments = filter (λ c. nat_le c.born rev) comments
 
--- whether a revision has the resolution
+-- whether a comment with this resolution is resolved at a revision
 abbrev pub is_resolved : ℕ → Option ℕ → Bool
 is_resolved rev None = false
 is_resolved rev (Some resolved) = nat_le resolved rev
 
--- what is visible before a comment's first character, and from it to the last one, both included
+-- the number of visible characters before a comment's first character, and from it to the last one, both included
 abbrev pub range_in : ℕ → List Cell → Stamp → Stamp → Range
 range_in rev cells first last =
     let at = shown_before character_of (shown_at rev) cells first in
@@ -79,9 +81,10 @@ has_both cells first last = has_stamp character_of cells first && has_stamp char
 
 -- the range between two stamps, if both are there
 abbrev pub range_between : ℕ → List Cell → Stamp → Stamp → Option Range
-range_between rev cells first last = if has_both cells first last then Some (range_in rev cells first last) else None
+range_between rev cells first last = if has_both cells first last
+    then Some (range_in rev cells first last) else None
 
--- the range of a comment, if it is one and its stamps are there
+-- the range of a comment, if there is one and its stamps are there
 abbrev pub range_of : ℕ → List Cell → Option Comment → Option Range
 range_of rev cells None = None
 range_of rev cells (Some comment) = range_between rev cells comment.first comment.last
@@ -90,7 +93,14 @@ range_of rev cells (Some comment) = range_between rev cells comment.first commen
 abbrev pub shown : ℕ → List Cell → Comment → Shown
 shown rev cells comment =
     let range = range_in rev cells comment.first comment.last in
-    record { name = comment.name; author = comment.author; text = comment.text; at = range.at; len = range.len; resolved = is_resolved rev comment.resolved }
+    record {
+      name = comment.name;
+      author = comment.author;
+      text = comment.text;
+      at = range.at;
+      len = range.len;
+      resolved = is_resolved rev comment.resolved;
+    }
 
 -- the comments of a revision, by name
 abbrev pub comments_at : ℕ → List Cell → List Comment → List Shown

@@ -1,4 +1,4 @@
-//! The book of a pad's comments.
+//! The comments of a pad, and what a revision shows of them.
 ghost use Rattle.std.specs.Prelude.{◌≡◌, ◌≤◌, ◌<◌, [], false, true, nat_lt, if◌then◌else◌, length, OnOk, IfOk, IfErr, MatchResult, None};
 ghost use Rattle.pad_model.specs.declared.limits.TheConstants.{MAX_COMMENTS};
 ghost use Rattle.anchors.specs.Comments.{IsBook, is_comment, comment_of, earlier, refusal_of, with_comment, with_resolution, born_by, range_of, comments_at, AreHeld};
@@ -10,7 +10,7 @@ use pad_model::{Author, MAX_COMMENTS, Name, OpName, Refusal, Row, Sequence};
 use std::alloc::Global;
 use std::marker::Model;
 
-/// The comments of a pad, by name.
+/// The comments of a pad, in ascending order of name.
 #[derive(Debug, Drop)]
 pub struct CommentBook {
     comments: Vec<Comment>,
@@ -30,7 +30,7 @@ impl Model for CommentBook {
 }
 
 impl CommentBook {
-    /// The book of no comments. It takes no memory yet.
+    /// A book without comments. It allocates no memory.
     pub fn new(alloc: Global) -> CommentBook
         ensures { result ≡ [] }
     {
@@ -39,7 +39,7 @@ impl CommentBook {
         }
     }
 
-    /// How many comments there are.
+    /// The number of comments.
     pub fn len(&self) -> u64
         ensures value { result ≡ length self.now }
         ensures book { IsBook self.now }
@@ -47,18 +47,27 @@ impl CommentBook {
         self.comments.len() as u64
     }
 
-    /// Whether a name is a comment's.
+    /// Whether there is a comment with this name.
     pub fn has(&self, name: OpName) -> bool
         ensures { result ≡ is_comment name self.now }
     {
         find(self.comments.as_slice(), name).is_some()
     }
 
-    /// Enters a comment, which has a new name. It is not resolved.
+    /// Adds an unresolved comment. Its name must be new.
     pub fn add(&mut self, alloc: Global, given: NewComment<'_>) -> Result<(), Refusal>
         requires { is_comment given.name self.old ≡ false }
         ensures room { OnOk result (length self.old < MAX_COMMENTS) }
-        ensures ok { OnOk result (self.new ≡ with_comment (record { name = given.entry.name; first = given.entry.first; last = given.entry.last; author = given.entry.author.now; text = given.entry.text.now; born = given.entry.rev; resolved = None }) self.old) }
+        ensures ok { OnOk result (self.new
+            ≡ with_comment (record {
+              name = given.entry.name;
+              first = given.entry.first;
+              last = given.entry.last;
+              author = given.entry.author.now;
+              text = given.entry.text.now;
+              born = given.entry.rev;
+              resolved = None;
+            }) self.old) }
         ensures err { IfErr result (λ e. (e ≡ refusal_of self.old) × (self.new ≡ self.old)) }
     {
         if self.len() >= MAX_COMMENTS {
@@ -90,10 +99,12 @@ impl CommentBook {
         Ok(())
     }
 
-    /// Resolves a comment from a revision on. A later resolution changes nothing more.
+    /// Resolves a comment from a revision on. A resolution at a later revision changes nothing.
     pub fn resolve(&mut self, name: OpName, rev: u64) -> Result<(), Refusal>
-        ensures ok { OnOk result ((is_comment name self.old ≡ true) × (self.new ≡ with_resolution name rev self.old)) }
-        ensures err { IfErr result (λ e. (e ≡ Refusal.NoComment) × (is_comment name self.old ≡ false) × (self.new ≡ self.old)) }
+        ensures ok { OnOk result ((is_comment name self.old ≡ true)
+            × (self.new ≡ with_resolution name rev self.old)) }
+        ensures err { IfErr result (λ e. (e ≡ Refusal.NoComment)
+            × (is_comment name self.old ≡ false) × (self.new ≡ self.old)) }
     {
         let Some(place) = find(self.comments.as_slice(), name) else {
             return Err(Refusal::NoComment);
@@ -103,7 +114,7 @@ impl CommentBook {
         Ok(())
     }
 
-    /// Where a comment stands at a revision; None where the name is no comment's, or a stamp is missing.
+    /// The range of a comment at a revision; None if there is no such comment, or one of its stamps is missing.
     pub fn range<S: Sequence>(&self, sequence: &S, name: OpName, rev: u64) -> Option<Range>
         ensures { result ≡ range_of rev (S.cells sequence.now) (comment_of name self.now) }
     {
@@ -112,7 +123,7 @@ impl CommentBook {
         range_between(sequence, comment.first, comment.last, rev)
     }
 
-    /// The comments of a revision, by name.
+    /// The comments of a revision, in ascending order of name.
     pub fn list_at<S: Sequence>(
         &self,
         alloc: Global,
@@ -120,14 +131,15 @@ impl CommentBook {
         rev: u64,
     ) -> Result<Row<Shown>, Refusal>
         requires { AreHeld (S.cells sequence.now) (born_by rev self.now) }
-        ensures { MatchResult result (λ rows. rows ≡ comments_at rev (S.cells sequence.now) self.now) (λ e. e ≡ Refusal.Memory) }
+        ensures { MatchResult result (λ rows. rows
+            ≡ comments_at rev (S.cells sequence.now) self.now) (λ e. e ≡ Refusal.Memory) }
     {
         let rows = list(alloc, self.comments.as_slice(), sequence, rev)?;
         Ok(Row::from_vec(rows))
     }
 }
 
-/// The revision that resolves a comment, where one more resolution is made.
+/// The revision that resolves a comment after one more resolution: the earlier one.
 fn earlier(before: Option<u64>, rev: u64) -> u64
     ensures { result ≡ earlier before rev }
 {

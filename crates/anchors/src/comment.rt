@@ -12,8 +12,8 @@ pub struct Comment {
     pub resolved: Option<u64>,
 }
 
-/// A comment to be entered into the book: what it is called, the characters that it covers from the first to the last, who
-/// wrote it, and the revision that makes it.
+/// A comment to be added to a book: its name, the first and the last character that it covers, its author and text, and
+/// the revision that makes it.
 #[derive(Clone, Copy)]
 pub struct NewComment<'a> {
     pub name: OpName,

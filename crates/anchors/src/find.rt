@@ -1,4 +1,4 @@
-//! Where comments stand by name.
+//! Searches for comments by name.
 ghost use Rattle.std.specs.Prelude.{◌≡◌, ◌≤◌, ◌<◌, length, slice_get, IfSome, IfNone, true, false};
 ghost use Rattle.std.specs.Option.{IsSomeAnd};
 ghost use Rattle.pad_model.specs.Log.{same_name};
@@ -7,7 +7,7 @@ ghost use Rattle.anchors.specs.Comments.{place_of as place_in, is_comment, comme
 use crate::comment::Comment;
 use pad_model::OpName;
 
-/// How many comments stand before a name.
+/// The number of comments that come before a name.
 pub fn place_of(comments: &[Comment], name: OpName) -> usize
     requires { IsByName comments.now }
     ensures { result ≡ place_in name comments.now }
@@ -15,10 +15,12 @@ pub fn place_of(comments: &[Comment], name: OpName) -> usize
     comments.partition_point(|comment| comment.name.precedes(name))
 }
 
-/// Where the comment of a name stands, if there is one.
+/// The index of the comment with a name, if there is one.
 pub fn find(comments: &[Comment], name: OpName) -> Option<usize>
     requires { IsByName comments.now }
-    ensures found { IfSome result (λ place. (place < length comments.now) × (place ≡ place_in name comments.now) × (slice_get comments.now place ≡ comment_of name comments.now)) }
+    ensures found { IfSome result (λ place. (place < length comments.now)
+        × (place ≡ place_in name comments.now)
+        × (slice_get comments.now place ≡ comment_of name comments.now)) }
     ensures none { IfNone result (comment_of name comments.now ≡ None) }
 {
     let place = place_of(comments, name);

@@ -1,6 +1,6 @@
-//! The comments of a pad, each held by the stamps of its first and last character.
+//! The comments of a pad, each anchored to the stamps of its first and last character.
 //!
-//! It stands on `pad_model`, and asks any `Sequence` where those characters are. It keeps no text of the pad.
+//! It depends on `pad_model`, and asks a `Sequence` where those characters are. It keeps no text of the pad.
 #![tactic(auto)]
 
 mod book;

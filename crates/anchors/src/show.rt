@@ -1,4 +1,4 @@
-//! What a revision shows of comments.
+//! Comments as a revision shows them.
 ghost use Rattle.std.specs.Prelude.{◌≡◌, true, IfOk, MatchResult};
 ghost use Rattle.pad_model.specs.Visible.{Range as Stretch};
 ghost use Rattle.anchors.specs.Comments.{has_both, range_between as range_if_held, shown as shown_as, is_resolved as resolved_by, born_by, comments_at, AreHeld};
@@ -53,7 +53,7 @@ pub fn range_between<S: Sequence>(
     })
 }
 
-/// Whether a revision has a resolution.
+/// Whether a comment is resolved at a revision.
 fn is_resolved(resolved: Option<u64>, rev: u64) -> bool
     ensures { result ≡ resolved_by rev resolved }
 {
@@ -87,7 +87,8 @@ pub fn list<S: Sequence>(
     rev: u64,
 ) -> Result<Vec<Shown>, AllocError>
     requires { AreHeld (S.cells sequence.now) (born_by rev comments.now) }
-    ensures { IfOk result (λ rows. rows.items ≡ comments_at rev (S.cells sequence.now) comments.now) }
+    ensures { IfOk result (λ rows. rows.items
+        ≡ comments_at rev (S.cells sequence.now) comments.now) }
 {
     let mut rows = Vec::new(alloc);
     for comment in comments {

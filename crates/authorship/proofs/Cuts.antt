@@ -57,7 +57,7 @@ drop_part run rest o h =
     drop-append-le o (replicate run.len run.author) rest (omega (arith, length-replicate run.len run.author))
     ∙ ap (λ l. l ++ rest) (drop-replicate o run.len run.author)
 
--- what stands before a place
+-- what comes before a place
 pub places-front : (runs : List KeptRun) (i o : ℕ) → IsInside (drop i runs) o
     → places (take i runs ++ first_part (drop i runs) o) ≡ take (characters (take i runs) + o) (places runs)
 places-front [] zero o h = sym (take-nil (0 + o))
@@ -71,7 +71,7 @@ places-front (run ∷ runs) (suc i) o h =
     ∙ sym (ap (λ n. take (n + o) (replicate run.len run.author ++ places runs)) (characters-cons run (take i runs))
     ∙ take_past run (places runs) (characters (take i runs)) o)
 
--- what stands from a place on
+-- what comes from a place on
 pub places-back : (runs : List KeptRun) (i o : ℕ) → IsInside (drop i runs) o
     → places (without_part (drop i runs) o) ≡ drop (characters (take i runs) + o) (places runs)
 places-back [] zero o h = sym (drop-nil (0 + o))

@@ -47,9 +47,9 @@ same_authors old new (p ∷ ps) same known = ap₂ (λ (x : Author) xs. x ∷ xs
     (same_authors old new ps same known.1)
 
 -- and the room its author
-pub same_spare : (old new : List Author) (len capacity : ℕ) (spare : Option KeptSpare) →
+pub same_spare : (old new : List Author) (room : ℕ) (spare : Option KeptSpare) →
     ((i : ℕ) → i < length old → author_in new i ≡ author_in old i)
-    → HasRoom (length old) len capacity spare → spare_in new spare ≡ spare_in old spare
-same_spare old new len capacity None same room = refl
-same_spare old new len capacity (Some spare) same room =
-    ap (λ who. let it : Spare = record { author = who; left = spare.left } in Some it) (same spare.author room.0)
+    → HasRoom (length old) room spare → spare_in new spare ≡ spare_in old spare
+same_spare old new room None same has = refl
+same_spare old new room (Some spare) same has =
+    ap (λ who. let it : Spare = record { author = who; left = spare.left } in Some it) (same spare.author has.0)

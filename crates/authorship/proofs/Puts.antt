@@ -1,17 +1,80 @@
 -- Runs with characters put in.
 use Rattle.std.proofs.Common.{◌≡◌, ◌≢◌, ℕ, zero, suc, ◌+◌, ◌-◌, ◌≤◌, ◌<◌, List, [], ◌∷◌, ◌++◌, length, take, drop, set}
-use Rattle.std.proofs.Common.{refl, sym, ap, ap₂, ◌∙◌, subst, zero-add, arith, append_assoc, append-nil}
+use Rattle.std.proofs.Common.{refl, sym, ap, ap₂, ◌∙◌, subst, zero-add, arith, append_assoc, append-nil, slice_get, Some, IsSomeAnd}
 use Rattle.std.specs.List.{insert}
 use Rattle.std.proofs.Math.ListN.{replicate}
 use Rattle.std.proofs.lemmas.List.{replicate-append-replicate}
 use Rattle.std.proofs.lemmas.List.Concat.{flat_map-append}
+use Rattle.weight_tree.proofs.CallerLemmas.{sum_replaced}
+use Rattle.weight_tree.specs.Find.{FallsIn}
 use Rattle.authorship.specs.Kept.{characters, places, StartsApart, EndsApart, IsProper}
 use Rattle.authorship.specs.Cut.{first_part, without_part, front, back, position, run_at, IsInside, IsPlace, IsApart}
 use Rattle.authorship.specs.Cut.{Touches}
 use Rattle.authorship.specs.declared.kept.KeptRun.{KeptRun}
 use Rattle.authorship.specs.declared.kept.Place.{Place}
+use Rattle.authorship.proofs.At.{read}
 use Rattle.authorship.proofs.Cuts.{characters-cons, take_past, drop_past, take_part, drop_part, places-front}
 use Rattle.authorship.proofs.Cuts.{places-back, proper-front, proper-back}
+
+-- how many characters there are when a run is replaced by another
+pub characters-set : (runs : List KeptRun) (i : ℕ) (run new : KeptRun) → slice_get runs i ≡ Some run →
+    characters (set runs i new) + run.len ≡ characters runs + new.len
+characters-set runs i run new is = sum_replaced (λ (r : KeptRun). r.len) runs i run new is
+
+pub one_fits : (runs : List KeptRun) (i : ℕ) (run : KeptRun) → slice_get runs i ≡ Some run → run.len ≤ characters runs
+one_fits runs i run is =
+    let none : KeptRun = record run { len = 0 } in
+    omega (arith, characters-set runs i run none is)
+
+-- how many characters there are when a run is put in
+pub characters-insert : (runs : List KeptRun) (i : ℕ) (run : KeptRun) → characters (insert runs i run) ≡ characters runs
+    + run.len
+characters-insert [] zero run = omega (arith, characters-cons run [])
+characters-insert [] (suc i) run = omega (arith, characters-cons run [])
+characters-insert (r ∷ runs) zero run =
+    omega (arith, characters-cons run (r ∷ runs))
+characters-insert (r ∷ runs) (suc i) run =
+    omega (arith, characters-cons r (insert runs i run), characters-cons r runs, characters-insert runs i run)
+
+-- a run that comes and becomes another
+pub set-insert : (runs : List KeptRun) (i : ℕ) (run new : KeptRun) → i ≤ length runs → set (insert runs i run) i new
+    ≡ insert runs i new
+set-insert [] zero run new h = refl
+set-insert [] (suc i) run new h = absurd (omega arith)
+set-insert (r ∷ runs) zero run new h = refl
+set-insert (r ∷ runs) (suc i) run new h = ap (λ l. r ∷ l) (set-insert runs i run new (omega arith))
+
+-- a run cut in two, and another one between its parts
+pub put_between : (runs : List KeptRun) (i j o : ℕ) (whole run : KeptRun) → slice_get runs i ≡ Some whole → j ≡ suc i →
+    0 < o
+    → insert (insert (set runs i (record whole { len = o })) j (record whole { len = whole.len - o })) j run
+    ≡ (take i runs ++ first_part (drop i runs) o) ++ run ∷ without_part (drop i runs) o
+put_between runs i j o whole run is next some =
+    rw next (between runs i o whole run is some)
+  where
+    between : (runs : List KeptRun) (i o : ℕ) (whole run : KeptRun) → slice_get runs i ≡ Some whole → 0 < o
+        → insert (insert (set runs i (record whole { len = o })) (suc i) (record whole { len = whole.len - o })) (suc i) run
+        ≡ (take i runs ++ first_part (drop i runs) o) ++ run ∷ without_part (drop i runs) o
+    between [] i o whole run is some = absurd (cc)
+    between (r ∷ runs) zero zero whole run is some = absurd (omega arith)
+    between (r ∷ runs) zero (suc o) whole run is some =
+        let same : r ≡ whole = cc in
+        rw same refl
+    between (r ∷ runs) (suc i) o whole run is some = ap (λ l. r ∷ l) (between runs i o whole run is some)
+
+-- no more runs than characters
+pub few_runs : (runs : List KeptRun) → IsProper runs → length runs ≤ characters runs
+few_runs [] p = omega arith
+few_runs (run ∷ runs) p = omega (arith, characters-cons run runs, few_runs runs p.2, p.0)
+
+-- there are fewer runs than characters if a place is inside a run
+pub fewer_runs : (runs : List KeptRun) (i o : ℕ) → IsProper runs → IsInside (drop i runs) o → 0 < o → length runs
+    < characters runs
+fewer_runs [] zero o p inside some = absurd (omega arith)
+fewer_runs [] (suc i) o p inside some = absurd (omega arith)
+fewer_runs (run ∷ runs) zero o p inside some = omega (arith, characters-cons run runs, few_runs runs p.2, inside)
+fewer_runs (run ∷ runs) (suc i) o p inside some =
+    omega (arith, characters-cons run runs, fewer_runs runs i o p.2 inside some, p.0)
 
 pub places-append : (xs ys : List KeptRun) → places (xs ++ ys) ≡ places xs ++ places ys
 places-append xs ys = flat_map-append (λ (run : KeptRun). replicate run.len run.author) xs ys
@@ -54,14 +117,14 @@ starts-set author [] i n h = tt
 starts-set author (run ∷ runs) zero n h = h
 starts-set author (run ∷ runs) (suc i) n h = h
 
--- runs of which one gets another length
+-- runs after one gets another length
 pub proper-set : (runs : List KeptRun) (i n : ℕ) → 1 ≤ n → IsProper runs →
     IsProper (set runs i (record (run_at runs i) { len = n }))
 proper-set [] i n some h = tt
 proper-set (run ∷ runs) zero n some h = (some, h.1, h.2)
 proper-set (run ∷ runs) (suc i) n some h = (h.0, starts-set run.author runs i n h.1, proper-set runs i n some h.2)
 
--- runs in front of and behind a run of another author
+-- runs before and after a run of another author
 pub proper-between : (xs : List KeptRun) (run : KeptRun) (ys : List KeptRun) → IsProper xs → IsProper ys →
     EndsApart xs run.author → StartsApart run.author ys → 1 ≤ run.len
     → IsProper (xs ++ run ∷ ys)
@@ -70,7 +133,7 @@ proper-between (x ∷ []) run ys p q ends starts some = (p.0, ends, (some, start
 proper-between (x ∷ y ∷ xs) run ys p q ends starts some =
     (p.0, p.1, proper-between (y ∷ xs) run ys p.2 q ends starts some)
 
--- what stands before a place that is apart from an author ends with another one's run
+-- what comes before a place that is apart from an author ends with another one's run
 ends-apart : (runs : List KeptRun) (i o author : ℕ) → i ≤ length runs → IsInside (drop i runs) o →
     (i < length runs → (run_at runs i).author ≢ author)
     → ((j : ℕ) → i ≡ suc j → o ≡ 0 → (run_at runs j).author ≢ author) →
@@ -87,7 +150,7 @@ ends-apart (run ∷ next ∷ runs) (suc (suc i)) o author le inside here before 
     ends-apart (next ∷ runs) (suc i) o author (omega arith) inside (λ h. here (omega arith))
     (λ j e none. before (suc j) (ap suc e) none)
 
--- what stands from such a place on begins with another one's run
+-- what comes from such a place on begins with another one's run
 starts-apart : (runs : List KeptRun) (i o author : ℕ) → (i < length runs → (run_at runs i).author ≢ author) →
     StartsApart author (without_part (drop i runs) o)
 starts-apart [] zero o author here = tt
@@ -118,7 +181,7 @@ places-put runs place run at =
     ∙ sym (append_assoc (take (position runs place) (places runs)) (replicate run.len run.author)
     (drop (position runs place) (places runs)))
 
--- a run made longer that a place stands in or at either end of
+-- lengthening a run that a place is in or at either end of
 pub places-touched : (runs : List KeptRun) (place : Place) (author index n : ℕ) → Touches runs place author index →
     places (set runs index (record (run_at runs index) { len = (run_at runs index).len + n }))
     ≡ take (position runs place) (places runs) ++ replicate n author ++ drop (position runs place) (places runs)
@@ -129,6 +192,27 @@ places-touched runs place author index n at =
     places-set runs index o n at.within (omega (arith, at.ends))
     ∙ ap₂ (λ k a. take k (places runs) ++ replicate n a ++ drop k (places runs)) sum at.same
 
+-- the run made longer in which the character before a place is
+pub places-read : (runs : List KeptRun) (pos i o n author : ℕ) (run : KeptRun) → FallsIn (λ (r : KeptRun). r.len) runs
+    (pos - 1) i o → 0 < pos → slice_get runs i ≡ Some run → run.author ≡ author
+    → places (set runs i (record run { len = run.len + n }))
+    ≡ take pos (places runs) ++ replicate n author ++ drop pos (places runs)
+places-read runs pos i o n author run falls some is same =
+    let there = read runs i run is in
+    let inside : o < run.len = subst (λ x. IsSomeAnd x (λ (r : KeptRun). o < r.len)) is falls.within in
+    let len = ap (λ (r : KeptRun). r.len) there.1 in
+    let place : characters (take i runs) + (o + 1) ≡ pos = omega (arith, falls.before) in
+    ap (λ (r : KeptRun). places (set runs i (record r { len = r.len + n }))) (sym there.1)
+    ∙ places-set runs i (o + 1) n there.0 (omega (arith, inside, len))
+    ∙ ap₂ (λ k a. take k (places runs) ++ replicate n a ++ drop k (places runs)) place
+    (ap (λ (r : KeptRun). r.author) there.1 ∙ same)
+
+pub proper-read : (runs : List KeptRun) (i n : ℕ) (run : KeptRun) → slice_get runs i ≡ Some run → 0 < n → IsProper runs
+    → IsProper (set runs i (record run { len = run.len + n }))
+proper-read runs i n run is some p =
+    subst (λ (r : KeptRun). IsProper (set runs i (record r { len = r.len + n }))) (read runs i run is).1
+    (proper-set runs i ((run_at runs i).len + n) (omega arith) p)
+
 first_part-none : (runs : List KeptRun) → first_part runs 0 ≡ []
 first_part-none [] = refl
 first_part-none (run ∷ runs) = refl
@@ -138,7 +222,7 @@ without_part-none [] = refl
 without_part-none (run ∷ runs) = let same : run.len - 0 ≡ run.len = omega arith in
     ap (λ (n : ℕ). record run { len = n } ∷ runs) same
 
--- a run put in between two others stands at its place
+-- a run put in between two others is at its place
 pub put-seam : (runs new : List KeptRun) (place : Place) (run : KeptRun) → new ≡ insert runs place.index run →
     place.offset ≡ 0
     → new ≡ front runs place ++ run ∷ back runs place

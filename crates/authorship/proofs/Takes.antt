@@ -1,21 +1,23 @@
 -- Runs with characters taken out, and runs joined at a seam.
 use Rattle.std.proofs.Common.{◌≡◌, ◌≢◌, ℕ, zero, suc, ◌+◌, ◌-◌, ◌≤◌, ◌<◌, List, [], ◌∷◌, ◌++◌, length, take, drop, set}
-use Rattle.std.proofs.Common.{get_or, refl, sym, ap, ap₂, ◌∙◌, subst, zero-add, arith, length-append, length-take}
+use Rattle.std.proofs.Common.{Some, slice_get, refl, sym, ap, ap₂, ◌∙◌, subst, zero-add, arith, length-append, length-take}
 use Rattle.std.proofs.Common.{length-drop, append_assoc, inl, inr}
+use Rattle.std.specs.List.{remove}
 use Rattle.std.proofs.Math.ListN.{replicate}
 use Rattle.std.proofs.Math.Seq.{take-append_seam, drop-append_seam}
-use Rattle.std.proofs.lemmas.List.{replicate-append-replicate, take-take, get_or_read}
+use Rattle.std.proofs.lemmas.List.{replicate-append-replicate, take-take}
 use Rattle.std.proofs.lemmas.Bool.{cases_lt}
-use Rattle.std.proofs.lemmas.List.Sums.{sum_by_more, sum_by_more_le, sum_by-take-le}
+use Rattle.std.proofs.lemmas.List.Sums.{sum_by_more, sum_by-take-le}
 use Rattle.authorship.specs.Kept.{characters, places, StartsApart, IsProper}
 use Rattle.authorship.specs.Cut.{front, back, position, run_at, joined, IsInside, IsPlace}
 use Rattle.authorship.specs.declared.kept.KeptRun.{KeptRun}
 use Rattle.authorship.specs.declared.kept.Place.{Place}
 use Rattle.authorship.proofs.Cuts.{characters-cons, length-places, take_past, drop_past, take_part, drop_part}
 use Rattle.authorship.proofs.Cuts.{places-front, places-back, proper-front, proper-back}
+use Rattle.authorship.proofs.At.{read}
 use Rattle.authorship.proofs.Puts.{places-append}
 
--- proper runs in front of and behind a seam between two authors are proper
+-- proper runs before and after a seam between two authors are proper
 pub proper-apart : (runs : List KeptRun) (seam : ℕ) → IsProper (take seam runs) → IsProper (drop seam runs)
     → ((j : ℕ) → seam ≡ suc j → seam < length runs → (run_at runs j).author ≢ (run_at runs seam).author) → IsProper runs
 proper-apart [] seam p q apart = tt
@@ -25,20 +27,45 @@ proper-apart (run ∷ next ∷ runs) (suc zero) p q apart = (p.0, apart zero ref
 proper-apart (run ∷ next ∷ runs) (suc (suc seam)) p q apart =
     (p.0, p.1, proper-apart (next ∷ runs) (suc seam) p.2 q (λ j e h. apart (suc j) (ap suc e) (omega arith)))
 
--- what was read at an index is the run there
-pub read_run : (runs : List KeptRun) (i j : ℕ) (run : KeptRun) → i ≡ j → j < length runs → run ≡ get_or runs i run →
-    run ≡ run_at runs j
-read_run runs i j run same h read = get_or_read runs j run h (read ∙ ap (λ k. get_or runs k run) same)
-    (record { author = 0; len = 0 })
+-- runs taken out from the end, one after the other
+pub remove_last : (xs ys : List KeptRun) (left k : ℕ) → left ≡ suc k → left ≤ length xs →
+    remove (take left xs ++ ys) k ≡ take k xs ++ ys
+remove_last [] ys left k next h = absurd (omega arith)
+remove_last (x ∷ xs) ys zero k next h = absurd (omega arith)
+remove_last (x ∷ xs) ys (suc left) zero next h = let none : left ≡ 0 = omega arith in rw none refl
+remove_last (x ∷ xs) ys (suc left) (suc k) next h =
+    ap (λ l. x ∷ l) (remove_last xs ys left k (omega arith) (omega arith))
 
--- two neighbours are no longer than all runs
-pub two_fit : (runs : List KeptRun) (j : ℕ) (left right : KeptRun) → j + 1 < length runs → left ≡ get_or runs j left →
-    right ≡ get_or runs (j + 1) right
-    → left.len + right.len ≤ characters runs
-two_fit runs j left right h first second =
-    let more = sum_by_more (λ (r : KeptRun). r.len) runs j left (omega arith) in
-    let most = sum_by_more_le (λ (r : KeptRun). r.len) runs (j + 1) right h in
-    omega (arith, ap (λ (r : KeptRun). r.len) first, ap (λ (r : KeptRun). r.len) second)
+-- a run less
+pub characters-remove : (runs : List KeptRun) (i : ℕ) (run : KeptRun) → slice_get runs i ≡ Some run →
+    characters (remove runs i) + run.len ≡ characters runs
+characters-remove [] i run is = absurd (cc)
+characters-remove (r ∷ runs) zero run is =
+    let same : r ≡ run = cc in
+    omega (arith, characters-cons r runs, ap (λ (x : KeptRun). x.len) same)
+characters-remove (r ∷ runs) (suc i) run is =
+    omega (arith, characters-cons r (remove runs i), characters-cons r runs, characters-remove runs i run is)
+
+-- what comes before the run that was taken out
+pub get_before : (runs : List KeptRun) (i j : ℕ) → j ≡ suc i → slice_get (remove runs j) i ≡ slice_get runs i
+get_before runs i j next = rw next (before runs i)
+  where
+    before : (runs : List KeptRun) (i : ℕ) → slice_get (remove runs (suc i)) i ≡ slice_get runs i
+    before [] zero = refl
+    before [] (suc i) = refl
+    before (r ∷ runs) zero = refl
+    before (r ∷ runs) (suc i) = before runs i
+
+-- two neighbours made one, the second by being taken out
+pub merged : (runs new : List KeptRun) (left j : ℕ) (run right : KeptRun) → j ≡ suc left → slice_get runs j
+    ≡ Some right → slice_get runs left ≡ Some run
+    → new ≡ set (remove runs j) left (record run { len = run.len + right.len }) → new ≡ joined runs left
+merged runs new left j run right next second first is =
+    let one = (read runs left run first).1 in
+    let two = ap (run_at runs) (sym next) ∙ (read runs j right second).1 in
+    is ∙ ap₂ (λ (x y : KeptRun). set (remove runs j) left (record x { len = x.len + y.len })) (sym one) (sym two)
+    ∙ ap (λ k. set (remove runs k) left (record (run_at runs left) { len = (run_at runs left).len + (run_at runs (suc left)).len }))
+    next
 
 pub places-joined : (runs : List KeptRun) (j : ℕ) → suc j < length runs → (run_at runs j).author
     ≡ (run_at runs (suc j)).author → places (joined runs j) ≡ places runs
@@ -68,17 +95,17 @@ proper-joined (run ∷ next ∷ runs) (suc (suc j)) h same p q =
 
 -- the two runs next to a seam made one
 pub joined-seam : (runs new : List KeptRun) (seam : ℕ) (left right : KeptRun) → 0 < seam → seam < length runs →
-    left ≡ get_or runs (seam - 1) left → right ≡ get_or runs seam right
+    slice_get runs (seam - 1) ≡ Some left → slice_get runs seam ≡ Some right
     → left.author ≡ right.author → new ≡ joined runs (seam - 1) → IsProper (take seam runs) →
     IsProper (drop seam runs) → (places new ≡ places runs) × IsProper new
 joined-seam runs new zero left right some h first second same is p q = absurd (omega arith)
 joined-seam runs new (suc j) left right some h first second same is p q =
     let back : suc j - 1 ≡ j = omega arith in
     let is_joined : new ≡ joined runs j = is ∙ ap (joined runs) back in
-    let left_is = read_run runs (suc j - 1) j left back (omega arith) first in
-    let right_is = read_run runs (suc j) (suc j) right refl h second in
-    let one : (run_at runs j).author ≡ (run_at runs (suc j)).author = sym (ap (λ (r : KeptRun). r.author) left_is)
-    ∙ same ∙ ap (λ (r : KeptRun). r.author) right_is in
+    let left_is = (read runs j left (ap (slice_get runs) (sym back) ∙ first)).1 in
+    let right_is = (read runs (suc j) right second).1 in
+    let one : (run_at runs j).author ≡ (run_at runs (suc j)).author = ap (λ (r : KeptRun). r.author) left_is
+    ∙ same ∙ sym (ap (λ (r : KeptRun). r.author) right_is) in
     (ap places is_joined ∙ places-joined runs j h one, subst IsProper (sym is_joined) (proper-joined runs j h one p q))
 
 -- fewer characters in a run, seen from a place in it
@@ -118,7 +145,7 @@ more_runs : (runs : List KeptRun) (i j : ℕ) → i ≤ j → characters (take i
 more_runs runs i j h = subst (λ l. characters l ≤ characters (take j runs)) (take-take i j runs h)
     (sum_by-take-le (λ (r : KeptRun). r.len) (take j runs) i)
 
--- a later place does not stand in an earlier run
+-- a later place is not in an earlier run
 pub in_order : (runs : List KeptRun) (first last : Place) → IsPlace runs first → IsPlace runs last → position runs first
     ≤ position runs last → first.index ≤ last.index
 in_order runs first last p q le =
@@ -132,7 +159,7 @@ in_order runs first last p q le =
       | inr h ↦ h
     ]
 
--- a place behind some characters of a run is in that run
+-- a place after some characters of a run is in that run
 some_inside : (runs : List KeptRun) (i o : ℕ) → IsInside (drop i runs) o → 1 ≤ o → (i < length runs)
     × (o < (run_at runs i).len)
 some_inside [] zero o inside some = absurd (omega arith)

@@ -29,11 +29,17 @@ taken_out pos n authors = take pos authors ++ drop (pos + n) authors
 -- what an insertion leaves: its author has room for one less, and no other author has any
 abbrev pub inserted : Authored → ℕ → Author → ℕ → Authored
 inserted old pos author n =
-    record { authors = put_in pos author n old.authors; spare = Some (record { author = author; left = left_for author old.spare - 1 }) }
+    record {
+      authors = put_in pos author n old.authors;
+      spare = Some (record { author = author; left = left_for author old.spare - 1 });
+    }
 
 -- what an insertion leaves that uses up room
 abbrev pub used : Authored → ℕ → Spare → ℕ → Authored
-used old pos spare n = record { authors = put_in pos spare.author n old.authors; spare = Some (record spare { left = spare.left - 1 }) }
+used old pos spare n = record {
+  authors = put_in pos spare.author n old.authors;
+  spare = Some (record spare { left = spare.left - 1 });
+}
 
 -- what a reservation leaves
 abbrev pub reserved : Authored → Author → ℕ → Authored

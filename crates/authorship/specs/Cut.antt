@@ -16,11 +16,11 @@ abbrev pub without_part : List KeptRun → ℕ → List KeptRun
 without_part [] offset = []
 without_part (run ∷ runs) offset = record run { len = run.len - offset } ∷ runs
 
--- what stands before a place
+-- what comes before a place
 abbrev pub front : List KeptRun → Place → List KeptRun
 front runs place = take place.index runs ++ first_part (drop place.index runs) place.offset
 
--- what stands from a place on
+-- what comes from a place on
 abbrev pub back : List KeptRun → Place → List KeptRun
 back runs place = without_part (drop place.index runs) place.offset
 
@@ -29,12 +29,12 @@ abbrev pub IsInside : List KeptRun → ℕ → Type 0
 IsInside [] offset = offset ≡ 0
 IsInside (run ∷ runs) offset = offset < run.len
 
--- the place lies in the run at its index, or behind the last one
+-- the place is in the run at its index, or after the last one
 pub record IsPlace (runs : List KeptRun) (place : Place) : Type 0 where
   pub within : place.index ≤ length runs
   pub inside : IsInside (drop place.index runs) place.offset
 
--- how many characters stand before a place
+-- how many characters come before a place
 abbrev pub position : List KeptRun → Place → ℕ
 position runs place = characters (take place.index runs) + place.offset
 
@@ -42,14 +42,14 @@ position runs place = characters (take place.index runs) + place.offset
 abbrev pub run_at : List KeptRun → ℕ → KeptRun
 run_at runs index = slice_index_or runs index (record { author = 0; len = 0 })
 
--- the run at an index is of this author, and the place stands in it or at either end of it
+-- the run at an index is of this author, and the place is in it or at either end of it
 pub record Touches (runs : List KeptRun) (place : Place) (author index : ℕ) : Type 0 where
   pub within : index < length runs
   pub same : (run_at runs index).author ≡ author
   pub starts : characters (take index runs) ≤ position runs place
   pub ends : position runs place ≤ characters (take index runs) + (run_at runs index).len
 
--- neither the run that the place stands in nor the one that it stands behind is of this author
+-- neither the run that the place is in nor the one that it follows is of this author
 pub record IsApart (runs : List KeptRun) (place : Place) (author : ℕ) : Type 0 where
   pub here : place.index < length runs → (run_at runs place.index).author ≢ author
   pub before : place.offset ≡ 0 → 0 < place.index → (run_at runs (place.index - 1)).author ≢ author

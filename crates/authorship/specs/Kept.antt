@@ -1,5 +1,5 @@
 -- How a list of authors is kept: as runs of places in a table of authors.
-use Rattle.std.specs.Prelude.{◌≡◌, ◌≢◌, ℕ, ◌+◌, ◌*◌, ◌^◌, ◌≤◌, ◌<◌, List, [], ◌∷◌, length, map, replicate, flat_map}
+use Rattle.std.specs.Prelude.{◌≡◌, ◌≢◌, ℕ, ◌*◌, ◌^◌, ◌≤◌, ◌<◌, List, [], ◌∷◌, length, map, replicate, flat_map}
 use Rattle.std.specs.Prelude.{sum_by, slice_index_or, Option, Some, None}
 use Rattle.std.specs.List.{AllByRecursion}
 use Rattle.pad_model.specs.declared.who.Author.{Author}
@@ -24,7 +24,7 @@ author_in table place = slice_index_or table place (record { name = []; origin =
 abbrev pub authors_in : List Author → List KeptRun → List Author
 authors_in table runs = map (author_in table) (places runs)
 
--- the author run that a kept one stands for
+-- the author run that a kept one represents
 abbrev pub author_run : List Author → KeptRun → AuthorRun
 author_run table run = record { author = author_in table run.author; len = run.len }
 
@@ -35,11 +35,24 @@ AreKnown authors runs = AllByRecursion (λ run. run.author < authors) runs
 -- the room that is kept
 abbrev pub spare_in : List Author → Option KeptSpare → Option Spare
 spare_in table None = None
-spare_in table (Some spare) = Some (record { author = author_in table spare.author; left = spare.left })
+spare_in table (Some spare) = Some (record
+    { author = author_in table spare.author; left = spare.left })
+
+-- the place of each character's author, and how many more runs there is room for
+pub record AuthorPlaces : Type 0 where
+  pub places : List ℕ
+  pub room : ℕ
+
+-- the places of the authors that runs have, and a place for each spare run
+abbrev pub author_places : List KeptRun → List KeptRun → AuthorPlaces
+author_places runs spare = record { places = places runs; room = length spare }
 
 -- the authors and the room that are kept
-abbrev pub authored : List Author → List KeptRun → Option KeptSpare → Authored
-authored table runs spare = record { authors = authors_in table runs; spare = spare_in table spare }
+abbrev pub authored : List Author → List ℕ → Option KeptSpare → Authored
+authored table ps spare = record {
+  authors = map (author_in table) ps;
+  spare = spare_in table spare;
+}
 
 -- the first run is not of this author
 abbrev pub StartsApart : ℕ → List KeptRun → Type 0
@@ -57,20 +70,29 @@ abbrev pub IsProper : List KeptRun → Type 0
 IsProper [] = Unit {0}
 IsProper (run ∷ runs) = (1 ≤ run.len) × StartsApart run.author runs × IsProper runs
 
--- no author stands twice in a table
+-- no author is twice in a table
 abbrev pub IsOnce : List Author → Type 0
-IsOnce table = (i j : ℕ) → i < length table → j < length table → author_in table i ≡ author_in table j → i ≡ j
+IsOnce table = (i j : ℕ) → i < length table → j < length table
+    → author_in table i ≡ author_in table j → i ≡ j
+
+-- runs of no characters
+abbrev pub AreEmpty : List KeptRun → Type 0
+AreEmpty runs = AllByRecursion (λ run. run.len ≡ 0) runs
+
+-- the runs are proper and can be counted, and the spare ones are empty
+pub record IsRunTree (runs spare : List KeptRun) : Type 0 where
+  pub proper : IsProper runs
+  pub fits : characters runs < 2 ^ 64
+  pub empty : AreEmpty spare
 
 -- each insertion that has room may add two runs, and its author is in the table
-abbrev pub HasRoom : ℕ → ℕ → ℕ → Option KeptSpare → Type 0
-HasRoom authors runs capacity None = Unit {0}
-HasRoom authors runs capacity (Some spare) = (spare.author < authors) × (runs + 2 * spare.left ≤ capacity)
+abbrev pub HasRoom : ℕ → ℕ → Option KeptSpare → Type 0
+HasRoom authors room None = Unit {0}
+HasRoom authors room (Some spare) = (spare.author < authors) × (2 * spare.left ≤ room)
 
--- the runs are proper, and fit the table and the room
-pub record IsKept (table : List Author) (runs : List KeptRun) (len capacity : ℕ)
-    (spare : Option KeptSpare) : Type 0 where
-  pub proper : IsProper runs
-  pub known : AllByRecursion (λ place. place < length table) (places runs)
-  pub once : IsOnce table
-  pub fits : characters runs < 2 ^ 64
-  pub room : HasRoom (length table) len capacity spare
+-- each author is in the table, which has none twice, and there is the room that was made
+pub record IsKept (table : List Author) (kept : AuthorPlaces) (spare : Option KeptSpare) : Type 0
+  where
+    pub known : AllByRecursion (λ place. place < length table) kept.places
+    pub once : IsOnce table
+    pub room : HasRoom (length table) kept.room spare

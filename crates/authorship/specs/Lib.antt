@@ -2,4 +2,3 @@
 pub mod Authors
 pub mod Cut
 pub mod Kept
-pub mod Places

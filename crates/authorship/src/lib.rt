@@ -1,12 +1,15 @@
-//! Who wrote what: the author of each visible character of a text, kept as runs.
+//! Who wrote what: the author of each visible character of a text, kept as runs in a balanced tree.
+//!
+//! `RunTree` knows authors by their places in its caller's table. `RunList` keeps a table of its own.
 #![tactic(auto)]
 
 mod delete;
 mod find;
 mod insert;
 mod kept;
-mod places;
 mod run_list;
+mod run_tree;
 mod table;
 
 pub use run_list::RunList;
+pub use run_tree::RunTree;

@@ -1,69 +1,53 @@
 //! The authors of a text's visible characters, as runs.
-ghost use Rattle.std.specs.Prelude.{◌≡◌, ◌+◌, ◌*◌, ◌≤◌, ◌<◌, ◌↔◌, [], None, Some, length, map, vec_len, vec_capacity, slice_get, IsTrue, IsOk, IfOk, IfErr, IfSome, OnOk, MatchResult};
+ghost use Rattle.std.specs.Prelude.{◌≡◌, ◌+◌, ◌≤◌, ◌<◌, ◌↔◌, [], None, Some, length, slice_get, IsTrue, IsOk, IfErr, IfSome, OnOk, MatchResult};
 ghost use Rattle.pad_model.specs.Visible.{runs};
 ghost use Rattle.std.specs.Option.{IsSomeAnd};
 ghost use Rattle.authorship.specs.Authors.{left_for, inserted, reserved, used, deleted};
-ghost use Rattle.authorship.specs.Kept.{author_run, AreKnown};
 
-use crate::delete::take_out;
-use crate::find::{count, place_of};
-use crate::insert::put_in;
-use crate::kept::{KeptRun, KeptSpare};
+use crate::kept::KeptSpare;
+use crate::run_tree::RunTree;
 use crate::table::place_author;
 use pad_model::{Author, AuthorRun, Refusal, Row};
-use std::alloc::{AllocError, Global};
+use std::alloc::Global;
 use std::marker::Model;
 
 /// The author of each visible character of a text, and the room that `reserve` made.
-#[derive(Debug, Drop)]
+#[derive(Drop)]
 pub struct RunList {
     table: Vec<Author>,
-    runs: Vec<KeptRun>,
+    runs: RunTree,
     spare: Option<KeptSpare>,
 }
 
 impl Model for RunList {
     ghost use Rattle.authorship.specs.Authors.{Authored};
-    ghost use Rattle.std.specs.Prelude.{vec_len, vec_capacity};
 
     ghost Value = { Authored };
 
     ghost use Rattle.authorship.specs.Kept.{authored, IsKept};
 
-    ghost view = { λ l. authored l.table.items l.runs.items l.spare };
+    ghost view = { λ l. authored l.table.items l.runs.places l.spare };
 
-    ghost invariant = { λ l. IsKept l.table.items l.runs.items (vec_len l.runs) (vec_capacity l.runs) l.spare };
-}
-
-/// Makes room for two more runs at each of the next insertions.
-///
-/// A double that does not fit becomes the greatest number, and no vector can be that long.
-fn reserve_runs(runs: &mut Vec<KeptRun>, insertions: u64) -> Result<(), AllocError>
-    ensures ok { OnOk result (vec_len runs.new + 2 * insertions ≤ vec_capacity runs.new) }
-    ensures items { runs.new.items ≡ runs.old.items }
-    ensures len { vec_len runs.new ≡ vec_len runs.old }
-    ensures capacity { vec_capacity runs.old ≤ vec_capacity runs.new }
-{
-    runs.reserve(insertions.saturating_mul(2) as usize)
+    ghost invariant = { λ l. IsKept l.table.items l.runs l.spare };
 }
 
 impl RunList {
-    /// The list of no characters. It takes no memory yet.
+    /// An empty list. It takes no memory yet.
     pub fn new(alloc: Global) -> RunList
         ensures { result ≡ record { authors = []; spare = None } }
     {
         RunList {
             table: Vec::new(alloc),
-            runs: Vec::new(alloc),
+            runs: RunTree::new(alloc),
             spare: None,
         }
     }
 
-    /// How many characters there are.
+    /// The number of characters.
     pub fn len(&self) -> u64
         ensures { result ≡ length self.now.authors }
     {
-        count(self.runs.as_slice())
+        self.runs.len()
     }
 
     /// The author of the character at a place, from 0.
@@ -71,15 +55,15 @@ impl RunList {
         requires { pos < length self.now.authors }
         ensures { slice_get self.now.authors pos ≡ Some result.now }
     {
-        let place = place_of(self.runs.as_slice(), pos);
-        &self.table[self.runs[place.index].author]
+        &self.table[self.runs.author_at(pos)]
     }
 
     /// The fewest runs of one author each.
     pub fn runs(&self, alloc: Global) -> Result<Row<AuthorRun>, Refusal>
-        ensures { MatchResult result (λ rows. rows ≡ runs self.now.authors) (λ e. e ≡ Refusal.Memory) }
+        ensures { MatchResult result (λ rows. rows ≡ runs self.now.authors)
+            (λ e. e ≡ Refusal.Memory) }
     {
-        let rows = author_runs(alloc, self.table.as_slice(), self.runs.as_slice())?;
+        let rows = self.runs.author_runs(alloc, self.table.as_slice())?;
         Ok(Row::from_vec(rows))
     }
 
@@ -88,7 +72,7 @@ impl RunList {
         ensures ok { OnOk result (self.new ≡ reserved self.old author.now n) }
         ensures memory { IfErr result (λ e. (e ≡ Refusal.Memory) × (self.new ≡ self.old)) }
     {
-        reserve_runs(&mut self.runs, n)?;
+        self.runs.reserve(alloc, n)?;
         let place = place_author(&mut self.table, alloc, author)?;
         self.spare = Some(KeptSpare {
             author: place,
@@ -99,7 +83,7 @@ impl RunList {
 
     /// Puts `n` characters of an author in, the first of them at a place from 0.
     ///
-    /// It uses up the room of one insertion, also where `n` is 0.
+    /// It uses up the room of one insertion, even if `n` is 0.
     pub fn insert(
         &mut self,
         alloc: Global,
@@ -125,7 +109,7 @@ impl RunList {
         requires { pos + n ≤ length self.old.authors }
         ensures { self.new ≡ deleted self.old pos n }
     {
-        take_out(&mut self.runs, pos, n);
+        self.runs.delete(pos, n);
     }
 
     fn has_room(&self, author: &Author) -> bool
@@ -137,7 +121,7 @@ impl RunList {
         }
     }
 
-    /// Puts characters of the author in for whom there is room.
+    /// Puts in characters of the author for whom there is room.
     fn insert_reserved(&mut self, pos: u64, n: u64)
         requires place { pos ≤ length self.old.authors }
         requires fits { length self.old.authors + n ≤ u64.MAX }
@@ -145,30 +129,11 @@ impl RunList {
         ensures { IfSome self.old.spare (λ spare. self.new ≡ used self.old pos spare n) }
     {
         if let Some(spare) = self.spare {
-            put_in(&mut self.runs, pos, spare.author, n);
+            self.runs.insert(pos, spare.author, n);
             self.spare = Some(KeptSpare {
                 left: spare.left - 1,
                 ..spare
             });
         }
     }
-}
-
-/// The author runs that runs stand for.
-fn author_runs(
-    alloc: Global,
-    table: &[Author],
-    runs: &[KeptRun],
-) -> Result<Vec<AuthorRun>, AllocError>
-    requires { AreKnown (length table.now) runs.now }
-    ensures { IfOk result (λ rows. rows.items ≡ map (author_run table.now) runs.now) }
-{
-    let mut rows = Vec::with_capacity(alloc, runs.len())?;
-    for run in runs {
-        rows.push(AuthorRun {
-            author: table[run.author].clone()?,
-            len: run.len,
-        })?;
-    }
-    Ok(rows)
 }

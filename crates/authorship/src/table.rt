@@ -5,10 +5,12 @@ ghost use Rattle.authorship.specs.Kept.{author_in, IsOnce};
 use pad_model::{Author, Name};
 use std::alloc::{AllocError, Global};
 
-/// Where an author stands in a table, if it does.
+/// The place of an author in a table, if it is there.
 fn find_author(table: &[Author], author: &Author) -> Option<usize>
-    ensures found { IfSome result (λ i. (i < length table.now) × (author_in table.now i ≡ author.now)) }
-    ensures missing { IfNone result ((i : ℕ) → i < length table.now → author_in table.now i ≢ author.now) }
+    ensures found { IfSome result (λ i. (i < length table.now)
+        × (author_in table.now i ≡ author.now)) }
+    ensures missing { IfNone result ((i : ℕ) → i < length table.now
+        → author_in table.now i ≢ author.now) }
 {
     for (place, known) in table.iter().enumerate() {
         if known == author {
@@ -18,15 +20,17 @@ fn find_author(table: &[Author], author: &Author) -> Option<usize>
     None
 }
 
-/// The place of an author, who joins the table where it is new.
+/// The place of an author, who is added to the table if new.
 pub fn place_author(
     table: &mut Vec<Author>,
     alloc: Global,
     author: &Author,
 ) -> Result<usize, AllocError>
     requires { IsOnce table.old.items }
-    ensures place { IfOk result (λ i. (i < length table.new.items) × (author_in table.new.items i ≡ author.now)) }
-    ensures more { (table.new.items ≡ table.old.items) ⊎ (table.new.items ≡ table.old.items ++ author.now ∷ []) }
+    ensures place { IfOk result (λ i. (i < length table.new.items)
+        × (author_in table.new.items i ≡ author.now)) }
+    ensures more { (table.new.items ≡ table.old.items)
+        ⊎ (table.new.items ≡ table.old.items ++ author.now ∷ []) }
     ensures once { IsOnce table.new.items }
 {
     if let Some(place) = find_author(table.as_slice(), author) {

@@ -33,12 +33,6 @@ use Rattle.pad_model.proofs.Erase.{IsInOrder-without}
 use Rattle.block_seq.specs.Plain.{is_hidden_by as kept_hidden, erased_at as kept_erased}
 use Rattle.block_seq.specs.Plain.{author_at, cell_of, cells_of, kept_character, AreKnown, IsPlain, is_shown, kept_run}
 
--- a run from a place on begins with the character at the place
-pub kept_run-drop : (s : Stamp) (p : Option Stamp) (text : List ℕ) (author rev i : ℕ) → i < length text →
-    kept_run s p (drop i text) author rev
-    ≡ record { stamp = s; parent = p; character = get_or text i 0; author = author; born = rev; died = Rattle.std.proofs.Common.None } ∷ kept_run (next s) (Some s) (drop (i + 1) text) author rev
-kept_run-drop s p text author rev i h = rw (drop-cons text i 0, add-one i) refl
-
 -- the cells that are visible stand for the kept ones that are
 pub cells_at-cells_of : (authors : List Author) (rev : ℕ) (cells : List PlainCell) →
     cells_at rev (cells_of authors cells) ≡ cells_of authors (filter (is_shown rev) cells)

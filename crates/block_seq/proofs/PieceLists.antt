@@ -117,16 +117,6 @@ inserts front x a t h = let alike = alike-text x a t [] ∙ h in
     ap (λ (y : Piece). front ++ y ∷ []) (longer-together x a t alike)
     ∙ sym (with-joins front x (Insert a t) alike)
 
--- what a piece kept, or erased, is within the sum
-pub kept-small : (front : List Piece) (x : Piece) (n : ℕ) → kept_in x ≡ Some n → n
-    ≤ sum_by old_len (front ++ x ∷ [])
-kept-small front x n e = let is = ap old_len (kept-some x n 0 e) in let low = sum-last front x in omega (arith, is, low)
-
-pub erased-small : (front : List Piece) (x : Piece) (n : ℕ) → dropped_in x ≡ Some n → n
-    ≤ sum_by old_len (front ++ x ∷ [])
-erased-small front x n e = let is = ap old_len (erased-some x n 0 e) in let low = sum-last front x in
-    omega (arith, is, low)
-
 -- ---- one more step of a walk
 pub goes-on : {A : Type 0} (f : A → List Piece) (x : A) (it rest : List A) (done pieces made all : List Piece) →
     it ≡ x ∷ rest → pieces ≡ fewest done → done ++ flat_map f it ≡ all → made ≡ with_pieces pieces (f x)

@@ -73,16 +73,6 @@ cell_in_block authors text b offset s p c a h is under e who =
     ∙ ap (λ (w : Author). Some (let it : Cell =
     record { stamp = s; parent = p; character = c; author = w; born = b.born; died = b.died } in it)) who
 
--- a place in the cells of blocks, in the first of them or behind it
-pub cell_here : (authors : List Author) (text : List ℕ) (b : Block) (bs it : List Block) (i : ℕ) → it ≡ b ∷ bs →
-    b.start + b.len ≤ length text → i < b.len → slice_get (cells_of authors text it) i
-    ≡ slice_get (block_cells authors text b) i
-cell_here authors text b bs it i is w h =
-    let size = length-run_cells (author_at authors b.author) b.born b.died b.first b.parent (stretch text b)
-    ∙ length-stretch text b w in
-    ap (λ l. slice_get (cells_of authors text l) i) is ∙ get_front (block_cells authors text b)
-    (cells_of authors text bs) i (omega (arith, size))
-
 pub cell_behind : (authors : List Author) (text : List ℕ) (b : Block) (bs it : List Block) (i : ℕ) → it ≡ b ∷ bs →
     b.start + b.len ≤ length text → b.len ≤ i → slice_get (cells_of authors text it) i
     ≡ slice_get (cells_of authors text bs) (i - b.len)

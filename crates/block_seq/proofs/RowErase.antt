@@ -77,12 +77,6 @@ more_there m bs first done rank offset more b listed e spot is so_far k l =
           (b.first, holds_here m bs rank b (stamp_behind first k) listed e (sym replica, omega arith, omega arith))
     ]
 
-pub spot_within : (bs : List Block) (s : Stamp) (rank offset : ℕ) (b : Block) → IsSpot bs s rank offset →
-    slice_get bs rank ≡ Some b → offset < b.len
-spot_within bs s rank offset b spot e =
-    let here = subst (λ o. Rattle.std.specs.Option.IsSomeAnd o (λ (x : Block). (s ≡ stamp_behind x.first offset)
-    × (offset < x.len))) e spot in let pair : (s ≡ stamp_behind b.first offset) × (offset < b.len) = here in pair.1
-
 pub set_same : (bs : List Block) (i : ℕ) (b : Block) → slice_get bs i ≡ Some b → slice_set bs i b ≡ bs
 set_same [] i b e = refl
 set_same (x ∷ bs) zero b e = let same : x ≡ b = cc in ap (λ (y : Block). y ∷ bs) (sym same)

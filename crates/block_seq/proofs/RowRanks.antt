@@ -22,9 +22,6 @@ use Rattle.block_seq.proofs.RowTouched.{IsUntouched, take_one, untouched-block}
 abbrev pub IsToCome : List ℕ → ℕ → ℕ → Type 0
 IsToCome ranks index r = (k : ℕ) × (index ≤ k) × (k < length ranks) × (get_or ranks k r ≡ r)
 
-pub first-to-come : (ranks : List ℕ) (r : ℕ) → Contains ranks r → IsToCome ranks 0 r
-first-to-come ranks r h = (h.0, omega arith, h.1, h.2)
-
 -- what is behind the rank at an index is among those after it
 pub still-to-come : (ranks : List ℕ) (index rank r : ℕ) → slice_get ranks index ≡ Some rank → rank < r →
     IsToCome ranks index r → IsToCome ranks (index + 1) r

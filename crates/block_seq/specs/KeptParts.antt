@@ -33,7 +33,8 @@ are_part_spans (Resolve comment) = true
 
 -- the kept cells with those of a part's run at their place
 abbrev pub with_kept_part : ℕ → ℕ → List PlainCell → Part → List PlainCell
-with_kept_part author rev cells (Insert run) = spliced (place_in kept_character run.after run.first cells)
+with_kept_part author rev cells (Insert run) = spliced
+    (place_in kept_character run.after run.first cells)
     (kept_run run.first run.after run.text author rev) cells
 with_kept_part author rev cells (Delete spans) = cells
 with_kept_part author rev cells (Comment first last text) = cells

@@ -29,7 +29,8 @@ longer_by (Insert author text) more = Insert author (text ++ more)
 -- pieces with one more behind them
 abbrev pub with_piece : List Piece → Piece → List Piece
 with_piece [] piece = piece ∷ []
-with_piece (last ∷ []) piece = if are_alike last piece then together last piece ∷ [] else last ∷ piece ∷ []
+with_piece (last ∷ []) piece = if are_alike last piece then together last piece ∷ []
+    else last ∷ piece ∷ []
 with_piece (one ∷ next ∷ pieces) piece = one ∷ with_piece (next ∷ pieces) piece
 
 -- pieces with more behind them, one after the other

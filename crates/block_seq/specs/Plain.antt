@@ -17,7 +17,14 @@ author_at authors i = slice_index_or authors i (record { name = []; origin = 0 }
 
 -- the cell that a kept one stands for
 abbrev pub cell_of : List Author → PlainCell → Cell
-cell_of authors c = record { stamp = c.stamp; parent = c.parent; character = c.character; author = author_at authors c.author; born = c.born; died = c.died }
+cell_of authors c = record {
+  stamp = c.stamp;
+  parent = c.parent;
+  character = c.character;
+  author = author_at authors c.author;
+  born = c.born;
+  died = c.died;
+}
 
 -- the cells that the kept ones stand for
 abbrev pub cells_of : List Author → List PlainCell → List Cell
@@ -44,7 +51,14 @@ is_shown rev c = nat_le c.born rev && is_after rev c.died
 abbrev pub kept_run : Stamp → Option Stamp → List ℕ → ℕ → ℕ → List PlainCell
 kept_run first parent [] author rev = []
 kept_run first parent (c ∷ text) author rev =
-    record { stamp = first; parent = parent; character = c; author = author; born = rev; died = None }
+    record {
+      stamp = first;
+      parent = parent;
+      character = c;
+      author = author;
+      born = rev;
+      died = None;
+    }
     ∷ kept_run (next first) (Some first) text author rev
 
 -- whether a deletion of these spans newly hides a kept cell

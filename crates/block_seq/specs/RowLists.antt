@@ -29,7 +29,8 @@ IsSeenAt rev bs place spot = IsSomeAnd (slice_get bs spot.rank) (λ b. spot.offs
 
 -- how many visible characters stand before an offset in the block of a rank
 abbrev pub shown_front : ℕ → List Block → ℕ → ℕ → Block → ℕ
-shown_front rev bs rank offset b = sum_by (shown_len rev) (take rank bs) + (if shows rev b then offset else 0)
+shown_front rev bs rank offset b = sum_by (shown_len rev) (take rank bs)
+    + (if shows rev b then offset else 0)
 
 -- runs with n more characters of an author behind them
 abbrev pub with_more : List AuthorRun → Author → ℕ → List AuthorRun
@@ -41,6 +42,7 @@ with_more (r ∷ s ∷ rs) a n = r ∷ with_more (s ∷ rs) a n
 -- spans with n more stamps from a first one on behind them
 abbrev pub with_stamps : List Span → Stamp → ℕ → List Span
 with_stamps [] first n = record { first = first; len = n } ∷ []
-with_stamps (s ∷ []) first n = if same_stamp (stamp_behind s.first s.len) first then record s { len = s.len + n } ∷ []
+with_stamps (s ∷ []) first n = if same_stamp (stamp_behind s.first s.len) first
+    then record s { len = s.len + n } ∷ []
     else s ∷ record { first = first; len = n } ∷ []
 with_stamps (s ∷ t ∷ spans) first n = s ∷ with_stamps (t ∷ spans) first n

@@ -51,7 +51,8 @@ IsCutBehind m (Some p) = IsEdge m (stamp_behind p 1)
 -- the runs are checked, each joins the cells when its turn comes, their parents are there from the start with the
 -- blocks cut behind them,
 -- and there is room for all
-pub record MayPut (rev : ℕ) (author : Author) (cells : List Cell) (m : Index) (runs : List Run) : Type 0 where
+pub record MayPut (rev : ℕ) (author : Author) (cells : List Cell) (m : Index)
+    (runs : List Run) : Type 0 where
   pub checked : list_all (is_run author.origin) runs ≡ true
   pub join : AllJoin rev author cells runs
   pub rooted : list_all (λ run. has_parent character_of cells run.after) runs ≡ true

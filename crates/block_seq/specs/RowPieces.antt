@@ -19,7 +19,8 @@ is_touched slides s = list_any (is_of s) slides
 
 -- the ranks have each block that begins with a stamp that the slides showed or hid
 abbrev pub HasTouched : List Slide → List Block → List ℕ → Type 0
-HasTouched slides bs ranks = (r : ℕ) (b : Block) → slice_get bs r ≡ Some b → is_touched slides b.first ≡ true → Contains ranks r
+HasTouched slides bs ranks = (r : ℕ) (b : Block) → slice_get bs r ≡ Some b
+    → is_touched slides b.first ≡ true → Contains ranks r
 
 -- so many characters that stay, if any
 abbrev pub kept_pieces : ℕ → List Piece

@@ -28,22 +28,31 @@ named_len spans = sum_by (λ span. span.len) spans
 
 -- the slide of a run that comes behind so many visible characters
 abbrev pub slide_of : ℕ → ℕ → Run → Slide
-slide_of rev at run = record { rev = rev; at = at; first = run.first; len = length run.text; shows = true }
+slide_of rev at run = record {
+  rev = rev;
+  at = at;
+  first = run.first;
+  len = length run.text;
+  shows = true;
+}
 
 -- the slides rise with the revisions of the blocks, and those after a revision lead from what it shows to what is alive
 pub record IsSlid (slides : List Slide) (bs : List Block) : Type 0 where
   pub sorted : IsSorted 0 slides
   pub by : (rev : ℕ) → AllByRecursion (IsDated rev) bs → AllByRecursion (λ s. s.rev ≤ rev) slides
-  pub leads : (rev : ℕ) → Leads (since rev slides) (flat_map (shown_stamps rev) bs) (flat_map live_stamps bs)
+  pub leads : (rev : ℕ) → Leads (since rev slides) (flat_map (shown_stamps rev) bs)
+      (flat_map live_stamps bs)
 
 -- what a row keeps, and its slides
-pub record IsSlidRow (latest clock : ℕ) (authors : List Author) (text : List ℕ) (slides : List Slide) (m : Index)
+pub record IsSlidRow (latest clock : ℕ) (authors : List Author) (text : List ℕ)
+    (slides : List Slide) (m : Index)
     (bs : List Block) : Type 0 where
   pub row : IsBlockSeq latest clock authors text m bs
   pub slid : IsSlid slides bs
 
 -- the same, and the table of authors has none twice
-pub record IsAuthoredRow (latest clock : ℕ) (authors : List Author) (text : List ℕ) (slides : List Slide) (m : Index)
+pub record IsAuthoredRow (latest clock : ℕ) (authors : List Author) (text : List ℕ)
+    (slides : List Slide) (m : Index)
     (bs : List Block) : Type 0 where
   pub row : IsBlockSeq latest clock authors text m bs
   pub slid : IsSlid slides bs

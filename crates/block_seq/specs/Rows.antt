@@ -36,7 +36,12 @@ pub record CellsInBlocks : Type 0 where
 
 -- the cells of blocks, the blocks and their number, and a count of respacings
 abbrev pub cells_in : List Author → List ℕ → List Block → ℕ → CellsInBlocks
-cells_in authors text bs n = record { cells = cells_of authors text bs; tree = bs; blocks = length bs; respaced = n }
+cells_in authors text bs n = record {
+  cells = cells_of authors text bs;
+  tree = bs;
+  blocks = length bs;
+  respaced = n;
+}
 
 -- the cells are those of these blocks, each a stretch of some text by one of some authors, and the index has just these
 -- blocks
@@ -68,9 +73,11 @@ StartsAt (Some p) bs rank = IsBehind bs p rank
 -- a run goes to this rank: behind its parent, past each block that begins with a newer stamp
 abbrev pub IsPlaceFor : Option Stamp → Stamp → List Block → ℕ → Type 0
 IsPlaceFor parent first bs rank =
-    (authors : List Author) (text : List ℕ) → AllByRecursion (IsWithin (length authors) (length text)) bs →
+    (authors : List Author) (text : List ℕ)
+    → AllByRecursion (IsWithin (length authors) (length text)) bs →
     (new : List Cell) →
-    put character_of parent first new (cells_of authors text bs) ≡ cells_of authors text (take rank bs)
+    put character_of parent first new (cells_of authors text bs)
+    ≡ cells_of authors text (take rank bs)
     ++ (new ++ cells_of authors text (drop rank bs))
 
 -- how many blocks in front begin with a newer stamp

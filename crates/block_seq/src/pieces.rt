@@ -95,7 +95,8 @@ pub fn add_inserted(
     author: &Author,
     more: &[char],
 ) -> Result<(), AllocError>
-    ensures { OnOk result (pieces.new.items ≡ with_piece pieces.old.items (Piece.Insert author.now more.now)) }
+    ensures { OnOk result (pieces.new.items
+        ≡ with_piece pieces.old.items (Piece.Insert author.now more.now)) }
 {
     if let Some(last) = pieces.pop() {
         if inserts_of(&last, author) {
@@ -119,7 +120,8 @@ pub fn plain_pieces(
     to: u64,
 ) -> Result<Vec<Piece>, AllocError>
     requires { AreKnown authors.now cells.now }
-    ensures { IfOk result (λ pieces. pieces.items ≡ cells_changes rev to (cells_of authors.now cells.now)) }
+    ensures { IfOk result (λ pieces. pieces.items
+        ≡ cells_changes rev to (cells_of authors.now cells.now)) }
 {
     let mut pieces = Vec::new(alloc);
     for cell in cells {

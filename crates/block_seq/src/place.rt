@@ -29,7 +29,8 @@ pub fn has(cells: &[PlainCell], stamp: Stamp) -> bool
 
 /// Whether a parent is there, or the root, and has a smaller counter.
 fn hangs_below(cells: &[PlainCell], parent: Option<Stamp>, counter: u64) -> bool
-    ensures { result ≡ (has_parent kept_character cells.now parent && nat_lt (counter_of parent) counter) }
+    ensures { result ≡ (has_parent kept_character cells.now parent
+        && nat_lt (counter_of parent) counter) }
 {
     match parent {
         None => counter > 0,
@@ -39,7 +40,8 @@ fn hangs_below(cells: &[PlainCell], parent: Option<Stamp>, counter: u64) -> bool
 
 /// Whether all characters of the stamp's replica have smaller counters.
 fn is_above(cells: &[PlainCell], first: Stamp) -> bool
-    ensures { result ≡ list_all (λ c. not (c.stamp.replica == first.replica) || nat_lt c.stamp.counter first.counter) cells.now }
+    ensures { result ≡ list_all (λ c. not (c.stamp.replica == first.replica)
+        || nat_lt c.stamp.counter first.counter) cells.now }
 {
     let counter = first.counter();
     let replica = first.replica();

@@ -11,7 +11,8 @@ use pad_model::Run;
 fn push_run(cells: &mut Vec<PlainCell>, run: &Run, author: usize, rev: u64)
     requires checked { IsTrue (is_run run.now.first.replica run.now) }
     requires room { vec_len cells.old + length run.now.text ≤ vec_capacity cells.old }
-    ensures items { cells.new.items ≡ cells.old.items ++ kept_run run.now.first run.now.after run.now.text author rev }
+    ensures items { cells.new.items ≡ cells.old.items
+        ++ kept_run run.now.first run.now.after run.now.text author rev }
     ensures len { vec_len cells.new ≡ vec_len cells.old + length run.now.text }
     ensures room { vec_capacity cells.new ≡ vec_capacity cells.old }
 {
@@ -35,7 +36,9 @@ fn push_run(cells: &mut Vec<PlainCell>, run: &Run, author: usize, rev: u64)
 pub fn put_run(cells: &mut Vec<PlainCell>, run: &Run, author: usize, rev: u64)
     requires checked { IsTrue (is_run run.now.first.replica run.now) }
     requires room { vec_len cells.old + length run.now.text ≤ vec_capacity cells.old }
-    ensures items { cells.new.items ≡ spliced (place_in kept_character run.now.after run.now.first cells.old.items) (kept_run run.now.first run.now.after run.now.text author rev) cells.old.items }
+    ensures items { cells.new.items ≡ spliced
+        (place_in kept_character run.now.after run.now.first cells.old.items)
+        (kept_run run.now.first run.now.after run.now.text author rev) cells.old.items }
     ensures len { vec_len cells.new ≡ vec_len cells.old + length run.now.text }
     ensures room { vec_capacity cells.new ≡ vec_capacity cells.old }
 {

@@ -40,7 +40,8 @@ pub fn shown_stamp(cells: &[PlainCell], rev: u64, place: u64) -> Option<Stamp>
 }
 
 pub fn shown_text(alloc: Global, cells: &[PlainCell], rev: u64) -> Result<Vec<char>, AllocError>
-    ensures { IfOk result (λ text. text.items ≡ map (λ c. c.character) (filter (shown rev) cells.now)) }
+    ensures { IfOk result (λ text. text.items
+        ≡ map (λ c. c.character) (filter (shown rev) cells.now)) }
 {
     cells
         .iter()
@@ -57,7 +58,8 @@ pub fn shown_stamps(
     at: u64,
     len: u64,
 ) -> Result<Vec<Stamp>, AllocError>
-    ensures { IfOk result (λ stamps. stamps.items ≡ map (λ c. c.stamp) (take len (drop at (filter (shown rev) cells.now)))) }
+    ensures { IfOk result (λ stamps. stamps.items
+        ≡ map (λ c. c.stamp) (take len (drop at (filter (shown rev) cells.now)))) }
 {
     cells
         .iter()
@@ -76,7 +78,8 @@ pub fn shown_authors<'a>(
     rev: u64,
 ) -> Result<Vec<&'a Author>, AllocError>
     requires { AreKnown authors.now cells.now }
-    ensures { IfOk result (λ shown_by. map (λ author. author.now) shown_by.items ≡ map (λ c. author_at authors.now c.author) (filter (shown rev) cells.now)) }
+    ensures { IfOk result (λ shown_by. map (λ author. author.now) shown_by.items
+        ≡ map (λ c. author_at authors.now c.author) (filter (shown rev) cells.now)) }
 {
     let mut shown = Vec::new(alloc);
     for cell in cells {
@@ -96,7 +99,8 @@ pub fn greatest_counter(cells: &[PlainCell]) -> u64
 
 /// The greatest counter of a replica, or 0.
 pub fn greatest_counter_of(cells: &[PlainCell], replica: u16) -> u64
-    ensures { result ≡ fold (λ most c. if c.stamp.replica == replica then max most c.stamp.counter else most) 0 cells.now }
+    ensures { result ≡ fold (λ most c. if c.stamp.replica == replica then max most c.stamp.counter
+        else most) 0 cells.now }
 {
     cells.iter().fold(0, |most, c| {
         if c.stamp.replica() == replica {

@@ -23,7 +23,10 @@ use weight_tree::WeightTree;
 fn has_span(tree: &WeightTree<Block>, index: &IdentIndex, span: &Span) -> bool
     requires kept { IsKept index.now tree.now.items }
     requires checked { IsTrue (is_span span.now) }
-    ensures { (authors : List AuthorValue) (text : List ℕ) → AllByRecursion (IsWithin (length authors) (length text)) tree.now.items → result ≡ list_all (λ s. has_stamp character_of (cells_of authors text tree.now.items) s) (span_stamps span.now) }
+    ensures { (authors : List AuthorValue) (text : List ℕ)
+        → AllByRecursion (IsWithin (length authors) (length text)) tree.now.items
+        → result ≡ list_all (λ s. has_stamp character_of (cells_of authors text tree.now.items) s)
+        (span_stamps span.now) }
 {
     let mut done = 0;
     while done < span.len {
@@ -39,7 +42,9 @@ fn has_span(tree: &WeightTree<Block>, index: &IdentIndex, span: &Span) -> bool
 pub fn has_spans(tree: &WeightTree<Block>, index: &IdentIndex, spans: &[Span]) -> bool
     requires kept { IsKept index.now tree.now.items }
     requires checked { IsTrue (list_all is_span spans.now) }
-    ensures { (authors : List AuthorValue) (text : List ℕ) → AllByRecursion (IsWithin (length authors) (length text)) tree.now.items → result ≡ holds_spans character_of (cells_of authors text tree.now.items) spans.now }
+    ensures { (authors : List AuthorValue) (text : List ℕ)
+        → AllByRecursion (IsWithin (length authors) (length text)) tree.now.items
+        → result ≡ holds_spans character_of (cells_of authors text tree.now.items) spans.now }
 {
     for span in spans {
         if !has_span(tree, index, span) {

@@ -37,12 +37,14 @@ fn kill_from(
     ensures kept { IsKept index.now tree.new.items }
     ensures slid { IsSlid slides.new.items tree.new.items }
     ensures dated { AllByRecursion (IsDated rev) tree.new.items }
-    ensures spent { vec_len slides.new + live_blocks tree.new.items ≡ vec_len slides.old + live_blocks tree.old.items }
+    ensures spent { vec_len slides.new + live_blocks tree.new.items
+        ≡ vec_len slides.old + live_blocks tree.old.items }
     ensures one { vec_len slides.new ≤ vec_len slides.old + 1 }
     ensures capacity { vec_capacity slides.new ≡ vec_capacity slides.old }
     ensures some { 0 < result.len }
     ensures items { tree.new.items ≡ map (killed rev (span_from stamp result.len)) tree.old.items }
-    ensures hidden { result.hidden ≡ sum_by (hidden_len (span_from stamp result.len)) tree.old.items }
+    ensures hidden { result.hidden ≡ sum_by (hidden_len (span_from stamp result.len))
+        tree.old.items }
     ensures ends { IsEdge index.now (stamp_behind stamp result.len) }
     ensures whole { (k : ℕ) → 0 < k → k < result.len → IsEdge index.now (stamp_behind stamp k) → ⊥ }
 {
@@ -79,15 +81,19 @@ fn kill_span(
     requires cut { IsCutOut index.now span.now }
     requires slid { IsSlid slides.old.items tree.old.items }
     requires dated { AllByRecursion (IsDated rev) tree.old.items }
-    requires room { vec_len slides.old + min (live_blocks tree.old.items) span.now.len ≤ vec_capacity slides.old }
+    requires room { vec_len slides.old + min (live_blocks tree.old.items) span.now.len
+        ≤ vec_capacity slides.old }
     ensures kept { IsKept index.now tree.new.items }
     ensures slid { IsSlid slides.new.items tree.new.items }
     ensures dated { AllByRecursion (IsDated rev) tree.new.items }
-    ensures spent { vec_len slides.new + live_blocks tree.new.items ≡ vec_len slides.old + live_blocks tree.old.items }
+    ensures spent { vec_len slides.new + live_blocks tree.new.items
+        ≡ vec_len slides.old + live_blocks tree.old.items }
     ensures few { vec_len slides.new ≤ vec_len slides.old + span.now.len }
     ensures capacity { vec_capacity slides.new ≡ vec_capacity slides.old }
-    ensures items { tree.new.items ≡ map (killed rev (span_from span.now.first span.now.len)) tree.old.items }
-    ensures hidden { result ≡ sum_by (hidden_len (span_from span.now.first span.now.len)) tree.old.items }
+    ensures items { tree.new.items ≡ map (killed rev (span_from span.now.first span.now.len))
+        tree.old.items }
+    ensures hidden { result ≡ sum_by (hidden_len (span_from span.now.first span.now.len))
+        tree.old.items }
 {
     let mut hidden = 0;
     let mut done = 0;
@@ -113,7 +119,9 @@ pub fn kill_named(
     requires cut { AllByRecursion (IsCutOut index.now) spans.now }
     requires slid { IsSlid slides.old.items tree.old.items }
     requires dated { AllByRecursion (IsDated rev) tree.old.items }
-    requires room { 0 < length spans.now → vec_len slides.old + min (live_blocks tree.old.items) (named_len spans.now) ≤ vec_capacity slides.old }
+    requires room { 0 < length spans.now
+        → vec_len slides.old + min (live_blocks tree.old.items) (named_len spans.now)
+        ≤ vec_capacity slides.old }
     ensures kept { IsKept index.now tree.new.items }
     ensures slid { IsSlid slides.new.items tree.new.items }
     ensures items { tree.new.items ≡ map (killed rev spans.now) tree.old.items }

@@ -45,7 +45,8 @@ pub fn read_authors(
     requires within { AllByRecursion (IsWithin (length authors.now) text_len) tree.now.items }
     requires sized { AllByRecursion IsSized tree.now.items }
     requires small { sum_by (λ b. b.len) tree.now.items ≤ MAX_CHARACTERS }
-    ensures { IfOk result (λ runs. runs.items ≡ runs_of_authors (flat_map (shown_by rev authors.now) tree.now.items)) }
+    ensures { IfOk result (λ runs. runs.items
+        ≡ runs_of_authors (flat_map (shown_by rev authors.now) tree.now.items)) }
 {
     let mut runs = Vec::new(alloc);
     for block in tree.iter() {
@@ -84,7 +85,8 @@ fn view_at<'a>(block: &Block, text: &[char], authors: &'a [Author], offset: u64)
     requires sized { IsSized block.now }
     requires within { IsWithin (length authors.now) (length text.now) block.now }
     requires inside { offset < block.now.len }
-    ensures { IsViewOf (Some result) (slice_get (block_cells authors.now text.now block.now) offset) }
+    ensures { IsViewOf (Some result) (slice_get (block_cells authors.now text.now block.now)
+        offset) }
 {
     let parent = if offset == 0 {
         block.parent
@@ -109,7 +111,8 @@ pub fn find_cell<'a>(
     place: u64,
 ) -> Option<CellView<'a>>
     requires sized { AllByRecursion IsSized tree.now.items }
-    requires within { AllByRecursion (IsWithin (length authors.now) (length text.now)) tree.now.items }
+    requires within { AllByRecursion (IsWithin (length authors.now) (length text.now))
+        tree.now.items }
     ensures { IsViewOf result (slice_get (cells_of authors.now text.now tree.now.items) place) }
 {
     let mut left = place;

@@ -22,7 +22,9 @@ use weight_tree::WeightTree;
 fn one_fits(tree: &WeightTree<Block>, index: &IdentIndex, part: &Part) -> bool
     requires kept { IsKept index.now tree.now.items }
     requires checked { IsTrue (are_part_spans part.now) }
-    ensures { (authors : List AuthorValue) (text : List ℕ) → AllByRecursion (IsWithin (length authors) (length text)) tree.now.items → result ≡ part_fits character_of (cells_of authors text tree.now.items) part.now }
+    ensures { (authors : List AuthorValue) (text : List ℕ)
+        → AllByRecursion (IsWithin (length authors) (length text)) tree.now.items
+        → result ≡ part_fits character_of (cells_of authors text tree.now.items) part.now }
 {
     match part {
         Part::Insert(run) => run_fits(tree, index, run.first, run.after),
@@ -35,7 +37,10 @@ fn one_fits(tree: &WeightTree<Block>, index: &IdentIndex, part: &Part) -> bool
 pub fn parts_fit(tree: &WeightTree<Block>, index: &IdentIndex, parts: &[Part]) -> bool
     requires kept { IsKept index.now tree.now.items }
     requires checked { IsTrue (list_all are_part_spans parts.now) }
-    ensures { (authors : List AuthorValue) (text : List ℕ) → AllByRecursion (IsWithin (length authors) (length text)) tree.now.items → result ≡ list_all (part_fits character_of (cells_of authors text tree.now.items)) parts.now }
+    ensures { (authors : List AuthorValue) (text : List ℕ)
+        → AllByRecursion (IsWithin (length authors) (length text)) tree.now.items
+        → result ≡ list_all (part_fits character_of (cells_of authors text tree.now.items))
+        parts.now }
 {
     for part in parts {
         if !one_fits(tree, index, part) {
@@ -68,7 +73,8 @@ pub fn list_spans(alloc: Global, parts: &[Part]) -> Result<Vec<Span>, AllocError
 
 /// Adds the run that a part inserts.
 fn add_inserted<'a>(all: &mut Vec<&'a Run>, part: &'a Part) -> Result<(), AllocError>
-    ensures { OnOk result (map (λ run. run.now) all.new.items ≡ map (λ run. run.now) all.old.items ++ part_runs part.now) }
+    ensures { OnOk result (map (λ run. run.now) all.new.items
+        ≡ map (λ run. run.now) all.old.items ++ part_runs part.now) }
 {
     if let Part::Insert(run) = part {
         all.push(run)?;

@@ -71,7 +71,8 @@ pub fn find_visible(
 fn find_spot(row: PastRow<'_>, rev: u64, place: u64) -> Option<Spot>
     requires kept { IsKept row.index.now row.tree.now.items }
     requires slid { IsSlid row.slides.now row.tree.now.items }
-    ensures { MatchOption result (sum_by (shown_len rev) row.entry.tree.now.items ≤ place) (IsSeenAt rev row.entry.tree.now.items place) }
+    ensures { MatchOption result (sum_by (shown_len rev) row.entry.tree.now.items ≤ place)
+        (IsSeenAt rev row.entry.tree.now.items place) }
 {
     let stamp = find_visible(row.tree, row.slides, rev, place)?;
     find_block(row.tree, row.index, stamp)
@@ -87,7 +88,9 @@ pub fn read_spans(
 ) -> Result<Vec<Span>, AllocError>
     requires kept { IsKept row.index.now row.tree.now.items }
     requires slid { IsSlid row.slides.now row.tree.now.items }
-    ensures { IfOk result (λ spans. spans.items ≡ spans_of_stamps (take len (drop at (flat_map (shown_stamps rev) row.entry.tree.now.items)))) }
+    ensures { IfOk result (λ spans. spans.items
+        ≡ spans_of_stamps (take len (drop at
+        (flat_map (shown_stamps rev) row.entry.tree.now.items)))) }
 {
     let mut spans = Vec::new(alloc);
     let Some(spot) = find_spot(row, rev, at) else {
@@ -117,7 +120,9 @@ fn count_alive(tree: &WeightTree<Block>, spot: Spot) -> u64
     requires within { spot.rank < length tree.now.items }
     requires inside { spot.offset ≤ MAX_CHARACTERS }
     requires small { sum_by (λ b. b.len) tree.now.items ≤ MAX_CHARACTERS }
-    ensures { (b : BlockValue) → slice_get tree.now.items spot.rank ≡ Some b → result ≡ sum_by weight_of (take spot.rank tree.now.items) + (if is_none b.died then spot.offset else 0) }
+    ensures { (b : BlockValue) → slice_get tree.now.items spot.rank ≡ Some b
+        → result ≡ sum_by weight_of (take spot.rank tree.now.items)
+        + (if is_none b.died then spot.offset else 0) }
 {
     let front = tree.before(spot.rank);
     if tree.get(spot.rank).died.is_none() {
@@ -180,8 +185,10 @@ fn stood_before(row: PastRow<'_>, rev: u64, place: u64, spot: Spot) -> bool
     requires kept { IsKept row.index.now row.tree.now.items }
     requires slid { IsSlid row.slides.now row.tree.now.items }
     requires there { place < sum_by (shown_len rev) row.tree.now.items }
-    requires inside { (b : BlockValue) → slice_get row.tree.now.items spot.rank ≡ Some b → spot.offset ≤ b.len }
-    ensures { (b : BlockValue) → slice_get row.entry.tree.now.items spot.rank ≡ Some b → result ≡ nat_lt place (shown_front rev row.entry.tree.now.items spot.rank spot.offset b) }
+    requires inside { (b : BlockValue) → slice_get row.tree.now.items spot.rank ≡ Some b
+        → spot.offset ≤ b.len }
+    ensures { (b : BlockValue) → slice_get row.entry.tree.now.items spot.rank ≡ Some b
+        → result ≡ nat_lt place (shown_front rev row.entry.tree.now.items spot.rank spot.offset b) }
 {
     match find_spot(row, rev, place) {
         Some(found) => !is_at_most(spot, found),
@@ -196,8 +203,10 @@ pub fn count_front(row: PastRow<'_>, spot: Spot, rev: u64) -> u64
     requires slid { IsSlid row.slides.now row.tree.now.items }
     requires dated { AllByRecursion (IsDated row.latest) row.tree.now.items }
     requires within { spot.rank < length row.tree.now.items }
-    requires inside { (b : BlockValue) → slice_get row.tree.now.items spot.rank ≡ Some b → spot.offset ≤ b.len }
-    ensures { (b : BlockValue) → slice_get row.entry.tree.now.items spot.rank ≡ Some b → result ≡ shown_front rev row.entry.tree.now.items spot.rank spot.offset b }
+    requires inside { (b : BlockValue) → slice_get row.tree.now.items spot.rank ≡ Some b
+        → spot.offset ≤ b.len }
+    ensures { (b : BlockValue) → slice_get row.entry.tree.now.items spot.rank ≡ Some b
+        → result ≡ shown_front rev row.entry.tree.now.items spot.rank spot.offset b }
 {
     let alive = count_alive(row.tree, spot);
     if row.latest <= rev {

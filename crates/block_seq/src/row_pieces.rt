@@ -34,7 +34,8 @@ fn add_block(
 ) -> Result<(), AllocError>
     requires within { IsWithin (length authors.now) (length text.now) block.now }
     requires small { sum_by old_len pieces.old.items + block.now.len ≤ MAX_CHARACTERS }
-    ensures { OnOk result (pieces.new.items ≡ with_pieces pieces.old.items (block_pieces rev to authors.now text.now block.now)) }
+    ensures { OnOk result (pieces.new.items
+        ≡ with_pieces pieces.old.items (block_pieces rev to authors.now text.now block.now)) }
 {
     let stays = is_visible(block, to);
     if is_visible(block, rev) {
@@ -53,9 +54,12 @@ fn add_block(
 
 /// What stayed, what went and what came since a revision, by one walk along the blocks.
 fn walk_pieces(alloc: Global, row: KeptRow<'_>, rev: u64, to: u64) -> Result<Vec<Piece>, AllocError>
-    requires within { AllByRecursion (IsWithin (length row.authors.now) (length row.text.now)) row.tree.now.items }
+    requires within { AllByRecursion (IsWithin (length row.authors.now) (length row.text.now))
+        row.tree.now.items }
     requires small { sum_by (λ b. b.len) row.tree.now.items ≤ MAX_CHARACTERS }
-    ensures { IfOk result (λ pieces. pieces.items ≡ fewest (flat_map (block_pieces rev to row.entry.authors.now row.entry.text.now) row.entry.tree.now.items)) }
+    ensures { IfOk result (λ pieces. pieces.items
+        ≡ fewest (flat_map (block_pieces rev to row.entry.authors.now row.entry.text.now)
+        row.entry.tree.now.items)) }
 {
     let mut pieces = Vec::new(alloc);
     for block in row.tree.iter() {
@@ -76,7 +80,8 @@ fn add_ranks(
     requires within { AllByRecursion (λ r. r < length tree.now.items) ranks.old.items }
     ensures within { AllByRecursion (λ r. r < length tree.now.items) ranks.new.items }
     ensures more { OnOk result ((r : ℕ) → Contains ranks.old.items r → Contains ranks.new.items r) }
-    ensures there { OnOk result ((r : ℕ) (b : BlockValue) → slice_get tree.now.items r ≡ Some b → Covers slide.now.first slide.now.len b.first → Contains ranks.new.items r) }
+    ensures there { OnOk result ((r : ℕ) (b : BlockValue) → slice_get tree.now.items r ≡ Some b
+        → Covers slide.now.first slide.now.len b.first → Contains ranks.new.items r) }
 {
     let mut offset = 0;
     while offset < slide.len {
@@ -99,7 +104,8 @@ fn list_touched(
 ) -> Result<Vec<usize>, AllocError>
     requires kept { IsKept index.now tree.now.items }
     requires sized { AllByRecursion (λ s. s.first.counter + s.len ≤ MAX_COUNTER + 1) slides.now }
-    ensures within { IfOk result (λ ranks. AllByRecursion (λ r. r < length tree.now.items) ranks.items) }
+    ensures within { IfOk result (λ ranks. AllByRecursion (λ r. r < length tree.now.items)
+        ranks.items) }
     ensures touched { IfOk result (λ ranks. HasTouched slides.now tree.now.items ranks.items) }
     ensures sorted { IfOk result (λ ranks. IsNonDecreasing ranks.items) }
 {
@@ -120,8 +126,13 @@ fn add_untouched(
 ) -> Result<(), AllocError>
     requires order { from ≤ to }
     requires within { to ≤ length tree.now.items }
-    requires small { sum_by old_len pieces.old.items + (sum_by weight_of (take to tree.now.items) - sum_by weight_of (take from tree.now.items)) ≤ MAX_CHARACTERS }
-    ensures { OnOk result (pieces.new.items ≡ with_pieces pieces.old.items (kept_pieces (sum_by weight_of (take to tree.now.items) - sum_by weight_of (take from tree.now.items)))) }
+    requires small { sum_by old_len pieces.old.items
+        + (sum_by weight_of (take to tree.now.items) - sum_by weight_of (take from tree.now.items))
+        ≤ MAX_CHARACTERS }
+    ensures { OnOk result (pieces.new.items
+        ≡ with_pieces pieces.old.items (kept_pieces
+        (sum_by weight_of (take to tree.now.items)
+        - sum_by weight_of (take from tree.now.items)))) }
 {
     let kept = tree.before(to) - tree.before(from);
     if kept == 0 {
@@ -140,8 +151,11 @@ fn read_pieces(
 ) -> Result<Vec<Piece>, AllocError>
     requires kept { IsKept row.index.now row.tree.now.items }
     requires slid { IsSlid slides.now row.tree.now.items }
-    requires within { AllByRecursion (IsWithin (length row.authors.now) (length row.text.now)) row.tree.now.items }
-    ensures { IfOk result (λ pieces. pieces.items ≡ fewest (flat_map (block_pieces rev to row.entry.authors.now row.entry.text.now) row.entry.tree.now.items)) }
+    requires within { AllByRecursion (IsWithin (length row.authors.now) (length row.text.now))
+        row.tree.now.items }
+    ensures { IfOk result (λ pieces. pieces.items
+        ≡ fewest (flat_map (block_pieces rev to row.entry.authors.now row.entry.text.now)
+        row.entry.tree.now.items)) }
 {
     let recent = since(slides, rev.min(to));
     row.index.note_sound();
@@ -171,8 +185,11 @@ pub fn list_pieces(
 ) -> Result<Vec<Piece>, AllocError>
     requires kept { IsKept row.index.now row.tree.now.items }
     requires slid { IsSlid slides.now row.tree.now.items }
-    requires within { AllByRecursion (IsWithin (length row.authors.now) (length row.text.now)) row.tree.now.items }
-    ensures { IfOk result (λ pieces. pieces.items ≡ fewest (flat_map (block_pieces rev to row.entry.authors.now row.entry.text.now) row.entry.tree.now.items)) }
+    requires within { AllByRecursion (IsWithin (length row.authors.now) (length row.text.now))
+        row.tree.now.items }
+    ensures { IfOk result (λ pieces. pieces.items
+        ≡ fewest (flat_map (block_pieces rev to row.entry.authors.now row.entry.text.now)
+        row.entry.tree.now.items)) }
 {
     if since(slides, rev.min(to)).len() < row.tree.len() / 8 {
         read_pieces(alloc, row, slides, rev, to)

@@ -51,7 +51,8 @@ pub fn read_text(
     rev: u64,
 ) -> Result<Vec<char>, AllocError>
     requires { AllByRecursion (IsWithin authors (length text.now)) tree.now.items }
-    ensures { IfOk result (λ shown. shown.items ≡ flat_map (shown_stretch rev text.now) tree.now.items) }
+    ensures { IfOk result (λ shown. shown.items
+        ≡ flat_map (shown_stretch rev text.now) tree.now.items) }
 {
     let mut shown = Vec::new(alloc);
     for block in tree.iter() {
@@ -62,7 +63,8 @@ pub fn read_text(
 
 /// Whether one spot is another or stands before it.
 pub fn is_at_most(first: Spot, last: Spot) -> bool
-    ensures { result ≡ (nat_lt first.rank last.rank || (first.rank == last.rank && nat_le first.offset last.offset)) }
+    ensures { result ≡ (nat_lt first.rank last.rank
+        || (first.rank == last.rank && nat_le first.offset last.offset)) }
 {
     first.rank < last.rank || (first.rank == last.rank && first.offset <= last.offset)
 }

@@ -31,8 +31,10 @@ impl BlockSeq {
         ensures full { length result.text.now ≡ sum_by (λ b. b.len) result.tree.now.items }
         ensures items { result.tree.now.items ≡ self.now.tree }
         ensures blocks { length result.tree.now.items ≡ self.now.blocks }
-        ensures cells { cells_of result.authors.now result.text.now result.tree.now.items ≡ self.now.cells }
-        ensures within { AllByRecursion (IsWithin (length result.authors.now) (length result.text.now)) result.tree.now.items }
+        ensures cells { cells_of result.authors.now result.text.now result.tree.now.items
+            ≡ self.now.cells }
+        ensures within { AllByRecursion (IsWithin (length result.authors.now)
+            (length result.text.now)) result.tree.now.items }
         ensures once { IsDistinct same_author result.authors.now }
     {
         KeptRow {
@@ -70,7 +72,8 @@ impl BlockSeq {
 
     /// How many blocks there are. An edit adds at most two for each insertion and each span of a deletion.
     pub fn blocks(&self) -> u64
-        ensures row { (m : Index) × (bs : List BlockValue) × IsRowOf self.now.cells m bs × (result ≡ length bs) }
+        ensures row { (m : Index) × (bs : List BlockValue) × IsRowOf self.now.cells m bs
+            × (result ≡ length bs) }
         ensures number { result ≡ self.now.blocks }
     {
         self.tree.len() as u64

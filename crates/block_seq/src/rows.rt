@@ -60,7 +60,8 @@ impl Model for BlockSeq {
 
     ghost view = { λ s. cells_in s.authors.items s.text.items s.tree.items s.respaced };
 
-    ghost invariant = { λ s. IsAuthoredRow s.latest s.clock s.authors.items s.text.items s.slides.items s.index s.tree.items };
+    ghost invariant = { λ s. IsAuthoredRow s.latest s.clock s.authors.items s.text.items
+        s.slides.items s.index s.tree.items };
 }
 
 impl BlockSeq {
@@ -76,16 +77,26 @@ impl BlockSeq {
         requires spans { IsTrue (list_all is_span spans.now) }
         requires there { IsTrue (holds_spans character_of self.old.cells spans.now) }
         requires runs { IsTrue (list_all (λ run. is_run author.now.origin run.now) runs.now) }
-        requires fit { IsTrue (list_all (λ run. run_may_join character_of self.old.cells run.now.first run.now.after) runs.now) }
+        requires fit { IsTrue (list_all (λ run. run_may_join character_of self.old.cells
+            run.now.first run.now.after) runs.now) }
         requires join { AllJoin rev author.now self.old.cells (map (λ run. run.now) runs.now) }
-        requires room { length self.old.cells + sum_by (λ run. length run.now.text) runs.now ≤ MAX_CHARACTERS }
+        requires room { length self.old.cells + sum_by (λ run. length run.now.text) runs.now
+            ≤ MAX_CHARACTERS }
         requires latest { AllByRecursion (IsBy rev) self.old.cells }
-        ensures answers { Answers self.old.cells (Ok (count_by (is_hidden_by spans.now) self.old.cells), with_all rev author.now (without_spans rev spans.now self.old.cells) (map (λ run. run.now) runs.now)) result self.new.cells }
-        ensures rises { self.new.blocks ≤ self.old.blocks + 2 * (length runs.now + length spans.now) }
-        ensures labelled { OnOk result (Labelled self.old.tree self.old.respaced self.new.tree self.new.respaced) }
-        ensures undone { OnErr result (IsUndone self.old.tree self.old.respaced self.new.tree self.new.respaced) }
+        ensures answers { Answers self.old.cells (
+          Ok (count_by (is_hidden_by spans.now) self.old.cells),
+          with_all rev author.now (without_spans rev spans.now self.old.cells)
+              (map (λ run. run.now) runs.now),
+        ) result self.new.cells }
+        ensures rises { self.new.blocks ≤ self.old.blocks
+            + 2 * (length runs.now + length spans.now) }
+        ensures labelled { OnOk result (Labelled self.old.tree self.old.respaced self.new.tree
+            self.new.respaced) }
+        ensures undone { OnErr result (IsUndone self.old.tree self.old.respaced self.new.tree
+            self.new.respaced) }
         ensures counts { self.old.respaced ≤ self.new.respaced }
-        ensures few { self.new.respaced ≤ self.old.respaced + 2 * (length runs.now + length spans.now) }
+        ensures few { self.new.respaced ≤ self.old.respaced
+            + 2 * (length runs.now + length spans.now) }
     {
         let counted = &mut self.respaced;
         cut_spans(alloc, &mut self.tree, &mut self.index, counted, spans)?;
@@ -119,13 +130,17 @@ impl BlockSeq {
     /// Puts a run at its place in the preorder, or changes nothing.
     fn put(&mut self, alloc: Global, run: &Run, author: &Author, rev: u64) -> Result<(), Refusal>
         requires run { IsTrue (is_run author.now.origin run.now) }
-        requires fits { IsTrue (run_may_join character_of self.old.cells run.now.first run.now.after) }
+        requires fits { IsTrue (run_may_join character_of self.old.cells run.now.first
+            run.now.after) }
         requires room { length self.old.cells + length run.now.text ≤ MAX_CHARACTERS }
         requires latest { AllByRecursion (IsBy rev) self.old.cells }
-        ensures answers { Answers self.old.cells (Ok tt, with_run rev run.now author.now self.old.cells) result self.new.cells }
+        ensures answers { Answers self.old.cells
+            (Ok tt, with_run rev run.now author.now self.old.cells) result self.new.cells }
         ensures rises { self.new.blocks ≤ self.old.blocks + 2 }
-        ensures labelled { OnOk result (Labelled self.old.tree self.old.respaced self.new.tree self.new.respaced) }
-        ensures undone { OnErr result (IsUndone self.old.tree self.old.respaced self.new.tree self.new.respaced) }
+        ensures labelled { OnOk result (Labelled self.old.tree self.old.respaced self.new.tree
+            self.new.respaced) }
+        ensures undone { OnErr result (IsUndone self.old.tree self.old.respaced self.new.tree
+            self.new.respaced) }
         ensures counts { self.old.respaced ≤ self.new.respaced }
         ensures few { self.new.respaced ≤ self.old.respaced + 2 }
     {
@@ -138,10 +153,15 @@ impl BlockSeq {
         requires checked { IsTrue (list_all is_span spans.now) }
         requires there { IsTrue (holds_spans character_of self.old.cells spans.now) }
         requires latest { AllByRecursion (IsBy rev) self.old.cells }
-        ensures answers { Answers self.old.cells (Ok (count_by (is_hidden_by spans.now) self.old.cells), without_spans rev spans.now self.old.cells) result self.new.cells }
+        ensures answers { Answers self.old.cells (
+          Ok (count_by (is_hidden_by spans.now) self.old.cells),
+          without_spans rev spans.now self.old.cells,
+        ) result self.new.cells }
         ensures rises { self.new.blocks ≤ self.old.blocks + 2 * length spans.now }
-        ensures labelled { OnOk result (Labelled self.old.tree self.old.respaced self.new.tree self.new.respaced) }
-        ensures undone { OnErr result (IsUndone self.old.tree self.old.respaced self.new.tree self.new.respaced) }
+        ensures labelled { OnOk result (Labelled self.old.tree self.old.respaced self.new.tree
+            self.new.respaced) }
+        ensures undone { OnErr result (IsUndone self.old.tree self.old.respaced self.new.tree
+            self.new.respaced) }
         ensures counts { self.old.respaced ≤ self.new.respaced }
         ensures few { self.new.respaced ≤ self.old.respaced + 2 * length spans.now }
     {
@@ -183,10 +203,13 @@ impl Sequence for BlockSeq {
     ) -> Result<(), Refusal>
         requires checked { IsTrue (is_run author.now.origin run.now) }
         requires latest { AllByRecursion (IsBy rev) self.old.cells }
-        ensures answers { Answers self.old.cells (insert_cells rev run.now author.now self.old.cells) result self.new.cells }
+        ensures answers { Answers self.old.cells
+            (insert_cells rev run.now author.now self.old.cells) result self.new.cells }
         ensures rises { self.new.blocks ≤ self.old.blocks + 2 }
-        ensures labelled { OnOk result (Labelled self.old.tree self.old.respaced self.new.tree self.new.respaced) }
-        ensures undone { OnErr result (IsUndone self.old.tree self.old.respaced self.new.tree self.new.respaced) }
+        ensures labelled { OnOk result (Labelled self.old.tree self.old.respaced self.new.tree
+            self.new.respaced) }
+        ensures undone { OnErr result (IsUndone self.old.tree self.old.respaced self.new.tree
+            self.new.respaced) }
         ensures counts { self.old.respaced ≤ self.new.respaced }
         ensures few { self.new.respaced ≤ self.old.respaced + 2 }
     {
@@ -202,10 +225,13 @@ impl Sequence for BlockSeq {
     fn delete_spans(&mut self, spans: &[Span], rev: u64) -> Result<u64, Refusal>
         requires checked { IsTrue (list_all is_span spans.now) }
         requires latest { AllByRecursion (IsBy rev) self.old.cells }
-        ensures answers { Answers self.old.cells (delete_cells rev spans.now self.old.cells) result self.new.cells }
+        ensures answers { Answers self.old.cells (delete_cells rev spans.now self.old.cells) result
+            self.new.cells }
         ensures rises { self.new.blocks ≤ self.old.blocks + 2 * length spans.now }
-        ensures labelled { OnOk result (Labelled self.old.tree self.old.respaced self.new.tree self.new.respaced) }
-        ensures undone { OnErr result (IsUndone self.old.tree self.old.respaced self.new.tree self.new.respaced) }
+        ensures labelled { OnOk result (Labelled self.old.tree self.old.respaced self.new.tree
+            self.new.respaced) }
+        ensures undone { OnErr result (IsUndone self.old.tree self.old.respaced self.new.tree
+            self.new.respaced) }
         ensures counts { self.old.respaced ≤ self.new.respaced }
         ensures few { self.new.respaced ≤ self.old.respaced + 2 * length spans.now }
     {
@@ -226,10 +252,13 @@ impl Sequence for BlockSeq {
         requires checked { IsTrue (are_parts author.now.origin parts.now) }
         requires edits { IsTrue (list_all is_edit parts.now) }
         requires latest { AllByRecursion (IsBy rev) self.old.cells }
-        ensures answers { Answers self.old.cells (apply_parts rev parts.now author.now self.old.cells) result self.new.cells }
+        ensures answers { Answers self.old.cells
+            (apply_parts rev parts.now author.now self.old.cells) result self.new.cells }
         ensures rises { self.new.blocks ≤ self.old.blocks + 2 * count_changes parts.now }
-        ensures labelled { OnOk result (Labelled self.old.tree self.old.respaced self.new.tree self.new.respaced) }
-        ensures undone { OnErr result (IsUndone self.old.tree self.old.respaced self.new.tree self.new.respaced) }
+        ensures labelled { OnOk result (Labelled self.old.tree self.old.respaced self.new.tree
+            self.new.respaced) }
+        ensures undone { OnErr result (IsUndone self.old.tree self.old.respaced self.new.tree
+            self.new.respaced) }
         ensures counts { self.old.respaced ≤ self.new.respaced }
         ensures few { self.new.respaced ≤ self.old.respaced + 2 * count_changes parts.now }
     {

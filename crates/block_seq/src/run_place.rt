@@ -21,7 +21,9 @@ use weight_tree::WeightTree;
 /// Whether a character is there.
 pub fn has_character(tree: &WeightTree<Block>, index: &IdentIndex, stamp: Stamp) -> bool
     requires { IsKept index.now tree.now.items }
-    ensures { (authors : List AuthorValue) (text : List ℕ) → AllByRecursion (IsWithin (length authors) (length text)) tree.now.items → result ≡ has_stamp character_of (cells_of authors text tree.now.items) stamp }
+    ensures { (authors : List AuthorValue) (text : List ℕ)
+        → AllByRecursion (IsWithin (length authors) (length text)) tree.now.items
+        → result ≡ has_stamp character_of (cells_of authors text tree.now.items) stamp }
 {
     find_block(tree, index, stamp).is_some()
 }
@@ -34,7 +36,10 @@ fn hangs_below(
     counter: u64,
 ) -> bool
     requires { IsKept index.now tree.now.items }
-    ensures { (authors : List AuthorValue) (text : List ℕ) → AllByRecursion (IsWithin (length authors) (length text)) tree.now.items → result ≡ (has_parent character_of (cells_of authors text tree.now.items) parent && nat_lt (counter_of parent) counter) }
+    ensures { (authors : List AuthorValue) (text : List ℕ)
+        → AllByRecursion (IsWithin (length authors) (length text)) tree.now.items
+        → result ≡ (has_parent character_of (cells_of authors text tree.now.items) parent
+        && nat_lt (counter_of parent) counter) }
 {
     match parent {
         None => counter > 0,
@@ -45,7 +50,10 @@ fn hangs_below(
 /// Whether all characters of a stamp's replica have smaller counters.
 fn is_above(tree: &WeightTree<Block>, index: &IdentIndex, first: Stamp) -> bool
     requires { IsKept index.now tree.now.items }
-    ensures { (authors : List AuthorValue) (text : List ℕ) → AllByRecursion (IsWithin (length authors) (length text)) tree.now.items → result ≡ list_all (λ c. not (c.stamp.replica == first.replica) || nat_lt c.stamp.counter first.counter) (cells_of authors text tree.now.items) }
+    ensures { (authors : List AuthorValue) (text : List ℕ)
+        → AllByRecursion (IsWithin (length authors) (length text)) tree.now.items
+        → result ≡ list_all (λ c. not (c.stamp.replica == first.replica)
+        || nat_lt c.stamp.counter first.counter) (cells_of authors text tree.now.items) }
 {
     let _kept = tree.len();
     let counter = first.counter();
@@ -60,7 +68,9 @@ pub fn run_fits(
     parent: Option<Stamp>,
 ) -> bool
     requires { IsKept index.now tree.now.items }
-    ensures { (authors : List AuthorValue) (text : List ℕ) → AllByRecursion (IsWithin (length authors) (length text)) tree.now.items → result ≡ run_may_join character_of (cells_of authors text tree.now.items) first parent }
+    ensures { (authors : List AuthorValue) (text : List ℕ)
+        → AllByRecursion (IsWithin (length authors) (length text)) tree.now.items
+        → result ≡ run_may_join character_of (cells_of authors text tree.now.items) first parent }
 {
     hangs_below(tree, index, parent, first.counter()) && is_above(tree, index, first)
 }
@@ -116,11 +126,13 @@ pub fn cut_parents(
     runs: &[&Run],
 ) -> Result<(), Refusal>
     requires kept { IsKept index.old tree.old.items }
-    requires later { AllByRecursion (λ run. counter_of run.now.after < run.now.first.counter) runs.now }
+    requires later { AllByRecursion (λ run. counter_of run.now.after < run.now.first.counter)
+        runs.now }
     ensures kept { IsKept index.new tree.new.items }
     ensures cells { SameCells tree.old.items tree.new.items }
     ensures edges { KeepsEdges index.old index.new }
-    ensures cut { OnOk result (AllByRecursion (λ run. IsCutBehind index.new run.now.after) runs.now) }
+    ensures cut { OnOk result (AllByRecursion (λ run. IsCutBehind index.new run.now.after)
+        runs.now) }
     ensures memory { IfErr result (λ e. e ≡ Refusal.Memory) }
     ensures more { length tree.new.items ≤ length tree.old.items + length runs.now }
     ensures labelled { Labelled tree.old.items respacings.old tree.new.items respacings.new }
@@ -137,7 +149,10 @@ pub fn cut_parents(
 fn rank_behind(tree: &WeightTree<Block>, index: &IdentIndex, stamp: Stamp) -> usize
     requires kept { IsKept index.now tree.now.items }
     requires cut { IsEdge index.now (stamp_behind stamp 1) }
-    ensures behind { (authors : List AuthorValue) (text : List ℕ) → AllByRecursion (IsWithin (length authors) (length text)) tree.now.items → has_stamp character_of (cells_of authors text tree.now.items) stamp ≡ true → IsBehind tree.now.items stamp result }
+    ensures behind { (authors : List AuthorValue) (text : List ℕ)
+        → AllByRecursion (IsWithin (length authors) (length text)) tree.now.items
+        → has_stamp character_of (cells_of authors text tree.now.items) stamp ≡ true
+        → IsBehind tree.now.items stamp result }
     ensures within { result ≤ length tree.now.items }
 {
     match find_block(tree, index, stamp) {
@@ -150,7 +165,10 @@ fn rank_behind(tree: &WeightTree<Block>, index: &IdentIndex, stamp: Stamp) -> us
 fn start_run(tree: &WeightTree<Block>, index: &IdentIndex, parent: Option<Stamp>) -> usize
     requires kept { IsKept index.now tree.now.items }
     requires cut { IsCutBehind index.now parent }
-    ensures start { (authors : List AuthorValue) (text : List ℕ) → AllByRecursion (IsWithin (length authors) (length text)) tree.now.items → has_parent character_of (cells_of authors text tree.now.items) parent ≡ true → StartsAt parent tree.now.items result }
+    ensures start { (authors : List AuthorValue) (text : List ℕ)
+        → AllByRecursion (IsWithin (length authors) (length text)) tree.now.items
+        → has_parent character_of (cells_of authors text tree.now.items) parent ≡ true
+        → StartsAt parent tree.now.items result }
     ensures within { result ≤ length tree.now.items }
 {
     match parent {
@@ -168,7 +186,10 @@ pub fn find_place(
 ) -> usize
     requires kept { IsKept index.now tree.now.items }
     requires cut { IsCutBehind index.now parent }
-    ensures place { (authors : List AuthorValue) (text : List ℕ) → AllByRecursion (IsWithin (length authors) (length text)) tree.now.items → has_parent character_of (cells_of authors text tree.now.items) parent ≡ true → IsPlaceFor parent first tree.now.items result }
+    ensures place { (authors : List AuthorValue) (text : List ℕ)
+        → AllByRecursion (IsWithin (length authors) (length text)) tree.now.items
+        → has_parent character_of (cells_of authors text tree.now.items) parent ≡ true
+        → IsPlaceFor parent first tree.now.items result }
     ensures within { result ≤ length tree.now.items }
 {
     scan_blocks(tree, start_run(tree, index, parent), first)

@@ -45,27 +45,40 @@ fn put_run(
     run: &Run,
     batch: &Batch,
 ) -> Result<usize, Refusal>
-    requires row { IsSlidRow batch.now.rev batch.now.clock batch.now.authors.now text.old.items slides.old.items index.old tree.old.items }
+    requires row { IsSlidRow batch.now.rev batch.now.clock batch.now.authors.now text.old.items
+        slides.old.items index.old tree.old.items }
     requires author { batch.now.author < length batch.now.authors.now }
-    requires run { IsTrue (is_run (author_at batch.now.authors.now batch.now.author).origin run.now) }
-    requires fits { IsTrue (run_may_join character_of (cells_of batch.now.authors.now text.old.items tree.old.items) run.now.first run.now.after) }
+    requires run { IsTrue (is_run (author_at batch.now.authors.now batch.now.author).origin
+        run.now) }
+    requires fits { IsTrue (run_may_join character_of
+        (cells_of batch.now.authors.now text.old.items tree.old.items) run.now.first
+        run.now.after) }
     requires cut { IsCutBehind index.old run.now.after }
-    requires room { length (cells_of batch.now.authors.now text.old.items tree.old.items) + length run.now.text ≤ MAX_CHARACTERS }
+    requires room { length (cells_of batch.now.authors.now text.old.items tree.old.items)
+        + length run.now.text ≤ MAX_CHARACTERS }
     requires text { vec_len text.old + length run.now.text ≤ vec_capacity text.old }
     requires slides { vec_len slides.old < vec_capacity slides.old }
-    ensures row { OnOk result (IsSlidRow batch.now.rev (max batch.now.clock (run.now.first.counter + (length run.now.text - 1))) batch.now.authors.now text.new.items slides.new.items index.new tree.new.items) }
-    ensures cells { OnOk result (cells_of batch.now.authors.now text.new.items tree.new.items ≡ with_run batch.now.rev run.now (author_at batch.now.authors.now batch.now.author) (cells_of batch.now.authors.now text.old.items tree.old.items)) }
-    ensures edges { OnOk result ((s : StampValue) → IsEdge index.old s → (Covers run.now.first (length run.now.text) s → run.now.first ≡ s) → IsEdge index.new s) }
+    ensures row { OnOk result (IsSlidRow batch.now.rev
+        (max batch.now.clock (run.now.first.counter + (length run.now.text - 1)))
+        batch.now.authors.now text.new.items slides.new.items index.new tree.new.items) }
+    ensures cells { OnOk result (cells_of batch.now.authors.now text.new.items tree.new.items
+        ≡ with_run batch.now.rev run.now (author_at batch.now.authors.now batch.now.author)
+        (cells_of batch.now.authors.now text.old.items tree.old.items)) }
+    ensures edges { OnOk result ((s : StampValue) → IsEdge index.old s
+        → (Covers run.now.first (length run.now.text) s → run.now.first ≡ s) → IsEdge index.new s) }
     ensures within { IfOk result (λ rank. rank < length (without_labels tree.new.items)) }
-    ensures block { IfOk result (λ rank. remove (without_labels tree.new.items) rank ≡ without_labels tree.old.items) }
+    ensures block { IfOk result (λ rank. remove (without_labels tree.new.items) rank
+        ≡ without_labels tree.old.items) }
     ensures text { OnOk result (text.new.items ≡ text.old.items ++ run.now.text) }
     ensures text_capacity { vec_capacity text.new ≡ vec_capacity text.old }
-    ensures slide { OnOk result (take (length slides.old.items) slides.new.items ≡ slides.old.items) }
+    ensures slide { OnOk result (take (length slides.old.items) slides.new.items
+        ≡ slides.old.items) }
     ensures one_slide { OnOk result (vec_len slides.new ≡ vec_len slides.old + 1) }
     ensures slides_capacity { vec_capacity slides.new ≡ vec_capacity slides.old }
     ensures live { OnOk result (live_blocks tree.new.items ≤ live_blocks tree.old.items + 1) }
     ensures kept { IsKept index.new tree.new.items }
-    ensures same_blocks { OnErr result (without_labels tree.new.items ≡ without_labels tree.old.items) }
+    ensures same_blocks { OnErr result
+        (without_labels tree.new.items ≡ without_labels tree.old.items) }
     ensures same_text { OnErr result (text.new.items ≡ text.old.items) }
     ensures same_slides { OnErr result (slides.new.items ≡ slides.old.items) }
     ensures labelled { Labelled tree.old.items respacings.old tree.new.items respacings.new }
@@ -97,7 +110,8 @@ fn take_blocks(tree: &mut WeightTree<Block>, index: &mut IdentIndex, ranks: &[us
     requires kept { IsKept index.old tree.old.items }
     requires ranks { AreRanks (without_labels tree.old.items) ranks.now }
     ensures kept { IsKept index.new tree.new.items }
-    ensures taken { without_labels tree.new.items ≡ without_ranks (without_labels tree.old.items) ranks.now }
+    ensures taken { without_labels tree.new.items
+        ≡ without_ranks (without_labels tree.old.items) ranks.now }
     ensures labels { KeepsLabels tree.new.items tree.old.items }
 {
     let mut left = ranks.len();
@@ -118,24 +132,39 @@ pub fn put_runs(
     runs: &[&Run],
     batch: &Batch,
 ) -> Result<u64, Refusal>
-    requires row { IsSlidRow batch.now.rev batch.now.clock batch.now.authors.now text.old.items slides.old.items index.old tree.old.items }
+    requires row { IsSlidRow batch.now.rev batch.now.clock batch.now.authors.now text.old.items
+        slides.old.items index.old tree.old.items }
     requires author { batch.now.author < length batch.now.authors.now }
-    requires runs { MayPut batch.now.rev (author_at batch.now.authors.now batch.now.author) (cells_of batch.now.authors.now text.old.items tree.old.items) index.old (map (λ run. run.now) runs.now) }
-    requires text { vec_len text.old + sum_by (λ run. length run.now.text) runs.now ≤ vec_capacity text.old }
+    requires runs { MayPut batch.now.rev (author_at batch.now.authors.now batch.now.author)
+        (cells_of batch.now.authors.now text.old.items tree.old.items) index.old
+        (map (λ run. run.now) runs.now) }
+    requires text { vec_len text.old + sum_by (λ run. length run.now.text) runs.now
+        ≤ vec_capacity text.old }
     requires slides { vec_len slides.old + length runs.now ≤ vec_capacity slides.old }
-    ensures row { IfOk result (λ clock. IsSlidRow batch.now.rev clock batch.now.authors.now text.new.items slides.new.items index.new tree.new.items) }
-    ensures cells { OnOk result (cells_of batch.now.authors.now text.new.items tree.new.items ≡ with_all batch.now.rev (author_at batch.now.authors.now batch.now.author) (cells_of batch.now.authors.now text.old.items tree.old.items) (map (λ run. run.now) runs.now)) }
-    ensures cut { (spans : List SpanValue) → holds_spans character_of (cells_of batch.now.authors.now text.old.items tree.old.items) spans ≡ true → list_all is_span spans ≡ true → AllByRecursion (IsCutOut index.old) spans → OnOk result (AllByRecursion (IsCutOut index.new) spans) }
+    ensures row { IfOk result (λ clock. IsSlidRow batch.now.rev clock batch.now.authors.now
+        text.new.items slides.new.items index.new tree.new.items) }
+    ensures cells { OnOk result (cells_of batch.now.authors.now text.new.items tree.new.items
+        ≡ with_all batch.now.rev (author_at batch.now.authors.now batch.now.author)
+        (cells_of batch.now.authors.now text.old.items tree.old.items)
+        (map (λ run. run.now) runs.now)) }
+    ensures cut { (spans : List SpanValue)
+        → holds_spans character_of (cells_of batch.now.authors.now text.old.items tree.old.items)
+        spans ≡ true → list_all is_span spans ≡ true → AllByRecursion (IsCutOut index.old) spans
+        → OnOk result (AllByRecursion (IsCutOut index.new) spans) }
     ensures slides { OnOk result (vec_len slides.new ≡ vec_len slides.old + length runs.now) }
     ensures capacity { vec_capacity slides.new ≡ vec_capacity slides.old }
-    ensures live { OnOk result (live_blocks tree.new.items ≤ live_blocks tree.old.items + length runs.now) }
+    ensures live { OnOk result (live_blocks tree.new.items
+        ≤ live_blocks tree.old.items + length runs.now) }
     ensures more { length tree.new.items ≤ length tree.old.items + length runs.now }
     ensures kept { IsKept index.new tree.new.items }
-    ensures same_blocks { OnErr result (without_labels tree.new.items ≡ without_labels tree.old.items) }
+    ensures same_blocks { OnErr result
+        (without_labels tree.new.items ≡ without_labels tree.old.items) }
     ensures same_text { OnErr result (text.new.items ≡ text.old.items) }
     ensures same_slides { OnErr result (slides.new.items ≡ slides.old.items) }
-    ensures labelled { OnOk result (Labelled tree.old.items respacings.old tree.new.items respacings.new) }
-    ensures undone { OnErr result (IsUndone tree.old.items respacings.old tree.new.items respacings.new) }
+    ensures labelled { OnOk result (Labelled tree.old.items respacings.old tree.new.items
+        respacings.new) }
+    ensures undone { OnErr result (IsUndone tree.old.items respacings.old tree.new.items
+        respacings.new) }
     ensures counts { respacings.old ≤ respacings.new }
     ensures few { respacings.new ≤ respacings.old + length runs.now }
     ensures memory { IfErr result (λ e. e ≡ Refusal.Memory) }

@@ -19,7 +19,8 @@ fn count_same(authors: &[&Author], author: &Author) -> usize
 
 /// The author runs of a list of authors.
 pub fn runs_of(alloc: Global, authors: &[&Author]) -> Result<Vec<AuthorRun>, AllocError>
-    ensures { IfOk result (λ runs. runs.items ≡ runs_of_authors (map (λ author. author.now) authors.now)) }
+    ensures { IfOk result (λ runs. runs.items
+        ≡ runs_of_authors (map (λ author. author.now) authors.now)) }
 {
     let mut runs = Vec::new(alloc);
     let mut place = 0;

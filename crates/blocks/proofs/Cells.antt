@@ -1,4 +1,4 @@
--- The cells of blocks after a cut and under other labels.
+-- The cells of blocks after a cut, and with other labels.
 use Rattle.std.proofs.Common.{◌≡◌, ℕ, zero, suc, ◌+◌, ◌-◌, ◌≤◌, ◌<◌, List, [], ◌∷◌, ◌++◌, length, take, drop, Option}
 use Rattle.std.proofs.Common.{Some, refl, sym, ap, ap₂, ◌∙◌, subst, arith, slice_get, slice_set, append_assoc}
 use Rattle.std.proofs.Common.{length-take, length-drop}
@@ -103,7 +103,7 @@ cells-cut authors text (x ∷ bs) (suc i) b offset label zero w e lo hi is = abs
 cells-cut authors text (x ∷ bs) (suc i) b offset label (suc j) w e lo hi is =
     ap (λ l. block_cells authors text x ++ l) (cells-cut authors text bs i b offset label j w.1 e lo hi (omega arith))
 
--- labels are no part of cells
+-- cells do not depend on labels
 pub cells-without_labels : (authors : List Author) (text : List ℕ) (bs : List Block) →
     cells_of authors text (without_labels bs) ≡ cells_of authors text bs
 cells-without_labels authors text [] = refl
@@ -137,12 +137,12 @@ same_then old mid new a b = record {
 pub same_itself : (bs : List Block) → SameCells bs bs
 same_itself bs = record { within = λ authors text w. w; cells = λ authors text w. refl }
 
--- lengths under other labels
+-- lengths with other labels
 pub length-without_labels : (bs : List Block) → length (without_labels bs) ≡ length bs
 length-without_labels [] = refl
 length-without_labels (b ∷ bs) = ap suc (length-without_labels bs)
 
--- the block at a rank, under another label
+-- the block at a rank, with another label
 pub unlabelled_at : (old new : List Block) (i : ℕ) (b : Block) → without_labels new ≡ without_labels old →
     slice_get old i ≡ Some b → (c : Block) × (slice_get new i ≡ Some c) × (unlabelled c ≡ unlabelled b)
 unlabelled_at [] new i b e h = absurd (cc)
@@ -155,7 +155,7 @@ unlabelled_at (x ∷ old) (y ∷ new) (suc i) b e h =
     let tail : without_labels new ≡ without_labels old = cc in
     unlabelled_at old new i b tail h
 
--- the parts of a block are in the lists where it is
+-- the parts of a block are within the lists if it is
 pub within_cut : (authors text : ℕ) (bs : List Block) (i j : ℕ) (b : Block) (offset label : ℕ) →
     AllByRecursion (IsWithin authors text) bs → slice_get bs i ≡ Some b → offset ≤ b.len
     → AllByRecursion (IsWithin authors text)

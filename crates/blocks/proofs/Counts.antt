@@ -1,4 +1,4 @@
--- What keeps the labels of blocks, and how a count of respacings goes on.
+-- What keeps the labels of blocks, and how a count of respacings continues.
 use Rattle.std.proofs.Common.{◌≡◌, ℕ, Bool, true, false, cond, List, Option, Some, None, refl, sym, ap, ◌∙◌, subst}
 use Rattle.std.proofs.Common.{slice_get, slice_set}
 use Rattle.std.specs.FinMap.{get, get-remove}
@@ -40,7 +40,7 @@ keeps_then a b c first next s e is =
     let last = some_entry (entry_of c s) (λ x. x.label ≡ mid.0.label) (next s mid.0 mid.1) in
     labelled_so (entry_of c s) e last.0 last.1 (last.2 ∙ mid.2)
 
--- the blocks of one index have one label each
+-- each block of an index has one label
 pub keeps_listed : (m : Index) (old new : List Block) → IsListed m old → IsListed m new → KeepsLabels old new
 keeps_listed m old new k l s e is = labelled_so (entry_of new s) e e (sym (l.index s) ∙ k.index s ∙ is) refl
 

@@ -143,7 +143,7 @@ listed_set m n bs i b c k e f sized shorter changed =
       small = omega (arith, k.small, sums);
     }
 
--- where only what the index does not keep is changed
+-- a change of only what the index does not keep
 pub listed_same : (m : Index) (bs : List Block) (i : ℕ) (b c : Block) → IsListed m bs → slice_get bs i ≡ Some b →
     c.first ≡ b.first → entry c ≡ entry b → c.start ≡ b.start → IsListed m (slice_set bs i c)
 listed_same m bs i b c k e f same start =

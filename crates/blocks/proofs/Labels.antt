@@ -15,7 +15,7 @@ use Rattle.blocks.specs.declared.block.Block.{Block}
 use Rattle.blocks.specs.declared.block.TheConstants.{LAST_LABEL}
 use Rattle.blocks.specs.Blocks.{Rises, below, above, spread, without_labels, unlabelled}
 
--- how a number stands to another
+-- how two numbers compare
 compare_lt : (a l : ℕ) → a < l → nat_cmp a l ≡ Less
 compare_lt a l h = sym (nat_cmp_is a l Less h)
 
@@ -52,7 +52,7 @@ label_rises low high (b ∷ bs) (suc i) zero d r h k = absurd (omega arith)
 label_rises low high (b ∷ bs) (suc i) (suc j) d r h k = label_rises b.label high bs i j d r.1 (omega arith)
     (omega arith)
 
--- the answers of a search by label rise
+-- the results of comparisons by label rise
 pub search_rises : (low high : ℕ) (bs : List Block) (label : ℕ) → Rises 1 low bs high →
     IsRising (λ b. nat_cmp b.label label) bs
 search_rises low high bs label r = λ i j d h k. index_rises (get_or bs i d).label (get_or bs j d).label label
@@ -183,7 +183,7 @@ unlabelled-front step low zero n (b ∷ bs) = unlabelled-spread step low n (b �
 unlabelled-front step low (suc i) n [] = unlabelled-spread step low n []
 unlabelled-front step low (suc i) n (b ∷ bs) = ap (λ l. unlabelled b ∷ l) (unlabelled-front step low i n bs)
 
--- the labels of a window rise, and so do those behind it
+-- the labels of a window rise, and so do those after it
 rises_spread : (step was low high n : ℕ) (bs : List Block) → 1 ≤ step → Rises 1 was bs high → low + step * (n + 1)
     ≤ above bs n high → Rises 1 low (spread step low n bs) high
 rises_spread step was low high zero [] s r h = omega arith
@@ -279,7 +279,7 @@ front_more step low label (suc i) n zero (x ∷ bs) b e at within is = absurd (o
 front_more step low label (suc i) n (suc rank) (x ∷ bs) b e at within is =
     ap (λ l. x ∷ l) (front_more step low label i n rank bs b e (omega arith) (omega arith) is)
 
--- ---- where all blocks are labelled, at steps of two or more
+-- ---- with all blocks labelled, at steps of two or more
 pub two_fit : (n : ℕ) → n ≤ MAX_CHARACTERS → 2 ≤ LAST_LABEL / (n + 1)
 two_fit n h = (le-div_iff_mul-le {k = n + 1} {x = 2} {y = LAST_LABEL} (omega arith)).1 (omega arith)
 

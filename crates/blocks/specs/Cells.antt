@@ -1,4 +1,4 @@
--- The cells that blocks stand for, over one text and one list of authors.
+-- The cells that blocks represent, over one text and one list of authors.
 use Rattle.std.specs.Prelude.{◌≡◌, ℕ, ◌+◌, ◌≤◌, ◌<◌, List, [], ◌∷◌, length, flat_map, take, drop, slice_index_or}
 use Rattle.std.specs.Prelude.{Option, Some}
 use Rattle.std.specs.List.{AllByRecursion}
@@ -16,7 +16,14 @@ author_at authors i = slice_index_or authors i (record { name = []; origin = 0 }
 abbrev pub run_cells : Author → ℕ → Option ℕ → Stamp → Option Stamp → List ℕ → List Cell
 run_cells author born died first parent [] = []
 run_cells author born died first parent (c ∷ text) =
-    record { stamp = first; parent = parent; character = c; author = author; born = born; died = died }
+    record {
+      stamp = first;
+      parent = parent;
+      character = c;
+      author = author;
+      born = born;
+      died = died;
+    }
     ∷ run_cells author born died (next first) (Some first) text
 
 -- the characters of a block
@@ -25,9 +32,10 @@ stretch text b = take b.len (drop b.start text)
 
 -- the cells of a block
 abbrev pub block_cells : List Author → List ℕ → Block → List Cell
-block_cells authors text b = run_cells (author_at authors b.author) b.born b.died b.first b.parent (stretch text b)
+block_cells authors text b = run_cells (author_at authors b.author) b.born b.died b.first b.parent
+    (stretch text b)
 
--- the cells of blocks, those of one after those of the other
+-- the cells of all blocks, in order
 abbrev pub cells_of : List Author → List ℕ → List Block → List Cell
 cells_of authors text bs = flat_map (block_cells authors text) bs
 
@@ -35,9 +43,10 @@ cells_of authors text bs = flat_map (block_cells authors text) bs
 abbrev pub IsWithin : ℕ → ℕ → Block → Type 0
 IsWithin authors text b = (b.author < authors) × (b.start + b.len ≤ text)
 
--- two rows of blocks stand for the same cells, whatever the text
+-- two rows of blocks represent the same cells, whatever the text
 pub record SameCells (old new : List Block) : Type 0 where
   pub within : (authors text : ℕ) → AllByRecursion (IsWithin authors text) old →
       AllByRecursion (IsWithin authors text) new
-  pub cells : (authors : List Author) (text : List ℕ) → AllByRecursion (IsWithin (length authors) (length text)) old →
+  pub cells : (authors : List Author) (text : List ℕ)
+      → AllByRecursion (IsWithin (length authors) (length text)) old →
       cells_of authors text new ≡ cells_of authors text old

@@ -1,4 +1,4 @@
--- How often blocks got new labels.
+-- How often blocks were relabelled.
 use Rattle.std.specs.Prelude.{◌≡◌, ◌⊎◌, ℕ, ◌+◌, ◌<◌, Bool, true, false, nat_lt, min, List, Some, if◌then◌else◌}
 use Rattle.std.specs.Prelude.{IsSomeAnd}
 use Rattle.pad_model.specs.Stamp.{Stamp}
@@ -13,34 +13,33 @@ use Rattle.blocks.specs.declared.label.Window.{Window}
 abbrev pub is_full : List Block → ℕ → Bool
 is_full bs rank = nat_lt (above bs rank LAST_LABEL) (below 0 bs rank + 2)
 
--- a count of respacings, when a label has been sought at a rank: one more where none was free there, up to the greatest
--- number
+-- a count of respacings after a label was sought at a rank: one more if none was free there, up to the greatest number
 abbrev pub counted : ℕ → List Block → ℕ → ℕ
 counted n bs rank = if is_full bs rank then min (n + 1) LAST_LABEL else n
 
--- a count of respacings, when the blocks have been cut before a stamp: it stays where they are cut there, or do not
--- hold the stamp,
--- and else it is as for a block behind the one that is cut
+-- a count of respacings after the blocks were cut before a stamp: it is unchanged if they were cut there before, or do
+-- not hold the stamp, and otherwise it is the count for a new block after the one that is cut
 abbrev pub IsCutCounted : Index → List Block → Stamp → ℕ → ℕ → Type 0
-IsCutCounted m bs s old new = (IsEdge m s × (new ≡ old)) ⊎ ((rank : ℕ) × (offset : ℕ) × IsSpot bs s rank offset
+IsCutCounted m bs s old new = (IsEdge m s × (new ≡ old))
+    ⊎ ((rank : ℕ) × (offset : ℕ) × IsSpot bs s rank offset
     × (0 < offset) × (new ≡ counted old bs (rank + 1)))
 
--- what the search for a label at a rank leaves: the blocks as they are where one is free, and else a window round the
--- rank labelled again
+-- what the search for a label at a rank leaves: the blocks as they were if one is free, and otherwise a window around
+-- the rank relabelled
 abbrev pub IsSought : List Block → ℕ → List Block → Type 0
 IsSought bs rank after = (is_full bs rank ≡ false → after ≡ bs)
     × (is_full bs rank ≡ true → (w : Window) × IsWindow bs rank w × (after ≡ respaced w bs))
 
--- each of the blocks is among others under its label, perhaps cut shorter
+-- each old block is still there with its label, though it may have been cut shorter
 abbrev pub KeepsLabels : List Block → List Block → Type 0
 KeepsLabels old new = (s : Stamp) (e : Entry) → entry_of old s ≡ Some e → IsSomeAnd (entry_of new s)
     (λ x. x.label ≡ e.label)
 
--- how blocks came about from old ones, and a count of respacings from an old one: a label changed only where one was
--- sought and none
--- was free, and just that was counted
+-- how blocks and a count of respacings result from old ones: labels changed only when one was sought and none was free,
+-- and each such time was counted
 pub data Labelled (old : List Block) (n : ℕ) : List Block → ℕ → Type 0 where
   begins : Labelled old n old n
   sought : (bs after : List Block) (k m rank : ℕ) → Labelled old n bs k → IsSought bs rank after →
       m ≡ counted k bs rank → Labelled old n after m
-  changed : (bs after : List Block) (m : ℕ) → Labelled old n bs m → KeepsLabels bs after → Labelled old n after m
+  changed : (bs after : List Block) (m : ℕ) → Labelled old n bs m → KeepsLabels bs after
+      → Labelled old n after m

@@ -4,24 +4,24 @@ ghost use Rattle.blocks.specs.Blocks.{weight_of};
 use pad_model::Stamp;
 use weight_tree::Weigh;
 
-/// No label is so great.
+/// A bound that is above every label.
 pub const LAST_LABEL: u64 = 18_446_744_073_709_551_615;
 
-/// Characters whose stamps follow on each other, of one author, one birth and one death.
+/// Characters with consecutive stamps, and with the same author, birth and death.
 #[derive(Clone, Copy, Debug)]
 pub struct Block {
     pub first: Stamp,
-    /// What the first character was inserted after; each other was inserted after the one before it.
+    /// The parent of the first character; the parent of each other one is the character before it.
     pub parent: Option<Stamp>,
-    /// Where the author stands in the sequence's list.
+    /// The index of the author in the sequence's list.
     pub author: usize,
     /// The revision that inserted it.
     pub born: u64,
     /// The first revision that erased it.
     pub died: Option<u64>,
-    /// It rises from block to block.
+    /// Labels rise from block to block.
     pub label: u64,
-    /// Where its characters begin in the sequence's text.
+    /// The index at which its characters begin in the sequence's text.
     pub start: usize,
     pub len: u64,
 }

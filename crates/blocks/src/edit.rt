@@ -1,4 +1,4 @@
-//! Changes of the blocks: a cut, which changes no character, a new block, one less, and a death.
+//! Changes of the blocks: a cut, which changes no character, a new block, a removal, and a death.
 ghost use Rattle.std.specs.Prelude.{◌≡◌, ℕ, ◌+◌, ◌-◌, ◌≤◌, ◌<◌, Some, length, map, sum_by, insert, slice_get, slice_set, IfErr, OnOk, OnErr};
 ghost use Rattle.std.specs.List.{remove};
 ghost use Rattle.std.specs.Option.{IsSomeAnd};
@@ -18,7 +18,7 @@ use pad_model::{Refusal, Stamp};
 use std::alloc::Global;
 use weight_tree::{Node, WeightTree};
 
-/// What stands in a block before an offset.
+/// The part of a block before an offset.
 fn left_of(whole: &Block, offset: u64) -> Block
     ensures { result ≡ left_part whole.now offset }
 {
@@ -28,7 +28,7 @@ fn left_of(whole: &Block, offset: u64) -> Block
     }
 }
 
-/// What stands in a block from an offset on.
+/// The part of a block from an offset on.
 fn right_of(whole: &Block, offset: u64, label: u64) -> Block
     requires sized { IsSized whole.now }
     requires inside { (0 < offset) × (offset < whole.now.len) }
@@ -54,12 +54,14 @@ fn cut_block(
     offset: u64,
 ) -> Result<(), Refusal>
     requires kept { IsKept index.old tree.old.items }
-    requires inside { IsSomeAnd (slice_get tree.old.items rank) (λ b. (0 < offset) × (offset < b.len)) }
+    requires inside { IsSomeAnd (slice_get tree.old.items rank)
+        (λ b. (0 < offset) × (offset < b.len)) }
     ensures kept { IsKept index.new tree.new.items }
     ensures cells { SameCells tree.old.items tree.new.items }
     ensures more { length tree.new.items ≤ length tree.old.items + 1 }
     ensures edges { KeepsEdges index.old index.new }
-    ensures edge { (b : BlockValue) → slice_get tree.old.items rank ≡ Some b → OnOk result (IsEdge index.new (stamp_behind b.first offset)) }
+    ensures edge { (b : BlockValue) → slice_get tree.old.items rank ≡ Some b
+        → OnOk result (IsEdge index.new (stamp_behind b.first offset)) }
     ensures counted { respacings.new ≡ counted respacings.old tree.old.items (rank + 1) }
     ensures labelled { Labelled tree.old.items respacings.old tree.new.items respacings.new }
     ensures counts { respacings.old ≤ respacings.new }
@@ -79,8 +81,8 @@ fn cut_block(
     Ok(())
 }
 
-/// Cuts so that the block that holds a stamp begins with it. No character changes. A respacing is counted also where
-/// memory is refused after it.
+/// Cuts the block that holds a stamp so that a block begins with the stamp. No character changes. A respacing is
+/// counted even if memory runs out after it.
 pub fn cut_at(
     alloc: Global,
     tree: &mut WeightTree<Block>,
@@ -109,7 +111,7 @@ pub fn cut_at(
     cut_block(alloc, tree, index, respacings, spot.rank, spot.offset)
 }
 
-/// Puts a block at a rank. It gets a label of its own there. A respacing is counted also where memory is refused after it.
+/// Inserts a block at a rank and gives it a label. A respacing is counted even if memory runs out after it.
 pub fn put_block(
     alloc: Global,
     tree: &mut WeightTree<Block>,
@@ -124,9 +126,11 @@ pub fn put_block(
     requires fresh { IsNew index.old block.first block.len }
     requires room { sum_by (λ b. b.len) tree.old.items + block.len ≤ MAX_CHARACTERS }
     ensures kept { IsKept index.new tree.new.items }
-    ensures ok { OnOk result (without_labels tree.new.items ≡ insert (without_labels tree.old.items) rank (unlabelled block)) }
+    ensures ok { OnOk result (without_labels tree.new.items
+        ≡ insert (without_labels tree.old.items) rank (unlabelled block)) }
     ensures err { OnErr result (without_labels tree.new.items ≡ without_labels tree.old.items) }
-    ensures edges { OnOk result ((s : StampValue) → IsEdge index.old s → (Covers block.first block.len s → block.first ≡ s) → IsEdge index.new s) }
+    ensures edges { OnOk result ((s : StampValue) → IsEdge index.old s
+        → (Covers block.first block.len s → block.first ≡ s) → IsEdge index.new s) }
     ensures counted { respacings.new ≡ counted respacings.old tree.old.items rank }
     ensures labelled { Labelled tree.old.items respacings.old tree.new.items respacings.new }
     ensures counts { respacings.old ≤ respacings.new }
@@ -143,7 +147,7 @@ pub fn put_block(
     Ok(())
 }
 
-/// Takes out the block at a rank. It takes no memory.
+/// Removes the block at a rank. It allocates no memory.
 pub fn take_block(tree: &mut WeightTree<Block>, index: &mut IdentIndex, rank: usize)
     requires kept { IsKept index.old tree.old.items }
     requires within { rank < length tree.old.items }
@@ -160,7 +164,8 @@ pub fn kill(tree: &mut WeightTree<Block>, index: &IdentIndex, rank: usize, rev: 
     requires kept { IsKept index.now tree.old.items }
     requires within { rank < length tree.old.items }
     ensures kept { IsKept index.now tree.new.items }
-    ensures dead { (b : BlockValue) → slice_get tree.old.items rank ≡ Some b → tree.new.items ≡ slice_set tree.old.items rank (record b { died = Some rev }) }
+    ensures dead { (b : BlockValue) → slice_get tree.old.items rank ≡ Some b
+        → tree.new.items ≡ slice_set tree.old.items rank (record b { died = Some rev }) }
 {
     let block = Block {
         died: Some(rev),

@@ -1,4 +1,4 @@
-//! Where a character stands.
+//! Where a character is among the blocks.
 ghost use Rattle.std.specs.Prelude.{◌≡◌, ℕ, slice_get, Some, MatchOption};
 ghost use Rattle.ident_index.specs.Index.{HoldsNone, IsSound};
 ghost use Rattle.blocks.specs.Blocks.{Rises, IsKept, IsSpot};
@@ -9,7 +9,7 @@ use ident_index::IdentIndex;
 use pad_model::Stamp;
 use weight_tree::WeightTree;
 
-/// A character by the rank of its block, and by how many characters stand before it there.
+/// The place of a character: the rank of its block, and the number of characters before it there.
 #[derive(Clone, Copy, Debug, PartialEq, Eq)]
 pub struct Spot {
     pub rank: usize,
@@ -19,7 +19,8 @@ pub struct Spot {
 /// The rank of the block with a label.
 fn rank_of(tree: &WeightTree<Block>, label: u64) -> usize
     requires { Rises 1 0 tree.now.items LAST_LABEL }
-    ensures { (r : ℕ) (b : BlockValue) → slice_get tree.now.items r ≡ Some b → b.label ≡ label → result ≡ r }
+    ensures { (r : ℕ) (b : BlockValue) → slice_get tree.now.items r ≡ Some b → b.label ≡ label
+        → result ≡ r }
 {
     tree.rank_by(|block| block.label.cmp(&label)).rank
 }
@@ -27,7 +28,8 @@ fn rank_of(tree: &WeightTree<Block>, label: u64) -> usize
 /// The block that holds a character.
 pub fn find_block(tree: &WeightTree<Block>, index: &IdentIndex, stamp: Stamp) -> Option<Spot>
     requires { IsKept index.now tree.now.items }
-    ensures spot { MatchOption result (HoldsNone index.now stamp) (λ spot. IsSpot tree.now.items stamp spot.rank spot.offset) }
+    ensures spot { MatchOption result (HoldsNone index.now stamp)
+        (λ spot. IsSpot tree.now.items stamp spot.rank spot.offset) }
     ensures sound { IsSound index.now }
 {
     let place = index.locate(stamp)?;

@@ -10,7 +10,7 @@ use crate::block::{Block, LAST_LABEL};
 use ident_index::IdentIndex;
 use weight_tree::WeightTree;
 
-/// How far behind the block before it a new one is labelled, where there is room.
+/// How far a new block's label is above the label of the block before it, if there is room.
 const STRIDE: u64 = 65_536;
 
 /// The label of the block before a rank, or 0.
@@ -24,7 +24,7 @@ fn label_before(tree: &WeightTree<Block>, rank: usize) -> u64
     tree.get(rank - 1).label
 }
 
-/// The label of the block at a rank, or the last of all.
+/// The label of the block at a rank, or `LAST_LABEL` past the end.
 fn label_from(tree: &WeightTree<Block>, rank: usize) -> u64
     requires { rank ≤ length tree.now.items }
     ensures { result ≡ above tree.now.items rank LAST_LABEL }
@@ -41,7 +41,8 @@ fn relabel(tree: &mut WeightTree<Block>, index: &mut IdentIndex, rank: usize, la
     requires within { rank < length tree.old.items }
     ensures listed { IsListed index.new tree.new.items }
     ensures held { HoldsNoMore index.old index.new }
-    ensures set { (b : BlockValue) → slice_get tree.old.items rank ≡ Some b → tree.new.items ≡ slice_set tree.old.items rank (record b { label = label }) }
+    ensures set { (b : BlockValue) → slice_get tree.old.items rank ≡ Some b
+        → tree.new.items ≡ slice_set tree.old.items rank (record b { label = label }) }
 {
     let block = Block {
         label,
@@ -51,18 +52,18 @@ fn relabel(tree: &mut WeightTree<Block>, index: &mut IdentIndex, rank: usize, la
     tree.replace(rank, block);
 }
 
-/// Blocks beside each other that get new labels together: from a rank on, and before another.
+/// Adjacent blocks that are relabelled together: those with a rank from `from` on and before `to`.
 #[derive(Clone, Copy, Debug)]
 struct Window {
     from: usize,
     to: usize,
-    /// The label before them.
+    /// The label of the block before the window, or 0.
     low: u64,
-    /// How far apart their new labels are.
+    /// The distance between the new labels.
     step: u64,
 }
 
-/// The window that reaches so many blocks to each side of a rank, or to the end of the blocks there.
+/// The window that extends `reach` blocks to each side of a rank, or to the end of the blocks.
 fn window_at(tree: &WeightTree<Block>, rank: usize, reach: usize) -> Window
     requires rises { Rises 1 0 tree.now.items LAST_LABEL }
     requires within { rank ≤ length tree.now.items }
@@ -82,8 +83,8 @@ fn window_at(tree: &WeightTree<Block>, rank: usize, reach: usize) -> Window
     }
 }
 
-/// The smallest window round a rank, of those that double, whose new labels lie further apart than the square
-/// of its number of blocks. So the wider a window, the more new blocks fit before it is labelled again.
+/// Doubles a window around a rank until its new labels are further apart than the square of its number of blocks. So
+/// the wider a window, the more new blocks fit before it is relabelled.
 fn window_round(tree: &WeightTree<Block>, rank: usize) -> Window
     requires rises { Rises 1 0 tree.now.items LAST_LABEL }
     requires within { rank ≤ length tree.now.items }
@@ -103,7 +104,7 @@ fn window_round(tree: &WeightTree<Block>, rank: usize) -> Window
     window_at(tree, rank, tree.len())
 }
 
-/// Labels the blocks of a window, evenly.
+/// Relabels the blocks of a window evenly.
 fn respace(tree: &mut WeightTree<Block>, index: &mut IdentIndex, window: Window)
     requires listed { IsListed index.old tree.old.items }
     requires ordered { window.from ≤ window.to }
@@ -120,11 +121,14 @@ fn respace(tree: &mut WeightTree<Block>, index: &mut IdentIndex, window: Window)
     }
 }
 
-/// A label between those beside a rank, where there is room.
+/// A label between those on both sides of a rank, if there is room.
 fn label_between(tree: &WeightTree<Block>, rank: usize) -> Option<u64>
     requires rises { Rises 1 0 tree.now.items LAST_LABEL }
     requires within { rank ≤ length tree.now.items }
-    ensures { MatchOption result (above tree.now.items rank LAST_LABEL < below 0 tree.now.items rank + 2) (λ label. (below 0 tree.now.items rank < label) × (label < above tree.now.items rank LAST_LABEL)) }
+    ensures { MatchOption result (above tree.now.items rank LAST_LABEL
+        < below 0 tree.now.items rank + 2)
+        (λ label. (below 0 tree.now.items rank < label)
+        × (label < above tree.now.items rank LAST_LABEL)) }
 {
     let left = label_before(tree, rank);
     let gap = label_from(tree, rank) - left;
@@ -134,7 +138,8 @@ fn label_between(tree: &WeightTree<Block>, rank: usize) -> Option<u64>
     Some(left + (gap / 2).min(STRIDE))
 }
 
-/// A label for a new block at a rank. Where there is none, the blocks round it get new labels first, which is counted.
+/// A label for a new block at a rank. If there is none, the blocks around the rank are relabelled first, which is
+/// counted.
 pub fn free_label(
     tree: &mut WeightTree<Block>,
     index: &mut IdentIndex,
@@ -152,7 +157,9 @@ pub fn free_label(
     ensures counts { respacings.old ≤ respacings.new }
     ensures few { respacings.new ≤ respacings.old + 1 }
     ensures free { is_full tree.old.items rank ≡ false → tree.new.items ≡ tree.old.items }
-    ensures full { is_full tree.old.items rank ≡ true → (w : WindowValue) × IsWindow tree.old.items rank w × (tree.new.items ≡ respaced w tree.old.items) }
+    ensures full { is_full tree.old.items rank ≡ true
+        → (w : WindowValue) × IsWindow tree.old.items rank w
+        × (tree.new.items ≡ respaced w tree.old.items) }
 {
     if let Some(label) = label_between(tree, rank) {
         return label;

@@ -1,8 +1,8 @@
-//! A kept text as blocks of characters that were typed at once: in a balanced tree by their order, and
-//! in an index by their first stamps.
+//! A text as blocks of characters that were typed at once: in a balanced tree by their order, and in an index by their
+//! first stamps.
 //!
-//! The functions here work on a tree and its index together. What they keep true of the two is
-//! `IsKept`: the index has just the blocks of the tree, and labels rise along it.
+//! The functions here work on a tree and its index together. Their invariant is `IsKept`: the index has exactly the
+//! blocks of the tree, and labels rise along it.
 #![tactic(auto)]
 
 mod block;

@@ -1,4 +1,4 @@
--- From what the matches of a command line hold to what its words give.
+-- What the words of a command line give, from what its matches have.
 use Rattle.std.proofs.Common.{◌≡◌, ◌∙◌, ℕ, List, Option, ap, subst, true}
 use Rattle.clap.specs.Words.{App, HasMatchesOf, app_of, first_of, first_value, found_of, is_simple, matches_of, one_of}
 use Rattle.clap.specs.Words.{rows_of}
@@ -13,7 +13,7 @@ pub rows_found : (command : Command) (line : App) (words : List (List ℕ)) (m :
     → HasMatchesOf (app_of command) words m → rows_of (found_of m) ≡ matches_of line words
 rows_found command line words m is simple has = (has (ap is_simple is ∙ simple)).0 ∙ ap (λ a. matches_of a words) is
 
--- a number that the matches hold is one that the words give
+-- a number that the matches have is one that the words give
 pub gives_number : (line : App) (words : List (List ℕ)) (m : ArgMatches) (name : List ℕ) (low high other result : ℕ)
     → rows_of (found_of m) ≡ matches_of line words → Holds name low high other m result →
     Gives line words name low high other result
@@ -21,7 +21,7 @@ gives_number line words m name low high other result rows held =
     subst (λ (t : Option (List ℕ)). ReadsHeld low high other t result) (one_text-rows (found_of m) name
     ∙ ap (one_of name) rows) held
 
--- and so of a text
+-- and so for a text
 pub gives_text : (line : App) (words : List (List ℕ)) (m : ArgMatches) (name : List ℕ)
     → rows_of (found_of m) ≡ matches_of line words → first_value (found_of m) name ≡ text_given line words name
 gives_text line words m name rows = first_value-rows (found_of m) name ∙ ap (first_of name) rows

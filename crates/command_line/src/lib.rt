@@ -1,7 +1,7 @@
-//! What the command lines of the programs share: their options, and the status after a bad one.
+//! What the command lines of the programs share: options, and the exit status after a bad command line.
 //!
-//! It depends on `clap`, on `server_core` for the most pads that a server has room for, and on `sessions` for the most visits
-//! that may be present on one. Each program has help texts of its own.
+//! It depends on `clap`, on `server_core` for the greatest number of cells, and on `sessions` for the greatest number
+//! of visits on a pad. Each program has its own help texts.
 #![tactic(auto)]
 
 mod number;

@@ -1,4 +1,4 @@
-//! The numbers that the options hold.
+//! The numbers that the options give.
 ghost use Rattle.std.specs.Prelude.{◌≡◌, ◌≤◌, codes};
 ghost use Rattle.server_core.specs.declared.limits.TheConstants.{DEFAULT_CELLS, MAX_CELLS};
 ghost use Rattle.sessions.specs.declared.presence.TheConstants.{DEFAULT_PRESENT, MAX_PRESENT};

@@ -26,11 +26,14 @@ fn is_text(kind: ErrorKind) -> bool
     matches!(kind, ErrorKind::DisplayHelp | ErrorKind::DisplayVersion)
 }
 
-/// Prints the help, the version or the fault, and returns the status. A fault is printed after the program's name. If help
-/// or the version cannot be printed, the status is 1; a fault keeps its status if standard error is closed.
+/// Prints the help, the version or the fault, and returns the exit status. A fault is printed after the program's name.
+/// If the help or the version cannot be printed, the status is 1; a fault keeps its status even if standard error is
+/// closed.
 pub fn report<R: Print + Eprint + AllocGlobal>(rt: &R, program: &str, error: &Error) -> ExitCode
-    ensures fault { is_asked_text (kind_of error.now) ≡ false → exit_status result ≡ status (kind_of error.now) }
-    ensures text { is_asked_text (kind_of error.now) ≡ true → (exit_status result ≡ 0) ⊎ (exit_status result ≡ 1) }
+    ensures fault { is_asked_text (kind_of error.now) ≡ false
+        → exit_status result ≡ status (kind_of error.now) }
+    ensures text { is_asked_text (kind_of error.now) ≡ true
+        → (exit_status result ≡ 0) ⊎ (exit_status result ≡ 1) }
 {
     if is_text(error.kind()) {
         return match error.print(rt) {

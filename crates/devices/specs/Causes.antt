@@ -1,4 +1,4 @@
--- What the system said of a fault.
+-- Which of the system's errors belongs to a fault.
 use Rattle.std.specs.Prelude.{Option, None}
 use Rattle.wire_lines.specs.declared.fault.Fault.{Fault}
 use Rattle.wire_lines.specs.declared.fault.Fault.TheVariants.{ReadFault, WriteFault}

@@ -1,12 +1,12 @@
-//! What the system said of a fault.
+//! Which of the system's errors belongs to a fault.
 ghost use Rattle.std.specs.Prelude.{◌≡◌};
 ghost use Rattle.devices.specs.Causes.{cause};
 
 use std::io;
 use wire_lines::Fault;
 
-/// The system's error behind a fault, of those that a reader and a writer remember. None: the fault is not a device's, or its
-/// device has not failed.
+/// The system's error for a fault, from those that a reader and a writer remember. None: the fault is not of a device,
+/// or its device has not failed.
 pub fn cause_of(
     fault: Fault,
     unread: Option<io::Error>,

@@ -12,12 +12,12 @@ pub struct Watched<T> {
 }
 
 impl<T> Watched<T> {
-    /// No call has failed yet.
+    /// Wraps a reader or a writer of std, with no failed calls.
     pub fn new(inner: T) -> Watched<T> {
         Watched { inner, cause: None }
     }
 
-    /// The error of the last failed call. None: no call has failed, or one took no byte.
+    /// The error of the last failed call. None if no call has failed, or a write took no bytes.
     pub fn cause(&self) -> Option<io::Error>
         ensures { result ≡ self.now.cause }
     {

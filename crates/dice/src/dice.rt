@@ -3,9 +3,10 @@ ghost use Rattle.dice.specs.Dice.{next, face};
 
 use std::marker::Model;
 
-/// A generator of numbers: the linear congruential one of Knuth's MMIX, of whose states the high bits are used.
+/// A pseudo-random number generator: the linear congruential one of Knuth's MMIX, of whose state the high bits are
+/// used.
 ///
-/// Two dice of one seed roll alike.
+/// Two dice with the same seed give the same numbers.
 #[derive(Debug, Drop)]
 pub struct Dice {
     state: u64,
@@ -26,7 +27,7 @@ impl Dice {
         Dice { state: seed }
     }
 
-    /// A number below `sides`; 0 where there is none.
+    /// The next number below `sides`, or 0 if `sides` is 0.
     pub fn roll(&mut self, sides: u64) -> u64
         ensures state { self.new ≡ next self.old }
         ensures value { result ≡ face sides self.new }

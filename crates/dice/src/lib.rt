@@ -1,4 +1,4 @@
-//! Numbers that look random and are the same in every run, for tests and measures.
+//! Pseudo-random numbers that are the same in every run, for tests and benchmarks.
 #![tactic(auto)]
 
 mod dice;

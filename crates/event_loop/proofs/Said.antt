@@ -1,4 +1,4 @@
--- The first reply, up to its line feed; and bytes that were written behind others.
+-- The first reply, up to its line feed; and bytes that were written after others.
 use Rattle.std.proofs.Common.{◌≡◌, ℕ, ◌-◌, min, ◌+◌, ◌<◌, ◌≤◌, suc, true, false, ◌||◌, List, [], ◌∷◌, ◌++◌, length, take, drop}
 use Rattle.std.proofs.Common.{Option, Some, None, get_or, refl, ap, ◌∙◌, sym, append_assoc, take-append-drop, drop-drop, arith}
 use Rattle.std.proofs.lemmas.List.{drop_more, get_or-take, length-drop, length-take, take_all}
@@ -9,7 +9,7 @@ use Rattle.std.specs.Io.KnownBytes.{Appends, Keeps, append_known}
 use Rattle.web_wire.specs.Messages.{is_feed, message_bytes, with_feed}
 use Rattle.event_loop.specs.Messages.{IsFirst, SaysFirst}
 
--- no line feed is among bytes of which none is one
+-- bytes none of which is a line feed contain no line feed
 none_inside : (bytes : List ℕ) → ((k : ℕ) → k < length bytes → is_feed (get_or bytes k 0) ≡ false)
     → list_any is_feed bytes ≡ false
 none_inside [] each = refl
@@ -57,18 +57,18 @@ inside bytes free (Some end) is =
     less : {n : ℕ} → n ≡ min free (length bytes) → end < n → end < free
     less is lt = grind (arith, is, lt)
 
--- a reply is said up to its line feed
+-- a reply is sent up to its line feed
 pub says_first : (replies output put rest : List ℕ) (end : ℕ) → IsFirst replies end
     → rest ≡ drop (end + 1) replies → put ≡ output ++ message_bytes (take end replies)
     → SaysFirst replies output rest put
 says_first replies output put rest end first behind said =
     (take end replies, first.0, first.1 ∙ ap (λ l. with_feed (take end replies) ++ l) (sym behind), said)
 
--- all that stands behind a place
+-- everything from a place on
 behind : (bytes : List ℕ) (from : ℕ) → take (length bytes - from) (drop from bytes) ≡ drop from bytes
 behind bytes from = take_all (length bytes - from) (drop from bytes) (omega (arith, length-drop from bytes))
 
--- what was written of the rest stands behind what was there, and the others are still to be
+-- what was written of the rest follows what was there, and the others are still to be written
 pub written : (old new : Option (List ℕ)) (bytes : List ℕ) (from count : ℕ)
     → Appends old new (take count (take (length bytes - from) (drop from bytes)))
     → Keeps (append_known old (drop from bytes)) (append_known new (drop (from + count) bytes))

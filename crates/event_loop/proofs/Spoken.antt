@@ -34,7 +34,7 @@ end_at (b ∷ text) rest e =
     one_more : (a b : ℕ) → a ≡ b → 1 + a ≡ suc b
     one_more a b is = omega (arith, is)
 
--- the first line of a text with a line feed, and what stands behind it
+-- the first line of a text with a line feed, and what follows it
 module _ (text rest : List ℕ) (e : list_any is_feed text ≡ false) where
   end_is : line_end (text ++ 10 ∷ rest) ≡ length text
   end_is = end_at text rest e

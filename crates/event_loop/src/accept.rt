@@ -1,4 +1,4 @@
-//! Connections are accepted, and handed to the workers.
+//! Accepts connections and hands them to the workers.
 use crate::arrivals::{Arrival, Entrance};
 use crate::clients::WAKING;
 use crate::hub::Hub;
@@ -16,26 +16,26 @@ use std::sync::Wait;
 use std::time::{Clock, Duration};
 use std::{io, net};
 
-/// What a client is told that is one too many.
+/// The line for a client that is one too many.
 pub const FULL: &[u8] = b"{\"code\":902,\"error\":\"Full\",\"ok\":false}\n";
 
-/// What a browser is told that is one too many, or for whom there is no memory.
+/// The response for a browser that is one too many, or for which there is no memory.
 pub const FULL_PAGE: &[u8] =
     b"HTTP/1.1 503 Service Unavailable\r\nX-Content-Type-Options: nosniff\r\nContent-Type: text/plain; charset=utf-8\r\nRetry-After: 30\r\nConnection: close\r\n\r\nThe server is full. Please try again later.\n";
 
-/// The pause after the system refused a connection, in milliseconds: mostly it would refuse the next one too.
+/// The pause after the system refused a connection, in milliseconds. It would mostly refuse the next one too.
 const PAUSE: u64 = 50;
 
-/// How often it is logged that clients are refused, or that the system refuses connections, in milliseconds.
+/// Milliseconds between two log messages about refused clients, or about connections that the system refused.
 const EVERY: u64 = 60_000;
 
-/// How many events are taken at once.
+/// The most events that one poll takes.
 const EVENTS: usize = 8;
 
-/// How many connections are accepted before it is looked whether the server has stopped.
+/// Connections accepted between two checks whether the server has stopped.
 const AT_ONCE: u32 = 256;
 
-/// Who accepts connections.
+/// Accepts connections.
 #[derive(Drop)]
 pub struct Acceptor {
     poll: Poll,
@@ -45,7 +45,8 @@ pub struct Acceptor {
 }
 
 impl Acceptor {
-    /// An acceptor of clients that speak lines, and perhaps of browsers, and what wakes it.
+    /// Creates an acceptor, with a listener for clients that speak lines and perhaps one for browsers, and the waker
+    /// that wakes it.
     pub(crate) fn new<R: Net>(
         rt: &R,
         alloc: Global,
@@ -78,21 +79,21 @@ fn listen_at(poll: &Poll, listener: net::TcpListener, token: Token) -> io::Resul
     Ok(listener)
 }
 
-/// What came of a round of accepting.
+/// The outcome of a round of accepting.
 #[derive(Clone, Copy, Debug, PartialEq, Eq)]
 enum Round {
-    /// No further connection waits.
+    /// No more connections wait.
     Done,
-    /// Others may wait.
+    /// More connections may wait.
     More,
-    /// The system refused one.
+    /// The system refused a connection.
     Refused,
-    /// As many were accepted as were to be.
+    /// The limit of accepted connections was reached.
     Last,
 }
 
 impl Round {
-    /// What came of this round, and of another one at another listener.
+    /// The joint outcome of this round and one at another listener.
     fn and(self, other: Round) -> Round {
         match (self, other) {
             (Round::Last, _) | (_, Round::Last) => Round::Last,
@@ -103,7 +104,7 @@ impl Round {
     }
 }
 
-/// What is counted and logged while connections are accepted.
+/// The counts and the log state of accepting.
 #[derive(Drop)]
 struct Count {
     accepted: u64,
@@ -112,9 +113,9 @@ struct Count {
     refused: Rarely,
 }
 
-/// Accepts connections and hands each to the worker with the fewest clients, until as many were accepted as the limits say or
-/// the server has stopped. One client too many is told so, and counts as accepted. A connection that the system refuses does
-/// not count.
+/// Accepts connections and hands each to the worker with the fewest clients, until the limit of accepted connections is
+/// reached or the server has stopped. A client that is one too many is told so, and counts as accepted. A connection
+/// that the system refuses does not count.
 pub fn accept_all<R: Clock + Wait + Eprint>(
     rt: &R,
     mut acceptor: Acceptor,
@@ -158,7 +159,7 @@ pub fn accept_all<R: Clock + Wait + Eprint>(
     hub.close();
 }
 
-// Accepts the connections that wait.
+// Accepts the waiting connections.
 fn accept_some<R: Clock + Wait + Eprint>(
     rt: &R,
     listener: &TcpListener,
@@ -195,7 +196,7 @@ fn accept_some<R: Clock + Wait + Eprint>(
     Round::More
 }
 
-// Hands a connection to a worker, unless there are too many.
+// Hands a connection to a worker, unless the server is full.
 fn take<R: Clock + Wait + Eprint>(
     rt: &R,
     mut stream: TcpStream,

@@ -1,20 +1,20 @@
-//! Clients on their way to a worker, and what it is told.
+//! What is sent to a worker: clients, and new accounts.
 use crate::client::Client;
 use crate::hub::Connected;
 use mio::net::TcpStream;
 use sessions::Accounts;
 
-/// Where a connection was accepted.
+/// The listener at which a connection was accepted.
 #[derive(Clone, Copy, Debug, PartialEq, Eq)]
 pub enum Entrance {
-    /// Where clients speak lines.
+    /// The listener for clients that speak lines.
     Lines,
-    /// Where browsers send requests over HTTP.
+    /// The listener for browsers, which send requests over HTTP.
     Web,
 }
 
 impl Entrance {
-    /// As what somebody is connected who was accepted there.
+    /// How a connection accepted there counts.
     pub fn connected(self) -> Connected {
         match self {
             Entrance::Lines => Connected::Client,
@@ -23,17 +23,17 @@ impl Entrance {
     }
 }
 
-/// Who or what comes to a worker.
+/// What is sent to a worker.
 #[derive(Drop)]
 pub enum Arrival {
-    /// A connection that was accepted, at the entrance of lines or at that of browsers.
+    /// A connection that was accepted, at this entrance.
     Accepted {
         number: u64,
         stream: TcpStream,
         entrance: Entrance,
     },
-    /// A client of another worker.
+    /// A client that moves from another worker.
     Moved(Client),
-    /// Who may log in from now on.
+    /// The accounts that may log in from now on.
     Accounts(Accounts),
 }

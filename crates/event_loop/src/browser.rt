@@ -1,4 +1,4 @@
-//! A browser's part of a turn: its request is answered, and the messages of its socket are lines.
+//! A browser's part of a turn: its request is answered, and the messages of its socket become lines.
 use crate::buffers::Buffers;
 use crate::client::{Client, Phase};
 use crate::hub::Hub;
@@ -13,7 +13,7 @@ use web_wire::{Frames, Next, Parts, Site, Turn, Visit};
 use wire_lines::Fault;
 
 impl Client {
-    /// Reads a request, and answers it once it has come.
+    /// Reads a request, and answers it once it is complete.
     pub(crate) fn visit(
         &mut self,
         alloc: Global,
@@ -38,7 +38,7 @@ impl Client {
         }
     }
 
-    // Answers a request, if it has come whole. While there is no room for one more client, whatever comes is refused.
+    // Answers a request if it is complete. While there is no room for one more client, everything is refused.
     fn answer_request(&mut self, alloc: Global, site: Site<'_>, hub: &Hub, most: u32) -> Step {
         let Link::Visit(visit) = &mut self.link else {
             return Step::Rests;
@@ -57,7 +57,7 @@ impl Client {
         }
     }
 
-    // Its response is to be written, and nothing more is read.
+    // Ends the visit: its response is to be written, and nothing more is read.
     fn end_visit(&mut self) -> Step {
         if let Link::Visit(visit) = mem::replace(&mut self.link, Link::Over) {
             let Parts { output, .. } = visit.into_parts();
@@ -67,7 +67,7 @@ impl Client {
         Step::Rests
     }
 
-    // It is a client from here on, whose messages are lines.
+    // Makes the connection a client, whose messages are lines.
     fn open_socket(&mut self, alloc: Global) -> Step {
         if let Link::Visit(visit) = mem::replace(&mut self.link, Link::Over) {
             let Parts { input, output } = visit.into_parts();
@@ -78,7 +78,7 @@ impl Client {
         Step::Rests
     }
 
-    // Others have taken the last room since its request was found to be a handshake.
+    // Refuses a handshake because others have taken the last room since it was planned.
     fn refuse_visit(&mut self, alloc: Global) -> Step {
         let mut visit = Visit::new(alloc);
         if visit.refuse().is_err() {
@@ -88,8 +88,8 @@ impl Client {
         self.end_visit()
     }
 
-    /// Takes the next message of a socket, or reads once where none is whole. The replies to the messages before it are said
-    /// first, so that a close is sent behind them.
+    /// Takes the next message of a socket, or reads once if none is complete. Replies to earlier messages are put into
+    /// the outbox first, so that a close frame is sent after them.
     pub(crate) fn listen(&mut self, buffers: &mut Buffers) -> Step {
         if self.say_all(0).is_err() {
             return self.fail(Fault::Memory);

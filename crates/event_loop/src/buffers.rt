@@ -1,18 +1,18 @@
-//! What a worker reads into, for one client after the other.
+//! The buffers that a worker reads into, shared by its clients.
 use crate::limits::CHUNK;
 use std::alloc::{AllocError, Global};
 
-/// What a worker reads into.
+/// A worker's buffers.
 #[derive(Drop)]
 pub struct Buffers {
-    /// What a read gives.
+    /// The bytes of one read.
     pub chunk: Vec<u8>,
     /// The line of a message.
     pub line: Vec<u8>,
 }
 
 impl Buffers {
-    /// Empty ones.
+    /// Creates empty buffers.
     pub fn new(alloc: Global) -> Result<Buffers, AllocError> {
         let mut chunk = Vec::new(alloc);
         chunk.resize(CHUNK, 0)?;

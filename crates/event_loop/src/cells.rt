@@ -1,8 +1,9 @@
-//! A set of cells that several threads change.
+//! A set of cells that several threads may change.
 use std::alloc::{AllocError, Global};
 use std::sync::atomic::{AtomicU64, Ordering};
 
-/// Cells of a row. Threads may change it at once: what one adds while another takes stays, or is taken.
+/// A set of cells of a row. Threads may change it at the same time: a cell that one adds while another takes all is
+/// either taken or stays.
 #[derive(Drop)]
 pub struct CellSet {
     /// A bit for each cell, 64 to a word.
@@ -10,7 +11,7 @@ pub struct CellSet {
 }
 
 impl CellSet {
-    /// No cell of so many.
+    /// An empty set, for a row of this many cells.
     pub fn new(alloc: Global, cells: usize) -> Result<CellSet, AllocError> {
         let mut words = Vec::new(alloc);
         for _ in 0..cells.div_ceil(64) {
@@ -19,14 +20,14 @@ impl CellSet {
         Ok(CellSet { words })
     }
 
-    /// Adds a cell. One that is not of the row is not added.
+    /// Adds a cell. A cell outside the row is ignored.
     pub fn insert(&self, cell: u32) {
         if let Some(word) = self.word_of(cell) {
             word.fetch_or(bit_of(cell), Ordering::SeqCst);
         }
     }
 
-    /// Whether a cell is there.
+    /// Whether the set has a cell.
     pub fn has(&self, cell: u32) -> bool {
         match self.word_of(cell) {
             Some(word) => word.load(Ordering::SeqCst) & bit_of(cell) != 0,
@@ -34,14 +35,14 @@ impl CellSet {
         }
     }
 
-    /// Takes all cells out.
+    /// Removes all cells.
     pub fn clear(&self) {
         for word in &self.words {
             word.store(0, Ordering::SeqCst);
         }
     }
 
-    /// Its cells in their order.
+    /// The cells, in ascending order.
     pub fn list(&self, alloc: Global) -> Result<Vec<u32>, AllocError> {
         let mut cells = Vec::new(alloc);
         let mut cell = 0u32;
@@ -58,7 +59,7 @@ impl CellSet {
         Ok(cells)
     }
 
-    /// Whether no cell is there.
+    /// Whether the set is empty.
     pub fn is_empty(&self) -> bool {
         self.words
             .iter()
@@ -79,7 +80,7 @@ impl CellSet {
         }
     }
 
-    /// Takes the cells of another set of the same row out of this one, and out of the other one too.
+    /// Removes the cells of another set of the same row from this one, and empties the other one.
     pub fn forget(&self, other: &CellSet) {
         for (word, from) in self.words.iter().zip(&other.words) {
             let gone = from.swap(0, Ordering::SeqCst);
@@ -87,7 +88,7 @@ impl CellSet {
         }
     }
 
-    // The word that has a cell's bit.
+    // The word with a cell's bit.
     fn word_of(&self, cell: u32) -> Option<&AtomicU64> {
         self.words.get(cell as usize / 64)
     }

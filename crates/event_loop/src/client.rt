@@ -17,39 +17,40 @@ use std::{io, mem};
 use wire_lines::Fault;
 use workers::{Conversation, Gate, Shared};
 
-/// How often a socket is written to before others have their turn.
+/// The most writes to a socket before other clients have their turn.
 const WRITES: u32 = 16;
 
-/// How far a client has come.
+/// The state of a client's connection.
 #[derive(Clone, Copy, Debug, PartialEq, Eq)]
 pub enum Phase {
-    /// More bytes may come.
+    /// More bytes may arrive.
     Open,
-    /// No more bytes come, and some may wait.
+    /// No more bytes arrive, but some may wait to be answered.
     Ended,
-    /// Nothing is answered any more, and replies may wait.
+    /// Nothing more is answered, but replies may wait to be written.
     Over,
-    /// Its socket has failed, or memory ran out.
+    /// The socket failed, or memory ran out.
     Broken(Fault),
 }
 
-/// A client that is connected.
+/// A connected client.
 #[derive(Drop)]
 pub struct Client {
     pub(crate) number: u64,
     pub(crate) home: usize,
     pub(crate) stream: TcpStream,
     pub(crate) link: Link,
-    /// What is to be written to a browser. The replies to a client that speaks lines are written from its conversation.
+    /// The bytes to be written to a browser. Replies to a client that speaks lines are written directly from its
+    /// conversation.
     pub(crate) outbox: Outbox,
     pub(crate) conversation: Conversation,
     pub(crate) session: Session,
     pub(crate) phase: Phase,
-    /// Whether a read may give something.
+    /// Whether a read may give bytes.
     pub(crate) is_readable: bool,
-    /// Whether it is queued to be served.
+    /// Whether the client is queued to be served.
     is_queued: bool,
-    /// Whether it is listed among those that are held back.
+    /// Whether the client is in the list of those held back.
     is_listed: bool,
     pub(crate) moves: bool,
     pub(crate) failures: u32,
@@ -59,7 +60,7 @@ pub struct Client {
 }
 
 impl Client {
-    /// A client that has just come, and is queued.
+    /// Creates a client that has just arrived, and is queued.
     pub fn new(alloc: Global, number: u64, home: usize, stream: TcpStream, link: Link) -> Client {
         Client {
             number,
@@ -81,27 +82,27 @@ impl Client {
         }
     }
 
-    /// The number of its connection.
+    /// The number of the client's connection.
     pub fn number(&self) -> u64 {
         self.number
     }
 
-    /// The worker that it belongs to.
+    /// The place of the worker to which the client belongs.
     pub fn home(&self) -> usize {
         self.home
     }
 
-    /// As what it is connected.
+    /// How its connection counts.
     pub fn connected(&self) -> Connected {
         self.link.connected()
     }
 
-    /// Its socket.
+    /// The client's socket.
     pub fn stream(&mut self) -> &mut TcpStream {
         &mut self.stream
     }
 
-    /// Why it ended, if it broke.
+    /// The fault that ended its connection, if one did, and the system's error.
     pub fn fault(&self) -> Option<(Fault, Option<io::Error>)> {
         match self.phase {
             Phase::Broken(fault) => Some((fault, self.cause)),
@@ -109,33 +110,33 @@ impl Client {
         }
     }
 
-    /// Its socket can be read again. Whether it has to be queued for that.
+    /// Notes that the socket can be read again. Returns whether the caller has to queue the client.
     pub fn note_readable(&mut self) -> bool {
         self.is_readable = true;
         self.queue()
     }
 
-    /// Queues it. Whether it was not queued before.
+    /// Marks the client as queued, and returns whether it was not queued before.
     pub fn queue(&mut self) -> bool {
         !mem::replace(&mut self.is_queued, true)
     }
 
-    /// Lists it among those that are held back. Whether it was not listed before.
+    /// Marks the client as listed among those held back, and returns whether it was not listed before.
     pub fn list(&mut self) -> bool {
         !mem::replace(&mut self.is_listed, true)
     }
 
-    /// Takes it off that list.
+    /// Marks the client as not listed.
     pub fn unlist(&mut self) {
         self.is_listed = false;
     }
 
-    /// Whether replies wait to be written, those that are held back too.
+    /// Whether replies wait to be written, including replies held back.
     pub fn owes(&self) -> bool {
         !self.conversation.replies().is_empty() || !self.outbox.is_empty()
     }
 
-    /// How many bytes of replies wait to be written.
+    /// The number of bytes of replies that wait to be written.
     pub(crate) fn owed(&self) -> usize {
         self.conversation
             .replies()
@@ -143,19 +144,19 @@ impl Client {
             .saturating_add(self.outbox.len())
     }
 
-    /// Whether it has to go to another worker, which it may once its replies are written.
+    /// Whether the client has to move to another worker now: it moves once its replies are written.
     pub fn moves(&self) -> bool {
         self.moves && !self.owes()
     }
 
-    /// It arrives at another worker, where it is served first.
+    /// Prepares the client for a new worker, where it is queued.
     pub fn settle_in(&mut self) {
         self.moves = false;
         self.is_readable = true;
         self.is_queued = true;
     }
 
-    /// Whether it is to be served again though nothing new is reported. It is queued then.
+    /// Queues the client if it has more to be served without a new report from its socket, and returns whether it does.
     pub fn queue_again(&mut self) -> bool {
         self.is_queued = !self.owes() && self.has_more();
         self.is_queued
@@ -169,7 +170,7 @@ impl Client {
         }
     }
 
-    /// Reads once, if a read may give something; or takes the next message of those that a socket has sent.
+    /// Reads once, if a read may give bytes; for a WebSocket, takes the next message.
     pub(crate) fn read_more(&mut self, buffers: &mut Buffers) -> Step {
         if self.phase != Phase::Open {
             return Step::Rests;
@@ -185,7 +186,7 @@ impl Client {
         self.has_read(read)
     }
 
-    /// What comes of a read.
+    /// Handles the result of a read.
     pub(crate) fn has_read(&mut self, read: Result<Passage, Broken>) -> Step {
         match read {
             Ok(Passage::Passed | Passage::Again) => Step::Goes,
@@ -204,7 +205,7 @@ impl Client {
         }
     }
 
-    /// Its connection ends with a fault. Where memory ran out that is told, if the socket takes it at once.
+    /// Ends the connection with a fault. If memory ran out, the client is told so, if the socket takes it at once.
     pub(crate) fn fail(&mut self, fault: Fault) -> Step {
         if fault == Fault::Memory && !self.owes() {
             self.tell_of_memory();
@@ -213,7 +214,7 @@ impl Client {
         Step::Rests
     }
 
-    /// Holds the reply to a wrong token back.
+    /// Holds back the reply to a wrong token, and returns the time until which it does.
     pub fn pause(&mut self, now: u64) -> u64 {
         let pause = pause_after(self.failures).unwrap_or(0);
         let until = now.saturating_add(pause);
@@ -224,23 +225,23 @@ impl Client {
         until
     }
 
-    /// Holds its first line back.
+    /// Holds back the first line, and returns the time until which it does.
     pub fn wait(&mut self, now: u64, wanted: Wanted) -> u64 {
         let until = now.saturating_add(wanted.seconds.saturating_mul(1_000));
         self.hold = Hold::Change { wanted, until };
         until
     }
 
-    /// What holds it back.
+    /// What holds the client back.
     pub fn hold(&self) -> Hold {
         self.hold
     }
 
-    /// It is held back no longer. Whether it has replies to be written; else its first line is to be answered.
+    /// Ends the hold. Returns true if a reply is to be written, and false if the first line is to be answered.
     pub fn release(&mut self) -> bool {
         match mem::replace(&mut self.hold, Hold::Free) {
             Hold::Pause { .. } => true,
-            // It was not silent: its line is answered now.
+            // The client was not silent: its line is answered now.
             _ => {
                 self.hold = Hold::Over;
                 self.times.note_line();
@@ -249,7 +250,7 @@ impl Client {
         }
     }
 
-    /// Whether nothing is left to do for it.
+    /// Whether nothing is left to do for the client.
     pub fn is_gone(&self) -> bool {
         match self.phase {
             Phase::Open | Phase::Ended => false,
@@ -258,8 +259,8 @@ impl Client {
         }
     }
 
-    /// Which limit of time it has passed. `idle` is how long it may be silent, in milliseconds. It gives back the memory that
-    /// it does not need until it sends more.
+    /// Returns the time limit that the client has exceeded, if any. `idle` is how long it may be silent, in
+    /// milliseconds. It also frees the memory that the client does not need until it sends more.
     pub fn check(&mut self, now: u64, idle: Option<u64>) -> Option<Late> {
         self.conversation.rest();
         self.outbox.rest();
@@ -271,7 +272,7 @@ impl Client {
         self.times.check(now, owes, patience, idle)
     }
 
-    // How long it may be connected without having said who it is, or what it wants.
+    // How long the client may be connected without logging in, or without sending a request, in milliseconds.
     fn patience(&self) -> Option<u64> {
         match (&self.link, self.session.who()) {
             (Link::Over, _) => None,
@@ -281,7 +282,7 @@ impl Client {
         }
     }
 
-    /// Ends its session.
+    /// Ends the client's session.
     pub fn end_session<S: Sequence, R: Wait, G: Gate>(&mut self, pads: &mut Shared<'_, S, R, G>) {
         pads.end_session(&mut self.session);
     }

@@ -1,4 +1,4 @@
-//! The clients of a worker, and what is to be done for them in a turn.
+//! The clients of a worker, and the work of a turn.
 use crate::arrivals::Entrance;
 use crate::buffers::Buffers;
 use crate::client::Client;
@@ -12,30 +12,30 @@ use std::alloc::{AllocError, Global};
 use std::{io, mem};
 use web_wire::Visit;
 
-/// Under which token a worker is woken.
+/// The token of a worker's waker.
 pub const WAKING: Token = Token(usize::MAX);
 
-/// The clients of a worker. A client is named by its key.
+/// The clients of a worker, by key.
 #[derive(Drop)]
 pub struct Clients {
     pub all: Slab<Client>,
-    /// Who is served in this turn, and in the next.
+    /// The clients that are served in this turn, and in the next.
     pub queue: Vec<usize>,
     pub later: Vec<usize>,
-    /// Who may have replies to take.
+    /// The clients that may have replies to be written.
     pub owed: Vec<usize>,
-    /// Who is held back, and when the first of them is to be released, in milliseconds.
+    /// The clients that are held back, and the time at which the first is released, in milliseconds of a `Ticker`.
     pub held: Vec<usize>,
     pub deadline: Option<u64>,
     pub buffers: Buffers,
-    /// Whether replies were made that are not settled.
+    /// Whether replies were made and not yet settled.
     pub has_spoken: bool,
-    /// Who may log in from now on, if that has changed.
+    /// The accounts that may log in from now on, if they have changed.
     pub accounts: Option<Accounts>,
 }
 
 impl Clients {
-    /// No clients.
+    /// Creates an empty set of clients.
     pub fn new(alloc: Global) -> Result<Clients, AllocError> {
         Ok(Clients {
             all: Slab::new(alloc),
@@ -50,7 +50,7 @@ impl Clients {
         })
     }
 
-    /// Takes a connection in that was accepted.
+    /// Adds a connection that was accepted.
     pub fn accept(
         &mut self,
         alloc: Global,
@@ -67,7 +67,7 @@ impl Clients {
         self.insert(registry, Client::new(alloc, number, home, stream, link))
     }
 
-    /// Takes a client in, which is served in this turn.
+    /// Adds a client, which is served in this turn.
     pub fn insert(&mut self, registry: &Registry, mut client: Client) -> io::Result<()> {
         client.settle_in();
         self.reserve()?;
@@ -79,7 +79,7 @@ impl Clients {
         Ok(())
     }
 
-    // Makes room for one more client in each list, so that none of them fails in a turn.
+    // Allocates room for one more client in each list, so that no list runs out of memory in a turn.
     fn reserve(&mut self) -> Result<(), AllocError> {
         self.all.reserve(1)?;
         let most = self.all.len().saturating_add(1).min(1 << 32);
@@ -89,7 +89,7 @@ impl Clients {
         self.held.reserve(2 * most)
     }
 
-    /// Notes what sockets are ready for. Whether the worker was woken.
+    /// Notes which sockets are ready. Returns whether the worker was woken.
     pub fn note(&mut self, events: &Events) -> Result<bool, AllocError> {
         let mut is_woken = false;
         for event in events {
@@ -112,7 +112,7 @@ impl Clients {
         Ok(is_woken)
     }
 
-    /// Holds a client back until this time.
+    /// Holds back a client until this time.
     pub fn hold(&mut self, key: usize, until: u64) -> Result<(), AllocError> {
         self.deadline = Some(self.deadline.map_or(until, |first| first.min(until)));
         if let Some(client) = self.all.get_mut(key) {
@@ -123,7 +123,8 @@ impl Clients {
         Ok(())
     }
 
-    /// Releases those whose time is over, or whose pad has the revision that they want; finds out when the next is due.
+    /// Releases the clients whose time is over, or whose pad has reached the revision that they wait for, and updates
+    /// the deadline.
     pub fn release(&mut self, hub: &Hub, place: usize, now: u64) -> Result<(), AllocError> {
         let mut kept = 0;
         let mut deadline: Option<u64> = None;
@@ -159,7 +160,7 @@ impl Clients {
         Ok(())
     }
 
-    /// The next turn begins.
+    /// Begins the next turn.
     pub fn turn_over(&mut self) {
         self.owed.clear();
         mem::swap(&mut self.queue, &mut self.later);

@@ -1,4 +1,4 @@
-//! Clients that are held back: by a pause after wrong tokens, or because they wait for a pad to change.
+//! When clients are held back: by a pause after wrong tokens, or while they wait for a pad to change.
 use pad_core::{Act, Request};
 use pad_model::Name;
 use sessions::Session;
@@ -10,15 +10,15 @@ use wire_json::read_request;
 /// The reply to a wrong token.
 pub const BAD_TOKEN: &[u8] = b"{\"code\":201,\"error\":\"BadToken\",\"ok\":false}\n";
 
-/// From which wrong token of a connection on its reply is held back.
+/// The number of the first wrong token of a connection whose reply is held back.
 const PATIENT: u32 = 3;
 
-/// For how many milliseconds the first such reply is held back, and for how many at most.
+/// How long the first such reply is held back, and the longest pause, in milliseconds.
 const FIRST_PAUSE: u64 = 100;
 
 const LONGEST_PAUSE: u64 = 3_000;
 
-/// The most seconds that a request can ask to wait.
+/// The longest wait that a request can ask for, in seconds.
 const MOST_SECONDS: u64 = 60;
 
 /// A longer line is never held back.
@@ -27,18 +27,18 @@ const LONGEST_LINE: usize = 1_024;
 /// Whether a client is held back. Times are in milliseconds of a `Ticker`.
 #[derive(Clone, Copy, Debug, PartialEq, Eq)]
 pub enum Hold {
-    /// It is not.
+    /// It is not held back.
     Free,
     /// The reply to a wrong token, the last `bytes` of its replies, is held back.
     Pause { until: u64, bytes: usize },
-    /// Its first line waits for a revision of the pad at a cell.
+    /// Its first line waits for the pad at a cell to pass a revision.
     Change { wanted: Wanted, until: u64 },
     /// Its first line has waited long enough.
     Over,
 }
 
 impl Hold {
-    /// When it is over at the latest.
+    /// The time at which the hold ends at the latest.
     pub fn until(self) -> Option<u64> {
         match self {
             Hold::Pause { until, .. } | Hold::Change { until, .. } => Some(until),
@@ -47,7 +47,7 @@ impl Hold {
     }
 }
 
-/// What a request waits for: a revision past this one of the pad at a cell, for so many seconds at most.
+/// What a request waits for: a revision after `rev` of the pad at a cell, for at most this many seconds.
 #[derive(Clone, Copy, Debug, PartialEq, Eq)]
 pub struct Wanted {
     pub cell: u32,
@@ -55,7 +55,7 @@ pub struct Wanted {
     pub seconds: u64,
 }
 
-/// How long the reply to a connection's nth wrong token is held back, in milliseconds. None: it is not.
+/// How long the reply to a connection's nth wrong token is held back, in milliseconds; None if it is not.
 pub fn pause_after(failures: u32) -> Option<u64> {
     if failures < PATIENT {
         return None;
@@ -67,12 +67,12 @@ pub fn pause_after(failures: u32) -> Option<u64> {
     Some(pause.min(LONGEST_PAUSE))
 }
 
-/// Whether a connection with so many wrong tokens is logged at the next one.
+/// Whether the next wrong token of a connection with this many is logged.
 pub fn is_suspect(failures: u32) -> bool {
     failures >= PATIENT - 1
 }
 
-/// As whom a line logs in.
+/// Who a line claims to be.
 #[derive(Drop)]
 pub enum Claim {
     Author(Name),
@@ -88,7 +88,7 @@ impl fmt::Display for Claim {
     }
 }
 
-/// As whom a line logs in, if it does.
+/// Who a line logs in as, if it is a log-in.
 pub fn claim_in(alloc: Global, line: &[u8]) -> Option<Claim> {
     match read_request(alloc, line) {
         Ok(Request::Hello { name, .. }) => Some(Claim::Author(name)),

@@ -1,4 +1,5 @@
-//! What the threads of a server share: how each worker is reached, how many clients there are, and whether the server ends.
+//! What the threads of a server share: how to reach each worker, the number of clients, and whether the server is
+//! ending.
 use crate::arrivals::Arrival;
 use crate::cells::CellSet;
 use crate::hold::{Hold, Wanted};
@@ -11,24 +12,24 @@ use std::sync::Wait;
 use std::sync::atomic::{AtomicBool, AtomicU64, Ordering};
 use std::time::Instant;
 
-/// How a worker is reached.
+/// How to reach a worker.
 #[derive(Drop)]
 pub struct Door {
     to: Sender<Arrival>,
     waker: Waker,
-    /// How many clients it has, with those that are on their way or with the worker for long lines.
+    /// The number of its clients, including those on their way to it or at the worker for long lines.
     clients: AtomicU64,
-    /// Whether it is at work: the system may make no thread for it.
+    /// Whether it is running: the system may have created no thread for it.
     is_open: AtomicBool,
-    /// The cells of whose pads it wants to know, and those whose pads have moved since it was told last.
+    /// The cells whose pads it watches, and those whose pads have changed since it last looked.
     wanted: CellSet,
     moved: CellSet,
-    /// Whether it was told that a pad has moved, and has not looked yet.
+    /// Whether it was told that a pad has changed, and has not yet looked.
     is_told: AtomicBool,
 }
 
 impl Door {
-    /// To a worker that is not at work yet, of a server with so many cells.
+    /// The door of a worker that is not yet running, on a server with this many cells.
     pub fn new(
         alloc: Global,
         to: Sender<Arrival>,
@@ -47,7 +48,7 @@ impl Door {
     }
 }
 
-/// As what somebody is connected.
+/// How a connection counts.
 #[derive(Clone, Copy, Debug, PartialEq, Eq)]
 pub enum Connected {
     /// A client, which speaks lines or has a socket.
@@ -59,29 +60,29 @@ pub enum Connected {
 /// What the threads of a server share.
 #[derive(Drop)]
 pub struct Hub {
-    /// The last is that of the worker for long lines.
+    /// The last one is that of the worker for long lines.
     doors: Vec<Door>,
     acceptor: Waker,
-    /// When the server began. None: the clock did not tell.
+    /// When the server started; None if the clock failed.
     began: Option<Instant>,
-    /// How many clients are connected: those that speak lines, and the sockets of browsers.
+    /// The number of connected clients: those that speak lines, and the sockets of browsers.
     clients: AtomicU64,
-    /// How many requests over HTTP are read or answered.
+    /// The number of HTTP requests being read or answered.
     visits: AtomicU64,
-    /// Whether no more connections are accepted.
+    /// Whether the server has stopped accepting connections.
     is_closed: AtomicBool,
     has_stopped: AtomicBool,
     /// The revision of the pad at each cell.
     revisions: Vec<AtomicU64>,
-    /// From when on wrong tokens may be reported again, in milliseconds of a `Ticker`.
+    /// The time from which wrong tokens may be reported again, in milliseconds of a `Ticker`.
     report_from: AtomicU64,
 }
 
-/// How often wrong tokens are reported at most, in milliseconds.
+/// The shortest time between two reports of wrong tokens, in milliseconds.
 const REPORTS: u64 = 1_000;
 
 impl Hub {
-    /// Of a server without clients, whose pads have these revisions.
+    /// The hub of a server without clients, whose pads have these revisions.
     pub fn new(
         doors: Vec<Door>,
         acceptor: Waker,
@@ -101,12 +102,12 @@ impl Hub {
         }
     }
 
-    /// When the server began.
+    /// When the server started.
     pub fn began(&self) -> Option<Instant> {
         self.began
     }
 
-    /// Whether there is room for one more client, of so many.
+    /// Whether there is room for one more client, with at most `most` in all.
     pub fn has_room(&self, most: u32) -> bool {
         self.clients.load(Ordering::SeqCst) < u64::from(most)
     }
@@ -116,14 +117,14 @@ impl Hub {
         self.visits.load(Ordering::SeqCst) < u64::from(VISITS)
     }
 
-    /// A worker has begun its work.
+    /// Notes that a worker is running.
     pub fn open(&self, place: usize) {
         if let Some(door) = self.doors.get(place) {
             door.is_open.store(true, Ordering::SeqCst);
         }
     }
 
-    /// Whether a worker has begun its work.
+    /// Whether a worker is running.
     pub fn is_open(&self, place: usize) -> bool {
         match self.doors.get(place) {
             Some(door) => door.is_open.load(Ordering::SeqCst),
@@ -136,7 +137,7 @@ impl Hub {
         self.doors.len().saturating_sub(1)
     }
 
-    /// The worker with the fewest clients of those that are at work, not counting the one for long lines.
+    /// The running worker with the fewest clients, except the one for long lines.
     pub fn least_busy(&self) -> usize {
         let mut best = 0;
         let mut fewest = None;
@@ -156,7 +157,7 @@ impl Hub {
         best
     }
 
-    /// One more connection belongs to a worker.
+    /// Counts one more connection, of this worker.
     pub fn enter(&self, home: usize, connected: Connected) {
         self.count_of(connected).fetch_add(1, Ordering::SeqCst);
         if let Some(door) = self.doors.get(home) {
@@ -164,7 +165,7 @@ impl Hub {
         }
     }
 
-    /// A browser's connection becomes that of a client, unless there are so many already.
+    /// Counts a browser's connection as a client from now on; returns false if there are `most` already.
     pub fn admit(&self, most: u32) -> bool {
         if self.clients.fetch_add(1, Ordering::SeqCst) >= u64::from(most) {
             self.clients.fetch_sub(1, Ordering::SeqCst);
@@ -174,7 +175,7 @@ impl Hub {
         true
     }
 
-    /// A connection of a worker has ended. After the last one the workers end.
+    /// Counts the end of a worker's connection. Once no more are accepted, the workers end after the last one.
     pub fn leave(&self, home: usize, connected: Connected) {
         if let Some(door) = self.doors.get(home) {
             door.clients.fetch_sub(1, Ordering::SeqCst);
@@ -184,7 +185,7 @@ impl Hub {
         }
     }
 
-    // What counts them.
+    // The counter of such connections.
     fn count_of(&self, connected: Connected) -> &AtomicU64 {
         match connected {
             Connected::Client => &self.clients,
@@ -192,7 +193,7 @@ impl Hub {
         }
     }
 
-    /// Sends a client to a worker. False: out of memory.
+    /// Sends something to a worker. Returns false if it cannot be sent.
     pub fn send<R: Wait>(&self, rt: &R, place: usize, arrival: Arrival) -> bool {
         match self.doors.get(place) {
             Some(door) => door.to.send(rt, arrival).is_ok() && door.waker.wake().is_ok(),
@@ -200,49 +201,49 @@ impl Hub {
         }
     }
 
-    /// Other accounts take the place of those that the workers have: one of these for each worker, which takes it between two
-    /// turns. Sessions go on. Workers for whom there is none left, or no memory to tell them, keep what they have.
+    /// Replaces the accounts of the workers. Each worker gets one of the copies, and takes it between two turns.
+    /// Sessions go on. A worker keeps its accounts if there is no copy left for it, or no memory to send it one.
     pub fn replace_accounts<R: Wait>(&self, rt: &R, copies: Vec<Accounts>) {
         for (place, accounts) in copies.into_iter().enumerate() {
             let _told = self.send(rt, place, Arrival::Accounts(accounts));
         }
     }
 
-    /// How many workers there are.
+    /// The number of workers.
     pub fn workers(&self) -> usize {
         self.doors.len()
     }
 
-    /// No more connections are accepted.
+    /// Notes that no more connections are accepted.
     pub fn close(&self) {
         self.is_closed.store(true, Ordering::SeqCst);
         self.ring_all();
     }
 
-    /// Ends the server: no connection is accepted, and no line is answered any more.
+    /// Stops the server: no more connections are accepted, and no more lines are answered.
     pub fn stop(&self) {
         self.has_stopped.store(true, Ordering::SeqCst);
         self.ring_all();
         let _woken = self.acceptor.wake();
     }
 
-    /// Whether the server was ended.
+    /// Whether the server was stopped.
     pub fn has_stopped(&self) -> bool {
         self.has_stopped.load(Ordering::SeqCst)
     }
 
-    /// Whether nothing is left to do for the workers.
+    /// Whether the workers have nothing left to do.
     pub fn is_over(&self) -> bool {
         self.has_stopped() || self.is_closed.load(Ordering::SeqCst) && self.is_empty()
     }
 
-    // Whether nobody is connected. A browser that becomes a client is counted twice for a moment, and never not at all.
+    // Whether there are no connections. A browser that becomes a client is briefly counted twice, but never left out.
     fn is_empty(&self) -> bool {
         self.visits.load(Ordering::SeqCst) == 0 && self.clients.load(Ordering::SeqCst) == 0
     }
 
-    /// Operations were delivered at a cell, whose lock is still held. Each worker that wants to know is woken, once until it
-    /// has looked.
+    /// Publishes that operations were delivered at a cell, while its lock is still held. Wakes each worker that watches
+    /// the cell, once until it has looked.
     pub fn publish(&self, cell: u32, operations: u64) {
         if let Some(revision) = self.revisions.get(cell as usize) {
             revision.fetch_add(operations, Ordering::SeqCst);
@@ -258,7 +259,8 @@ impl Hub {
         }
     }
 
-    /// Whether pads have moved of which a worker wanted to know. It is told again of those that it asks for from now on.
+    /// Whether pads that a worker watches have changed since it last looked. It stops watching them until it asks
+    /// again.
     pub fn take_moved(&self, place: usize) -> bool {
         let Some(door) = self.doors.get(place) else {
             return false;
@@ -270,10 +272,11 @@ impl Hub {
         true
     }
 
-    /// Whether a request has to wait: the pad is at the revision that it names. The worker is told when the pad moves.
+    /// Whether a request has to wait, because the pad is still at the revision that it names. The worker will be told
+    /// when the pad changes.
     ///
-    /// The worker asks to be told before it compares, and a pad's revision grows before its workers are looked up: so one of
-    /// the two sees the other.
+    /// The worker starts to watch the cell before it compares, and a pad's revision grows before the watching workers
+    /// are looked up. So one of the two sees the other.
     pub fn has_to_wait(&self, place: usize, wanted: Wanted) -> bool {
         if let Some(door) = self.doors.get(place) {
             door.wanted.insert(wanted.cell);
@@ -284,7 +287,7 @@ impl Hub {
         }
     }
 
-    /// Whether wrong tokens may be reported now: once a second. If so, they count as reported.
+    /// Whether wrong tokens may be reported now, which is once a second. If so, they count as reported.
     pub fn may_report(&self, now: u64) -> bool {
         let from = self.report_from.load(Ordering::SeqCst);
         let next = now.saturating_add(REPORTS);
@@ -295,7 +298,7 @@ impl Hub {
                 .is_ok()
     }
 
-    /// Whether a client stays held back, as far as pads go.
+    /// Whether a client stays held back, apart from its time limit.
     pub fn holds(&self, place: usize, hold: Hold) -> bool {
         match hold {
             Hold::Pause { .. } => true,

@@ -1,7 +1,8 @@
-//! Many connections for each thread: workers that wait until sockets are ready.
+//! Many connections for each thread, with workers that wait until sockets are ready.
 //!
-//! It stands on `workers`, which answers the lines of a connection, on `web_wire`, which makes lines of what browsers send,
-//! and on the readiness of sockets that `mio` reports. It knows no store and no command line: what replies wait for is a `Settle`.
+//! It depends on `workers`, which answers the lines of a connection, on `web_wire`, which turns what browsers send into
+//! lines, and on `mio`, which reports when sockets are ready. It knows nothing of stores and command lines: a `Settle`
+//! is what replies wait for.
 #![tactic(auto)]
 
 mod accept;

@@ -1,29 +1,29 @@
-//! How many clients are served, and for how long each may be silent.
+//! The limits of a server: how many clients it serves, and for how long each may be silent.
 
-/// What the command line limits.
+/// The limits that the command line sets.
 #[derive(Clone, Copy, Debug)]
 pub struct Limits {
-    /// After how many accepted connections no more are accepted. None: never.
+    /// The number of connections after which no more are accepted. None: no limit.
     pub connections: Option<u32>,
-    /// How many clients may be connected at once.
+    /// The most clients that may be connected at once.
     pub clients: u32,
-    /// Seconds from one line of a client to the next. None: any time.
+    /// The most seconds from one line of a client to the next. None: no limit.
     pub idle: Option<u32>,
 }
 
-/// How many lines of a client are answered, and how often its socket is read, before others have their turn.
+/// The most lines of a client that are answered, and the most reads of its socket, before others have their turn.
 pub const LINES: u32 = 32;
 
-/// No further line of a client is answered while so many bytes of its replies wait to be written.
+/// No further line of a client is answered while this many bytes of its replies wait to be written.
 pub const MOST_OWED: usize = 65_536;
 
-/// A line of more bytes is long: it is read and parsed by a worker of its own.
+/// A line of more bytes is long: the worker for long lines reads and parses it.
 pub const LONG_LINE: usize = 65_536;
 
-/// How many bytes one read may give.
+/// The most bytes of one read.
 pub const CHUNK: usize = 65_536;
 
-/// How long a client may take nothing of its replies, in milliseconds.
+/// How long a client may leave its replies unread, in milliseconds.
 pub const PATIENCE: u64 = 30_000;
 
 /// How long a client has to log in, in milliseconds.
@@ -32,8 +32,8 @@ pub const LOG_IN: u64 = 60_000;
 /// How long a browser has to send its request, in milliseconds.
 pub const REQUEST: u64 = 10_000;
 
-/// How many requests over HTTP are read or answered at once. They are no clients.
+/// The most HTTP requests that are read or answered at once. They do not count as clients.
 pub const VISITS: u32 = 512;
 
-/// How often it is checked which clients have passed a limit of time, in milliseconds.
+/// The time between two checks of the clients' time limits, in milliseconds.
 pub const CHECK: u64 = 1_000;

@@ -1,22 +1,22 @@
-//! What a client speaks.
+//! The protocol that a client speaks.
 use crate::hub::Connected;
 use web_wire::{Frames, Visit};
 
-/// What a client speaks.
+/// The protocol that a client speaks.
 #[derive(Drop)]
 pub enum Link {
-    /// Lines, and replies are lines.
+    /// Lines; replies are lines too.
     Lines,
-    /// A request over HTTP, which has not come whole.
+    /// An HTTP request that is not yet complete.
     Visit(Visit),
     /// The frames of a WebSocket. Each message is a line, and each reply a message.
     Socket(Frames),
-    /// Nothing: a request was answered, and more is not read.
+    /// Nothing: a request was answered, and nothing more is read.
     Over,
 }
 
 impl Link {
-    /// As what it is connected.
+    /// How its connection counts.
     pub fn connected(&self) -> Connected {
         match self {
             Link::Lines | Link::Socket(_) => Connected::Client,
@@ -24,7 +24,7 @@ impl Link {
         }
     }
 
-    /// Gives back the memory that is not needed while nothing comes.
+    /// Frees the memory that is not needed while nothing arrives.
     pub fn rest(&mut self) {
         if let Link::Socket(frames) = self {
             frames.release();

@@ -13,11 +13,11 @@ use web_wire::{Frames, Turn, put_message};
 use wire_lines::Fault;
 use workers::Conversation;
 
-/// What the line of a long message took is given back behind it, but for so much.
+/// The capacity of the line buffer that is kept after a long message.
 const KEPT: usize = 65_536;
 
-/// Gives a conversation the line of the next message. `line` is room for it. What frames are answered is appended to
-/// `output`.
+/// Gives a conversation the line of the next message. `line` is a buffer for it. Frames that answer the client's frames
+/// are appended to `output`.
 pub fn hear(
     frames: &mut Frames,
     conversation: &mut Conversation,
@@ -26,9 +26,11 @@ pub fn hear(
 ) -> Result<Turn, Fault>
     ensures line { result ≡ Ok Taken.Line → GivesTo frames.old conversation.old output.old.items
         frames.new conversation.new output.new.items }
-    ensures none { result ≡ Ok Taken.Read → GoesOn [] frames.old output.old.items frames.new output.new.items
+    ensures none { result ≡ Ok Taken.Read
+        → GoesOn [] frames.old output.old.items frames.new output.new.items
         × (course frames.new [] ≡ nothing_comes) }
-    ensures end { result ≡ Ok Taken.Close → GoesOn [] frames.old output.old.items frames.new output.new.items
+    ensures end { result ≡ Ok Taken.Close
+        → GoesOn [] frames.old output.old.items frames.new output.new.items
         × (frames.new.ended ≡ true) }
     ensures other { (result ≡ Ok Taken.Line) ⊎ (conversation.new ≡ conversation.old) }
 {
@@ -42,8 +44,8 @@ pub fn hear(
     Ok(turn)
 }
 
-/// Puts the first of a conversation's replies behind the output as a message, unless the last `held` bytes of the replies
-/// have a part of it. False if there is none.
+/// Appends the first of a conversation's replies to the output as a message, unless a part of it is in the last `held`
+/// bytes of the replies. Returns false if there is none.
 pub fn say(
     conversation: &mut Conversation,
     output: &mut Vec<u8>,
@@ -52,8 +54,10 @@ pub fn say(
     ensures only { conversation.new ≡ unwritten conversation.old conversation.new.replies }
     ensures said { result ≡ Ok true → SaysFirst conversation.old.replies output.old.items
         conversation.new.replies output.new.items }
-    ensures shorter { result ≡ Ok true → length conversation.new.replies < length conversation.old.replies }
-    ensures other { (result ≡ Ok true) ⊎ ((conversation.new ≡ conversation.old) × (output.new.items ≡ output.old.items)) }
+    ensures shorter { result ≡ Ok true
+        → length conversation.new.replies < length conversation.old.replies }
+    ensures other { (result ≡ Ok true)
+        ⊎ ((conversation.new ≡ conversation.old) × (output.new.items ≡ output.old.items)) }
     ensures held { min held (length conversation.old.replies) ≤ length conversation.new.replies }
 {
     let replies = conversation.replies();
@@ -66,7 +70,7 @@ pub fn say(
     Ok(true)
 }
 
-// Where the first line ends, if its line feed is among so many bytes.
+// The end of the first line, if its line feed is in the first `free` bytes.
 fn first_end(bytes: &[u8], free: usize) -> Option<usize>
     requires { free ≤ length bytes.now }
     ensures first { IfSome result (IsFirst bytes.now) }

@@ -1,22 +1,22 @@
-//! Bytes that are to be written behind those that were.
+//! Bytes that are waiting to be written.
 use std::alloc::Global;
 
-/// The room that is kept between two replies: what a longer one took is given back when it was written.
+/// The capacity that is kept between two replies. What a longer one needed is freed when it was written.
 const KEPT: usize = 65_536;
 
-/// The room that is kept while nothing is said, so that a short message needs no memory.
+/// The capacity that is kept while nothing is written, so that a short message needs no allocation.
 const KEPT_IDLE: usize = 256;
 
-/// Bytes that are to be written, behind those that were.
+/// Bytes of which the first were written, and the others wait.
 #[derive(Drop)]
 pub struct Outbox {
     pub bytes: Vec<u8>,
-    /// How many of them were written.
+    /// How many of them were already written.
     pub sent: usize,
 }
 
 impl Outbox {
-    /// Nothing is to be written. It takes no memory.
+    /// An empty outbox. It allocates no memory.
     pub fn new(alloc: Global) -> Outbox {
         Outbox {
             bytes: Vec::new(alloc),
@@ -24,22 +24,22 @@ impl Outbox {
         }
     }
 
-    /// These bytes are to be written.
+    /// An outbox with these bytes to be written.
     pub fn of(bytes: Vec<u8>) -> Outbox {
         Outbox { bytes, sent: 0 }
     }
 
-    /// How many bytes are to be written.
+    /// The number of bytes that wait to be written.
     pub fn len(&self) -> usize {
         self.bytes.len().saturating_sub(self.sent)
     }
 
-    /// Whether all were written.
+    /// Whether all bytes were written.
     pub fn is_empty(&self) -> bool {
         self.sent >= self.bytes.len()
     }
 
-    /// Drops the bytes that were written, once all were.
+    /// Drops the bytes once all were written.
     pub fn settle(&mut self) {
         if self.is_empty() {
             self.bytes.clear();
@@ -48,7 +48,7 @@ impl Outbox {
         }
     }
 
-    /// Gives back the memory that is not needed while nothing is said.
+    /// Frees the memory that is not needed while nothing is written.
     pub fn rest(&mut self) {
         self.bytes.shrink_to(KEPT_IDLE);
     }

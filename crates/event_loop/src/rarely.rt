@@ -1,6 +1,6 @@
-//! Messages that are logged once in a while.
+//! A limit on how often a message is logged.
 
-/// Lets one message through in each stretch of time.
+/// Lets one message through in each period.
 #[derive(Drop)]
 pub struct Rarely {
     every: u64,
@@ -8,12 +8,12 @@ pub struct Rarely {
 }
 
 impl Rarely {
-    /// One message in so many milliseconds.
+    /// Lets one message through in this many milliseconds.
     pub fn new(every: u64) -> Rarely {
         Rarely { every, last: None }
     }
 
-    /// Whether a message may be logged now, in milliseconds of a `Ticker`. If so, it counts as logged.
+    /// Whether a message may be logged now; `now` is in milliseconds of a `Ticker`. If so, it counts as logged.
     pub fn is_due(&mut self, now: u64) -> bool {
         let is_due = match self.last {
             Some(last) => now.saturating_sub(last) >= self.every,

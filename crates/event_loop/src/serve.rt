@@ -13,24 +13,25 @@ use std::alloc::Global;
 use std::sync::Wait;
 use workers::{Gate, Shared, Turn};
 
-/// What ended a client's turn.
+/// The result of a step of a client's turn.
 #[derive(Drop)]
 pub enum Step {
-    /// It may go on.
+    /// The turn may go on.
     Goes,
     /// There is nothing to do, or others have their turn.
     Rests,
-    /// It has to move: a long line has begun, or has been answered.
+    /// The client has to move, because a long line has begun or was answered.
     Moves,
-    /// A wrong token was answered, whose reply is to be held back. As whom it was to log in, if that is to be logged.
+    /// A wrong token was answered, and the reply is to be held back. The claim is who the client said it is, if that is
+    /// to be logged.
     Fails(Option<Claim>),
-    /// Its first line is to be held back.
+    /// The first line is to be held back.
     Waits(Wanted),
 }
 
 impl Client {
-    /// Answers lines that wait, and reads more, until nothing is left or others have their turn. One that has replies to take
-    /// is neither answered nor read.
+    /// Answers the waiting lines, and reads more, until nothing is left or it is the turn of others. While its replies
+    /// wait to be written, a client is neither answered nor read.
     pub fn serve<S, R, G, T>(
         &mut self,
         service: &Service<'_, S, R, G, T>,
@@ -59,7 +60,7 @@ impl Client {
         Step::Rests
     }
 
-    // Goes one step on: answers one line, or reads once.
+    // Makes one step: answers one line, or reads once.
     fn step<S, R, G, T>(
         &mut self,
         service: &Service<'_, S, R, G, T>,
@@ -89,7 +90,7 @@ impl Client {
         }
     }
 
-    // Answers one line, or reads once where none is whole.
+    // Answers one line, or reads once if none is complete.
     fn answer_or_read<S: Sequence, R: Wait, G: Gate>(
         &mut self,
         alloc: Global,
@@ -119,7 +120,7 @@ impl Client {
         }
     }
 
-    // Whether it is at the worker for long lines without one, or elsewhere with one.
+    // Whether the client is at the worker for long lines without having one, or elsewhere although it has one.
     fn is_misplaced(&self, hub: &Hub, place: usize) -> bool {
         let long_lines = hub.long_lines();
         if place == long_lines {
@@ -128,7 +129,7 @@ impl Client {
         self.is_long() && hub.is_open(long_lines)
     }
 
-    // Whether a long line is the first that waits.
+    // Whether the first waiting line is a long one.
     fn is_long(&self) -> bool {
         self.conversation.waiting() > LONG_LINE
             && match self.conversation.first_line() {
@@ -137,7 +138,8 @@ impl Client {
             }
     }
 
-    // Reads on while its first line is held back, or finds that it has to be. None: there is a line to answer, or none.
+    // Handles a first line that is held back, or has to be. Returns None if it is not: then the first line, if there is
+    // one, can be answered.
     fn hold_line(
         &mut self,
         alloc: Global,
@@ -164,7 +166,7 @@ impl Client {
         }
     }
 
-    // As whom its first line logs in, if the next wrong token is logged.
+    // Who the first line logs in as, if the next wrong token is to be logged.
     fn suspect(&self, alloc: Global) -> Option<Claim> {
         if !is_suspect(self.failures) {
             return None;
@@ -172,7 +174,7 @@ impl Client {
         claim_in(alloc, self.conversation.first_line()?)
     }
 
-    // A line was answered.
+    // Handles the answer to a line.
     fn answered(&mut self, before: usize, suspect: Option<Claim>) -> Step {
         self.hold = Hold::Free;
         self.times.note_line();
@@ -187,7 +189,7 @@ impl Client {
         }
     }
 
-    // No more bytes come: what waits is the last line.
+    // Answers the last line, since no more bytes arrive.
     fn end<S: Sequence, R: Wait, G: Gate>(&mut self, alloc: Global, pads: &mut Shared<'_, S, R, G>)
         requires { IsPart self.old.conversation.waiting }
     {

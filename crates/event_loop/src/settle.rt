@@ -3,12 +3,12 @@ use std::io;
 
 /// What replies wait for before they are written, such as a store that has to be synced.
 ///
-/// A worker settles once for all replies that it has made in a turn.
+/// A worker settles once in a turn, for all replies that it made.
 pub trait Settle {
-    /// Waits until everything that the replies made so far can reveal is kept. After an error no reply is written any more,
-    /// and the server ends.
+    /// Waits until everything that the replies made so far can reveal is stored. After an error, no more replies are
+    /// written and the server ends.
     fn settle(&self) -> io::Result<()>;
 
-    /// Whether `settle` can't succeed any more.
+    /// Whether `settle` can no longer succeed.
     fn has_failed(&self) -> bool;
 }

@@ -1,4 +1,4 @@
-//! The threads of a server, before they begin.
+//! The threads of a server, before they start.
 use crate::accept::Acceptor;
 use crate::clients::WAKING;
 use crate::hub::{Door, Hub};
@@ -10,7 +10,7 @@ use std::net::{Net, TcpListener};
 use std::sync::atomic::AtomicU64;
 use std::time::{Clock, Instant};
 
-/// What the threads of a server share, and what each has of its own.
+/// What the threads of a server share, and what each of them owns.
 #[derive(Drop)]
 pub struct SetUp {
     pub hub: Hub,
@@ -18,8 +18,8 @@ pub struct SetUp {
     pub workers: Vec<Worker>,
 }
 
-/// A worker for each member's seats, of which the last serves long lines alone, and who accepts connections for them: of
-/// clients that speak lines, and perhaps of browsers. Of the pad at each cell it is told the revision.
+/// Sets up a worker for each member's seats, the last of which serves only long lines, and the acceptor, for clients
+/// that speak lines and perhaps for browsers. `revisions` has the revision of the pad at each cell.
 pub fn set_up<R: AllocGlobal + Net + Clock>(
     rt: &R,
     lines: TcpListener,

@@ -1,10 +1,10 @@
-//! The time of a thread, which is read from the clock as seldom as will do.
+//! The time of a thread, which reads the clock as seldom as possible.
 use std::time::{Clock, Duration, Instant};
 
-/// After how many turns the clock is read, although something is reported in each of them.
+/// The number of busy turns after which the clock is read.
 const TURNS: u32 = 4;
 
-/// Milliseconds since the server began, as of the last look at the clock.
+/// The milliseconds since the server started, at the last reading of the clock.
 #[derive(Drop)]
 pub struct Ticker {
     began: Option<Instant>,
@@ -13,7 +13,7 @@ pub struct Ticker {
 }
 
 impl Ticker {
-    /// From the start of the server on. None: the clock did not tell, and no time passes.
+    /// Counts from the start of the server. None: the clock failed, and no time passes.
     pub fn new(began: Option<Instant>) -> Ticker {
         Ticker {
             began,
@@ -22,7 +22,7 @@ impl Ticker {
         }
     }
 
-    /// Looks at the clock.
+    /// Reads the clock, and returns the milliseconds since the start.
     pub fn look<C: Clock>(&mut self, clock: &C) -> u64 {
         self.turns = 0;
         if let (Some(began), Ok(now)) = (self.began, Instant::now(clock)) {
@@ -31,14 +31,14 @@ impl Ticker {
         self.now
     }
 
-    /// Whether the clock is to be read in this turn: nothing was reported, or it was not read for some turns.
+    /// Whether the clock is to be read in this turn: nothing was reported, or it has not been read for some turns.
     pub fn is_due(&mut self, was_idle: bool) -> bool {
         self.turns = self.turns.saturating_add(1);
         was_idle || self.turns >= TURNS
     }
 }
 
-/// The milliseconds of a stretch of time.
+/// The milliseconds of a duration.
 pub fn millis(time: Duration) -> u64 {
     time.as_secs()
         .saturating_mul(1_000)

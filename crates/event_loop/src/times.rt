@@ -1,22 +1,22 @@
-//! Limits of time.
+//! The time limits of a client.
 use crate::limits::PATIENCE;
 use std::mem;
 
-/// Which limit of time a client has passed.
+/// The time limit that a client has exceeded.
 #[derive(Clone, Copy, Debug, PartialEq, Eq)]
 pub enum Late {
-    /// It has sent no line for too long.
+    /// It has not sent a line for too long.
     Silent,
-    /// It has taken nothing of its replies for too long.
+    /// It has not taken any of its replies for too long.
     Unread,
-    /// It has not logged in, or has sent no request over HTTP.
+    /// It has not logged in, or has not sent its HTTP request.
     Nobody,
 }
 
-/// When something was last seen of a client, in milliseconds of a `Ticker`.
+/// When a client was last active, in milliseconds of a `Ticker`.
 ///
-/// What happens between two checks is noted as a flag, and gets the time of the next check, so that nobody reads the clock
-/// for it.
+/// What happens between two checks sets a flag, and gets the time of the next check. So it needs no reading of the
+/// clock.
 #[derive(Clone, Copy, Debug)]
 pub struct Times {
     came: Option<u64>,
@@ -27,7 +27,7 @@ pub struct Times {
 }
 
 impl Times {
-    /// Of a client that has just come.
+    /// The times of a client that has just arrived.
     pub fn new() -> Times {
         Times {
             came: None,
@@ -38,18 +38,18 @@ impl Times {
         }
     }
 
-    /// A line was answered.
+    /// Notes that a line was answered.
     pub fn note_line(&mut self) {
         self.has_asked = true;
     }
 
-    /// Some of its replies were taken.
+    /// Notes that the client took some of its replies.
     pub fn note_taken(&mut self) {
         self.has_taken = true;
     }
 
-    /// Which limit has been passed at this check by a client that owes replies or not. `patience` is how long it may be
-    /// connected, if it has not said who it is, and `idle` how long it may be silent.
+    /// The limit that the client has exceeded at this check. `owes`: replies wait to be written; `patience`: how long
+    /// it may be connected before it logs in; `idle`: how long it may be silent.
     pub fn check(
         &mut self,
         now: u64,

@@ -1,4 +1,4 @@
-//! Bytes from a socket to who takes them, and back.
+//! Bytes from a socket to whatever takes them, and back.
 ghost use Rattle.std.specs.Prelude.{◌≡◌, ◌≢◌, ◌⊎◌, ◌<◌, ◌≤◌, ◌++◌, ℕ, List, Ok, OnErr, OnOk, drop, length, min};
 ghost use Rattle.std.specs.Io.KnownBytes.{IsAtEnd, Keeps, append_known, prepend_known};
 ghost use Rattle.workers.specs.Talk.{unwritten, waits};
@@ -9,15 +9,15 @@ use web_wire::{Frames, Visit};
 use wire_lines::Fault;
 use workers::Conversation;
 
-/// Who takes bytes as they come: lines, the frames of a WebSocket, or a request over HTTP.
+/// A receiver of bytes: lines, the frames of a WebSocket, or an HTTP request.
 pub trait Intake {
-    /// The bytes that came and were not used.
+    /// The bytes that arrived and were not yet used.
     ghost waiting: { Self → List ℕ };
 
-    /// All but those bytes is the same.
+    /// Everything except those bytes is unchanged.
     ghost keeps: { Self → Self → Type 0 };
 
-    /// Puts bytes behind those that wait; out of memory, none of them.
+    /// Appends bytes to those that wait; if memory runs out, none of them.
     fn take(&mut self, bytes: &[u8]) -> Result<(), Fault>
         ensures bytes { OnOk result (waiting self.new ≡ waiting self.old ++ bytes.now) }
         ensures keeps { keeps self.old self.new }
@@ -54,37 +54,39 @@ impl Intake for Visit {
     }
 }
 
-/// What one call of a socket came to.
+/// The outcome of one call of a socket.
 #[derive(Clone, Copy, Debug, PartialEq, Eq)]
 pub enum Passage {
-    /// Bytes passed.
+    /// Bytes were transferred.
     Passed,
-    /// None passed, and the call may be made again.
+    /// None were transferred, and the call may be repeated.
     Again,
-    /// None passes now. The socket reports when some can.
+    /// None can be transferred now. The socket reports when some can.
     Blocked,
-    /// No more bytes come, or none is to be written.
+    /// No more bytes arrive, or none are left to be written.
     Over,
 }
 
-/// Why a client can be served no longer.
+/// Why a client can no longer be served.
 #[derive(Clone, Copy, Debug)]
 pub struct Broken {
     pub fault: Fault,
-    /// The system's error, if it was the socket that failed.
+    /// The system's error, if the socket failed.
     pub cause: Option<io::Error>,
 }
 
-/// Reads once, and gives the bytes that came to who takes them. The chunk may hold what came for others before.
+/// Reads once, and gives the bytes to the receiver. The chunk may hold earlier bytes of other clients.
 pub fn read_into<I: Intake, R: Read>(
     intake: &mut I,
     socket: &mut R,
     chunk: &mut [u8],
 ) -> Result<Passage, Broken>
     ensures only { (intake.new ≡ intake.old) ⊎ I.keeps intake.old intake.new }
-    ensures bytes { OnOk result (Keeps (prepend_known (I.waiting intake.old) (R.remaining socket.old))
+    ensures bytes { OnOk result (Keeps
+        (prepend_known (I.waiting intake.old) (R.remaining socket.old))
         (prepend_known (I.waiting intake.new) (R.remaining socket.new))) }
-    ensures over { result ≡ Ok Passage.Over → 0 < length chunk.new → IsAtEnd (R.remaining socket.new) }
+    ensures over { result ≡ Ok Passage.Over → 0 < length chunk.new
+        → IsAtEnd (R.remaining socket.new) }
     ensures err { OnErr result (intake.new ≡ intake.old) }
 {
     match socket.read(chunk) {
@@ -97,7 +99,7 @@ pub fn read_into<I: Intake, R: Read>(
     }
 }
 
-/// Writes once, as many of a conversation's replies as the socket takes, but for the last `held` bytes of them.
+/// Writes once, as many of a conversation's replies as the socket takes, except the last `held` bytes.
 pub fn write_from<W: Write>(
     conversation: &mut Conversation,
     socket: &mut W,
@@ -127,7 +129,7 @@ pub fn write_from<W: Write>(
     }
 }
 
-/// Writes once, as many of the bytes as the socket takes, from the first on that was not sent.
+/// Writes once, as many of the unsent bytes as the socket takes.
 pub fn write_rest<W: Write>(
     bytes: &[u8],
     sent: &mut usize,
@@ -155,7 +157,7 @@ pub fn write_rest<W: Write>(
     }
 }
 
-// What a call comes to that failed with this error.
+// The outcome of a call that failed with this error.
 fn without_bytes(error: io::Error, fault: Fault) -> Result<Passage, Broken>
     ensures { result ≢ Ok Passage.Over }
 {

@@ -19,10 +19,11 @@ use std::sync::Wait;
 use std::time::{Clock, Duration};
 use workers::{Gate, Shared};
 
-/// How many arrivals are taken in at once.
+/// The most arrivals that are taken in one turn.
 const ARRIVALS: u32 = 4_096;
 
-/// Waits until something is ready; then serves each client that can be read, settles once for all replies, and writes them.
+/// Waits until something is ready. Then it serves each client that can be read, settles once for all replies, and
+/// writes them.
 pub fn take_turn<S, R, G, T>(
     service: &Service<'_, S, R, G, T>,
     worker: &mut Worker,
@@ -65,7 +66,7 @@ where
     write(service, worker, clients, pads)
 }
 
-// How long to wait for events. None: without end, since there is nobody whose time could pass.
+// How long to wait for events. None: without limit, since there are no clients with time limits.
 fn timeout_of<C: Clock>(rt: &C, clients: &Clients, ticker: &mut Ticker) -> Option<Duration> {
     if !clients.queue.is_empty() || !clients.owed.is_empty() {
         return Some(Duration::from_millis(0));
@@ -78,7 +79,7 @@ fn timeout_of<C: Clock>(rt: &C, clients: &Clients, ticker: &mut Ticker) -> Optio
     Some(Duration::from_millis(most))
 }
 
-// Takes in who and what has come.
+// Receives what was sent to the worker.
 fn receive<S, R, G, T>(
     service: &Service<'_, S, R, G, T>,
     worker: &mut Worker,
@@ -126,7 +127,7 @@ where
     }
 }
 
-// Serves each client that is queued, once.
+// Serves each queued client once.
 fn serve<S, R, G, T>(
     service: &Service<'_, S, R, G, T>,
     place: usize,
@@ -171,7 +172,7 @@ where
     Ok(())
 }
 
-// Logs who has sent wrong tokens, and as whom.
+// Logs a client that sent wrong tokens, and who it claimed to be.
 fn log_failure<R: Clock + Eprint>(rt: &R, client: &mut Client, claim: &Claim) {
     let number = client.number();
     match client.stream().peer_addr() {
@@ -181,7 +182,7 @@ fn log_failure<R: Clock + Eprint>(rt: &R, client: &mut Client, claim: &Claim) {
     }
 }
 
-// Writes the replies, and ends who has nothing left.
+// Writes the replies, and ends the clients that have nothing left to do.
 fn write<S, R, G, T>(
     service: &Service<'_, S, R, G, T>,
     worker: &Worker,
@@ -275,7 +276,7 @@ where
     service.hub.leave(home, connected);
 }
 
-// Ends who has passed a limit of time.
+// Ends the clients that have exceeded a time limit.
 fn check_times<S, R, G, T>(
     service: &Service<'_, S, R, G, T>,
     clients: &mut Clients,

@@ -1,4 +1,4 @@
-//! A worker: it serves its clients, each whenever its socket is ready, until the server ends.
+//! A worker, which serves each of its clients whenever its socket is ready, until the server ends.
 use crate::arrivals::Arrival;
 use crate::clients::Clients;
 use crate::hub::Hub;
@@ -22,21 +22,21 @@ use std::{io, mem, thread};
 use web_wire::Site;
 use workers::{Gate, Row, Shared};
 
-/// How many events are taken at once.
+/// The most events that one poll takes.
 const EVENTS: usize = 512;
 
-/// What all workers of a server serve, and by which limits.
+/// What all workers of a server share: what they serve, and their limits.
 #[derive(Drop)]
 pub struct Service<'a, S: Sequence, R: Wait, G: Gate, T: Settle> {
     pub row: &'a Row<'a, S, R, G>,
     pub hub: &'a Hub,
     pub limits: Limits,
     pub settle: &'a T,
-    /// What browsers are served.
+    /// The files that browsers are served.
     pub site: Site<'a>,
 }
 
-/// What a worker has of its own.
+/// What a worker owns.
 #[derive(Drop)]
 pub struct Worker {
     pub(crate) place: usize,
@@ -47,7 +47,7 @@ pub struct Worker {
 }
 
 impl Worker {
-    /// The worker at a place of the hub.
+    /// Creates the worker at a place of the hub.
     pub(crate) fn new<R: Net>(
         rt: &R,
         alloc: Global,
@@ -65,10 +65,10 @@ impl Worker {
     }
 }
 
-/// Serves the clients that come, each worker in a thread of its own, until the server ends: no more connections are accepted
-/// and all clients have ended, or `Hub::stop` was called.
+/// Serves all clients, each worker in a thread of its own, until the server ends: no more connections are accepted and
+/// all clients have ended, or `Hub::stop` was called.
 ///
-/// Where the system makes no thread, fewer serve.
+/// If the system cannot create a thread, fewer workers serve.
 pub fn serve_all<S, R, G, T>(service: &Service<'_, S, R, G, T>, workers: &mut [Worker])
 where
     S: Sequence + Send,
@@ -85,7 +85,7 @@ where
     );
 }
 
-// One worker's part of it.
+// The work of one worker.
 fn work<S, R, G, T>(service: &Service<'_, S, R, G, T>, worker: &mut Worker)
 where
     S: Sequence,
@@ -110,7 +110,7 @@ where
     }
 }
 
-// Serves those who may log in by these accounts, until there are others, which it returns, or the server ends.
+// Serves clients with these accounts until they are replaced, and returns the new ones, or until the server ends.
 fn serve_with<S, R, G, T>(
     service: &Service<'_, S, R, G, T>,
     accounts: &Accounts,
@@ -156,7 +156,7 @@ where
     news
 }
 
-// Serves in turns until other accounts come, which it returns, or the server ends.
+// Serves in turns until other accounts arrive, which it returns, or until the server ends.
 fn take_turns<S, R, G, T>(
     service: &Service<'_, S, R, G, T>,
     worker: &mut Worker,
@@ -188,7 +188,7 @@ where
     Ok(None)
 }
 
-// Ends the sessions of all who are left.
+// Ends the sessions of all remaining clients.
 fn end_all<S: Sequence, R: Wait, G: Gate>(clients: &mut Clients, pads: &mut Shared<'_, S, R, G>) {
     for key in 0..clients.all.capacity() {
         if let Some(mut client) = clients.all.try_remove(key) {

@@ -1,4 +1,4 @@
-//! What a client is told: its replies, and why it is served no longer.
+//! What is written to a client: its replies, and why it is no longer served.
 use crate::accept::FULL_PAGE;
 use crate::client::{Client, Phase};
 use crate::hold::Hold;
@@ -11,11 +11,11 @@ use web_wire::put_message;
 use wire_json::memory_line;
 use wire_lines::Fault;
 
-/// How often a socket is written to before others have their turn.
+/// The most writes to a socket before other clients have their turn.
 const WRITES: u32 = 16;
 
 impl Client {
-    /// Writes replies, as many as the socket takes.
+    /// Writes as many replies as the socket takes.
     pub fn write(&mut self) {
         let held = match self.hold {
             Hold::Pause { bytes, .. } => bytes,
@@ -35,7 +35,7 @@ impl Client {
         }
     }
 
-    // Writes once, all replies but for the last `held` bytes of them.
+    // Writes once, from all replies except the last `held` bytes.
     fn write_once(&mut self, held: usize) -> Result<Passage, Broken> {
         if let Link::Lines = self.link {
             return write_from(&mut self.conversation, &mut self.stream, held);
@@ -49,13 +49,13 @@ impl Client {
         self.write_outbox()
     }
 
-    /// Makes messages of all replies but for the last `held` bytes of them.
+    /// Turns all replies except the last `held` bytes into messages.
     pub(crate) fn say_all(&mut self, held: usize) -> Result<(), AllocError> {
         while say(&mut self.conversation, &mut self.outbox.bytes, held)? {}
         Ok(())
     }
 
-    // Writes once what is in the outbox.
+    // Writes once from the outbox.
     fn write_outbox(&mut self) -> Result<Passage, Broken> {
         let bytes = self.outbox.bytes.as_slice();
         let passage = write_rest(bytes, &mut self.outbox.sent, &mut self.stream)?;
@@ -63,7 +63,7 @@ impl Client {
         Ok(passage)
     }
 
-    /// Tells that memory ran out, if the socket takes it at once.
+    /// Tells the client that memory ran out, if the socket takes it at once.
     pub(crate) fn tell_of_memory(&mut self) {
         let line = memory_line();
         match self.link {
@@ -81,8 +81,8 @@ impl Client {
         }
     }
 
-    /// Closes its socket as WebSocket asks, if it has one and no reply waits to be written: the server ends, or serves it no
-    /// longer.
+    /// Sends a close frame to a WebSocket to which no replies wait to be written, because the server ends or no longer
+    /// serves it.
     pub fn say_goodbye(&mut self) {
         if self.owes() {
             return;

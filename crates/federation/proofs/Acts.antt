@@ -27,7 +27,7 @@ use Rattle.pad_core.proofs.Allowed.{unless}
 use Rattle.pad_core.proofs.Made.{edit_checked, edit_fits, edit_made, edit_refused, delivered}
 use Rattle.pad_core.proofs.Noted.{commentable, comment_checked, comment_fits, resolve_checked}
 
--- an operation that a server makes: the next of its own, behind all that it has
+-- an operation that a server makes: the next of its own, after all that it has
 pub record IsLocal (own : ℕ) (log : List Op) (op : Op) : Type 0 where
   pub origin : op.name.origin ≡ own
   pub number : op.name.number ≡ count_in (vector_of log) own + 1

@@ -1,4 +1,4 @@
--- An operation that is valid behind a past is valid behind each log that has the past and no further operations of its
+-- An operation that is valid after a past is valid after each log that has the past and no further operations of its
 -- origin.
 use Rattle.std.proofs.Common.{◌≡◌, ℕ, inl, inr, Bool, true, false, not, ◌&&◌, ◌||◌, eqb, ltb, List, [], ◌∷◌, Option}
 use Rattle.std.proofs.Common.{Some, None, refl, sym, ap, ◌∙◌, subst, flat_map, eqb-true}
@@ -33,7 +33,7 @@ use Rattle.pad_core.proofs.Booked.{checked_each}
 use Rattle.pad_core.proofs.SameSet.{made_by, made_alike, made_from, passes_into}
 use Rattle.federation.specs.Laws.{CarriesLaw}
 
--- each operation of a history is in its limits
+-- each operation of a history is within its limits
 pub history_checked : (log : List Op) (op : Op) → IsHistory log → Has log op → is_checked op ≡ true
 history_checked log op h m = Has-each (λ one. is_checked one ≡ true) log op (checked_each [] log h) m
 
@@ -64,7 +64,7 @@ parts_replica origin author (Resolve comment ∷ parts) h =
     parts_replica origin author parts (and_parts (is_part origin (Resolve comment))
     (list_all (is_part origin) parts) h).1
 
--- the parts of an operation in its limits are in theirs
+-- the parts of an operation within its limits are within theirs
 checked_parts : (op : Op) → is_checked op ≡ true → list_all (is_part op.name.origin) op.parts ≡ true
 checked_parts op h = (and_parts _ _ (and_parts _ _ (and_parts _ _ (and_parts _ _ h).1).0).0).1
 
@@ -93,7 +93,7 @@ all_into t u [] into h = refl
 all_into t u (x ∷ xs) into h = let both = and_parts (t x) (list_all t xs) h in and_from (u x) (list_all u xs)
     (into x both.0) (all_into t u xs into both.1)
 
--- what stands before another in a part of a list, stands before it in the list
+-- what comes before another in a part of a list comes before it in the list
 stamp_sub : (xs ys : List Character) (s : Stamp) → IsSubsequence xs ys → has_stamp itself xs s ≡ true →
     has_stamp itself ys s ≡ true
 stamp_sub xs ys s done h = h
@@ -132,7 +132,7 @@ stands_sub xs ys a b d (skip {y = c} {xs = us} {ys = vs} sub) h =
     in
     rw other (stands_sub us vs a b parts.1 sub h)
 
--- what is asked of a character of a run's replica is asked of the past alone
+-- conditions on characters of a run's replica concern only the past
 counters_carry : (past log : List Op) (op : Op) (first : Stamp) (c : Character) → IsHistory log →
     ((one : Op) → Has log one → one.name.origin ≡ op.name.origin → Has past one) → first.replica ≡ op.name.origin →
     AllByRecursion (λ x. (not (eqb x.stamp.replica first.replica) || ltb x.stamp.counter first.counter) ≡ true)
@@ -193,7 +193,7 @@ parts_carry past log op p h into own (part ∷ parts) checked valid =
     and_from _ _ (part_carries past log op p h into own part checks.0 fits.0)
     (parts_carry past log op p h into own parts checks.1 fits.1)
 
--- validity behind a past carries over
+-- validity after a past carries over
 pub carries : (past log : List Op) (op : Op) → IsHistory past → IsHistory log →
     ((one : Op) → Has past one → Has log one) → ((one : Op) → Has log one → one.name.origin ≡ op.name.origin →
     Has past one) →
@@ -202,7 +202,7 @@ carries past log op p h into own checked valid =
     let both = and_parts (list_all (λ part. part_is_valid part past) op.parts) (all_differ (inserted_by op)) valid in
     and_from _ _ (parts_carry past log op p h into own op.parts (checked_parts op checked) both.0) both.1
 
--- the same where members are told by containment
+-- the same for members by containment
 pub carries_law : CarriesLaw
 carries_law past log op p h extends checked valid =
     carries past log op p h

@@ -1,4 +1,4 @@
--- What holds of each world that events lead to.
+-- What holds for each world that events lead to.
 use Rattle.std.proofs.Common.{◌≡◌, ℕ, ◌≤◌, Bool, not, List, take, drop, filter, sym, ap₂, subst, take-append-drop}
 use Rattle.pad_model.specs.Character.{Character}
 use Rattle.pad_model.specs.Laws.{itself}
@@ -29,7 +29,7 @@ use Rattle.federation.proofs.Steps.{push_step}
 use Rattle.federation.proofs.Typing.{types_in_place}
 use Rattle.federation.proofs.Worlds.{Stands, stands}
 
--- the same of a machine, under the number that it has
+-- the same for a machine, under its own number
 keeps_here : (world : World) (server : ℕ) → Stands world →
     (let m = world.machine_of server in Keeps world.made m.replica m.log m.held)
 keeps_here world server s = let m = world.machine_of server in subst (λ n. Keeps world.made n m.log m.held)
@@ -70,7 +70,7 @@ up_to_counts made own log held m k = record {
   once = named_once log k.delivered.numbered;
 }
 
--- a log has what another has whose counts it has reached
+-- a log that reaches another's counts has its operations
 has_counted : (made log other : List Op) (own own_other : ℕ) (held held_other : List Op) → IsMade made →
     Keeps made own log held → Keeps made own_other other held_other → vector_of log ≡ vector_of other → (op : Op) →
     Has log op → Has other op

@@ -36,7 +36,7 @@ use Rattle.federation.specs.Past.{IsMadeBehind}
 use Rattle.federation.proofs.Carries.{carries, history_checked}
 use Rattle.federation.proofs.Numbers.{in_log, number_low}
 
--- the operations that were made: in the order of making they are a history, and each was made behind a past
+-- the operations that were made: in the order of making they are a history, and each was made after a past
 pub record IsMade (made : List Op) : Type 0 where
   pub history : IsHistory made
   pub numbered : AreNumbered [] made
@@ -50,7 +50,7 @@ pub record Keeps (made : List Op) (own : ℕ) (log held : List Op) : Type 0 wher
   pub waiting : (op : Op) → Has held op → Has made op
   pub mine : (op : Op) → Has made op → op.name.origin ≡ own → Has log op
 
--- where counts are reached, each of them is
+-- if counts are reached, each of them is
 reached : (v counts : List Counted) (o : ℕ) → reaches v counts ≡ true → count_in counts o ≤ count_in v o
 reached v [] o h = omega arith
 reached v (pair ∷ counts) o h =
@@ -151,7 +151,7 @@ keeps_held made own log held rest k waiting =
 same_some : (a b : Op) → Some a ≡ Some b → a ≡ b
 same_some a b q = cc
 
--- what is found is there, and passes the test
+-- what is found is in the list, and passes the test
 pub found_one : (t : Op → Bool) (held : List Op) (op : Op) → find t held ≡ Some op → Has held op × (t op ≡ true)
 found_one t [] op e = absurd (cc)
 found_one t (x ∷ held) op e =
@@ -200,7 +200,7 @@ pub keeps_steps : (made : List Op) (own n : ℕ) (d : Delivery) → IsMade made 
 keeps_steps made own zero d m k = k
 keeps_steps made own (suc n) d m k = keeps_release made own (steps n d) m (keeps_steps made own n d m k)
 
--- what a push of an operation that was made receives is no fault, and is kept
+-- an operation that was made is received without a fault when pushed, and is kept
 pub record IsTakenIn (made : List Op) (own : ℕ) (result : Result Pushed Refusal × (List Op × List Op)) : Type 0 where
   pub in_limits : result.0 ≢ Err BadOp
   pub in_order : result.0 ≢ Err PeerFault

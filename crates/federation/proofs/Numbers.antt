@@ -78,7 +78,7 @@ pub number_low : (log : List Op) (op : Op) → AreNumbered [] log → Has log op
 number_low log op n h = Has-each (λ x. x.name.number ≤ count_in (vector_of log) x.name.origin) log op
     (numbers_low log n) h
 
--- behind an operation no other has its name
+-- no later operation has an operation's name
 later_other : (v : List Counted) (x y : Op) (log : List Op) → IsVector v → AreNumbered v (x ∷ log) → Has log y →
     x.name.origin ≡ y.name.origin → x.name.number ≡ y.name.number → ⊥
 later_other v x y log h n m origin number =
@@ -109,7 +109,7 @@ pub name_decides : (log : List Op) (a b : Op) → AreNumbered [] log → Has log
     ≡ b.name.origin → a.name.number ≡ b.name.number → a ≡ b
 name_decides log a b n ha hb origin number = decides_from [] log a b tt n ha hb origin number
 
--- an operation that was made is in a log that has come to its number
+-- an operation that was made is in each log whose count has reached its number
 pub in_log : (made log : List Op) (op : Op) → AreNumbered [] made → AreNumbered [] log →
     ((one : Op) → Has log one → Has made one) → Has made op → op.name.number ≤ count_in (vector_of log) op.name.origin →
     Has log op
@@ -117,7 +117,7 @@ in_log made log op n m within there low =
     let found = number_there log op.name.origin op.name.number m (number_some made op n there) low in
     subst (Has log) (name_decides made found.0 op n (within found.0 found.1.0) there found.1.1.0 found.1.1.1) found.1.0
 
--- a log that has an origin's operations of another counts no fewer of them
+-- a log that has another's operations of an origin counts at least as many of them
 pub counts_most : (log more : List Op) (o : ℕ) → AreNumbered [] log → AreNumbered [] more →
     ((op : Op) → Has log op → op.name.origin ≡ o → Has more op) → count_in (vector_of log) o
     ≤ count_in (vector_of more) o
@@ -152,6 +152,6 @@ once_from v (x ∷ log) h n = (none log (λ y m. m), once_from (counted v x) log
       none ys (λ z m. into z (inr m)),
     )
 
--- no two operations have one name
+-- no two operations have the same name
 pub named_once : (log : List Op) → AreNumbered [] log → IsDistinct have_one_name log
 named_once log n = once_from [] log tt n

@@ -1,4 +1,4 @@
--- What a step of a server's machine leaves, and what it answers to a push.
+-- What a step of a server's machine leaves, and its reply to a push.
 use Rattle.std.proofs.Common.{◌≡◌, ◌≢◌, ℕ, ◌≤◌, ◌⊎◌, inl, inr, true, List, length, Option, Some, None, Result, Ok, Err}
 use Rattle.std.proofs.Common.{refl, sym, ap, bytes_eq, unwrap_or}
 use Rattle.pad_model.specs.Checked.{is_name}
@@ -26,7 +26,7 @@ use Rattle.pad_core.specs.declared.reply.Pushed.{Pushed}
 use Rattle.federation.proofs.Acts.{Makes, inserts, deletes, changes_all, comments, resolutions}
 use Rattle.federation.proofs.Keeps.{IsMade, Keeps, IsTakenIn, keeps_steps}
 
--- the parts of a machine that the federation speaks of
+-- the parts of a machine that federation concerns
 abbrev pub pad_with : Option Owned → ℕ → List Op → List Op → Presence → Machine
 pad_with owned own log held p = record { owned = owned; replica = own; log = log; held = held; presence = p }
 
@@ -104,7 +104,7 @@ local_step (Some owned) own log held p pad who visit this d named low none =
     (λ e. rw e (session_steps (Some owned) own log held p owned who visit this d named low none))
     (λ e. rw e (stays (Some owned) own log held p))
 
--- what a step answers to a push of an operation that was made, and what it leaves
+-- the reply of a step to a push of an operation that was made, and what it leaves
 pub record IsPushStep (made : List Op) (own : ℕ) (result : Result PadReply Refusal × Machine) : Type 0 where
   pub in_limits : result.0 ≢ Err BadOp
   pub in_order : result.0 ≢ Err PeerFault

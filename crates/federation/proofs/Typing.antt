@@ -1,4 +1,4 @@
--- A text that is put in at a place of the present revision stands at that place of the next.
+-- A text inserted at a position of the present revision is at that position in the next.
 use Rattle.std.proofs.Common.{◌≡◌, ℕ, zero, suc, ◌+◌, ◌≤◌, ◌<◌, Bool, true, false, not, cond, List, [], ◌∷◌, ◌++◌}
 use Rattle.std.proofs.Common.{length, map, filter, take, drop, Option, Some, None, Result, Ok, Err, refl, sym, ap, ap₂}
 use Rattle.std.proofs.Common.{◌∙◌, subst, arith, append-nil, bytes_eq, ltb, ltb-false}
@@ -51,12 +51,12 @@ use Rattle.federation.specs.Holds.{TypesInPlace}
 use Rattle.federation.proofs.Acts.{place_there}
 use Rattle.federation.proofs.Steps.{pad_with}
 
--- where an item's stamp is there, that of what passes a test among those behind it is another
+-- an item that passes a test among those after an item has another stamp
 not_first : (t : Character → Bool) (x : Character) (xs : List Character) (j : ℕ) (p : Stamp) →
     IsDistinct (same_item itself) (x ∷ xs) → same_stamp x.stamp p ≡ true → stamp_in itself (filter t xs) j ≡ Some p → ⊥
 not_first t x xs j p d same there = both_ways _ (other_stamp itself x xs p d (kept_has itself t xs j p there)) same
 
--- a block right behind an item that passes a test stands behind it among what passes
+-- a block directly after an item that passes a test is directly after it among what passes
 behind_kept : (t : Character → Bool) (xs block : List Character) (j : ℕ) (p : Stamp) →
     IsDistinct (same_item itself) xs → stamp_in itself (filter t xs) j ≡ Some p →
     filter t (put_right_behind itself (Some p) block xs) ≡ take (suc j) (filter t xs) ++ filter t block
@@ -125,7 +125,7 @@ newest_shown log c h above =
     absurd (omega arith))
     (λ e. ap not e)
 
--- what is put in right behind the character in front of a place stands at that place among what is shown
+-- what is inserted directly after the character before a position is at that position among what is shown
 placed : (set : Characters) (block : List Character) (at : ℕ) → IsDistinct (same_item itself)
     (order itself set.inserted) → filter (λ c. not (is_erased set.erased c.stamp)) block ≡ block →
     at ≤ length (visible set) →
@@ -143,7 +143,7 @@ placed set block (suc j) d kept within =
     (behind_kept (λ c. not (is_erased set.erased c.stamp)) (order itself set.inserted) block j there.0 d there.1
     ∙ ap (λ l. take (suc j) (visible set) ++ l ++ drop (suc j) (visible set)) kept)
 
--- a text stands at its place
+-- a text is at its position
 abbrev pub InPlace : List Op → ℕ → List ℕ → List Op → Type 0
 InPlace log at text new =
     (typed : List Character) × (at ≤ length (visible (characters_in log))) × (map (λ c. c.character) typed ≡ text)
@@ -204,7 +204,7 @@ in_place own author at text log h none =
           ∙ placed set block at distinct kept within,
     )
 
--- what an answer leaves, where it is that of an insertion
+-- what the answer to an insertion leaves
 abbrev TypedBy : List Op → ℕ → List ℕ → Result PadReply Refusal × Machine → Type 0
 TypedBy log at text result = (now : ℕ) (name : OpName) → result.0 ≡ Ok (reply.Made now name) →
     InPlace log at text result.1.log
@@ -272,7 +272,7 @@ step_types (Some owned) own at text log held p pad who visit h =
     (λ e. rw e (session_types (Some owned) own at text log held p owned who visit h))
     (λ e. rw e (elsewhere log at text (pad_with (Some owned) own log held p)))
 
--- what is typed stands in its place
+-- what is typed is at its position
 pub types_in_place : (m : Machine) → IsHistory m.log → TypesInPlace m
 types_in_place m h pad who visit at text now name new e =
     subst (λ (x : Machine). InPlace m.log at text x.log) (ap (λ r. r.1) e)

@@ -29,13 +29,13 @@ use Rattle.federation.proofs.Numbers.{counts_most}
 use Rattle.federation.proofs.Steps.{ActsLocally, Leaves, nothing, answer, stopped, NoPush, left_by, local_step}
 use Rattle.federation.proofs.Steps.{push_or_not, push_step}
 
--- what holds of a world along the way
+-- what holds for a world along the way
 pub record Stands (world : World) : Type 0 where
   pub made : IsMade world.made
   pub numbered : (server : ℕ) → (world.machine_of server).replica ≡ server
   pub keeps : (server : ℕ) → Keeps world.made server (world.machine_of server).log (world.machine_of server).held
 
--- an operation that is behind what was made stays so as more is made
+-- an operation made after a past of made operations stays so as more are made
 behind_more : (made past : List Op) (op new : Op) → IsMadeBehind made past op → IsMadeBehind (made ++ new ∷ []) past op
 behind_more made past op new b = record {
   history = b.history;
@@ -47,7 +47,7 @@ behind_more made past op new b = record {
   valid = b.valid;
 }
 
--- a server's own log counts its operations as all that were made do
+-- a server's own log has the same count of its operations as the list of all that were made
 own_count : (made : List Op) (own : ℕ) (log held : List Op) → IsMade made → Keeps made own log held →
     count_in (vector_of log) own ≡ count_in (vector_of made) own
 own_count made own log held m k =
@@ -153,7 +153,7 @@ drop_none : (xs : List Op) → drop (length xs) xs ≡ []
 drop_none [] = refl
 drop_none (x ∷ xs) = drop_none xs
 
--- what an act made is what the log has more, where it brought nothing
+-- an act that brought nothing made what it added to the log
 made_local : (this : Act) (old new : List Op) → NoPush this → made_by this old new ≡ drop (length old) new
 made_local (act.Push op) old new none = absurd none
 made_local other old new none = refl
@@ -165,7 +165,7 @@ made_nothing this log new same = at this (push_or_not this)
     at this (inl p) = ap (λ a. made_by a log new) p.1
     at this (inr none) = made_local this log new none ∙ ap (drop (length log)) same ∙ drop_none log
 
--- where nothing is made
+-- if nothing is made
 goes_on_same : (made : List Op) (server : ℕ) (more : List Op) (new : Machine) → more ≡ [] → IsMade made → new.replica
     ≡ server → Keeps made server new.log new.held → Goes made server (made ++ more) new
 goes_on_same made server more new none m replica k = subst (λ l. Goes made server l new)
@@ -265,7 +265,7 @@ goes world server event m new s may is (stopped op this n now replica) =
 abbrev all_made : World → Machine → World → ℕ → PadEvent → List Op
 all_made old here new server event = old.made ++ made_by event.act.now here.log (new.machine_of server).log
 
--- an event keeps what stands
+-- an event keeps what holds
 stands_on : (old new : World) (server : ℕ) (event : PadEvent) → Stands old → Happens server event old new → Stands new
 stands_on old new server event s h =
     let g = goes old server event h.here (new.machine_of server) s h.may h.same
@@ -293,7 +293,7 @@ stands_on old new server event s h =
         (sym (h.others other apart)) (g.rest other (old.machine_of other).log (old.machine_of other).held apart
         (s.keeps other))
 
--- at the beginning it stands
+-- it holds at the beginning
 stands_first : (world : World) → Begins world → Stands world
 stands_first world b = record {
   made = subst IsMade (sym b.made) no_made;
@@ -318,7 +318,7 @@ stands_after old new [] s l = subst Stands (sym l) s
 stands_after old new ((server, event) ∷ events) s l = stands_after l.0 new events (stands_on old l.0 server event s l.1)
     l.2
 
--- so it stands in each world that events lead to
+-- so it holds in each world that events lead to
 pub stands : (start now : World) (events : List (ℕ × PadEvent)) → Begins start → Leads start events now → Stands now
 stands start now events b l = stands_after start now events (stands_first start b) l
 
@@ -328,7 +328,7 @@ turned world server event m =
     let machines : ℕ → Machine = λ other. cond (eqb other server) m (world.machine_of other) in
     record { machine_of = machines; made = world.made ++ made_by event.act.now (world.machine_of server).log (machines server).log }
 
--- whatever may happen leads on
+-- each event that may happen leads to a further world
 pub goes_on : GoesOnLaw
 goes_on world server event may =
     let m = world.machine_of server in

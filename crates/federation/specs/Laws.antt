@@ -1,4 +1,4 @@
--- What the laws of federation say.
+-- The statements of the laws of federation.
 use Rattle.std.specs.Prelude.{ℕ, List, IsTrue}
 use Rattle.pad_model.specs.Checked.{is_checked}
 use Rattle.pad_model.specs.History.{IsHistory}
@@ -9,19 +9,21 @@ use Rattle.federation.specs.Holds.{IsFederated}
 use Rattle.federation.specs.Past.{Extends}
 use Rattle.federation.specs.World.{World, Begins, Happens, Leads, MayHappen}
 
--- an operation that is valid behind a past is valid behind each log that has the past and no further operations of its
+-- an operation that is valid after a past is valid after each log that has the past and no further operations of its
 -- origin
 abbrev pub CarriesLaw : Type 0
 CarriesLaw =
-    (past log : List Op) (op : Op) → IsHistory past → IsHistory log → Extends op.name.origin past log → IsTrue (is_checked op) →
+    (past log : List Op) (op : Op) → IsHistory past → IsHistory log
+    → Extends op.name.origin past log → IsTrue (is_checked op) →
     IsTrue (is_valid op past) → IsTrue (is_valid op log)
 
--- whatever happens among servers
+-- whatever events happen, the world that they lead to is federated
 abbrev pub FederationLaw : Type 0
-FederationLaw = (start now : World) (events : List (ℕ × PadEvent)) → Begins start → Leads start events now →
+FederationLaw = (start now : World) (events : List (ℕ × PadEvent)) → Begins start
+    → Leads start events now →
     IsFederated now
 
--- whatever may happen leads on to a world
+-- each event that may happen leads to a further world
 abbrev pub GoesOnLaw : Type 0
 GoesOnLaw =
     (world : World) (server : ℕ) (event : PadEvent) → MayHappen world server event → (next : World)

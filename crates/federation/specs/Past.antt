@@ -6,16 +6,17 @@ use Rattle.pad_model.specs.Seen.{count_in, with_count}
 use Rattle.pad_model.specs.declared.op.Op.{Op}
 use Rattle.pad_core.specs.Counts.{AreNumbered, vector_of}
 
--- each operation of a list is one of another
+-- each operation of one list is in another
 abbrev pub IsWithin : List Op → List Op → Type 0
 IsWithin ops more = (op : Op) → Contains ops op → Contains more op
 
--- the operations of an origin that are in a list are in another
+-- each operation of an origin that is in one list is in another
 abbrev pub IsWithinOf : ℕ → List Op → List Op → Type 0
-IsWithinOf origin ops more = (op : Op) → Contains ops op → op.name.origin ≡ origin → Contains more op
+IsWithinOf origin ops more = (op : Op) → Contains ops op → op.name.origin ≡ origin
+    → Contains more op
 
--- an operation was made behind a past of operations that were made: its number and its vector name just these, and it
--- is valid behind them
+-- an operation was made after a past of made operations: its number and its vector name exactly these, and it is valid
+-- after them
 pub record IsMadeBehind (made past : List Op) (op : Op) : Type 0 where
   pub history : IsHistory past
   pub numbered : AreNumbered [] past

@@ -67,7 +67,7 @@ hold_without held name hold = record {
   few = omega (arith, hold.few, filter_shorter (λ op. not (has_name name op)) held);
 }
 
--- where no operation has the name, none is found, and none goes
+-- if no operation has the name, none is found and none is removed
 pub find_none : (held : List Op) (name : OpName) → is_held name held ≡ false → find (has_name name) held ≡ None
 find_none [] name e = refl
 find_none (x ∷ held) name e = let parts = or_parts (has_name name x) (is_held name held) e in cond-false _ _ _ parts.0

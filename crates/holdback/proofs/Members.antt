@@ -1,4 +1,4 @@
--- One more operation, and one that is taken out, by their places.
+-- One more operation, and one that is removed, by their places.
 use Rattle.std.proofs.Common.{◌≡◌, ℕ, suc, not, List, [], ◌∷◌, Some, IsPermutation, refl, sym, ap, ◌∙◌, subst}
 use Rattle.std.specs.List.{find, insert}
 use Rattle.std.proofs.lemmas.Bool.{cond-true, cond-false}

@@ -18,7 +18,7 @@ use Rattle.holdback.proofs.Places.{same_op}
 own_name : (op : Op) → has_name op.name op ≡ true
 own_name op = and_from _ _ (eq-eqb op.name.origin op.name.origin refl) (eq-eqb op.name.number op.name.number refl)
 
--- what is found has what each has, and passes the test
+-- what is found has the property of all, and passes the test
 found_has : (P : Op → Type 0) (t : Op → Bool) (held : List Op) (op : Op) → AllByRecursion P held → find t held
     ≡ Some op → P op × (t op ≡ true)
 found_has P t [] op h is = cc

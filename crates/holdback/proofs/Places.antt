@@ -19,7 +19,7 @@ each_at P [] k d h lt = absurd (omega arith)
 each_at P (x ∷ xs) zero d h lt = h.0
 each_at P (x ∷ xs) (suc k) d h lt = each_at P xs k d h.1 (omega arith)
 
--- those that come before a name stand before the others
+-- the operations that come before a name precede the others
 pub partitioned : (held : List Op) (name : OpName) → IsRising held → IsPartitionedBy (λ op. precedes op.name name) held
 partitioned [] name r i j d le lt e = absurd (omega arith)
 partitioned (x ∷ held) name r zero zero d le lt e = e
@@ -37,7 +37,7 @@ parted_tail x held name place parts = record {
   behind = λ k d le lt. parts.behind (suc k) d (omega arith) (omega arith);
 }
 
--- none of those behind has the name of what stands before them
+-- no later operation has the name of an earlier one
 others_behind : (x : Op) (held : List Op) (name : OpName) → IsRising (x ∷ held) → precedes name x.name ≡ true →
     AllByRecursion (λ op. has_name name op ≡ false) (x ∷ held)
 others_behind x held name r e = (
@@ -57,7 +57,7 @@ pub all_kept : (held : List Op) (name : OpName) → AllByRecursion (λ op. has_n
 all_kept [] name h = refl
 all_kept (x ∷ held) name h = cond-true _ _ _ (ap not h.0) ∙ ap (λ xs. x ∷ xs) (all_kept held name h.1)
 
--- where the operation at the place has another name, none has it, and a new one goes there
+-- if the operation at the place has another name, none has the name, and a new one is inserted there
 fits : (held : List Op) (op : Op) (place : ℕ) → IsParted held op.name place → with_held op held ≡ insert held place op
 fits [] op zero parts = refl
 fits [] op (suc place) parts = absurd (omega (arith, parts.in_range))
@@ -85,7 +85,7 @@ gap_at held name place r parts other = record {
   fits = λ op e. fits held op place (rw e parts);
 }
 
--- where it has the name, it is the only one
+-- if it has the name, it is the only one
 found : (held : List Op) (name : OpName) (place : ℕ) (op : Op) → IsRising held → IsParted held name place →
     slice_get held place ≡ Some op → has_name name op ≡ true
     → (is_held name held ≡ true) × (find (has_name name) held ≡ slice_get held place)
@@ -111,7 +111,7 @@ found_at held name place op r parts is e lt =
     let facts = found held name place op r parts is e in
     record { in_range = lt; there = facts.0; found = facts.1; rest = facts.2 }
 
--- what a read gives
+-- what reading an operation gives
 pub read_at : (held : List Op) (place : ℕ) (op : Op) → place < length held → op ≡ get_or held place op →
     slice_get held place ≡ Some op
 read_at held place op lt e = slice_get_read held (length held) place op refl lt e

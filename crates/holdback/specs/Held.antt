@@ -24,20 +24,22 @@ is_ready seen op = op.name.number == count_in seen op.name.origin + 1 && reaches
 abbrev pub has_name : OpName → Op → Bool
 has_name name op = same_name op.name name
 
--- whether an operation with this name is among them
+-- whether an operation with this name is held
 abbrev pub is_held : OpName → List Op → Bool
 is_held name held = list_any (has_name name) held
 
 -- the names rise
 abbrev pub IsRising : List Op → Type 0
 IsRising [] = Unit {0}
-IsRising (op ∷ held) = AllByRecursion (λ later. precedes op.name later.name ≡ true) held × IsRising held
+IsRising (op ∷ held) = AllByRecursion (λ later. precedes op.name later.name ≡ true) held
+    × IsRising held
 
--- with one more operation, at its place by name
+-- the held operations with one more, in order of name
 abbrev pub with_held : Op → List Op → List Op
 with_held op [] = op ∷ []
-with_held op (first ∷ held) = if precedes first.name op.name then first ∷ with_held op held else op ∷ first ∷ held
+with_held op (first ∷ held) = if precedes first.name op.name then first ∷ with_held op held
+    else op ∷ first ∷ held
 
--- without the operation of this name
+-- the held operations without the one of this name
 abbrev pub without : OpName → List Op → List Op
 without name held = filter (λ op. not (has_name name op)) held

@@ -7,11 +7,11 @@ use Rattle.pad_model.specs.declared.op.OpName.{OpName}
 use Rattle.pad_model.specs.declared.seen.Counted.{Counted}
 use Rattle.holdback.specs.Held.{is_ready, has_name}
 
--- none of them is ready
+-- no held operation is ready
 abbrev pub NoneIsReady : List Counted → List Op → Type 0
 NoneIsReady seen held = AllByRecursion (λ op. is_ready seen op ≡ false) held
 
--- the operation with a name is among them and ready, and each other ready one is of a greater origin
+-- the operation with a name is held and ready, and each other ready one has a greater origin
 pub record IsNext (seen : List Counted) (held : List Op) (name : OpName) : Type 0 where
   pub ready : IsSomeAnd (find (has_name name) held) (λ op. is_ready seen op ≡ true)
   pub least : AllByRecursion (λ op. is_ready seen op ≡ true → (has_name name op ≡ true)

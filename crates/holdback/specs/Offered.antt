@@ -1,4 +1,4 @@
--- What becomes of an operation that is offered.
+-- The outcome of an offer.
 use Rattle.std.specs.Prelude.{◌||◌, nat_le, if◌then◌else◌, List, length, Result, Ok, Err}
 use Rattle.pad_model.specs.declared.op.Op.{Op}
 use Rattle.pad_model.specs.declared.seen.Counted.{Counted}
@@ -9,7 +9,7 @@ use Rattle.holdback.specs.declared.held.Offer.{Offer}
 use Rattle.holdback.specs.declared.held.Offer.TheVariants.{Ready, Held, Repeat}
 use Rattle.holdback.specs.declared.held.TheConstants.{MAX_HELD}
 
--- the answer to an offer, and what is held after it, as long as there is memory
+-- the result of an offer, and what is held after it, as long as there is memory
 abbrev pub offered : List Counted → Op → List Op → Result Offer Refusal × List Op
 offered seen op held =
     if is_covered seen op.name || is_held op.name held then (Ok Repeat, held)

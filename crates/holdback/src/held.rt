@@ -17,18 +17,18 @@ use std::marker::Model;
 /// The most operations that a pad holds back.
 pub const MAX_HELD: u64 = 256;
 
-/// What becomes of an operation that is offered.
+/// The outcome of an offer.
 #[derive(Debug, PartialEq, Drop)]
 pub enum Offer {
     /// It may be delivered now.
     Ready(Op),
-    /// It waits for others.
+    /// It is held until others are delivered.
     Held,
-    /// Its name was delivered, or is held already.
+    /// An operation with its name was delivered, or is held.
     Repeat,
 }
 
-/// The operations of a pad that wait for others, by rising name.
+/// The operations of a pad that wait for others, in ascending order of name.
 #[derive(Drop)]
 pub struct Hold {
     operations: Vec<Op>,
@@ -48,7 +48,7 @@ impl Model for Hold {
 }
 
 impl Hold {
-    /// Nothing is held. It takes no memory yet.
+    /// A hold without operations. It allocates no memory.
     pub fn new(alloc: Global) -> Hold
         ensures { result ≡ [] }
     {
@@ -57,11 +57,12 @@ impl Hold {
         }
     }
 
-    /// Hands an operation back that may be delivered, and holds one that has to wait. `seen` counts what was
-    /// delivered. After an error the operation is dropped.
+    /// Returns an operation that may be delivered, and holds one that has to wait. `seen` counts the delivered
+    /// operations. On an error the operation is dropped.
     pub fn offer(&mut self, op: Op, seen: &Seen) -> Result<Offer, Refusal>
         ensures answer { Answers self.old (offered seen.now op self.old) result self.new }
-        ensures memory { result ≡ Err Refusal.Memory → (offered seen.now op self.old).0 ≡ Ok Offer.Held }
+        ensures memory { result ≡ Err Refusal.Memory
+            → (offered seen.now op self.old).0 ≡ Ok Offer.Held }
     {
         if seen.covers(op.name) {
             return Ok(Offer::Repeat);
@@ -79,10 +80,11 @@ impl Hold {
         Ok(Offer::Held)
     }
 
-    /// The name of the ready operation of the least origin. At most one of an origin is ready.
+    /// The name of the ready operation with the least origin. At most one operation of an origin is ready.
     pub fn next_ready(&self, seen: &Seen) -> Option<OpName>
         ensures value { result ≡ option_map (λ op. op.name) (find (is_ready seen.now) self.now) }
-        ensures next { MatchOption result (NoneIsReady seen.now self.now) (IsNext seen.now self.now) }
+        ensures next { MatchOption result (NoneIsReady seen.now self.now)
+            (IsNext seen.now self.now) }
         ensures rising { IsRising self.now }
     {
         let op = first_ready(&self.operations, seen)?;
@@ -99,7 +101,7 @@ impl Hold {
         }
     }
 
-    /// Takes the operation with a name out. The others stay.
+    /// Removes the operation with a name, and returns it.
     pub fn take(&mut self, name: OpName) -> Option<Op>
         ensures taken { result ≡ find (has_name name) self.old }
         ensures rest { self.new ≡ without name self.old }
@@ -110,7 +112,7 @@ impl Hold {
         }
     }
 
-    /// How many operations are held.
+    /// The number of held operations.
     pub fn len(&self) -> u64
         ensures value { result ≡ length self.now }
         ensures most { result ≤ MAX_HELD }

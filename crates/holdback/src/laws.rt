@@ -1,17 +1,17 @@
 //! Laws of held operations, each the contract of a function that does nothing.
 ghost use Rattle.holdback.specs.Laws.{HeldLaw, TakenLaw, ReadyLaw};
 
-/// With one more operation there are those before and this one.
+/// Adding an operation keeps those that were held and adds exactly this one.
 pub fn held_law()
     ensures { HeldLaw }
 {}
 
-/// What is taken out and what stays are all that there was.
+/// What is removed and what stays are together what was held.
 pub fn taken_law()
     ensures { TakenLaw }
 {}
 
-/// The name of the first ready operation finds this one.
+/// The name of the first ready operation finds that operation.
 pub fn ready_law()
     ensures { ReadyLaw }
 {}

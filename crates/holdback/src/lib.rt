@@ -1,7 +1,7 @@
 //! The operations of a pad that wait for others: causal delivery.
 //!
-//! It stands on `pad_model`. It delivers nothing itself: it says which operation may go on next, and its
-//! caller delivers it and keeps the vector of what was delivered.
+//! It depends on `pad_model`. It delivers nothing itself: it says which operation may be delivered next, and its caller
+//! delivers it and keeps the vector of delivered operations.
 #![tactic(auto)]
 
 mod held;

@@ -4,7 +4,7 @@ ghost use Rattle.holdback.specs.Inside.{IsParted, IsAt, IsGapFor};
 
 use pad_model::{Op, OpName};
 
-/// The place of the operation with a name; an error is the place where it would go.
+/// The index of the operation with a name, or the index at which it would be inserted, as an error.
 pub fn place_of(held: &[Op], name: OpName) -> Result<usize, usize>
     requires { IsRising held.now }
     ensures found { IfOk result (λ place. IsAt held.now name place) }
@@ -17,7 +17,7 @@ pub fn place_of(held: &[Op], name: OpName) -> Result<usize, usize>
     }
 }
 
-// The first place whose operation does not come before a name.
+// The first index whose operation does not come before a name.
 fn place_for(held: &[Op], name: OpName) -> usize
     requires { IsRising held.now }
     ensures { IsParted held.now name result }

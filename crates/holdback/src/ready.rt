@@ -4,7 +4,7 @@ ghost use Rattle.holdback.specs.Held.{reaches, is_ready};
 
 use pad_model::{Counted, Op, Seen};
 
-/// Whether an operation is the next of its origin, and all that it had seen was delivered.
+/// Whether an operation is the next of its origin, and every count in its own vector is reached.
 pub fn is_ready(op: &Op, seen: &Seen) -> bool
     ensures { result ≡ is_ready seen.now op.now }
 {
@@ -12,7 +12,7 @@ pub fn is_ready(op: &Op, seen: &Seen) -> bool
     op.name.number.checked_sub(1) == Some(count) && reaches(seen, op.seen.pairs())
 }
 
-/// The first of them that is ready.
+/// The first ready operation.
 pub fn first_ready<'a>(held: &'a [Op], seen: &Seen) -> Option<&'a Op>
     ensures { option_copied result ≡ find (is_ready seen.now) held.now }
 {

@@ -1,4 +1,4 @@
--- A block that is cut in two: the right part is entered first, and the left part is shortened then.
+-- A block that is cut in two: the right part is added first, then the left part is shortened.
 use Rattle.std.proofs.Common.{◌≡◌, ℕ, ◌+◌, ◌<◌, Bool, cond, true, false, List, Option, Some, refl, sym, ap, ◌∙◌, arith}
 use Rattle.std.specs.Option.{unwrap_or}
 use Rattle.std.specs.Ordering.{eq_by_cmp}
@@ -36,7 +36,7 @@ first_differs : (first : Stamp) (offset : ℕ) → 0 < offset → first ≡ stam
 first_differs first offset inside same = let counters : first.counter ≡ first.counter + offset =
     ap (λ (s : Stamp). s.counter) same in omega arith
 
--- where the right part stands, the block is still found under its first stamp
+-- with the right part added, the block is still found under its first stamp
 pub still_there : (es : List (Key × Entry)) (m : Index) (first : Stamp) (offset : ℕ) (whole right : Entry) →
     0 < offset → get m first ≡ Some whole
     → index_of es ≡ insert m (stamp_behind first offset) right → lookup (is_at (key_cmp (key_of first))) es ≡ Some whole

@@ -1,4 +1,4 @@
--- What a map of keys holds, read as an index of stamps.
+-- The contents of a map of keys, read as an index of stamps.
 use Rattle.std.proofs.Common.{◌≡◌, cond, List, [], ◌∷◌, Option, Some, None, refl, sym, ap, ◌∙◌}
 use Rattle.std.specs.Ordering.{eq_by_cmp, nat_cmp, ordering_then}
 use Rattle.std.specs.Option.{IsSome}
@@ -17,7 +17,7 @@ use Rattle.std.specs.declared.cmp.Ordering.{Ordering}
 flipped : (a b : Stamp) → eq_by_cmp stamp_cmp a b ≡ eq_by_cmp stamp_cmp b a
 flipped a b = (eq_by_cmp_equiv stamp_cmp_total).symm a b
 
--- what the derived `cmp` of keys answers
+-- what the derived `cmp` of keys returns
 abbrev pub key_cmp : Key → Key → Ordering
 key_cmp a b = ordering_then (nat_cmp a.replica b.replica) (nat_cmp a.counter b.counter)
 
@@ -34,12 +34,12 @@ find-by_stamp s (e ∷ es) = ap (cond (eq_by_cmp stamp_cmp s (stamp_of e.0)) (So
 pub get-index_of : (es : List (Key × Entry)) (s : Stamp) → get (index_of es) s ≡ lookup (is_at (key_cmp (key_of s))) es
 get-index_of es s = get-from_entries stamp_cmp_total (by_stamp es) s ∙ find-by_stamp s es
 
--- the same of an index that is known to be kept so
+-- the same for an index that is known to be stored so
 pub get-kept : (es : List (Key × Entry)) (m : Index) (s : Stamp) → index_of es ≡ m →
     get m s ≡ lookup (is_at (key_cmp (key_of s))) es
 get-kept es m s is = ap (λ n. get n s) (sym is) ∙ get-index_of es s
 
--- the entries fs have w at the key of k, and else what es has
+-- the entries fs have w at the key of k, and what es has elsewhere
 abbrev pub Updated : List (Key × Entry) → List (Key × Entry) → Stamp → Option Entry → Type 0
 Updated es fs k w = (q : Key) → lookup (is_at (key_cmp q)) fs ≡ cond (is_at (key_cmp (key_of k)) q) w
     (lookup (is_at (key_cmp q)) es)

@@ -20,7 +20,7 @@ use Rattle.ident_index.specs.declared.index.Key.{Key}
 use Rattle.ident_index.proofs.Kept.{key_cmp, key_of, get-kept, there}
 use Rattle.ident_index.proofs.Sound.{some_entry}
 
--- what an order by two numbers says of them, p of the first two and q of the others
+-- what an order by two numbers says about them, p for the first two and q for the others
 pub le_from_pairs : (a b c d : ℕ) (p q : Ordering) → p ≡ nat_cmp a b → q ≡ nat_cmp c d → is_gt (ordering_then p q)
     ≡ false → (a < b) ⊎ ((a ≡ b) × (c ≤ d))
 le_from_pairs a b c d Less q e f h = inl (ranked a b Less e)
@@ -90,7 +90,7 @@ begins_by : (a s b t : ℕ) → (a < s) ⊎ ((a ≡ s) × (b ≤ t)) → a ≡ s
 begins_by a s b t (inl x) e = absurd (omega arith)
 begins_by a s b t (inr x) e = x.1
 
--- where the nearest block is of the replica, and reaches to the stamp, the stamp's place is in it
+-- if the nearest block is of the replica, and reaches to the stamp, the stamp's place is in it
 pub nearest_place : (m : Index) (s first : Stamp) (e : Entry) → IsSound m → IsNearest m s first e → first.replica
     ≡ s.replica → s.counter - first.counter < e.len
     → IsPlace m s (record { first = first; offset = s.counter - first.counter; label = e.label })
@@ -103,7 +103,7 @@ nearest_place m s first e sound nearest replica inside =
       only = λ other h. (nearest_holds m s first e sound nearest other h).0;
     }
 
--- where no block of the replica of s begins no later than s, none holds it
+-- if no block of the replica of s begins at or before s, none holds it
 pub none_holds : (m : Index) (s : Stamp) → ((other : Stamp) → other.replica ≡ s.replica → other.counter ≤ s.counter →
     get m other ≡ None) → HoldsNone m s
 none_holds m s none other h =
@@ -135,18 +135,18 @@ module _ (b : BTreeMap Key Entry) (m : Index) (s : Stamp) (r : List (Key × Entr
             (subst (λ o. IsSome o) (get-kept b.entries m other kept) some));
       }
 
-  -- where it has nothing there, no block begins there
+  -- if it has nothing there, no block begins there
   pub none_begins : r ≡ [] → (other : Stamp) → other.replica ≡ s.replica → other.counter ≤ s.counter → get m other
       ≡ None
   none_begins nil other replica counter = get-kept b.entries m other kept ∙ part.5 nil (key_of other)
       (in_part other replica counter)
 
-  -- where it has nothing there, no block holds s
+  -- if it has nothing there, no block holds s
   pub none_from_range : r ≡ [] → HoldsNone m s
   none_from_range nil = none_holds m s (λ other replica counter. get-kept b.entries m other kept
       ∙ part.5 nil (key_of other) (in_part other replica counter))
 
--- no stamp of the replica that a block holds is behind the end of the nearest block to a stamp that none is behind
+-- each stamp of a replica that is held lies before the end of the block nearest to the replica's greatest stamp
 pub nearest_bounds : (m : Index) (last first : Stamp) (e : Entry) → IsSound m → IsNearest m last first e → first.replica
     ≡ last.replica → last.counter ≡ MAX_COUNTER
     → (other s : Stamp) → s.replica ≡ last.replica → Holds m other s → s.counter < first.counter + e.len
@@ -188,7 +188,7 @@ holder_begins m other s sound h =
     let limits = block.limits in
     (limits.1, found.2.0, subst (λ o. IsSome o) (sym found.1) refl)
 
--- where the nearest block is of another replica, none of the replica holds anything
+-- if the nearest block is of another replica, no block of the replica holds anything
 pub nearest_other : (m : Index) (last first : Stamp) (e : Entry) → IsSound m → IsNearest m last first e →
     (first.replica ≡ last.replica → ⊥) → last.counter ≡ MAX_COUNTER
     → (other s : Stamp) → s.replica ≡ last.replica → Holds m other s → ⊥

@@ -1,4 +1,4 @@
--- The order of stamps is total, and tells all stamps apart.
+-- The order of stamps is total, and distinguishes all stamps.
 use Rattle.std.proofs.Common.{◌≡◌, true, false, refl, ap, inl, inr, ◌⊎◌}
 use Rattle.std.proofs.lemmas.Bool.{cases_Bool}
 use Rattle.std.specs.declared.cmp.Ordering.{Ordering}
@@ -38,7 +38,7 @@ Equal-from_is_eq Greater e = cc e
 pub same_from_tied : (a b : Stamp) → eq_by_cmp stamp_cmp a b ≡ true → a ≡ b
 same_from_tied a b e = stamp_cmp-IsAntisymmetric a b (Equal-from_is_eq _ e)
 
--- two stamps are one, or the order tells them apart
+-- two stamps are equal, or the order distinguishes them
 pub cases_stamps : (a b : Stamp) → (a ≡ b) ⊎ (eq_by_cmp stamp_cmp a b ≡ false)
 cases_stamps a b = elim (cases_Bool (eq_by_cmp stamp_cmp a b)) [
   | inl same ↦ inl (same_from_tied a b same)

@@ -9,7 +9,7 @@ use Rattle.ident_index.specs.declared.place.Entry.{Entry}
 use Rattle.ident_index.specs.Index.{Index, stamp_cmp, stamp_behind, Covers, Holds, IsNew, IsBlock, IsSound}
 use Rattle.ident_index.proofs.Order.{stamp_cmp_total, cases_stamps, tied}
 
--- what the index has once e stands at k
+-- what the index has after e is put at k
 pub get_here : (m : Index) (k : Stamp) (e : Entry) → get (insert m k e) k ≡ Some e
 get_here m k e = get-insert stamp_cmp_total m k e k ∙ ap (λ b. cond b (Some e) (get m k)) (tied k)
 
@@ -26,7 +26,7 @@ pub not_tied : (a b : Stamp) → a ≡ b → eq_by_cmp stamp_cmp a b ≡ false �
 not_tied a b same apart = let is : eq_by_cmp stamp_cmp a a ≡ false =
     subst (λ (x : Stamp). eq_by_cmp stamp_cmp a x ≡ false) (sym same) apart in cc (tied a, is)
 
--- what holds a stamp once e stands at k
+-- what holds a stamp after e is put at k
 pub holds_insert : (m : Index) (k : Stamp) (e : Entry) (a s : Stamp) → Holds (insert m k e) a s →
     ((a ≡ k) × Covers k e.len s) ⊎ ((eq_by_cmp stamp_cmp a k ≡ false) × Holds m a s)
 holds_insert m k e a s h = elim (cases_stamps a k) [

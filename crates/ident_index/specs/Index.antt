@@ -26,20 +26,22 @@ stamp_code = code_by (ℕ × ℕ) (coded× coded_ℕ coded_ℕ) (λ s. (s.counte
 
 -- an entry is stored as its length and its label
 abbrev pub entry_code : Coded Entry
-entry_code = code_by (ℕ × ℕ) (coded× coded_ℕ coded_ℕ) (λ e. (e.len, e.label)) (λ p. record { len = p.0; label = p.1 })
+entry_code = code_by (ℕ × ℕ) (coded× coded_ℕ coded_ℕ) (λ e. (e.len, e.label))
+    (λ p. record { len = p.0; label = p.1 })
     (λ _. refl)
 
 -- an index is stored as its entries in order
 abbrev pub index_code : Coded Index
 index_code = map.code stamp_code entry_code
 
--- the stamp that many places behind the first
+-- the stamp that many places after the first
 abbrev pub stamp_behind : Stamp → ℕ → Stamp
 stamp_behind first places = record first { counter = first.counter + places }
 
 -- the stamp is one of the `len` that begin with the first
 abbrev pub Covers : Stamp → ℕ → Stamp → Type 0
-Covers first len s = (first.replica ≡ s.replica) × (first.counter ≤ s.counter) × (s.counter < first.counter + len)
+Covers first len s = (first.replica ≡ s.replica) × (first.counter ≤ s.counter)
+    × (s.counter < first.counter + len)
 
 -- the block with this first stamp is there, and holds the stamp
 abbrev pub Holds : Index → Stamp → Stamp → Type 0
@@ -64,7 +66,7 @@ pub record IsSound (m : Index) : Type 0 where
   pub blocks : (first : Stamp) → IfSome (get m first) (IsBlock first)
   pub apart : (s first other : Stamp) → Holds m first s → Holds m other s → first ≡ other
 
--- the block at the place holds the stamp, which lies that far behind its first, and no other block does
+-- the block at the place holds the stamp, which is the place's offset after its first, and no other block does
 pub record IsPlace (m : Index) (s : Stamp) (p : Place) : Type 0 where
   pub stamp : s ≡ stamp_behind p.first p.offset
   pub block : IsSomeAnd (get m p.first) (λ e. (p.offset < e.len) × (p.label ≡ e.label))
@@ -79,4 +81,5 @@ IsCut old new first offset label =
 
 -- new is old with the label of the block changed
 abbrev pub IsRelabelled : Index → Index → Stamp → ℕ → Type 0
-IsRelabelled old new first label = IsSomeAnd (get old first) (λ e. new ≡ insert old first (record e { label = label }))
+IsRelabelled old new first label = IsSomeAnd (get old first)
+    (λ e. new ≡ insert old first (record e { label = label }))

@@ -1,4 +1,4 @@
--- How an index is kept.
+-- How an index is stored.
 use Rattle.std.specs.Prelude.{List, [], ◌∷◌}
 use Rattle.std.specs.FinMap.{from_entries}
 use Rattle.pad_model.specs.Stamp.{Stamp}
@@ -6,7 +6,7 @@ use Rattle.ident_index.specs.Index.{Index}
 use Rattle.ident_index.specs.declared.place.Entry.{Entry}
 use Rattle.ident_index.specs.declared.index.Key.{Key}
 
--- the stamp that a key stands for
+-- the stamp of a key
 abbrev pub stamp_of : Key → Stamp
 stamp_of k = record { counter = k.counter; replica = k.replica }
 
@@ -15,6 +15,6 @@ abbrev pub by_stamp : List (Key × Entry) → List (Stamp × Entry)
 by_stamp [] = []
 by_stamp (e ∷ es) = (stamp_of e.0, e.1) ∷ by_stamp es
 
--- the index that is kept as these entries
+-- the index that is stored as these entries
 abbrev pub index_of : List (Key × Entry) → Index
 index_of es = from_entries (by_stamp es)

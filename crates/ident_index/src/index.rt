@@ -11,7 +11,7 @@ use std::alloc::{AllocError, Global};
 use std::collections::BTreeMap;
 use std::marker::Model;
 
-// A first stamp. In this order the blocks of one replica stand beside each other.
+// A first stamp. In this order the blocks of one replica are adjacent.
 #[derive(Clone, Copy, PartialEq, Eq, PartialOrd, Ord)]
 struct Key {
     replica: u16,
@@ -30,9 +30,9 @@ impl Key {
     }
 }
 
-/// The blocks of a text by their first stamps: how many characters each has, and its label.
+/// The blocks of a text, by their first stamps: the length and the label of each.
 ///
-/// Only `add` and `cut` take memory, and no other call can fail.
+/// Only `add` and `cut` allocate memory; no other call can fail.
 #[derive(Drop)]
 pub struct IdentIndex {
     entries: BTreeMap<Key, Entry>,
@@ -53,7 +53,7 @@ impl Model for IdentIndex {
 }
 
 impl IdentIndex {
-    /// An index of no blocks. It takes no memory yet.
+    /// An index without blocks. It allocates no memory.
     pub fn new(alloc: Global) -> IdentIndex
         ensures { result ≡ map.empty }
     {
@@ -62,14 +62,14 @@ impl IdentIndex {
         }
     }
 
-    /// How many blocks there are.
+    /// The number of blocks.
     pub fn len(&self) -> usize
         ensures { result ≡ map.len self.now }
     {
         self.entries.len()
     }
 
-    /// Does nothing. Its clause tells a caller's proof that the index is sound.
+    /// Does nothing at run time. Its contract gives a caller's proof that the index is sound.
     pub fn note_sound(&self)
         ensures { IsSound self.now }
     {
@@ -84,7 +84,7 @@ impl IdentIndex {
         self.entries.get(&Key::new(first)).copied()
     }
 
-    /// Enters a block of `len` characters, whose stamps follow on `first`.
+    /// Adds a block of `len` characters with consecutive stamps, from `first` on.
     pub fn add(&mut self, first: Stamp, len: u64, label: u64) -> Result<(), AllocError>
         requires sized { 1 ≤ len }
         requires limit { first.counter + len ≤ MAX_COUNTER + 1 }
@@ -97,8 +97,8 @@ impl IdentIndex {
         Ok(())
     }
 
-    /// Finds the block that holds a character, by one look-up: of the last block of its replica that
-    /// begins no later.
+    /// Finds the block that holds a character. One look-up finds the last block of its replica that begins at or before
+    /// it.
     pub fn locate(&self, stamp: Stamp) -> Option<Place>
         ensures place { MatchOption result (HoldsNone self.now stamp) (IsPlace self.now stamp) }
         ensures sound { IsSound self.now }
@@ -123,8 +123,10 @@ impl IdentIndex {
 
     /// The greatest counter of a replica's characters, or 0.
     pub fn last_of(&self, replica: u16) -> u64
-        ensures bound { (first s : StampValue) → s.replica ≡ replica → Holds self.now first s → s.counter ≤ result }
-        ensures there { (1 ≤ result → (first : StampValue) × Holds self.now first (record { counter = result; replica = replica })) }
+        ensures bound { (first s : StampValue) → s.replica ≡ replica → Holds self.now first s
+            → s.counter ≤ result }
+        ensures there { (1 ≤ result → (first : StampValue)
+            × Holds self.now first (record { counter = result; replica = replica })) }
         ensures sound { IsSound self.now }
     {
         let last = Key {
@@ -140,7 +142,7 @@ impl IdentIndex {
         key.counter + (entry.len - 1)
     }
 
-    /// Cuts a block in two: the left part keeps its label, and the right part gets this one.
+    /// Cuts a block in two: the left part keeps its label, and the right part gets `label`.
     pub fn cut(&mut self, first: Stamp, offset: u64, label: u64) -> Result<(), AllocError>
         requires { IsSomeAnd (map.get self.old first) (λ e. (0 < offset) × (offset < e.len)) }
         ensures ok { OnOk result (IsCut self.old self.new first offset label) }
@@ -169,7 +171,7 @@ impl IdentIndex {
         }
     }
 
-    /// Takes a block away, and says whether it was there.
+    /// Removes a block, and returns whether it was there.
     pub fn remove(&mut self, first: Stamp) -> bool
         ensures was_there { result ≡ map.contains_key self.old first }
         ensures rest { self.new ≡ map.remove self.old first }

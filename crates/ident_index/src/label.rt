@@ -1,9 +1,10 @@
 ghost use Rattle.std.specs.Prelude.{◌≡◌, ℕ, ◌+◌, ◌-◌, ◌*◌, ◌/◌, ◌<◌, ◌≤◌, MatchOption};
 
-/// A label halfway between two labels, where there is room for one.
+/// A label halfway between two labels, or None if they are adjacent or equal.
 pub fn between(a: u64, b: u64) -> Option<u64>
     requires { a ≤ b }
-    ensures value { MatchOption result (b - a < 2) (λ label. (2 ≤ b - a) × (label ≡ a + (b - a) / 2)) }
+    ensures value { MatchOption result (b - a < 2)
+        (λ label. (2 ≤ b - a) × (label ≡ a + (b - a) / 2)) }
     ensures within { MatchOption result (b ≤ a + 1) (λ label. (a < label) × (label < b)) }
 {
     if b - a < 2 {
@@ -12,8 +13,8 @@ pub fn between(a: u64, b: u64) -> Option<u64>
     Some(a + (b - a) / 2)
 }
 
-/// The label of the `i`th of `n` blocks that get new labels, counted from 1: they lie evenly
-/// between 0 and the greatest number, and leave room on both sides.
+/// The label of the `i`th of `n` blocks that get new labels, counted from 1. The labels are spread evenly between 0 and
+/// the greatest number, with room on both sides.
 pub fn spaced(i: u64, n: u64) -> u64
     requires first { 1 ≤ i }
     requires last { i ≤ n }

@@ -1,8 +1,8 @@
-//! Where a character is: an index that finds the block of a kept text that holds a stamp, and the
-//! labels that say which of two blocks stands first.
+//! Where a character is: an index that finds the block that holds a stamp, and labels that tell which of two blocks
+//! comes first.
 //!
-//! It stands on `pad_model` and std's `BTreeMap`. It keeps neither the text nor the list of its
-//! blocks, and gives no block a label of its own accord: `between` and `spaced` offer some.
+//! It depends on `pad_model` and std's `BTreeMap`. It keeps neither the text nor the list of its blocks, and chooses no
+//! labels itself: `between` and `spaced` propose some.
 #![tactic(auto)]
 
 mod index;

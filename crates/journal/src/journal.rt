@@ -1,4 +1,4 @@
-//! The log: each line of standard error begins with the time, in UTC.
+//! The log: lines on standard error, each with the time in UTC.
 ghost use Rattle.std.specs.Prelude.{Some, []};
 ghost use Rattle.log.specs.Level.{allows};
 ghost use Rattle.log.specs.declared.level.LevelFilter.TheVariants.{Info};
@@ -41,7 +41,7 @@ impl<R: Clock + Eprint> Log for Journal<'_, R> {
     }
 }
 
-// The present second. None: the clock does not tell it.
+// The present time, in whole seconds; None if the clock fails.
 fn now<R: Clock>(clock: &R) -> Option<Timestamp> {
     let now = Timestamp::now(clock).ok()?;
     Timestamp::from_second(now.as_second()).ok()

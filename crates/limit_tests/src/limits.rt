@@ -1,4 +1,4 @@
-//! The limits of a pad that take many requests to reach: what one more is answered.
+//! The limits of a pad that take many requests to reach, and the reply to one more.
 use crate::limits::LimitCase::{Asks, ComeAndGo, Fill, JoinMore, Opens, Says, Taken, Types};
 use pad_model::Refusal;
 use rig::{ANN, PEER, Rig, number_behind};
@@ -14,13 +14,13 @@ const COMMENT: &str = r#"{"do":"comment","pad":"p","rev":1,"at":1,"len":1,"text"
 
 const RESOLVE: &str = r#"{"do":"resolve","pad":"p","comment":[1,2]}"#;
 
-/// The number of the refusal of a request; 0 where it is not refused.
+/// The number of the refusal of a request; 0 if it is not refused.
 fn code(rig: &mut Rig, session: u32, line: &str) -> Result<u64, Refusal> {
     let reply = rig.say(session, line)?;
     Ok(number_behind(reply.as_str(), r#"{"code":"#).unwrap_or(0))
 }
 
-/// How often a request is made until it is refused, at most so many times.
+/// How often a request is taken before it is refused, at most this many times.
 fn count_taken(rig: &mut Rig, line: &str, times: u64) -> Result<u64, Refusal> {
     for taken in 0..times {
         if rig.refuses(ANN, line)? {
@@ -30,7 +30,7 @@ fn count_taken(rig: &mut Rig, line: &str, times: u64) -> Result<u64, Refusal> {
     Ok(times)
 }
 
-/// A server with `abc` by ann, and `z` by server 2 with the last counter that there is.
+/// A server with `abc` by ann, and `z` by server 2 with the last counter.
 fn with_last_counter(alloc: Global) -> Result<Rig, Refusal> {
     let mut rig = Rig::new(alloc, 1)?;
     type_last(&mut rig)?;
@@ -49,22 +49,22 @@ fn type_last(rig: &mut Rig) -> Result<(), Refusal> {
 const Z: &str =
     r#"{"do":"push","pad":"p","op":{"name":[2,1],"seen":[],"author":"bob","kind":"insert","after":null,"first":[281474976710656,2],"text":"z"}}"#;
 
-/// What is done with a server, and what is wanted of it.
+/// What is done with a server, and the expected result.
 #[derive(Clone, Copy, Debug)]
 enum LimitCase {
-    /// A session's request, and the number of its refusal; 0 where it is not refused.
+    /// A session's request, and the number of its refusal; 0 if it is not refused.
     Asks(u32, &'static str, u64),
-    /// A request of ann's, how often it is made at most, and how often it is taken before it is refused.
+    /// A request of ann, how often it is made at most, and how often it is taken before it is refused.
     Taken(&'static str, u64, u64),
-    /// A request of ann's, and its reply.
+    /// A request of ann, and its reply.
     Says(&'static str, &'static str),
-    /// Leaves and joins of ann's, all of which are taken.
+    /// Leaves and joins of ann, all of which are taken.
     ComeAndGo(u64),
-    /// So many more sessions of ann's, whose joins are taken.
+    /// This many more sessions of ann, whose joins are taken.
     JoinMore(u64),
-    /// One more session of ann's has this number.
+    /// One more session of ann, which gets this number.
     Opens(u32),
-    /// So many times 10,000 characters, which are taken.
+    /// This many times 10,000 characters, which are taken.
     Fill(u64),
     /// An operation of this number types characters from a counter on, and is taken.
     Types(u64, u64, u64),
@@ -131,7 +131,7 @@ fn limits_of_comments_and_operations(rt: HostRuntime) -> Result<(), Fail> {
     Ok(play_all(&rt, rt.alloc(), &mut rig, COMMENTS_AND_OPERATIONS)?)
 }
 
-/// Leaves and joins, and answers how many joins were taken.
+/// Leaves and joins, and returns how many joins were taken.
 fn come_and_go(rig: &mut Rig, times: u64) -> Result<u64, Refusal> {
     let mut taken = 0_u64;
     for _ in 0..times {
@@ -143,7 +143,7 @@ fn come_and_go(rig: &mut Rig, times: u64) -> Result<u64, Refusal> {
     Ok(taken)
 }
 
-/// Lets so many more sessions of ann join, and answers how many joins were taken.
+/// Lets this many more sessions of ann join, and returns how many joins were taken.
 fn join_more(rig: &mut Rig, times: u64) -> Result<u64, Refusal> {
     let mut taken = 0_u64;
     for _ in 0..times {
@@ -155,7 +155,7 @@ fn join_more(rig: &mut Rig, times: u64) -> Result<u64, Refusal> {
     Ok(taken)
 }
 
-/// 64 sessions of ann's join a million times in all, and then one more comes.
+/// 64 sessions of ann join a million times in all, and then one more joins.
 const VISITS: &[LimitCase] = &[
     ComeAndGo(999_936),
     JoinMore(63),
@@ -193,7 +193,7 @@ fn types(alloc: Global, rig: &mut Rig, number: u64, first: u64, len: u64) -> Res
     Ok(!rig.refuses(PEER, line.as_str())?)
 }
 
-/// Types 10,000 characters at a time, and answers how many times they were taken.
+/// Types 10,000 characters at a time, and returns how many times they were taken.
 fn fill(alloc: Global, rig: &mut Rig, times: u64) -> Result<u64, Refusal> {
     let mut first = 1_u64;
     for taken in 0..times {
@@ -205,7 +205,7 @@ fn fill(alloc: Global, rig: &mut Rig, times: u64) -> Result<u64, Refusal> {
     Ok(times)
 }
 
-/// The last character that there is room for, with the last counter that there is.
+/// The last character that there is room for, with the last counter.
 const LAST: &str =
     r#"{"do":"push","pad":"p","op":{"name":[3,1],"seen":[],"author":"bob","kind":"insert","after":null,"first":[281474976710656,3],"text":"z"}}"#;
 
@@ -252,7 +252,7 @@ fn says(
     Ok(())
 }
 
-/// Does a step, and sees that it comes to what is wanted.
+/// Makes a step, and asserts that it has the expected result.
 fn play(
     rt: &impl Abort,
     alloc: Global,

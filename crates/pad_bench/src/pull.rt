@@ -29,8 +29,8 @@ fn grown(alloc: Global, size: u32) -> Result<OpLog, Refusal> {
         let origin = dice.roll(3) as u16 + 1;
         let number = log.count(origin).wrapping_add(1);
         let op = typed(alloc, OpName { origin, number })?;
-        log.reserve()?;
-        log.push(op);
+        log.prepare(&op)?;
+        log.commit(&op);
     }
     Ok(log)
 }

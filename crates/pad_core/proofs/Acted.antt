@@ -91,7 +91,7 @@ IsPad-granted o replica held p owned now name given new result kept is one done 
   waiting = kept.waiting;
 }
 
--- a caret that is put behind the character in front of a place
+-- a caret that is put after the character before a place
 pub caret_is_put : (rev at visit : ℕ) (log : List Op) (p new : Presence) (now shown : ℕ) (stamp : Option Stamp) →
     now ≡ length log → rev ≤ now → shown ≡ length (visible (characters_at rev log)) → at ≤ shown →
     stamp ≡ before_place (characters_at rev log) at →

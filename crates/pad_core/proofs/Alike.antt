@@ -1,7 +1,7 @@
 -- What is read of the present depends on the set of operations alone.
-use Rattle.std.proofs.Common.{◌≡◌, inl, inr, ℕ, Bool, true, false, List, [], ◌∷◌, ◌++◌, length, take, Option, Some}
+use Rattle.std.proofs.Common.{◌≡◌, inl, inr, ℕ, List, [], ◌∷◌, ◌++◌, length, Option, Some}
 use Rattle.std.proofs.Common.{None, unwrap_or, Result, Ok, Err, refl, sym, ap, ap₂, ◌∙◌, subst, bytes_eq}
-use Rattle.std.proofs.Common.{ltb, le-ltb, arith, take_all}
+use Rattle.std.proofs.Common.{le-ltb, arith, take_all}
 use Rattle.std.proofs.lemmas.List.Sorted.{length_permutation}
 use Rattle.pad_model.specs.Operation.{characters_in}
 use Rattle.pad_model.specs.Visible.{runs_of, text_of}
@@ -15,12 +15,11 @@ use Rattle.pad_model.proofs.Newer.{split}
 use Rattle.pad_model.proofs.Sets.{Contains-from_Has, Has-from_Contains}
 use Rattle.sessions.specs.Presence.{Presence}
 use Rattle.pad_core.specs.Comments.{by_name, comments_of}
-use Rattle.pad_core.specs.Counts.{characters_at}
 use Rattle.pad_core.specs.Delivered.{IsDelivered}
 use Rattle.pad_core.specs.Laws.{HaveSame, LastReadsAlike, ReadAlike, ShowSame, reading}
 use Rattle.pad_core.specs.Machine.{Machine, author_act, author_refusal, author_step, peer_act, session_step, step}
 use Rattle.pad_core.specs.Ran.{Ran, Stepped, event_step}
-use Rattle.pad_core.specs.Reads.{at_revision, read_comments, read_runs, read_text}
+use Rattle.pad_core.specs.Reads.{read_comments, read_runs, read_text}
 use Rattle.pad_core.specs.declared.act.Act.{Act}
 use Rattle.pad_core.specs.declared.act.Act.TheVariants as act
 use Rattle.pad_core.specs.declared.event.PadEvent.{PadEvent}

@@ -92,8 +92,8 @@ growth-le-size (change ∷ changes) =
     let rest = growth-le-size changes in
     omega (arith, sum_by-cons growth_of change changes, sum_by-cons size_of change changes)
 
--- changes that the revision shows are refused where they do nothing, then where they are too much, and else where there
--- is no room
+-- changes that the revision shows are refused if they do nothing, then if they are too much, and then if there is no
+-- room
 pub refused_idle : (rev : ℕ) (changes : List Change) (log : List Op) → rev ≤ length log →
     list_any (is_outside (length (visible (characters_at rev log)))) changes ≡ false →
     (eqb (length changes) 0 || list_any is_blank changes) ≡ true → edit_refusal rev changes log ≡ Some Empty

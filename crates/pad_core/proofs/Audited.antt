@@ -1,5 +1,5 @@
 -- Records that agree one by one.
-use Rattle.std.proofs.Common.{◌≡◌, ℕ, suc, ◌+◌, ◌<◌, ◌≤◌, Bool, true, false, cond, List, [], ◌∷◌, ◌++◌, length, take}
+use Rattle.std.proofs.Common.{◌≡◌, ℕ, suc, ◌+◌, ◌<◌, Bool, true, false, cond, List, [], ◌∷◌, ◌++◌, length, take}
 use Rattle.std.proofs.Common.{drop, get_or, slice_get, Option, Some, None, refl, sym, ap, ◌∙◌, subst, arith, drop-cons}
 use Rattle.std.proofs.Common.{append_assoc}
 use Rattle.std.proofs.Math.Seq.{take-suc}
@@ -12,7 +12,7 @@ use Rattle.pad_core.specs.declared.recorded.Recorded.{Recorded}
 some_none : (n : ℕ) → (let o : Option ℕ = Some n in o) ≡ None → ⊥
 some_none n q = cc
 
--- behind records that agree, the rest is looked at with them before it
+-- after records that agree, the rest is checked with them before it
 behind : (log : List Op) (before xs ys : List Recorded) → first_fault log before xs ≡ None →
     first_fault log before (xs ++ ys) ≡ first_fault log (before ++ xs) ys
 behind log before [] ys none = ap (λ (b : List Recorded). first_fault log b ys) (sym (append-empty before))

@@ -266,7 +266,7 @@ IsLedger-push log longer op seen new_seen cells new_cells comments new_comments 
       kept = all.0;
     })
 
--- what is kept beside a log behind which nothing was entered
+-- what is kept beside a log after which nothing was entered
 pub IsLedger-kept : (log same : List Op) (op : Op) (seen new_seen : List Counted) (cells new_cells : List Cell)
     (comments new_comments : List kept.Comment) (e : Refusal) →
     IsLedger log seen comments cells → same ≡ log → new_seen ≡ seen → Enters log op (cells, comments) (Err e)

@@ -37,7 +37,7 @@ use Rattle.pad_core.specs.Delivered.{IsDelivered, IsLedger, delivery_refusal}
 use Rattle.pad_core.specs.Judge.{fits, note_fits, part_growth}
 use Rattle.pad_core.proofs.Booked.{by_parts, is_comment-book_of, length-book_of}
 
--- where one stamp is missing, neither stands before the other
+-- if one stamp is missing, neither is before the other
 none_before : {A : Type 0} (at : A → Character) (xs : List A) (a b : Stamp) → (has_stamp at xs a && has_stamp at xs b)
     ≡ false → stands_before at xs a b ≡ false
 none_before at [] a b h = refl

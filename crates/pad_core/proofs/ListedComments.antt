@@ -42,7 +42,7 @@ use Rattle.pad_core.proofs.Booked.{book_of-push, by_parts, edits_enter}
 use Rattle.pad_core.proofs.Commented.{bare, shown_bare, bare-book_of, comments_of-bare}
 use Rattle.pad_core.proofs.Histories.{Follows, grown, AreNumbered-take}
 
--- both of two stamps are there where one stands before the other
+-- both of two stamps are there if one is before the other
 both_there : (xs : List Character) (a b : Stamp) → stands_before itself xs a b ≡ true → (has_stamp itself xs a ≡ true)
     × (has_stamp itself xs b ≡ true)
 both_there [] a b stands = absurd (false≢true stands)

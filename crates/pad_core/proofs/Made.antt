@@ -147,7 +147,7 @@ part_grows own counter author log rev (Insert at text) = run_length (record { co
     (before_place (characters_at rev log) at) text author
 part_grows own counter author log rev (Delete at len) = refl
 
--- a run of what is told
+-- a run of the given stamp, parent and text
 pub run_made : (first stamp : Stamp) (after before : Option Stamp) (text codes : List ℕ) → first ≡ stamp →
     after ≡ before → text ≡ codes → (let run : Run = record { first = first; after = after; text = text } in run)
     ≡ record { first = stamp; after = before; text = codes }
@@ -188,7 +188,7 @@ part_valid own counter log rev (Insert at text) h l =
     (before_place (characters_at rev log) at) l (front_there log rev at h)
 part_valid own counter log rev (Delete at len) h l = has_spans-stretch log rev at len h
 
--- each part fits what stands there
+-- each part fits the contents
 parts_valid : (own counter : ℕ) (log : List Op) (rev : ℕ) (changes : List Change) → IsHistory log →
     clock_of_characters (characters_in log).inserted < counter → list_all (λ part. part_is_valid part log)
     (parts_from counter own (characters_at rev log) changes) ≡ true

@@ -63,7 +63,7 @@ other_stamp at x xs s d h =
     (IsDistinct-parts at x xs d).0 in
     subst (λ z. same_stamp (at x).stamp z ≡ false) (same_stamp-true (at found.0).stamp s found.1.0) found.1.1
 
--- what a test keeps stands in the order of all
+-- what a test keeps is in the order of all
 pub stands-filter : {A : Type 0} (at : A → Character) (t : A → Bool) (xs : List A) (i j : ℕ) (a b : Stamp) →
     IsDistinct (same_item at) xs → i ≤ j → stamp_in at (filter t xs) i ≡ Some a → stamp_in at (filter t xs) j ≡ Some b →
     stands_before at xs a b ≡ true
@@ -93,7 +93,7 @@ stands-filter at t (x ∷ xs) i j a b d l ea eb =
     step true (suc i) (suc j) l more ea eb = behind (stands_before at xs a b) i ea (more i j (omega arith) ea eb)
     step false i j l more ea eb = behind (stands_before at xs a b) i ea (more i j l ea eb)
 
--- what a revision shows stands in the order of the whole log
+-- what a revision shows is in the order of the whole log
 pub shown_stands : (log : List Op) (rev i j : ℕ) (a b : Stamp) → IsHistory log → i ≤ j →
     stamp_at (characters_at rev log) i ≡ Some a → stamp_at (characters_at rev log) j ≡ Some b →
     stands_before itself (order itself (characters_in log).inserted) a b ≡ true

@@ -1,7 +1,6 @@
 -- What a peer is given is no refusal where the first operation that it lacks can be read.
-use Rattle.std.proofs.Common.{◌≡◌, ◌≤◌, ◌<◌, ℕ, zero, suc, Bool, true, false, eqb, ltb, List, [], ◌∷◌, take, filter}
-use Rattle.std.proofs.Common.{slice_get, Option, Some, None, Result, Ok, Err, IsOk, is_ok, refl, sym, ap, ◌∙◌, subst}
-use Rattle.pad_model.specs.OldWire.{op_in_v1}
+use Rattle.std.proofs.Common.{◌≡◌, ℕ, zero, suc, true, false, eqb, ltb, List, [], ◌∷◌, take, filter}
+use Rattle.std.proofs.Common.{slice_get, None, Result, Ok, Err, IsOk, refl}
 use Rattle.pad_model.specs.declared.op.Op.{Op}
 use Rattle.pad_model.specs.declared.refusal.Refusal.{Refusal}
 use Rattle.pad_model.specs.declared.seen.Counted.{Counted}

@@ -1,5 +1,5 @@
 -- What a push receives, case by case.
-use Rattle.std.proofs.Common.{◌≡◌, ℕ, ◌⊎◌, inl, inr, ◌||◌, eqb, Bool, true, false, cond, nat_le, List, [], ◌∷◌, length}
+use Rattle.std.proofs.Common.{◌≡◌, ℕ, inl, inr, ◌||◌, eqb, Bool, true, false, nat_le, List, [], ◌∷◌, length}
 use Rattle.std.proofs.Common.{◌≤◌, ◌↔◌, IsTrue, le-leb, leb-true, eq-eqb, Option, is_some, Result, Ok, Err, refl, sym}
 use Rattle.std.proofs.Common.{ap, ap₂, ◌∙◌, subst}
 use Rattle.std.specs.List.{find}
@@ -72,7 +72,7 @@ known_covered b seen log held name counts covers holds =
     ∙ sym (covers_is b name.number (count_in seen name.origin) covers) ∙ holds in
     sym (ap (λ x. x || is_held name held) covered)
 
--- and else it is known where its name finds one that is held
+-- otherwise an operation is known if its name finds one that is held
 pub known_held : (b found : Bool) (seen : List Counted) (log held : List Op) (name : OpName) (o : Option Op) →
     seen ≡ vector_of log → (IsTrue b ↔ (name.number ≤ count_in seen name.origin)) → b ≡ false →
     o ≡ find (has_name name) held → found ≡ is_some o →

@@ -1,4 +1,4 @@
--- A release step by step: what it takes out, and where it stands still.
+-- A release step by step: what it takes out, and when it stops.
 use Rattle.std.proofs.Common.{◌≡◌, ℕ, zero, suc, ◌+◌, ◌-◌, ◌≤◌, Bool, true, false, not, cond, inl, inr, List, [], ◌∷◌}
 use Rattle.std.proofs.Common.{◌++◌, length, Result, Ok, Err, Option, Some, None, option_map, IsTrue, refl, sym, ap, ap₂}
 use Rattle.std.proofs.Common.{◌∙◌, subst, arith, eqb-true}
@@ -99,14 +99,9 @@ pub release_found : (d : Delivery) (op : Op) (r : Option Refusal) → find (is_r
     delivery_refusal op d.log ≡ r → release d ≡ taken_out op r d
 release_found d op r found refused = rw (found) (ap (λ x. taken_out op x d) refused)
 
--- and stands still where there is none
+-- a step changes nothing if no operation is ready
 pub release_idle : (d : Delivery) → find (is_ready (vector_of d.log)) d.held ≡ None → release d ≡ d
 release_idle d none = rw (none) refl
-
--- what an append that is answered leaves
-pub appended_ok : (old new grown : List Op) (n k : ℕ) → Answers old (Ok n, grown) (Ok k) new → new ≡ grown
-appended_ok old new grown n k (inl h) = absurd (cc)
-appended_ok old new grown n k (inr h) = sym (ap (λ p. p.1) h)
 
 -- and one that is not
 pub appended_err : (old new grown : List Op) (n : ℕ) (e : Refusal) → Answers old (Ok n, grown) (Err e) new →
@@ -127,7 +122,7 @@ stuck log new held lent op r found same judged fine kept = (
   ap₂ delivery_refusal same kept ∙ sym judged ∙ fine,
 )
 
--- where a step stands still, all further ones do
+-- if a step changes nothing, no further step does
 pub steps_idle : (n k : ℕ) (d : Delivery) → release (steps n d) ≡ steps n d → steps (k + n) d ≡ steps n d
 steps_idle n zero d still = let same : 0 + n ≡ n = omega arith in ap (λ (m : ℕ). steps m d) same
 steps_idle n (suc k) d still =
@@ -195,11 +190,11 @@ pub step_more : (n : ℕ) (u d new : Delivery) → d ≡ steps n u → new ≡ r
 step_more n u d new at step = let one : suc n ≡ n + 1 = omega arith in step ∙ ap release at
     ∙ ap (λ (m : ℕ). steps m u) one
 
--- so many steps take so few out
+-- a number of steps take out at most that many operations
 pub few_at : (n : ℕ) (u d : Delivery) → d ≡ steps n u → d.released + d.dropped ≤ u.released + u.dropped + n
 few_at n u d at = subst (λ (x : Delivery). x.released + x.dropped ≤ u.released + u.dropped + n) (sym at) (steps_few n u)
 
--- a release that stands still is settled
+-- a release that has stopped is settled
 pub settled_idle : (n : ℕ) (u d new : Delivery) → d ≡ steps n u → find (is_ready (vector_of d.log)) d.held ≡ None →
     new ≡ release d → n ≤ length u.held → new ≡ settle u
 settled_idle n u d new at none step most =

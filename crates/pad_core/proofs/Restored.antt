@@ -1,16 +1,13 @@
 -- A pad whose rights were given again after a restart.
-use Rattle.std.proofs.Common.{◌≡◌, ℕ, inl, inr, List, Option, Some, None, Result, ap, sym, subst}
+use Rattle.std.proofs.Common.{ℕ, inl, inr, List, Option, Some, None, Result, ap, sym, subst}
 use Rattle.std.specs.Prelude.{IsTrue}
-use Rattle.std.specs.List.{AllByRecursion}
 use Rattle.pad_model.specs.Answers.{Answers}
 use Rattle.pad_model.specs.Checked.{is_name}
-use Rattle.pad_model.specs.declared.op.Op.{Op}
 use Rattle.pad_model.specs.declared.refusal.Refusal.{Refusal}
-use Rattle.rights.specs.Rights.{Rights, grant}
 use Rattle.rights.specs.declared.right.Right.{Right}
 use Rattle.rights.proofs.CallerLemmas.{grant_has}
 use Rattle.sessions.specs.Presence.{Presence}
-use Rattle.pad_core.specs.Machine.{IsOwned, IsPad}
+use Rattle.pad_core.specs.Machine.{IsOwned}
 use Rattle.pad_core.specs.Restart.{granted_again}
 use Rattle.pad_core.specs.declared.owned.Owned.{Owned}
 

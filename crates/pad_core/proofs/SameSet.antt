@@ -27,7 +27,7 @@ use Rattle.pad_core.specs.Laws.{SameSetLaw}
 use Rattle.pad_core.proofs.ByName.{AreByName, by_name-permutation, by_name_rises}
 use Rattle.pad_core.proofs.Commented.{Bare, bare_part, bare_in, bare_of, shown_bare, flat_map-same, comments_of-bare}
 
--- what a list has, in front and behind
+-- what a list has, in front and at the end
 pub has_front : {A : Type 0} (xs ys : List A) (c : A) → Has xs c → Has (xs ++ ys) c
 has_front [] ys c h = absurd h
 has_front (x ∷ xs) ys c (inl e) = inl e
@@ -95,7 +95,7 @@ any_alike t xs ys into back =
     (λ no. split (list_any t ys) (λ yes. absurd (both_ways _ no (passes_into t ys xs back yes)))
     (λ none. no ∙ sym none))
 
--- no name stands before itself
+-- no name is before itself
 same_itself : (name : OpName) → same_name name name ≡ true
 same_itself name = grind (arith, nat_tests)
 
@@ -209,7 +209,7 @@ same_set log other d e into back =
     shown-alike set told x same = ap (λ (range : Range).
         let s : Shown = record { name = x.name; author = x.author; text = x.text; at = range.at; len = range.len; resolved = x.resolved } in s) same
 
--- the same where the members are told by containment
+-- the same if membership is given by containment
 pub same_members : SameSetLaw
 same_members log other d e h = same_set log other d e
     (λ op m. Has-from_Contains other op ((h op).0 (Contains-from_Has log op m)))

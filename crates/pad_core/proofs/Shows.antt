@@ -64,7 +64,7 @@ through_all at shown (x ∷ xs) a missing =
     let rest = through_all at shown xs a (sym (ap (λ b. b || has_stamp at xs a) e) ∙ missing) in
     split (shown x) (λ s. rw (e, s) (omega (arith, rest))) (λ s. rw (e, s) (omega (arith, rest))))
 
--- where the present cells have a stamp, as many stand up to it as the text says
+-- if the present cells have a stamp, as many are up to it as the text says
 pub through-found : (log : List Op) (cells : List Cell) (now place : ℕ) (a : Stamp) → IsHistory log →
     cells ≡ cells_of log → now ≡ length log → through_at now cells a ≡ Some place →
     place ≡ visible_through (characters_in log) a

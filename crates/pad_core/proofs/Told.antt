@@ -16,7 +16,7 @@ asked_for : (asked : Option ℕ) (log : List Op) (now rev : ℕ) → now ≡ len
 asked_for None log now rev now_is rev_is = sym (rev_is ∙ now_is)
 asked_for (Some other) log now rev now_is rev_is = sym rev_is
 
--- the text of a revision is told
+-- the text of a revision is read
 pub text_told : (asked : Option ℕ) (log : List Op) (now rev : ℕ) (text : List ℕ) → now ≡ length log →
     rev ≡ unwrap_or asked now → rev ≤ now → text ≡ text_of (characters_at rev log) → Tells (read_text asked log)
     (Ok (Text now rev text))

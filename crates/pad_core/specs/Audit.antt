@@ -16,23 +16,27 @@ use Rattle.pad_core.specs.declared.recorded.Recorded.TheVariants.{Read, Edit}
 -- whether the operation of a name made a revision
 abbrev pub stands_at : OpName → ℕ → List Op → Bool
 stands_at name zero log = false
-stands_at name (suc before) log = option_map_or (λ op. same_name op.name name) (slice_get log before) false
+stands_at name (suc before) log = option_map_or (λ op. same_name op.name name)
+    (slice_get log before) false
 
 -- whether a record is that of an edit with a name
 abbrev pub is_edit_of : OpName → Recorded → Bool
 is_edit_of name (Read rev text) = false
 is_edit_of name (Edit other rev) = same_name other name
 
--- whether a record behind others agrees with a log: a text is that of its revision, an edit made its revision and was
--- not recorded before
+-- whether a record that follows others agrees with a log: a text is that of its revision, an edit made its revision and
+-- was not recorded before
 abbrev pub agrees : List Op → List Recorded → Recorded → Bool
-agrees log before (Read rev text) = nat_le rev (length log) && bytes_eq text (text_of (characters_at rev log))
-agrees log before (Edit name rev) = stands_at name rev log && not (list_any (is_edit_of name) before)
+agrees log before (Read rev text) = nat_le rev (length log)
+    && bytes_eq text (text_of (characters_at rev log))
+agrees log before (Edit name rev) = stands_at name rev log
+    && not (list_any (is_edit_of name) before)
 
--- the place of the first record that does not agree, behind those that were looked at before
+-- the place of the first record that does not agree, after those that were checked before
 abbrev pub first_fault : List Op → List Recorded → List Recorded → Option ℕ
 first_fault log before [] = None
-first_fault log before (one ∷ more) = if agrees log before one then first_fault log (before ++ one ∷ []) more
+first_fault log before (one ∷ more) = if agrees log before one
+    then first_fault log (before ++ one ∷ []) more
     else Some (length before)
 
 -- a text of a revision that the log has

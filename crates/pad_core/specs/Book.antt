@@ -14,7 +14,15 @@ abbrev pub entered : ℕ → Op → List kept.Comment → Part → List kept.Com
 entered rev op book (Insert run) = book
 entered rev op book (Delete spans) = book
 entered rev op book (Comment first last text) =
-    with_comment (record { name = op.name; first = first; last = last; author = author_of op; text = text; born = rev; resolved = None }) book
+    with_comment (record {
+      name = op.name;
+      first = first;
+      last = last;
+      author = author_of op;
+      text = text;
+      born = rev;
+      resolved = None;
+    }) book
 entered rev op book (Resolve comment) = with_resolution comment rev book
 
 -- whether a book takes a part of the operation of a name: the name of a comment is new and there is room for it, and
@@ -22,7 +30,8 @@ entered rev op book (Resolve comment) = with_resolution comment rev book
 abbrev pub may_enter : OpName → List kept.Comment → Part → Bool
 may_enter name book (Insert run) = true
 may_enter name book (Delete spans) = true
-may_enter name book (Comment first last text) = not (is_comment name book) && nat_lt (length book) MAX_COMMENTS
+may_enter name book (Comment first last text) = not (is_comment name book)
+    && nat_lt (length book) MAX_COMMENTS
 may_enter name book (Resolve comment) = is_comment comment book
 
 -- the book once more operations are made, the first of them at this revision

@@ -17,14 +17,15 @@ is_resolution name (Delete spans) = false
 is_resolution name (Comment first last text) = false
 is_resolution name (Resolve comment) = same_name comment name
 
--- whether an operation does
+-- whether an operation resolves the comment of a name
 abbrev pub resolves : OpName → Op → Bool
 resolves name op = list_any (is_resolution name) op.parts
 
--- operations by name with one more, at its place: behind those of smaller origins, and of smaller numbers of its own
+-- operations by name with one more, at its place: after those of smaller origins, and of smaller numbers of its own
 abbrev pub put_by_name : Op → List Op → List Op
 put_by_name op [] = op ∷ []
-put_by_name op (first ∷ ops) = if precedes first.name op.name then first ∷ put_by_name op ops else op ∷ first ∷ ops
+put_by_name op (first ∷ ops) = if precedes first.name op.name then first ∷ put_by_name op ops
+    else op ∷ first ∷ ops
 
 -- operations by name
 abbrev pub by_name : List Op → List Op
@@ -36,7 +37,14 @@ shown_part log op (Insert run) = []
 shown_part log op (Delete spans) = []
 shown_part log op (Comment first last text) =
     let range = range_of (characters_in log) first last in
-    record { name = op.name; author = author_of op; text = text; at = range.at; len = range.len; resolved = list_any (resolves op.name) log } ∷ []
+    record {
+      name = op.name;
+      author = author_of op;
+      text = text;
+      at = range.at;
+      len = range.len;
+      resolved = list_any (resolves op.name) log;
+    } ∷ []
 shown_part log op (Resolve comment) = []
 
 -- the comment of an operation, if it makes one

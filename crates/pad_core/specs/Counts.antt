@@ -18,7 +18,8 @@ vector_of log = fold counted [] log
 -- each further operation is the next of its origin
 abbrev pub AreNumbered : List Counted → List Op → Type 0
 AreNumbered seen [] = Unit {0}
-AreNumbered seen (op ∷ log) = (op.name.number ≡ count_in seen op.name.origin + 1) × AreNumbered (counted seen op) log
+AreNumbered seen (op ∷ log) = (op.name.number ≡ count_in seen op.name.origin + 1)
+    × AreNumbered (counted seen op) log
 
 -- the name of the next operation of an origin
 abbrev pub next_name : ℕ → List Op → OpName
@@ -26,7 +27,12 @@ next_name own log = record { origin = own; number = count_in (vector_of log) own
 
 -- the operation that an author makes next on a server: it has seen what is delivered of the other origins
 abbrev pub op_of : ℕ → List ℕ → List Part → List Op → Op
-op_of own author parts log = record { name = next_name own log; seen = with_count (vector_of log) own 0; author = author; parts = parts }
+op_of own author parts log = record {
+  name = next_name own log;
+  seen = with_count (vector_of log) own 0;
+  author = author;
+  parts = parts;
+}
 
 -- what the first operations of a log insert and erase
 abbrev pub characters_at : ℕ → List Op → Characters

@@ -16,7 +16,7 @@ use Rattle.anchors.specs.declared.comment.Comment.{Comment}
 use Rattle.pad_core.specs.Book.{book_of}
 use Rattle.pad_core.specs.Counts.{AreNumbered, vector_of}
 
--- why an operation is not delivered, if so: it does not fit what stands there, or a limit of the pad would be passed
+-- why an operation is not delivered, if so: it does not fit the log, or it would exceed a limit of the pad
 abbrev pub delivery_refusal : Op → List Op → Option Refusal
 delivery_refusal op log = if not (is_valid op log) then Some PeerFault else limit_passed op log
 
@@ -30,15 +30,17 @@ pub record IsDelivered (log : List Op) : Type 0 where
   pub few : count_by is_comment log ≤ MAX_COMMENTS
 
 -- such a log, its counts, its comments, and a sequence of just its cells
-pub record IsLedger (log : List Op) (seen : List Counted) (comments : List Comment) (cells : List Cell) : Type 0 where
+pub record IsLedger (log : List Op) (seen : List Counted) (comments : List Comment)
+    (cells : List Cell) : Type 0 where
   pub delivered : IsDelivered log
   pub counted : seen ≡ vector_of log
   pub commented : comments ≡ book_of log
   pub kept : cells ≡ cells_of log
 
--- an operation was entered behind a log: the cells and the comments are those of the longer log, and the answer is how
--- many visible characters it hides; or there was no memory, and they are as before
-abbrev pub Enters : List Op → Op → List Cell × List Comment → Result ℕ Refusal → List Cell × List Comment → Type 0
+-- an operation was entered after a log: the cells and the comments are those of the longer log, and the result is the
+-- number of visible characters that it hides; or there was no memory, and they are as before
+abbrev pub Enters : List Op → Op → List Cell × List Comment → Result ℕ Refusal
+    → List Cell × List Comment → Type 0
 Enters log op old result new = Answers old (
   Ok (hidden_by (erased_by op) (characters_in log)),
   (cells_of (log ++ op ∷ []), book_of (log ++ op ∷ [])),

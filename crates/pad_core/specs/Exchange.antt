@@ -1,4 +1,4 @@
--- What servers tell each other of a pad: causal delivery.
+-- What servers exchange about a pad: causal delivery.
 use Rattle.std.specs.Prelude.{◌≡◌, ℕ, zero, suc, ◌+◌, Bool, true, not, ◌||◌, ◌==◌, nat_lt, nat_le, if◌then◌else◌, List}
 use Rattle.std.specs.Prelude.{[], ◌∷◌, ◌++◌, length, Option, Some, None, Result, Ok, Err, IsOk}
 use Rattle.std.specs.List.{find}
@@ -22,14 +22,15 @@ use Rattle.pad_core.specs.declared.reply.Pushed.TheVariants.{Repeat, Held, Deliv
 use Rattle.pad_core.specs.declared.reply.PadReply.{PadReply}
 use Rattle.pad_core.specs.declared.reply.PadReply.TheVariants as reply
 
--- whether a vector can be told to a peer
+-- whether a vector can be sent to a peer
 abbrev pub can_tell : Version → List Counted → Bool
 can_tell One seen = seen_in_v1 seen
 can_tell Two seen = true
 
 -- the counts of the operations, which an old peer may not be able to read
 abbrev pub read_vector : Version → List Op → Result PadReply Refusal
-read_vector version log = if can_tell version (vector_of log) then Ok (reply.Vector (length log) (vector_of log))
+read_vector version log = if can_tell version (vector_of log)
+    then Ok (reply.Vector (length log) (vector_of log))
     else Err OldPeer
 
 -- whether a peer can read an operation
@@ -91,10 +92,14 @@ pub record Delivery : Type 0 where
 
 -- the operation is taken out of what is held: delivered, or dropped where it would be refused
 abbrev pub taken_out : Op → Option Refusal → Delivery → Delivery
-taken_out op None d = record d { log = d.log ++ op ∷ []; held = without op.name d.held; released = d.released + 1 }
+taken_out op None d = record d {
+  log = d.log ++ op ∷ [];
+  held = without op.name d.held;
+  released = d.released + 1;
+}
 taken_out op (Some refusal) d = record d { held = without op.name d.held; dropped = d.dropped + 1 }
 
--- one step of a release takes the ready operation of the least origin; held operations stand by name
+-- one step of a release takes the ready operation of the least origin; held operations are in order of name
 abbrev pub release : Delivery → Delivery
 release d = take_ready (find (is_ready (vector_of d.log)) d.held)
   where
@@ -120,13 +125,15 @@ abbrev pub both_of : Delivery → List Op × List Op
 both_of d = (d.log, d.held)
 
 -- an operation that is ready is delivered, unless it is refused
-abbrev pub delivered : Op → Option Refusal → List Op → List Op → Result Pushed Refusal × (List Op × List Op)
+abbrev pub delivered : Op → Option Refusal → List Op → List Op
+    → Result Pushed Refusal × (List Op × List Op)
 delivered op (Some refusal) log held = (Err refusal, (log, held))
 delivered op None log held = (Ok Delivered, (log ++ op ∷ [], held))
 
 -- an operation that has to wait is held, unless too many are
 abbrev pub waiting : Op → List Op → Result Pushed Refusal × List Op
-waiting op held = if nat_le MAX_HELD (length held) then (Err HoldFull, held) else (Ok Held, with_held op held)
+waiting op held = if nat_le MAX_HELD (length held) then (Err HoldFull, held)
+    else (Ok Held, with_held op held)
 
 -- what becomes of a pushed operation before the release, and the log and what is held then
 abbrev pub received : ℕ → Op → List Op × List Op → Result Pushed Refusal × (List Op × List Op)
@@ -139,7 +146,8 @@ received own op (log, held) =
     else (Ok Held, (log, with_held op held))
 
 -- the release after a state, and the answer
-abbrev pub settled : Result Pushed Refusal × (List Op × List Op) → Result PadReply Refusal × (List Op × List Op)
+abbrev pub settled : Result Pushed Refusal × (List Op × List Op)
+    → Result PadReply Refusal × (List Op × List Op)
 settled (Err refusal, now) = (Err refusal, now)
 settled (Ok state, now) = let d = settle (unsettled now) in
     (Ok (reply.Pushed (length d.log) state d.released d.dropped), both_of d)
@@ -150,10 +158,12 @@ push own op now = settled (received own op now)
 
 -- the next operation of a release would be delivered, which takes memory
 abbrev pub IsStuck : List Op × List Op → Type 0
-IsStuck now = (op : Op) × (find (is_ready (vector_of now.0)) now.1 ≡ Some op) × (delivery_refusal op now.0 ≡ None)
+IsStuck now = (op : Op) × (find (is_ready (vector_of now.0)) now.1 ≡ Some op)
+    × (delivery_refusal op now.0 ≡ None)
 
 -- a push was received, and its release stopped after some steps, with an operation ready to be delivered that is still
 -- held
 abbrev pub Stopped : ℕ → Op → List Op × List Op → List Op × List Op → Type 0
 Stopped own op old new =
-    IsOk (received own op old).0 × (n : ℕ) × (new ≡ both_of (steps n (unsettled (received own op old).1))) × IsStuck new
+    IsOk (received own op old).0 × (n : ℕ)
+    × (new ≡ both_of (steps n (unsettled (received own op old).1))) × IsStuck new

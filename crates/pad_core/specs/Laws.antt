@@ -24,9 +24,10 @@ ShowSame log other =
     × (runs_of (characters_in log) ≡ runs_of (characters_in other))
     × (comments_of log ≡ comments_of other)
 
--- logs that pads can have show the same where they have the same operations
+-- logs that pads can have show the same if they have the same operations
 abbrev pub SameSetLaw : Type 0
-SameSetLaw = (log other : List Op) → IsDelivered log → IsDelivered other → HaveSame log other → ShowSame log other
+SameSetLaw = (log other : List Op) → IsDelivered log → IsDelivered other → HaveSame log other
+    → ShowSame log other
 
 -- what a log answers to a reading of the text, the authors or the comments of its present revision
 abbrev pub reading : Act → List Op → Option (Result PadReply Refusal)
@@ -43,7 +44,8 @@ ReadAlike log other = (asked : Act) → reading asked log ≡ reading asked othe
 -- that the pad has then
 abbrev pub LastReadsAlike : List PadEvent → List (Result PadReply Refusal) → List Op → Type 0
 LastReadsAlike events replies log =
-    (before : List PadEvent) (event : PadEvent) (answered : List (Result PadReply Refusal)) (reply : PadReply) →
+    (before : List PadEvent) (event : PadEvent) (answered : List (Result PadReply Refusal))
+    (reply : PadReply) →
     events ≡ before ++ event ∷ [] → replies ≡ answered ++ Ok reply ∷ [] → reply ≢ Elsewhere →
     (other : List Op) → IsDelivered other → HaveSame log other → (told : Result PadReply Refusal) →
     reading event.act.now other ≡ Some told → told ≡ Ok reply

@@ -43,7 +43,7 @@ pub record Machine : Type 0 where
 abbrev pub now_of : Machine → ℕ
 now_of m = length m.log
 
--- what an act takes of who does it
+-- what an act requires of whoever does it
 abbrev pub need_of : Act → Need
 need_of act.Join = NewVisit
 need_of act.Leave = AnyVisit
@@ -66,7 +66,7 @@ need_of act.Vector = PeerSession
 need_of (act.Push op) = PeerSession
 need_of (act.Pull seen max batch) = PeerSession
 
--- whether an act names an author by what is no name
+-- whether an act names an author by an invalid name
 abbrev pub names_badly : Act → Bool
 names_badly (act.Grant author given) = not (is_name author)
 names_badly other = false
@@ -84,26 +84,29 @@ abbrev pub or_denied : Option Refusal → Bool → Option Refusal
 or_denied (Some refusal) may = Some refusal
 or_denied None may = if may then None else Some Denied
 
--- why an author may not do what takes this, if so
+-- why an author may not do an act that requires this, if so
 abbrev pub need_refusal : Rights → Presence → List ℕ → Option ℕ → Need → Option Refusal
-need_refusal book p name visit NewVisit = or_denied (visit_refusal p name visit true) (may book name right.Read)
+need_refusal book p name visit NewVisit = or_denied (visit_refusal p name visit true)
+    (may book name right.Read)
 need_refusal book p name visit AnyVisit = visit_refusal p name visit false
-need_refusal book p name visit (Visit least) = or_denied (visit_refusal p name visit false) (may book name least)
+need_refusal book p name visit (Visit least) = or_denied (visit_refusal p name visit false)
+    (may book name least)
 need_refusal book p name visit PeerSession = Some NotPeer
 
--- the same of an act, before the act itself is looked at
+-- why an author may not do an act, if so, before the act itself is examined
 abbrev pub author_refusal : Rights → Presence → List ℕ → Option ℕ → Act → Option Refusal
-author_refusal book p name visit act = if names_badly act then Some BadName else need_refusal book p name visit
+author_refusal book p name visit act = if names_badly act then Some BadName
+    else need_refusal book p name visit
     (need_of act)
 
--- what an unauthenticated session is refused with
+-- the refusal that an unauthenticated session gets
 abbrev pub nobody_refusal : Need → Refusal
 nobody_refusal NewVisit = NoSession
 nobody_refusal AnyVisit = NoSession
 nobody_refusal (Visit least) = NoSession
 nobody_refusal PeerSession = NotPeer
 
--- whether a session is of the kind that an act takes
+-- whether a session is of the kind that an act requires
 abbrev pub suits : Who → Need → Bool
 suits Nobody need = false
 suits (Author name) PeerSession = false
@@ -114,7 +117,8 @@ suits (Peer number version) other = false
 -- why a session cannot do an act on any pad, if so
 abbrev pub session_refusal : Who → Act → Option Refusal
 session_refusal who act =
-    if not (suits who (need_of act)) then Some (nobody_refusal (need_of act)) else if names_badly act then Some BadName
+    if not (suits who (need_of act)) then Some (nobody_refusal (need_of act))
+    else if names_badly act then Some BadName
     else None
 
 -- what an act comes to: its answer, and the part of the pad that it changes, as that is afterwards
@@ -135,7 +139,8 @@ abbrev pub on_log : Machine → Result PadReply Refusal × List Op → Result Pa
 on_log m done = (done.0, record m { log = done.1 })
 
 -- an act that changes who is present
-abbrev pub on_presence : Machine → Result PadReply Refusal × Presence → Result PadReply Refusal × Machine
+abbrev pub on_presence : Machine → Result PadReply Refusal × Presence
+    → Result PadReply Refusal × Machine
 on_presence m done = (done.0, record m { presence = done.1 })
 
 -- a name with other rights, if there is one
@@ -144,11 +149,13 @@ with_rights None rights = None
 with_rights (Some owned) rights = Some (record owned { rights = rights })
 
 -- an act that changes the rights
-abbrev pub on_rights : Option Owned → Machine → Result PadReply Refusal × Rights → Result PadReply Refusal × Machine
+abbrev pub on_rights : Option Owned → Machine → Result PadReply Refusal × Rights
+    → Result PadReply Refusal × Machine
 on_rights owned m done = (done.0, record m { owned = with_rights owned done.1 })
 
 -- an act that changes the log and what is held
-abbrev pub on_delivery : Machine → Result PadReply Refusal × (List Op × List Op) → Result PadReply Refusal × Machine
+abbrev pub on_delivery : Machine → Result PadReply Refusal × (List Op × List Op)
+    → Result PadReply Refusal × Machine
 on_delivery m done = (done.0, record m { log = done.1.0; held = done.1.1 })
 
 -- the answer and the pad after an act on a pad of this name and these rights, by what the act comes to
@@ -163,20 +170,27 @@ applied owned (delivers done) m = on_delivery m done
 abbrev pub author_outcome : Owned → List ℕ → ℕ → Act → Machine → Outcome
 author_outcome owned name visit act.Join m = visits (join (now_of m) name m.presence)
 author_outcome owned name visit act.Leave m = visits (leave (now_of m) visit m.presence)
-author_outcome owned name visit (act.Insert rev at text) m = writes (insert m.replica name rev at text m.log)
-author_outcome owned name visit (act.Delete rev at len) m = writes (delete m.replica name rev at len m.log)
-author_outcome owned name visit (act.Edit rev changes) m = writes (edit m.replica name rev changes m.log)
-author_outcome owned name visit (act.Comment rev at len text) m = writes (comment m.replica name rev at len text m.log)
-author_outcome owned name visit (act.Resolve resolved) m = writes (resolve m.replica name resolved m.log)
+author_outcome owned name visit (act.Insert rev at text) m = writes
+    (insert m.replica name rev at text m.log)
+author_outcome owned name visit (act.Delete rev at len) m = writes
+    (delete m.replica name rev at len m.log)
+author_outcome owned name visit (act.Edit rev changes) m = writes
+    (edit m.replica name rev changes m.log)
+author_outcome owned name visit (act.Comment rev at len text) m = writes
+    (comment m.replica name rev at len text m.log)
+author_outcome owned name visit (act.Resolve resolved) m = writes
+    (resolve m.replica name resolved m.log)
 author_outcome owned name visit (act.Text rev) m = reads (read_text rev m.log)
 author_outcome owned name visit (act.Runs rev) m = reads (read_runs rev m.log)
 author_outcome owned name visit (act.Comments rev) m = reads (read_comments rev m.log)
 author_outcome owned name visit (act.Changes rev to wait) m = reads (read_changes rev to wait m.log)
 author_outcome owned name visit act.Revs m = reads (read_revs m.log)
 author_outcome owned name visit (act.Entries from count) m = reads (read_entries from count m.log)
-author_outcome owned name visit (act.Caret rev at) m = visits (put_caret rev at visit m.log m.presence)
+author_outcome owned name visit (act.Caret rev at) m = visits
+    (put_caret rev at visit m.log m.presence)
 author_outcome owned name visit act.Who m = reads (read_who m.replica m.log m.presence)
-author_outcome owned name visit (act.Grant author given) m = grants (grant (now_of m) author given owned.rights)
+author_outcome owned name visit (act.Grant author given) m = grants
+    (grant (now_of m) author given owned.rights)
 author_outcome owned name visit act.Rights m = reads (read_rights (now_of m) owned.rights)
 author_outcome owned name visit other m = reads (Err NotPeer)
 
@@ -195,9 +209,11 @@ author_act owned name visit act m = applied (Some owned) (author_outcome owned n
 abbrev pub peer_act : Version → Act → Machine → Result PadReply Refusal × Machine
 peer_act version act m = applied m.owned (peer_outcome version act m) m
 
--- an author's act, where nothing speaks against it
-abbrev pub author_step : Owned → List ℕ → Option ℕ → Act → Machine → Result PadReply Refusal × Machine
-author_step owned name visit act m = unless_refused (author_refusal owned.rights m.presence name visit act)
+-- an author's act, unless it is refused
+abbrev pub author_step : Owned → List ℕ → Option ℕ → Act → Machine
+    → Result PadReply Refusal × Machine
+author_step owned name visit act m = unless_refused
+    (author_refusal owned.rights m.presence name visit act)
   where
     unless_refused : Option Refusal → Result PadReply Refusal × Machine
     unless_refused (Some refusal) = (Err refusal, m)
@@ -224,7 +240,7 @@ abbrev pub name_of : Option Owned → Option (List ℕ)
 name_of None = None
 name_of (Some owned) = Some owned.name
 
--- nobody is present, and nobody was, where this many may be at once
+-- nobody is present or ever was, and this many may be present at once
 abbrev pub nobody_present : ℕ → Presence
 nobody_present limit = record { limit = limit; given = 0; present = [] }
 
@@ -235,7 +251,13 @@ claim name owner m = claim_of m.owned
     claim_of : Option Owned → Result Claim Refusal × Machine
     claim_of None = (
       Ok (Created (m.presence.given + 1)),
-      record m { owned = Some (record { name = name; rights = record { owner = owner; grants = [] } }); presence = joined owner m.presence },
+      record m {
+        owned = Some (record {
+          name = name;
+          rights = record { owner = owner; grants = [] };
+        });
+        presence = joined owner m.presence;
+      },
     )
     claim_of (Some owned) = if bytes_eq owned.name name then (Ok Exists, m) else (Ok Other, m)
 
@@ -251,7 +273,8 @@ IsOwned (Some owned) presence = IsTrue (is_name owned.rights.owner)
     × AllByRecursion (λ e. IsTrue (is_name e.0)) owned.rights.grants × IsTrue (is_name owned.name)
 
 -- what a pad keeps beside its log: a replica number in the limits, and held operations in theirs
-pub record IsPad (owned : Option Owned) (replica : ℕ) (held : List Op) (presence : Presence) : Type 0 where
+pub record IsPad (owned : Option Owned) (replica : ℕ) (held : List Op) (presence : Presence) : Type
+    0 where
   pub named : IsOwned owned presence
   pub replica_low : 1 ≤ replica
   pub replica_high : replica ≤ MAX_REPLICA

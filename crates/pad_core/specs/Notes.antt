@@ -19,7 +19,8 @@ use Rattle.pad_core.specs.declared.reply.PadReply.{PadReply}
 use Rattle.pad_core.specs.declared.reply.PadReply.TheVariants.{Made}
 
 -- one operation of one part, unless it is refused
-abbrev pub noted : Option Refusal → ℕ → List ℕ → List Part → List Op → Result PadReply Refusal × List Op
+abbrev pub noted : Option Refusal → ℕ → List ℕ → List Part → List Op
+    → Result PadReply Refusal × List Op
 noted (Some refusal) own author parts log = (Err refusal, log)
 noted None own author parts log = (
   Ok (Made (length log + 1) (next_name own log)),

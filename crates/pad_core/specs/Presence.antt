@@ -1,4 +1,4 @@
--- Who is present on a pad, and where their carets stand.
+-- Who is present on a pad, and where their carets are.
 use Rattle.std.specs.Prelude.{ℕ, ◌+◌, nat_lt, if◌then◌else◌, List, length, map, Option, Some, None, Result, Ok, Err}
 use Rattle.pad_model.specs.Operation.{characters_in}
 use Rattle.pad_model.specs.Visible.{visible, caret_of}
@@ -25,11 +25,12 @@ join now author p = unless_refused (join_refusal p)
 abbrev pub leave : ℕ → ℕ → Presence → Result PadReply Refusal × Presence
 leave now visit p = (Ok (Done now), record p { present = left visit p.present })
 
--- the end of a visit where it is present and this author's, and else nothing
+-- the end of a visit if it is present and this author's, and otherwise nothing
 abbrev pub departed : List ℕ → ℕ → Presence → Presence
-departed author visit p = if is_joined_by visit author p.present then record p { present = left visit p.present } else p
+departed author visit p = if is_joined_by visit author p.present
+    then record p { present = left visit p.present } else p
 
--- the caret of a visit, behind the character in front of a place of a revision
+-- the caret of a visit, after the character before a place of a revision
 abbrev pub put_caret : ℕ → ℕ → ℕ → List Op → Presence → Result PadReply Refusal × Presence
 put_caret rev at visit log p =
     if nat_lt (length log) rev then (Err NoRevision, p)
@@ -42,7 +43,11 @@ put_caret rev at visit log p =
 
 -- a visit as it is shown: its caret is at a place of the present text
 abbrev pub shown_visit : ℕ → List Op → Visit → Present
-shown_visit own log visit = record { visit = visit.number; author = record { name = visit.author; origin = own }; caret = caret_of (characters_in log) visit.caret }
+shown_visit own log visit = record {
+  visit = visit.number;
+  author = record { name = visit.author; origin = own };
+  caret = caret_of (characters_in log) visit.caret;
+}
 
 -- the visits, in order of joining
 abbrev pub read_who : ℕ → List Op → Presence → Result PadReply Refusal

@@ -42,7 +42,8 @@ event_step event m = step event.pad.now event.who.now event.visit event.act.now 
 -- where the answer is no refusal, and changed nothing; or it stopped in a release
 abbrev pub Stepped : Machine → PadEvent → Result PadReply Refusal → Machine → Type 0
 Stepped old event reply new =
-    (((reply ≡ Err Memory) × (new ≡ old) × IsOk (event_step event old).0 × (name_of old.owned ≡ Some event.pad.now)
+    (((reply ≡ Err Memory) × (new ≡ old) × IsOk (event_step event old).0
+    × (name_of old.owned ≡ Some event.pad.now)
     × (takes_memory event.act.now ≡ true))
     ⊎ (event_step event old ≡ (reply, new)))
     ⊎ ((reply ≡ Err Memory) × IsCutShort event.pad.now event.who.now event.act.now old new)
@@ -55,7 +56,7 @@ run (event ∷ events) m = (
   (run events (event_step event m).1).1,
 )
 
--- each event was answered so, one after the other
+-- each event was answered by such a step, one after the other
 abbrev pub Ran : Machine → List PadEvent → List (Result PadReply Refusal) → Machine → Type 0
 Ran m [] [] new = new ≡ m
 Ran m [] (reply ∷ replies) new = ⊥

@@ -1,4 +1,4 @@
--- What a log answers to who reads it.
+-- What a log answers to its readers.
 use Rattle.std.specs.Prelude.{ℕ, suc, ◌+◌, ◌-◌, ◌==◌, ◌||◌, Bool, not, nat_lt, if◌then◌else◌, List, [], ◌∷◌, length, take}
 use Rattle.std.specs.Prelude.{count_by, drop, Option, Some, None, Result, Ok, Err}
 use Rattle.std.specs.List.{list_all}
@@ -27,7 +27,7 @@ abbrev pub revision_of : Option ℕ → List Op → ℕ
 revision_of None log = length log
 revision_of (Some rev) log = rev
 
--- an answer that a log has where it has the revision
+-- an answer that a log gives if it has the revision
 abbrev pub at_revision : ℕ → List Op → PadReply → Result PadReply Refusal
 at_revision rev log reply = if nat_lt (length log) rev then Err NoRevision else Ok reply
 
@@ -36,12 +36,12 @@ abbrev pub read_text : Option ℕ → List Op → Result PadReply Refusal
 read_text asked log = let rev = revision_of asked log in
     at_revision rev log (Text (length log) rev (text_of (characters_at rev log)))
 
--- who wrote it
+-- who wrote the text of a revision
 abbrev pub read_runs : Option ℕ → List Op → Result PadReply Refusal
 read_runs asked log = let rev = revision_of asked log in
     at_revision rev log (Runs (length log) rev (runs_of (characters_at rev log)))
 
--- its comments
+-- the comments of a revision
 abbrev pub read_comments : Option ℕ → List Op → Result PadReply Refusal
 read_comments asked log = let rev = revision_of asked log in
     at_revision rev log (Comments (length log) rev (comments_of (take rev log)))
@@ -54,16 +54,17 @@ is_note op = not (list_all is_edit op.parts)
 abbrev pub notes_between : ℕ → ℕ → List Op → ℕ
 notes_between rev to log = count_by is_note (take (to - rev) (drop rev log))
 
--- what leads from the text of one revision to that of another, and how many notes there are between
+-- the changes that lead from the text of one revision to that of another, and how many notes there are between
 abbrev pub read_changes : ℕ → Option ℕ → ℕ → List Op → Result PadReply Refusal
 read_changes rev asked wait log = let to = revision_of asked log in
     if nat_lt (length log) to || nat_lt to rev then Err NoRevision
     else if nat_lt MAX_WAIT wait then Err TooMuch
     else Ok (Changes (length log) rev to (changes rev to (cells_of log)) (notes_between rev to log))
 
--- how long the pad is, with and without what was erased
+-- the length of the pad, with and without erased characters
 abbrev pub read_revs : List Op → Result PadReply Refusal
-read_revs log = Ok (Revs (length log) (length (characters_in log).inserted) (length (visible (characters_in log))))
+read_revs log = Ok (Revs (length log) (length (characters_in log).inserted)
+    (length (visible (characters_in log))))
 
 -- what parts do, in a word
 abbrev pub kind_of : List Part → Kind
@@ -76,7 +77,12 @@ kind_of (one ∷ another ∷ parts) = kind.Edit
 
 -- the operation that made a revision, as it is listed
 abbrev pub entry_of : ℕ → Op → Entry
-entry_of rev op = record { rev = rev; name = op.name; author = author_of op; kind = kind_of op.parts }
+entry_of rev op = record {
+  rev = rev;
+  name = op.name;
+  author = author_of op;
+  kind = kind_of op.parts;
+}
 
 -- operations with their revisions, the first of which is this one
 abbrev pub entries_from : ℕ → List Op → List Entry

@@ -1,4 +1,4 @@
--- How a pad is put together again after a restart, from what was done on it before.
+-- How a pad is restored after a restart, from what was done on it before.
 use Rattle.std.specs.Prelude.{ℕ, ◌+◌, ◌==◌, Bool, not, ◌&&◌, if◌then◌else◌, List, [], ◌∷◌, ◌++◌, Option, Some, None}
 use Rattle.std.specs.Prelude.{Result, Ok, Err}
 use Rattle.pad_model.specs.Checked.{is_checked, is_name}
@@ -8,7 +8,7 @@ use Rattle.pad_model.specs.declared.op.OpName.{OpName}
 use Rattle.pad_model.specs.declared.seen.Counted.{Counted}
 use Rattle.pad_model.specs.declared.refusal.Refusal.{Refusal}
 use Rattle.pad_model.specs.declared.refusal.Refusal.TheVariants.{NoPad, PadExists, BadName, BadOp, PeerFault}
-use Rattle.rights.specs.Rights.{Rights, grant}
+use Rattle.rights.specs.Rights.{grant}
 use Rattle.rights.specs.declared.right.Right.{Right}
 use Rattle.sessions.specs.Presence.{Presence, joined, left, spent_refusal}
 use Rattle.pad_core.specs.Counts.{vector_of}
@@ -20,7 +20,7 @@ use Rattle.pad_core.specs.declared.owned.Owned.{Owned}
 abbrev pub ended : Presence → Presence
 ended p = record p { present = left p.given p.present }
 
--- one more visit, which has ended: so it is refused only where no further number is given, however many may be present
+-- one more visit, which has ended: so it is refused only if no further number is given, however many may be present
 abbrev pub visited : List ℕ → Presence → Result (Unit {0}) Refusal × Presence
 visited author p = unless_refused (spent_refusal p)
   where
@@ -36,32 +36,42 @@ restore_claim name owner m = at m.owned
     at (Some owned) = (Err PadExists, m)
     at None =
         if is_name name && is_name owner
-        then (Ok tt, record m { owned = (claim name owner m).1.owned; presence = ended (claim name owner m).1.presence })
+        then (
+          Ok tt,
+          record m {
+            owned = (claim name owner m).1.owned;
+            presence = ended (claim name owner m).1.presence;
+          },
+        )
         else (Err BadName, m)
 
--- a right is given, or taken away, where a pad has a name
-abbrev pub granted_again : List ℕ → Option Right → Option Owned → Result (Unit {0}) Refusal × Option Owned
+-- a right is given, or taken away, if a pad has a name
+abbrev pub granted_again : List ℕ → Option Right → Option Owned
+    → Result (Unit {0}) Refusal × Option Owned
 granted_again author right None = (Err NoPad, None)
 granted_again author right (Some owned) = let done = grant owned.rights author right in
     (done.0, Some (record owned { rights = done.1 }))
 
--- the same of a pad, to a name that an author can have
+-- a right is given or taken away on a pad, for a name that an author can have
 abbrev pub restore_grant : List ℕ → Option Right → Machine → Result (Unit {0}) Refusal × Machine
 restore_grant author right m = at m.owned
   where
     at : Option Owned → Result (Unit {0}) Refusal × Machine
     at None = (Err NoPad, m)
     at (Some owned) =
-        if not (is_name author) then (Err BadName, m) else (let done = granted_again author right (Some owned) in
+        if not (is_name author) then (Err BadName, m)
+        else (let done = granted_again author right (Some owned) in
         (done.0, record m { owned = done.1 }))
 
--- a visit is counted, whose it was
+-- a visit is counted, no matter whose it was
 abbrev pub restore_visit : Machine → Result (Unit {0}) Refusal × Machine
 restore_visit m = at m.owned
   where
     at : Option Owned → Result (Unit {0}) Refusal × Machine
     at None = (Err NoPad, m)
-    at (Some owned) = let done = visited owned.rights.owner m.presence in (done.0, record m { presence = done.1 })
+    at (Some owned) =
+        let done = visited owned.rights.owner m.presence in
+        (done.0, record m { presence = done.1 })
 
 -- whether a name is the next of its origin
 abbrev pub is_next : List Counted → OpName → Bool
@@ -83,7 +93,7 @@ delivered_again op log = unless_refused (restore_refusal op log)
     unless_refused (Some refusal) = (Err refusal, log)
     unless_refused None = (Ok tt, log ++ op ∷ [])
 
--- the same of a pad
+-- an operation is delivered again to a pad
 abbrev pub restore_operation : Op → Machine → Result (Unit {0}) Refusal × Machine
 restore_operation op m = let done = delivered_again op m.log in (done.0, record m { log = done.1 })
 

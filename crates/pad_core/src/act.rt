@@ -1,4 +1,4 @@
-//! What a pad is asked.
+//! The acts that a pad can be asked to do.
 ghost use Rattle.std.specs.Prelude.{◌≡◌};
 
 use pad_model::{Name, Op, OpName, Row, Seen, Text};
@@ -17,7 +17,7 @@ pub enum Change {
 /// What somebody does on a pad. Places and lengths count the characters of the revision that is named.
 #[derive(Debug, Drop)]
 pub enum Act {
-    /// Is present with one more visit.
+    /// Joins the pad with a new visit.
     Join,
     /// Ends the visit.
     Leave,
@@ -61,21 +61,22 @@ pub enum Act {
     Comments {
         rev: Option<u64>,
     },
-    /// Reads what leads from the text of one revision to that of a later one; None is the present one. `wait` is how many
-    /// seconds the answer may be held back while there is no later revision than `rev`.
+    /// Reads the changes that lead from the text of one revision to that of a later one; None is the present one.
+    /// `wait` is the number of seconds for which the answer may be held back while there is no later revision than
+    /// `rev`.
     Changes {
         rev: u64,
         to: Option<u64>,
         wait: u64,
     },
-    /// Reads how long the pad is.
+    /// Reads the length of the pad.
     Revs,
     /// Reads what made up to `count` revisions from one on.
     Entries {
         from: u64,
         count: u64,
     },
-    /// Puts the visit's caret behind the character in front of a place.
+    /// Puts the visit's caret after the character before a place.
     Caret {
         rev: u64,
         at: u64,
@@ -89,14 +90,13 @@ pub enum Act {
     },
     /// Reads who has which right.
     Rights,
-    /// Tells a peer what was delivered.
+    /// Reports to a peer how many operations of each origin were delivered.
     Vector,
     /// Takes an operation from a peer.
     Push {
         op: Op,
     },
-    /// Gives a peer the first operations that it lacks: `max`, or where there is a batch as many as that, as far as they
-    /// fit.
+    /// Gives a peer the first operations that it lacks: `max` of them or, with a batch, that many as far as they fit.
     Pull {
         seen: Seen,
         max: u64,

@@ -1,4 +1,4 @@
-//! Who may do what: the order of refusals before an act itself is looked at.
+//! Who may do what: the order of the refusals that come before an act itself is examined.
 ghost use Rattle.std.specs.Prelude.{◌≡◌, true, false};
 ghost use Rattle.pad_core.specs.Machine.{author_refusal as author_refused, need_of as needed, need_refusal, nobody_refusal as nobody_refused, or_denied, session_refusal as session_refused, suits, visit_refusal as visit_refused, names_badly as is_badly_named};
 ghost use Rattle.rights.specs.Rights.{may};
@@ -8,7 +8,7 @@ use pad_model::{Name, Refusal, Who};
 use rights::{Right, RightsBook};
 use sessions::PresenceBook;
 
-/// What an act takes of who does it.
+/// What an act requires of whoever does it.
 #[derive(Clone, Copy)]
 pub enum Need {
     /// An author without a visit who may read.
@@ -21,7 +21,7 @@ pub enum Need {
     PeerSession,
 }
 
-/// What an act takes.
+/// What an act requires.
 pub fn need_of(act: &Act) -> Need
     ensures { result ≡ needed act.now }
 {
@@ -44,7 +44,7 @@ pub fn need_of(act: &Act) -> Need
     }
 }
 
-/// Why an author may not do an act, if so. The first that holds is the answer.
+/// Why an author may not do an act, or None. The first refusal that applies is returned.
 pub fn author_refusal(
     rights: &RightsBook,
     presence: &PresenceBook,
@@ -60,7 +60,7 @@ pub fn author_refusal(
     refuse_need(rights, presence, name, visit, need_of(act))
 }
 
-/// What an unauthenticated session is refused with.
+/// The refusal that an unauthenticated session gets.
 pub fn nobody_refusal(need: Need) -> Refusal
     ensures { result ≡ nobody_refused need }
 {
@@ -70,8 +70,8 @@ pub fn nobody_refusal(need: Need) -> Refusal
     }
 }
 
-/// Why a session cannot do an act on any pad, if so: it is not of the kind that the act takes, or the act names an author
-/// by what is no name.
+/// Why a session cannot do an act on any pad, or None: it is not of the kind that the act requires, or the act names an
+/// author by an invalid name.
 pub fn session_refusal(who: &Who, act: &Act) -> Option<Refusal>
     ensures { result ≡ session_refused who.now act.now }
 {
@@ -86,7 +86,7 @@ pub fn session_refusal(who: &Who, act: &Act) -> Option<Refusal>
     }
 }
 
-/// Whether a session is of the kind that an act takes.
+/// Whether a session is of the kind that an act requires.
 fn suits(who: &Who, need: Need) -> bool
     ensures { result ≡ suits who.now need }
 {
@@ -97,7 +97,7 @@ fn suits(who: &Who, need: Need) -> bool
     }
 }
 
-/// Whether an act names an author by what is no name.
+/// Whether an act names an author by an invalid name.
 fn names_badly(act: &Act) -> bool
     ensures { result ≡ is_badly_named act.now }
 {
@@ -124,7 +124,7 @@ fn refuse_need(
     }
 }
 
-/// Why an author may not do what takes a right, if so: the visit does not suit, or the right is missing.
+/// Why an author may not do an act that requires a right, or None: the visit does not suit, or the right is missing.
 fn refuse_right(
     rights: &RightsBook,
     presence: &PresenceBook,
@@ -133,7 +133,8 @@ fn refuse_right(
     joins: bool,
     right: Right,
 ) -> Option<Refusal>
-    ensures { result ≡ or_denied (visit_refused presence.now name.now visit joins) (may rights.now name.now right) }
+    ensures { result ≡ or_denied (visit_refused presence.now name.now visit joins)
+        (may rights.now name.now right) }
 {
     if let Some(refusal) = visit_refusal(presence, name, visit, joins) {
         return Some(refusal);
@@ -145,7 +146,7 @@ fn refuse_right(
     }
 }
 
-/// Why a visit does not suit, if so.
+/// Why a visit does not suit, or None.
 fn visit_refusal(
     presence: &PresenceBook,
     name: &Name,

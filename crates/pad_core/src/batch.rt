@@ -1,21 +1,23 @@
 //! How many operations one answer holds.
-ghost use Rattle.std.specs.Prelude.{◌≡◌, ◌*◌, min, sum_by, take, IfOk};
+ghost use Rattle.std.specs.Prelude.{◌≡◌, ◌*◌, min, sum_by, take, MatchResult};
+ghost use Rattle.pad_model.specs.declared.refusal.Refusal.{Refusal};
 ghost use Rattle.std.specs.List.{filter};
 ghost use Rattle.revisions.specs.Log.{is_missing as lacks};
 ghost use Rattle.pad_core.specs.Batch.{batch_of, size_of as size_in_bytes, size_of_part as part_bytes};
 ghost use Rattle.pad_core.specs.Exchange.{can_read as is_readable, readable};
 
 use crate::exchange::MAX_BATCH_BYTES;
-use pad_model::{Op, Part, Row, Seen, Version, op_in_v1};
-use std::alloc::{AllocError, Global};
+use crate::ledger::Ledger;
+use pad_model::{Op, Part, Refusal, Row, Seen, Sequence, Version, op_in_v1};
+use std::alloc::Global;
 
-/// Bytes of an operation beside its parts and the counts that it names: the author, the kind, the name and the keys.
+/// Bytes of an operation besides its parts and the counts that it names: the author, the kind, the name and the keys.
 pub const OP_BYTES: u64 = 128;
 
 /// Bytes of a count that an operation names, as `[65535,200000],`.
 pub const COUNT_BYTES: u64 = 16;
 
-/// Bytes of a part beside its text and its spans: the kind, two stamps and the keys.
+/// Bytes of a part besides its text and its spans: the kind, two stamps and the keys.
 pub const PART_BYTES: u64 = 128;
 
 /// Bytes of a span, as `[281474976710656,65535,10000],`.
@@ -24,46 +26,38 @@ pub const SPAN_BYTES: u64 = 40;
 /// Bytes of a character of a text: `\u0001` is the longest form.
 pub const CHARACTER_BYTES: u64 = 6;
 
-/// Copies of the first operations that `seen` does not cover, at most so many, as many as fit in an answer but at least
-/// the first, up to the first that the peer cannot read.
-pub fn copy_batch(
+/// The first operations that `seen` does not cover: at most `most`, and as many as fit in an answer but at least the
+/// first, up to the first that the peer cannot read.
+pub fn copy_batch<S: Sequence>(
     alloc: Global,
     version: Version,
-    ops: &[Op],
+    ledger: &Ledger<S>,
     seen: &Seen,
     most: u64,
-) -> Result<Row<Op>, AllocError>
-    ensures { IfOk result (λ copies. copies ≡ readable version (batch_of (take most (filter (lacks seen.now) ops.now)))) }
+) -> Result<Row<Op>, Refusal>
+    ensures { MatchResult result (λ copies. copies
+        ≡ readable version (batch_of (take most (filter (lacks seen.now) ledger.now))))
+        (λ e. e ≡ Refusal.Memory) }
 {
     let mut copies = Row::new(alloc);
-    let mut left = most;
     let mut room = MAX_BATCH_BYTES;
-    for op in ops {
-        if left == 0 {
+    let mut from = 0;
+    for _n in 0..most {
+        let Some(found) = ledger.next_missing(alloc, seen, from)? else {
             return Ok(copies);
-        }
-        if !is_missing(seen, op) {
-            continue;
-        }
-        let size = size_of(op);
+        };
+        let size = size_of(&found.op);
         if 0 < copies.len() && room < size {
             return Ok(copies);
         }
-        if !can_read(version, op) {
+        if !can_read(version, &found.op) {
             return Ok(copies);
         }
-        copies.push(op.clone()?)?;
-        left -= 1;
+        copies.push(found.op)?;
         room = room.saturating_sub(size);
+        from = found.behind;
     }
     Ok(copies)
-}
-
-/// Whether `seen` does not cover an operation.
-fn is_missing(seen: &Seen, op: &Op) -> bool
-    ensures { result ≡ lacks seen.now op.now }
-{
-    seen.count(op.name.origin) < op.name.number
 }
 
 /// Whether a peer can read an operation.
@@ -76,7 +70,7 @@ fn can_read(version: Version, op: &Op) -> bool
     }
 }
 
-/// How many bytes an operation takes at most, or u64::MAX where they are more.
+/// The most bytes that an operation takes, or `u64::MAX` if that is more.
 fn size_of(op: &Op) -> u64
     ensures { result ≡ min (size_in_bytes op.now) u64.MAX }
 {
@@ -86,7 +80,7 @@ fn size_of(op: &Op) -> u64
         .saturating_add(total_size(op.parts.as_slice()))
 }
 
-/// How many bytes the parts take together, or u64::MAX where they are more.
+/// The bytes that the parts take together, or `u64::MAX` if they are more.
 fn total_size(parts: &[Part]) -> u64
     ensures { result ≡ min (sum_by part_bytes parts.now) u64.MAX }
 {
@@ -95,7 +89,7 @@ fn total_size(parts: &[Part]) -> u64
         .fold(0, |total, part| total.saturating_add(size_of_part(part)))
 }
 
-/// How many bytes a part takes at most, or u64::MAX where they are more.
+/// The most bytes that a part takes, or `u64::MAX` if that is more.
 fn size_of_part(part: &Part) -> u64
     ensures { result ≡ min (part_bytes part.now) u64.MAX }
 {
@@ -107,7 +101,7 @@ fn size_of_part(part: &Part) -> u64
     }
 }
 
-/// A number so many times, or u64::MAX where that is more.
+/// `n` times `count`, or `u64::MAX` if that is more.
 fn times(n: u64, count: usize) -> u64
     ensures { result ≡ min (n * count) u64.MAX }
 {

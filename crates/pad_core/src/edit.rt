@@ -38,7 +38,8 @@ pub fn insert<S: Sequence>(
 ) -> Result<PadReply, Refusal>
     requires replica { 1 ≤ writer.replica }
     requires author { IsTrue (is_name writer.author.now) }
-    ensures { Answers ledger.old (inserted writer.entry.replica writer.entry.author.now rev at text.now ledger.old) result ledger.new }
+    ensures { Answers ledger.old (inserted writer.entry.replica writer.entry.author.now rev at
+        text.now ledger.old) result ledger.new }
 {
     if let Some(refusal) = refuse_insert(ledger, rev, at, text) {
         return Err(refusal);
@@ -60,7 +61,8 @@ pub fn delete<S: Sequence>(
 ) -> Result<PadReply, Refusal>
     requires replica { 1 ≤ writer.replica }
     requires author { IsTrue (is_name writer.author.now) }
-    ensures { Answers ledger.old (deleted writer.entry.replica writer.entry.author.now passage.rev passage.at passage.len ledger.old) result ledger.new }
+    ensures { Answers ledger.old (deleted writer.entry.replica writer.entry.author.now passage.rev
+        passage.at passage.len ledger.old) result ledger.new }
 {
     let Passage { rev, at, len } = passage;
     let changes = [Change::Delete { at, len }];
@@ -77,7 +79,8 @@ pub fn edit<S: Sequence>(
 ) -> Result<PadReply, Refusal>
     requires replica { 1 ≤ writer.replica }
     requires author { IsTrue (is_name writer.author.now) }
-    ensures { Answers ledger.old (many_edited writer.entry.replica writer.entry.author.now rev changes.now ledger.old) result ledger.new }
+    ensures { Answers ledger.old (many_edited writer.entry.replica writer.entry.author.now rev
+        changes.now ledger.old) result ledger.new }
 {
     let edit = make_edit(alloc, ledger, writer, rev, changes)?;
     Ok(PadReply::Changed {
@@ -97,7 +100,8 @@ fn make_edit<S: Sequence>(
 ) -> Result<Edited, Refusal>
     requires replica { 1 ≤ writer.replica }
     requires author { IsTrue (is_name writer.author.now) }
-    ensures { Answers ledger.old (edited writer.entry.replica writer.entry.author.now rev changes.now ledger.old) result ledger.new }
+    ensures { Answers ledger.old (edited writer.entry.replica writer.entry.author.now rev
+        changes.now ledger.old) result ledger.new }
 {
     if let Some(refusal) = refuse_edit(ledger, rev, changes) {
         return Err(refusal);
@@ -106,16 +110,19 @@ fn make_edit<S: Sequence>(
     append_parts(alloc, ledger, writer, parts)
 }
 
-/// Delivers the next operation of an author, which nothing speaks against.
+/// Delivers the next operation of an author, to which no refusal applies.
 fn append_parts<S: Sequence>(
     alloc: Global,
     ledger: &mut Ledger<S>,
     writer: Writer<'_>,
     parts: Row<Part>,
 ) -> Result<Edited, Refusal>
-    requires checked { IsTrue (is_checked (op_of writer.replica writer.author.now parts ledger.old)) }
-    requires allowed { delivery_refusal (op_of writer.replica writer.author.now parts ledger.old) ledger.old ≡ None }
-    ensures { Answers ledger.old (appended writer.entry.replica writer.entry.author.now parts ledger.old) result ledger.new }
+    requires checked { IsTrue (is_checked
+        (op_of writer.replica writer.author.now parts ledger.old)) }
+    requires allowed { delivery_refusal (op_of writer.replica writer.author.now parts ledger.old)
+        ledger.old ≡ None }
+    ensures { Answers ledger.old (appended writer.entry.replica writer.entry.author.now parts
+        ledger.old) result ledger.new }
 {
     let op = make_op(ledger, writer, parts)?;
     let name = op.name;
@@ -141,7 +148,9 @@ pub fn make_op<S: Sequence>(
     writer: Writer<'_>,
     parts: Row<Part>,
 ) -> Result<Op, Refusal>
-    ensures { MatchResult result (λ op. op ≡ op_of writer.entry.replica writer.entry.author.now parts ledger.now) (λ e. e ≡ Refusal.Memory) }
+    ensures { MatchResult result (λ op. op
+        ≡ op_of writer.entry.replica writer.entry.author.now parts ledger.now)
+        (λ e. e ≡ Refusal.Memory) }
 {
     let mut seen = ledger.seen().clone()?;
     seen.set(writer.replica, 0)?;
@@ -153,7 +162,7 @@ pub fn make_op<S: Sequence>(
     })
 }
 
-/// Why changes of a revision are refused, if they are. The first that holds is the answer.
+/// Why changes of a revision are refused, or None. The first refusal that applies is returned.
 fn refuse_edit<S: Sequence>(ledger: &Ledger<S>, rev: u64, changes: &[Change]) -> Option<Refusal>
     ensures value { result ≡ edit_refusal rev changes.now ledger.now }
     ensures sound { IsDelivered ledger.now }
@@ -174,7 +183,7 @@ fn refuse_edit<S: Sequence>(ledger: &Ledger<S>, rev: u64, changes: &[Change]) ->
     refuse_growth(ledger, total_growth(changes))
 }
 
-/// The same of one insertion, before its text is copied.
+/// The same for one insertion, before its text is copied.
 fn refuse_insert<S: Sequence>(ledger: &Ledger<S>, rev: u64, at: u64, text: &Text) -> Option<Refusal>
     ensures value { result ≡ edit_refusal rev (Insert at text.now ∷ []) ledger.now }
     ensures sound { IsDelivered ledger.now }
@@ -216,12 +225,13 @@ fn is_any_blank(changes: &[Change]) -> bool
 }
 
 fn are_too_much(changes: &[Change]) -> bool
-    ensures { result ≡ (nat_lt MAX_PARTS (length changes.now) || nat_lt MAX_TEXT (sum_by change_size changes.now)) }
+    ensures { result ≡ (nat_lt MAX_PARTS (length changes.now)
+        || nat_lt MAX_TEXT (sum_by change_size changes.now)) }
 {
     MAX_PARTS < changes.len() as u64 || MAX_TEXT < total_size(changes)
 }
 
-/// The limit of the pad that so many more characters would pass, if any.
+/// The limit of the pad that `growth` more characters would exceed, if any.
 fn refuse_growth<S: Sequence>(ledger: &Ledger<S>, growth: u64) -> Option<Refusal>
     requires { growth ≤ MAX_TEXT }
     ensures { result ≡ growth_refusal growth ledger.now }
@@ -263,7 +273,7 @@ fn size_of(change: &Change) -> u64
     }
 }
 
-/// How many characters the changes insert or erase together, or u64::MAX where they are more.
+/// The number of characters that the changes insert or erase together, or `u64::MAX` if it is greater.
 fn total_size(changes: &[Change]) -> u64
     ensures { result ≡ min (sum_by change_size changes.now) u64.MAX }
 {
@@ -281,7 +291,7 @@ pub fn growth_of(change: &Change) -> u64
     }
 }
 
-/// How many characters the changes insert together, or u64::MAX where they are more.
+/// The number of characters that the changes insert together, or `u64::MAX` if it is greater.
 fn total_growth(changes: &[Change]) -> u64
     ensures { result ≡ min (sum_by change_growth changes.now) u64.MAX }
 {

@@ -1,5 +1,5 @@
-//! What one more operation changes beside the log.
-ghost use Rattle.std.specs.Prelude.{◌≡◌, ◌+◌, ◌≤◌, true, IsTrue, IfErr, OnOk, MatchResult, None};
+//! What one more operation changes besides the log.
+ghost use Rattle.std.specs.Prelude.{◌≡◌, ◌+◌, ◌≤◌, true, IsTrue, IfErr, OnOk, MatchResult, Some, None};
 ghost use Rattle.pad_model.specs.Checked.{is_checked};
 ghost use Rattle.pad_model.specs.History.{cells_of};
 ghost use Rattle.pad_model.specs.Operation.{author_of as writer_of};
@@ -13,8 +13,8 @@ use pad_model::{Author, Op, Part, Refusal, Seen, Sequence};
 use revisions::OpLog;
 use std::alloc::Global;
 
-/// Counts and enters the next operation of a log, which then has room for it, or finds no memory and changes nothing else.
-/// The answer is how many visible characters the operation hides.
+/// Counts and enters the next operation of a log, which is then ready there, or finds no memory and changes nothing
+/// else. Returns the number of visible characters that the operation hides.
 pub fn count_and_enter<S: Sequence>(
     alloc: Global,
     log: &mut OpLog,
@@ -25,15 +25,17 @@ pub fn count_and_enter<S: Sequence>(
 ) -> Result<u64, Refusal>
     requires ledger { IsLedger log.old.operations seen.old comments.old (S.cells sequence.old) }
     requires checked { IsTrue (is_checked op.now) }
-    requires next { op.now.name.number ≡ count_in (vector_of log.old.operations) op.now.name.origin + 1 }
+    requires next { op.now.name.number
+        ≡ count_in (vector_of log.old.operations) op.now.name.origin + 1 }
     requires allowed { delivery_refusal op.now log.old.operations ≡ None }
     ensures log { log.new.operations ≡ log.old.operations }
-    ensures room { OnOk result (1 ≤ log.new.spare) }
+    ensures ready { OnOk result (log.new.ready ≡ Some op.now) }
     ensures counted { OnOk result (seen.new ≡ counted seen.old op.now) }
     ensures uncounted { IfErr result (λ e. seen.new ≡ seen.old) }
-    ensures entered { Enters log.old.operations op.now (S.cells sequence.old, comments.old) result (S.cells sequence.new, comments.new) }
+    ensures entered { Enters log.old.operations op.now (S.cells sequence.old, comments.old) result
+        (S.cells sequence.new, comments.new) }
 {
-    log.reserve()?;
+    log.prepare(op)?;
     let mut more = seen.clone()?;
     more.advance(op.name.origin)?;
     let hidden = enter(alloc, sequence, comments, log, op)?;
@@ -41,8 +43,8 @@ pub fn count_and_enter<S: Sequence>(
     Ok(hidden)
 }
 
-/// Makes the changes of the next operation of a log, or finds no memory and makes none. The answer is how many visible
-/// characters it hides.
+/// Makes the changes of the next operation of a log, or finds no memory and makes none. Returns the number of visible
+/// characters that it hides.
 fn enter<S: Sequence>(
     alloc: Global,
     sequence: &mut S,
@@ -54,16 +56,18 @@ fn enter<S: Sequence>(
     requires kept { S.cells sequence.old ≡ cells_of log.now.operations }
     requires commented { comments.old ≡ book_of log.now.operations }
     requires checked { IsTrue (is_checked op.now) }
-    requires next { op.now.name.number ≡ count_in (vector_of log.now.operations) op.now.name.origin + 1 }
+    requires next { op.now.name.number
+        ≡ count_in (vector_of log.now.operations) op.now.name.origin + 1 }
     requires allowed { delivery_refusal op.now log.now.operations ≡ None }
-    ensures { Enters log.now.operations op.now (S.cells sequence.old, comments.old) result (S.cells sequence.new, comments.new) }
+    ensures { Enters log.now.operations op.now (S.cells sequence.old, comments.old) result
+        (S.cells sequence.new, comments.new) }
 {
     let author = author_of(op)?;
     let rev = log.len() + 1;
     if op.is_edit() {
         return sequence.apply(alloc, op.parts.as_slice(), &author, rev);
     }
-    // What is no edit has one part.
+    // An operation that is not an edit has one part.
     if let Some(part) = op.parts.get(0) {
         enter_note(alloc, comments, op, part, &author, rev)?;
     }

@@ -1,4 +1,4 @@
-//! What a peer is told and given.
+//! What a peer reads of a pad: its vector, and the operations that the peer lacks.
 ghost use Rattle.std.specs.Prelude.{◌≡◌, ◌≤◌, IfOk, filter, slice_get, None};
 ghost use Rattle.pad_core.specs.Exchange.{can_give as can_be_given, can_tell as can_be_told, given, sayable, pull as pulled, pull_batch as batch_pulled, read_vector as vector_read};
 ghost use Rattle.revisions.specs.Log.{is_missing};
@@ -11,16 +11,16 @@ use crate::reply::PadReply;
 use pad_model::{Op, Refusal, Row, Seen, Sequence, Version, op_in_v1, seen_in_v1};
 use std::alloc::{AllocError, Global};
 
-/// How many operations one pull without a batch gives at most.
+/// The most operations that a pull without a batch gives.
 pub const MAX_PULL: u64 = 4;
 
-/// How many operations a batch gives at most.
+/// The most operations that a batch gives.
 pub const MAX_BATCH: u64 = 256;
 
-/// How many bytes the operations of a batch take at most as JSON, if they are several: 1 MiB.
+/// The most bytes that the operations of a batch take as JSON, if there are several: 1 MiB.
 pub const MAX_BATCH_BYTES: u64 = 1_048_576;
 
-/// How many operations of each origin were delivered.
+/// The number of delivered operations of each origin.
 pub fn read_vector<S: Sequence>(ledger: &Ledger<S>, version: Version) -> Result<PadReply, Refusal>
     ensures { Tells (vector_read version ledger.now) result }
 {
@@ -35,7 +35,7 @@ pub fn read_vector<S: Sequence>(ledger: &Ledger<S>, version: Version) -> Result<
     })
 }
 
-/// Whether a vector can be told to a peer.
+/// Whether a vector can be sent to a peer.
 fn can_tell(version: Version, seen: &Seen) -> bool
     ensures { result ≡ can_be_told version seen.now }
 {
@@ -45,8 +45,8 @@ fn can_tell(version: Version, seen: &Seen) -> bool
     }
 }
 
-/// The first operations that a peer lacks, `max` of them or a batch; an old peer gets none from the first on that it
-/// cannot read.
+/// The first operations that a peer lacks, `max` of them or a batch. An old peer gets only those before the first that
+/// it cannot read.
 pub fn pull<S: Sequence>(
     alloc: Global,
     ledger: &Ledger<S>,
@@ -111,7 +111,7 @@ fn pull_batch<S: Sequence>(
     if !can_give(ledger, version, seen) {
         return Err(Refusal::OldPeer);
     }
-    let ops = copy_batch(alloc, version, ledger.since_missing(seen), seen, count)?;
+    let ops = copy_batch(alloc, version, ledger, seen, count)?;
     Ok(PadReply::Pulled {
         now: ledger.len(),
         ops,
@@ -120,14 +120,12 @@ fn pull_batch<S: Sequence>(
 
 /// Whether a peer can be given anything: an old one has to be able to read the first operation that it lacks, if any.
 fn can_give<S: Sequence>(ledger: &Ledger<S>, version: Version, seen: &Seen) -> bool
-    ensures { result ≡ can_be_given version (slice_get (filter (is_missing seen.now) ledger.now) 0) }
+    ensures { result ≡ can_be_given version
+        (slice_get (filter (is_missing seen.now) ledger.now) 0) }
 {
     match version {
         Version::Two => true,
-        Version::One => match ledger.first_missing(seen) {
-            Some(op) => op_in_v1(op),
-            None => true,
-        },
+        Version::One => ledger.first_missing_in_v1(seen).unwrap_or(true),
     }
 }
 

@@ -1,4 +1,4 @@
-//! Whether an operation fits what stands in a pad.
+//! Whether an operation fits the contents of a pad.
 ghost use Rattle.std.specs.Prelude.{◌≡◌, ◌≤◌, IsTrue, length};
 ghost use Rattle.std.specs.List.{list_all};
 ghost use Rattle.pad_model.specs.Cell.{character_of};
@@ -11,7 +11,7 @@ ghost use Rattle.pad_core.specs.Judge.{fits, note_fits as suits, part_growth};
 use anchors::CommentBook;
 use pad_model::{Op, Part, Sequence, Stamp};
 
-/// Whether each part fits, by what stood before the operation.
+/// Whether each part fits the contents before the operation.
 pub fn is_valid<S: Sequence>(sequence: &S, comments: &CommentBook, op: &Op) -> bool
     requires { IsTrue (is_checked op.now) }
     ensures { result ≡ fits (S.cells sequence.now) comments.now op.now.parts }
@@ -46,7 +46,7 @@ fn stands_before<S: Sequence>(sequence: &S, first: Stamp, last: Stamp) -> bool
     sequence.stands_before(first, last).unwrap_or(false)
 }
 
-/// How many characters an operation inserts.
+/// The number of characters that an operation inserts.
 pub fn count_inserted(op: &Op) -> u64
     requires { IsTrue (is_checked op.now) }
     ensures value { result ≡ length (inserted_by op.now) }

@@ -1,14 +1,16 @@
 //! The operations that were delivered, and what they show.
-ghost use Rattle.std.specs.Prelude.{◌≡◌, ℕ, ◌+◌, ◌≤◌, [], ◌∷◌, ◌++◌, length, take, drop, filter, slice_get, option_copied, count_by, Option, None, Ok, IsTrue, IfErr, MatchResult};
+ghost use Rattle.std.specs.Prelude.{◌≡◌, ℕ, ◌+◌, ◌≤◌, [], ◌∷◌, ◌++◌, length, take, drop, filter, slice_get, option_map, count_by, Option, None, Ok, IsTrue, IfErr, MatchResult};
 ghost use Rattle.pad_model.specs.Answers.{Answers};
 ghost use Rattle.pad_model.specs.Checked.{is_checked};
 ghost use Rattle.pad_model.specs.History.{cells_of, clock_of_characters};
 ghost use Rattle.pad_model.specs.Log.{is_comment};
+ghost use Rattle.pad_model.specs.OldWire.{op_in_v1};
 ghost use Rattle.pad_model.specs.Operation.{characters_in, erased_by};
 ghost use Rattle.pad_model.specs.Pieces.{changes as pieces_between};
 ghost use Rattle.pad_model.specs.Seen.{count_in};
 ghost use Rattle.pad_model.specs.Visible.{caret_of, hidden_by, runs_of, spans_of, stamp_at, text_of, visible};
-ghost use Rattle.revisions.specs.Log.{entries as entries_of, is_missing, missing as missing_of};
+ghost use Rattle.revisions.specs.Found.{IsNextMissing};
+ghost use Rattle.revisions.specs.Log.{entries as entries_of, is_missing, is_note, missing as missing_of};
 ghost use Rattle.pad_core.specs.Comments.{comments_of};
 ghost use Rattle.pad_core.specs.Counts.{characters_at, vector_of};
 ghost use Rattle.pad_core.specs.Delivered.{IsDelivered, delivery_refusal};
@@ -21,7 +23,7 @@ use pad_model::{
     AuthorRun, MAX_CHARACTERS, MAX_COMMENTS, MAX_OPERATIONS, Op, OpName, Piece, Refusal, Row, Seen,
     Sequence, Span, Stamp, Text,
 };
-use revisions::OpLog;
+use revisions::{Found, OpLog};
 use std::alloc::Global;
 use std::marker::Model;
 
@@ -47,7 +49,7 @@ impl<S: Sequence> Model for Ledger<S> {
 }
 
 impl<S: Sequence> Ledger<S> {
-    /// No operation was delivered yet.
+    /// A ledger to which no operation was delivered yet.
     pub fn new(alloc: Global) -> Result<Ledger<S>, Refusal>
         ensures { MatchResult result (λ ledger. ledger ≡ []) (λ e. e ≡ Refusal.Memory) }
     {
@@ -60,7 +62,7 @@ impl<S: Sequence> Ledger<S> {
         })
     }
 
-    /// How many operations there are, which is the present revision.
+    /// The number of operations, which is the present revision.
     pub fn len(&self) -> u64
         ensures value { result ≡ length self.now }
         ensures sound { IsDelivered self.now }
@@ -68,14 +70,14 @@ impl<S: Sequence> Ledger<S> {
         self.log.len()
     }
 
-    /// How many operations of each origin there are.
+    /// The number of operations of each origin.
     pub fn seen(&self) -> &Seen
         ensures { result.now ≡ vector_of self.now }
     {
         &self.seen
     }
 
-    /// How many characters there are, those that are erased included.
+    /// The number of characters, erased ones included.
     pub fn cell_count(&self) -> u64
         ensures { result ≡ length (characters_in self.now).inserted }
     {
@@ -89,7 +91,7 @@ impl<S: Sequence> Ledger<S> {
         self.sequence.clock()
     }
 
-    /// How many characters a revision shows.
+    /// The number of characters that a revision shows.
     pub fn len_at(&self, rev: u64) -> u64
         ensures { result ≡ length (visible (characters_at rev self.now)) }
     {
@@ -106,33 +108,37 @@ impl<S: Sequence> Ledger<S> {
     /// The stamps of the `len` characters that a revision shows from a place on.
     pub fn spans_at(&self, alloc: Global, rev: u64, at: u64, len: u64) -> Result<Row<Span>, Refusal>
         requires { at + len ≤ length (visible (characters_at rev self.now)) }
-        ensures { MatchResult result (λ spans. spans ≡ spans_of (characters_at rev self.now) at len) (λ e. e ≡ Refusal.Memory) }
+        ensures { MatchResult result (λ spans. spans ≡ spans_of (characters_at rev self.now) at len)
+            (λ e. e ≡ Refusal.Memory) }
     {
         self.sequence.spans_at(alloc, rev, at, len)
     }
 
     /// The text of a revision.
     pub fn text_at(&self, alloc: Global, rev: u64) -> Result<Text, Refusal>
-        ensures { MatchResult result (λ text. text ≡ text_of (characters_at rev self.now)) (λ e. e ≡ Refusal.Memory) }
+        ensures { MatchResult result (λ text. text ≡ text_of (characters_at rev self.now))
+            (λ e. e ≡ Refusal.Memory) }
     {
         self.sequence.text_at(alloc, rev)
     }
 
     /// Who wrote the text of a revision.
     pub fn runs_at(&self, alloc: Global, rev: u64) -> Result<Row<AuthorRun>, Refusal>
-        ensures { MatchResult result (λ runs. runs ≡ runs_of (characters_at rev self.now)) (λ e. e ≡ Refusal.Memory) }
+        ensures { MatchResult result (λ runs. runs ≡ runs_of (characters_at rev self.now))
+            (λ e. e ≡ Refusal.Memory) }
     {
         self.sequence.authors_at(alloc, rev)
     }
 
-    /// What leads from the text of one revision to that of another, in the fewest pieces.
+    /// The changes that lead from the text of one revision to that of another, in the fewest pieces.
     pub fn changes(&self, alloc: Global, rev: u64, to: u64) -> Result<Row<Piece>, Refusal>
-        ensures { MatchResult result (λ pieces. pieces ≡ pieces_between rev to (cells_of self.now)) (λ e. e ≡ Refusal.Memory) }
+        ensures { MatchResult result (λ pieces. pieces ≡ pieces_between rev to (cells_of self.now))
+            (λ e. e ≡ Refusal.Memory) }
     {
         self.sequence.changes(alloc, rev, to)
     }
 
-    /// How many visible characters stand before a caret behind this character.
+    /// The number of visible characters before a caret that follows this character.
     pub fn caret_place(&self, caret: Option<Stamp>) -> u64
         ensures { result ≡ caret_of (characters_in self.now) caret }
     {
@@ -148,7 +154,8 @@ impl<S: Sequence> Ledger<S> {
 
     /// The comments of a revision, by name.
     pub fn comments_at(&self, alloc: Global, rev: u64) -> Result<Row<Shown>, Refusal>
-        ensures { MatchResult result (λ rows. rows ≡ comments_of (take rev self.now)) (λ e. e ≡ Refusal.Memory) }
+        ensures { MatchResult result (λ rows. rows ≡ comments_of (take rev self.now))
+            (λ e. e ≡ Refusal.Memory) }
     {
         self.comments.list_at(alloc, &self.sequence, rev)
     }
@@ -160,7 +167,7 @@ impl<S: Sequence> Ledger<S> {
         self.comments.has(name)
     }
 
-    /// How many comments there are.
+    /// The number of comments.
     pub fn comment_count(&self) -> u64
         ensures { result ≡ count_by is_comment self.now }
     {
@@ -168,52 +175,68 @@ impl<S: Sequence> Ledger<S> {
     }
 
     /// The operations that made the revisions `from` to `from + count - 1`, as far as there are any.
-    pub fn entries(&self, from: u64, count: u64) -> &[Op]
+    pub fn entries(&self, alloc: Global, from: u64, count: u64) -> Result<Row<Op>, Refusal>
         requires { 1 ≤ from }
-        ensures { result.now ≡ entries_of self.now from count }
+        ensures { MatchResult result (λ row. row ≡ entries_of self.now from count)
+            (λ e. e ≡ Refusal.Memory) }
     {
-        self.log.entries(from, count)
+        self.log.entries(alloc, from, count)
+    }
+
+    /// The number of these that comment or resolve. It needs no memory.
+    pub fn count_notes(&self, from: u64, count: u64) -> u64
+        requires { 1 ≤ from }
+        ensures { result ≡ count_by is_note (entries_of self.now from count) }
+    {
+        self.log.count_notes(from, count)
     }
 
     /// The operations that made the revisions after this one.
-    pub fn since(&self, revision: u64) -> &[Op]
-        ensures { result.now ≡ drop revision self.now }
+    pub fn since(&self, alloc: Global, revision: u64) -> Result<Row<Op>, Refusal>
+        ensures { MatchResult result (λ row. row ≡ drop revision self.now)
+            (λ e. e ≡ Refusal.Memory) }
     {
-        self.log.since(revision)
+        self.log.since(alloc, revision)
     }
 
-    /// The operation at a place, from 0.
-    pub fn operation(&self, place: u64) -> Option<&Op>
-        ensures { option_copied result ≡ slice_get self.now place }
+    /// The name of the operation at a place, from 0. It needs no memory.
+    pub fn name_at(&self, place: u64) -> Option<OpName>
+        ensures { result ≡ option_map (λ op. op.name) (slice_get self.now place) }
     {
-        self.log.get(place)
+        self.log.name_at(place)
     }
 
-    /// The first operation that `seen` does not cover.
-    pub fn first_missing(&self, seen: &Seen) -> Option<&Op>
-        ensures { option_copied result ≡ slice_get (filter (is_missing seen.now) self.now) 0 }
+    /// Whether the first version of the wire can say the first operation that `seen` does not cover, if there is one. It
+    /// needs no memory.
+    pub fn first_missing_in_v1(&self, seen: &Seen) -> Option<bool>
+        ensures { result ≡ option_map op_in_v1
+            (slice_get (filter (is_missing seen.now) self.now) 0) }
     {
-        self.log.first_missing(seen)
+        self.log.first_missing_in_v1(seen)
     }
 
-    /// The operations from the first one on that `seen` does not cover.
-    pub fn since_missing(&self, seen: &Seen) -> &[Op]
-        ensures { filter (is_missing seen.now) result.now ≡ filter (is_missing seen.now) self.now }
+    /// The first operation from a place on that `seen` does not cover.
+    pub fn next_missing(
+        &self,
+        alloc: Global,
+        seen: &Seen,
+        from: u64,
+    ) -> Result<Option<Found>, Refusal>
+        ensures { MatchResult result (IsNextMissing seen.now self.now from)
+            (λ e. e ≡ Refusal.Memory) }
     {
-        match self.log.first_missing(seen) {
-            Some(first) => self.log.since(self.log.find(first.name).unwrap_or(0)),
-            None => self.log.since(self.log.len()),
-        }
+        self.log.next_missing(alloc, seen, from)
     }
 
-    /// Copies of the first `max` operations that `seen` does not cover.
+    /// The first `max` operations that `seen` does not cover.
     pub fn missing(&self, alloc: Global, seen: &Seen, max: u64) -> Result<Row<Op>, Refusal>
-        ensures { MatchResult result (λ row. row ≡ missing_of self.now seen.now max) (λ e. e ≡ Refusal.Memory) }
+        ensures { MatchResult result (λ row. row ≡ missing_of self.now seen.now max)
+            (λ e. e ≡ Refusal.Memory) }
     {
         self.log.missing(alloc, seen, max)
     }
 
-    /// Why an operation cannot be delivered, if so: it does not fit what stands here, or the pad has no room for it.
+    /// Why an operation cannot be delivered, or None: it does not fit the contents, or the pad has no room for it.
     pub fn refusal_of(&self, op: &Op) -> Option<Refusal>
         requires { IsTrue (is_checked op.now) }
         ensures { result ≡ delivery_refusal op.now self.now }
@@ -233,13 +256,16 @@ impl<S: Sequence> Ledger<S> {
         None
     }
 
-    /// Delivers an operation: the next of its origin, that nothing speaks against. The answer is how many visible
-    /// characters it hides.
+    /// Delivers an operation: the next of its origin, to which no refusal applies. Returns the number of visible
+    /// characters that it hides.
     pub fn append(&mut self, alloc: Global, op: Op) -> Result<u64, Refusal>
         requires checked { IsTrue (is_checked op) }
         requires next { op.name.number ≡ count_in (vector_of self.old) op.name.origin + 1 }
         requires allowed { delivery_refusal op self.old ≡ None }
-        ensures { Answers self.old (Ok (hidden_by (erased_by op) (characters_in self.old)), self.old ++ op ∷ []) result self.new }
+        ensures { Answers self.old (
+          Ok (hidden_by (erased_by op) (characters_in self.old)),
+          self.old ++ op ∷ [],
+        ) result self.new }
     {
         let hidden = count_and_enter(
             alloc,
@@ -249,27 +275,7 @@ impl<S: Sequence> Ledger<S> {
             &mut self.sequence,
             &op,
         )?;
-        self.log.push(fitted(op));
+        self.log.commit(&op);
         Ok(hidden)
-    }
-}
-
-// The operation in room for no more parts than it has: the log keeps it as long as the pad lives.
-fn fitted(op: Op) -> Op
-    ensures { result ≡ op }
-{
-    let Op {
-        name,
-        seen,
-        author,
-        parts,
-    } = op;
-    let mut items = parts.into_vec();
-    items.shrink_to_fit();
-    Op {
-        name,
-        seen,
-        author,
-        parts: Row::from_vec(items),
     }
 }

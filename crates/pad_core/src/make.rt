@@ -13,8 +13,8 @@ use crate::ledger::Ledger;
 use pad_model::{Part, Refusal, Row, Run, Sequence, Stamp, Text};
 use std::alloc::{AllocError, Global};
 
-/// The parts of the changes: each refers to the revision, and each insertion is newer than what stands in the pad and
-/// than the one before it.
+/// The parts of the changes: each refers to the revision, and each insertion is newer than the pad's characters and
+/// than the insertion before it.
 pub fn make_parts<S: Sequence>(
     alloc: Global,
     ledger: &Ledger<S>,
@@ -24,7 +24,8 @@ pub fn make_parts<S: Sequence>(
 ) -> Result<Row<Part>, Refusal>
     requires replica { 1 ≤ replica }
     requires allowed { edit_refusal rev changes.now ledger.now ≡ None }
-    ensures { MatchResult result (λ parts. parts ≡ made_parts replica rev changes.now ledger.now) (λ e. e ≡ Refusal.Memory) }
+    ensures { MatchResult result (λ parts. parts ≡ made_parts replica rev changes.now ledger.now)
+        (λ e. e ≡ Refusal.Memory) }
 {
     let mut counter = ledger.clock() + 1;
     let mut parts = Row::new(alloc);
@@ -36,7 +37,7 @@ pub fn make_parts<S: Sequence>(
     Ok(parts)
 }
 
-/// The one part of an insertion, which is newer than what stands in the pad.
+/// The one part of an insertion, which is newer than the pad's characters.
 pub fn make_insertion<S: Sequence>(
     alloc: Global,
     ledger: &Ledger<S>,
@@ -47,7 +48,8 @@ pub fn make_insertion<S: Sequence>(
 ) -> Result<Row<Part>, Refusal>
     requires replica { 1 ≤ replica }
     requires allowed { edit_refusal rev (Insert at text.now ∷ []) ledger.now ≡ None }
-    ensures { MatchResult result (λ parts. parts ≡ made_parts replica rev (Insert at text.now ∷ []) ledger.now) (λ e. e ≡ Refusal.Memory) }
+    ensures { MatchResult result (λ parts. parts
+        ≡ made_parts replica rev (Insert at text.now ∷ []) ledger.now) (λ e. e ≡ Refusal.Memory) }
 {
     let run = make_run(ledger, replica, ledger.clock() + 1, rev, at, text)?;
     Ok(Row::of_one(alloc, Part::Insert(run))?)
@@ -64,9 +66,12 @@ fn make_part<S: Sequence>(
     requires replica { 1 ≤ replica }
     requires counter { 1 ≤ counter }
     requires clock { counter + change_growth change.now ≤ MAX_COUNTER + 1 }
-    requires within { lies_outside (length (visible (characters_at rev ledger.now))) change.now ≡ false }
+    requires within { lies_outside (length (visible (characters_at rev ledger.now))) change.now
+        ≡ false }
     requires filled { does_nothing change.now ≡ false }
-    ensures { MatchResult result (λ part. part ≡ part_from counter replica (characters_at rev ledger.now) change.now) (λ e. e ≡ Refusal.Memory) }
+    ensures { MatchResult result (λ part. part
+        ≡ part_from counter replica (characters_at rev ledger.now) change.now)
+        (λ e. e ≡ Refusal.Memory) }
 {
     Ok(match change {
         Change::Insert { at, text } => {
@@ -86,7 +91,11 @@ fn make_run<S: Sequence>(
     text: &Text,
 ) -> Result<Run, AllocError>
     requires { IsInLimits counter replica }
-    ensures { IfOk result (λ run. run ≡ record { first = record { counter = counter; replica = replica }; after = before_place (characters_at rev ledger.now) at; text = text.now }) }
+    ensures { IfOk result (λ run. run ≡ record {
+      first = record { counter = counter; replica = replica };
+      after = before_place (characters_at rev ledger.now) at;
+      text = text.now;
+    }) }
 {
     let text = text.clone()?;
     Ok(Run {
@@ -106,7 +115,7 @@ fn first_stamp(counter: u64, replica: u16) -> Stamp
     }
 }
 
-/// The stamp of the character in front of a place of a revision; None is the start.
+/// The stamp of the character before a place of a revision; None is the start.
 pub fn stamp_before<S: Sequence>(ledger: &Ledger<S>, rev: u64, at: u64) -> Option<Stamp>
     ensures { result ≡ before_place (characters_at rev ledger.now) at }
 {

@@ -26,7 +26,8 @@ pub fn comment<S: Sequence>(
 ) -> Result<PadReply, Refusal>
     requires replica { 1 ≤ writer.replica }
     requires author { IsTrue (is_name writer.author.now) }
-    ensures { Answers ledger.old (commented writer.entry.replica writer.entry.author.now passage.rev passage.at passage.len text.now ledger.old) result ledger.new }
+    ensures { Answers ledger.old (commented writer.entry.replica writer.entry.author.now passage.rev
+        passage.at passage.len text.now ledger.old) result ledger.new }
 {
     if let Some(refusal) = refuse_comment(ledger, passage, text) {
         return Err(refusal);
@@ -44,7 +45,8 @@ pub fn resolve<S: Sequence>(
 ) -> Result<PadReply, Refusal>
     requires replica { 1 ≤ writer.replica }
     requires author { IsTrue (is_name writer.author.now) }
-    ensures { Answers ledger.old (resolved writer.entry.replica writer.entry.author.now comment ledger.old) result ledger.new }
+    ensures { Answers ledger.old (resolved writer.entry.replica writer.entry.author.now comment
+        ledger.old) result ledger.new }
 {
     if !ledger.has_comment(comment) {
         return Err(Refusal::NoComment);
@@ -62,9 +64,12 @@ fn note<S: Sequence>(
     writer: Writer<'_>,
     part: Part,
 ) -> Result<PadReply, Refusal>
-    requires checked { IsTrue (is_checked (op_of writer.replica writer.author.now (part ∷ []) ledger.old)) }
-    requires allowed { delivery_refusal (op_of writer.replica writer.author.now (part ∷ []) ledger.old) ledger.old ≡ None }
-    ensures { Answers ledger.old (noted None writer.entry.replica writer.entry.author.now (part ∷ []) ledger.old) result ledger.new }
+    requires checked { IsTrue (is_checked
+        (op_of writer.replica writer.author.now (part ∷ []) ledger.old)) }
+    requires allowed { delivery_refusal
+        (op_of writer.replica writer.author.now (part ∷ []) ledger.old) ledger.old ≡ None }
+    ensures { Answers ledger.old (noted None writer.entry.replica writer.entry.author.now
+        (part ∷ []) ledger.old) result ledger.new }
 {
     let parts = Row::of_one(alloc, part)?;
     let op = make_op(ledger, writer, parts)?;
@@ -76,9 +81,10 @@ fn note<S: Sequence>(
     })
 }
 
-/// Why a comment is refused, if it is. The first that holds is the answer.
+/// Why a comment is refused, or None. The first refusal that applies is returned.
 fn refuse_comment<S: Sequence>(ledger: &Ledger<S>, passage: Passage, text: &Text) -> Option<Refusal>
-    ensures value { result ≡ comment_refusal passage.rev passage.at passage.len text.now ledger.now }
+    ensures value { result ≡ comment_refusal passage.rev passage.at passage.len text.now
+        ledger.now }
     ensures sound { IsDelivered ledger.now }
 {
     let Passage { rev, at, len } = passage;
@@ -111,8 +117,10 @@ fn make_comment<S: Sequence>(
     text: &Text,
 ) -> Result<Part, Refusal>
     requires sound { IsDelivered ledger.now }
-    requires allowed { comment_refusal passage.rev passage.at passage.len text.now ledger.now ≡ None }
-    ensures { MatchResult result (λ part. comment_parts (characters_at passage.rev ledger.now) passage.at passage.len text.now ≡ part ∷ []) (λ e. e ≡ Refusal.Memory) }
+    requires allowed { comment_refusal passage.rev passage.at passage.len text.now ledger.now
+        ≡ None }
+    ensures { MatchResult result (λ part. comment_parts (characters_at passage.rev ledger.now)
+        passage.at passage.len text.now ≡ part ∷ []) (λ e. e ≡ Refusal.Memory) }
 {
     let Passage { rev, at, len } = passage;
     Ok(Part::Comment {

@@ -20,7 +20,9 @@ pub struct Owned {
 
 impl Owned {
     pub fn new(alloc: Global, name: &str, owner: &str) -> Result<Owned, Refusal>
-        ensures { MatchResult result (λ owned. (owned.name ≡ name.now) × (owned.rights ≡ record { owner = owner.now; grants = [] })) (λ e. e ≡ Refusal.Memory) }
+        ensures { MatchResult result (λ owned. (owned.name ≡ name.now)
+            × (owned.rights ≡ record { owner = owner.now; grants = [] }))
+            (λ e. e ≡ Refusal.Memory) }
     {
         let name = Name::from_str(alloc, name)?;
         let owner = Name::from_str(alloc, owner)?;
@@ -40,7 +42,13 @@ pub fn own(
     owner: &str,
 ) -> Result<Claim, Refusal>
     requires { presence.old ≡ nobody_present presence.old.limit }
-    ensures { Answers {S = Option Owned × Presence} (owned.old, presence.old) (Ok (Claim.Created (presence.old.given + 1)), (Some (record { name = name.now; rights = record { owner = owner.now; grants = [] } }), joined owner.now presence.old)) result (owned.new, presence.new) }
+    ensures { Answers {S = Option Owned × Presence} (owned.old, presence.old) (
+      Ok (Claim.Created (presence.old.given + 1)),
+      (
+        Some (record { name = name.now; rights = record { owner = owner.now; grants = [] } }),
+        joined owner.now presence.old,
+      ),
+    ) result (owned.new, presence.new) }
 {
     let named = Owned::new(alloc, name, owner)?;
     let visit = presence.enter(alloc, owner)?;

@@ -3,6 +3,8 @@ ghost use Rattle.std.specs.Prelude.{◌≡◌, ◌⊎◌, ℕ, ◌+◌, ◌≤�
 ghost use Rattle.pad_model.specs.Answers.{Answers};
 ghost use Rattle.pad_model.specs.Checked.{is_name};
 ghost use Rattle.pad_model.specs.declared.limits.TheConstants.{MAX_REPLICA};
+ghost use Rattle.pad_model.specs.Seen.{count_in};
+ghost use Rattle.pad_core.specs.Counts.{vector_of};
 ghost use Rattle.pad_core.specs.Delivered.{IsDelivered};
 ghost use Rattle.pad_core.specs.Laws.{LastReadsAlike};
 ghost use Rattle.pad_model.specs.declared.who.Who.TheVariants as Who;
@@ -28,7 +30,7 @@ use crate::reply::{Listed, PadReply};
 use crate::restart::{deliver_again, grant_again, own_again, visit_again};
 use crate::writer::{Passage, Writer};
 use holdback::Hold;
-use pad_model::{Name, Op, Refusal, Sequence, Version, Who};
+use pad_model::{Name, Op, Refusal, Row, Sequence, Version, Who};
 use rights::Right;
 use sessions::PresenceBook;
 use std::alloc::Global;
@@ -49,16 +51,29 @@ impl<S: Sequence> Model for Pad<S> {
 
     ghost Value = { Machine };
 
-    ghost view = { λ p. record { owned = p.owned; replica = p.replica; log = p.ledger; held = p.held; presence = p.presence } };
+    ghost view = { λ p. record {
+      owned = p.owned;
+      replica = p.replica;
+      log = p.ledger;
+      held = p.held;
+      presence = p.presence;
+    } };
 
     ghost invariant = { λ p. IsPad p.owned p.replica p.held p.presence };
 }
 
 impl<S: Sequence> Pad<S> {
-    /// A pad without a name on the server with this replica number, where this many visits may be present at once.
+    /// A pad without a name, on the server with this replica number; at most this many visits may be present at once.
     pub fn new(alloc: Global, replica: u16, present: u64) -> Result<Pad<S>, Refusal>
         requires { 1 ≤ replica }
-        ensures { MatchResult result (λ pad. pad ≡ record { owned = None; replica = replica; log = []; held = []; presence = nobody_present present }) (λ e. e ≡ Refusal.Memory) }
+        ensures { MatchResult result (λ pad. pad
+            ≡ record {
+              owned = None;
+              replica = replica;
+              log = [];
+              held = [];
+              presence = nobody_present present;
+            }) (λ e. e ≡ Refusal.Memory) }
     {
         let ledger = Ledger::new(alloc)?;
         Ok(Pad {
@@ -81,7 +96,7 @@ impl<S: Sequence> Pad<S> {
         }
     }
 
-    /// The revision that the last operation made: how many there are.
+    /// The revision that the last operation made, which is the number of operations.
     pub fn revision(&self) -> u64
         ensures value { result ≡ length self.now.log }
         ensures delivered { IsDelivered self.now.log }
@@ -113,9 +128,10 @@ impl<S: Sequence> Pad<S> {
         own(alloc, &mut self.owned, &mut self.presence, name, owner)
     }
 
-    /// What the pad tells somebody in a list of pads. None: it is not listed for them.
+    /// The pad as somebody sees it in a list of pads, or None if it is not listed for them.
     pub fn listing(&self, alloc: Global, who: &Who) -> Result<Option<Listed>, Refusal>
-        ensures { MatchResult result (λ told. told ≡ listing who.now self.now) (λ e. (e ≡ Refusal.Memory) × IsTrue (is_some (listing who.now self.now))) }
+        ensures { MatchResult result (λ told. told ≡ listing who.now self.now)
+            (λ e. (e ≡ Refusal.Memory) × IsTrue (is_some (listing who.now self.now))) }
     {
         let Who::Author(reader) = who else {
             return Ok(None);
@@ -133,8 +149,8 @@ impl<S: Sequence> Pad<S> {
         }))
     }
 
-    /// Answers an event and makes its changes, or finds no memory and changes nothing. A push that found no memory in
-    /// its release has made the steps before. `leave`, `caret` and `revs` take no memory.
+    /// Answers an event and makes its changes, or runs out of memory and changes nothing. A push whose release runs out
+    /// of memory has made the steps before. `leave`, `caret` and `revs` take no memory.
     pub fn step(&mut self, alloc: Global, event: &PadEvent<'_>) -> Result<PadReply, Refusal>
         ensures { Stepped self.old event.now result self.new }
     {
@@ -166,11 +182,19 @@ impl<S: Sequence> Pad<S> {
         }
     }
 
-    /// The operations that made the revisions after this one.
-    pub fn since(&self, revision: u64) -> &[Op]
-        ensures { result.now ≡ drop revision self.now.log }
+    /// The number of delivered operations of an origin.
+    pub fn count(&self, origin: u16) -> u64
+        ensures { result ≡ count_in (vector_of self.now.log) origin }
     {
-        self.ledger.since(revision)
+        self.ledger.seen().count(origin)
+    }
+
+    /// The operations that made the revisions after this one.
+    pub fn since(&self, alloc: Global, revision: u64) -> Result<Row<Op>, Refusal>
+        ensures { MatchResult result (λ row. row ≡ drop revision self.now.log)
+            (λ e. e ≡ Refusal.Memory) }
+    {
+        self.ledger.since(alloc, revision)
     }
 
     /// Claims the pad as it was claimed before a restart. The owner's visit has ended.
@@ -215,8 +239,8 @@ impl<S: Sequence> Pad<S> {
         visit_again(alloc, &mut self.presence, owned.rights.owner())
     }
 
-    /// Delivers an operation that was delivered before a restart. 400 where it passes a limit, 403 where it is not the next
-    /// of its origin.
+    /// Delivers an operation that was delivered before a restart. It is refused with 400 if it exceeds a limit, and
+    /// with 403 if it is not the next of its origin.
     pub fn restore_operation(&mut self, alloc: Global, op: Op) -> Result<(), Refusal>
         ensures { Answers self.old (operation_restored op self.old) result self.new }
     {
@@ -225,20 +249,23 @@ impl<S: Sequence> Pad<S> {
 
     /// Answers a list of events, one after the other.
     ///
-    /// The room for the replies is taken first; without it nothing is done.
+    /// Memory for the replies is allocated first; if there is none, nothing is done.
     pub fn run(
         &mut self,
         alloc: Global,
         events: &[PadEvent<'_>],
     ) -> Result<Vec<Result<PadReply, Refusal>>, Refusal>
-        ensures ran { MatchResult result (λ replies. Ran self.old events.now replies.items self.new) (λ e. (e ≡ Refusal.Memory) × (self.new ≡ self.old)) }
+        ensures ran { MatchResult result (λ replies. Ran self.old events.now replies.items self.new)
+            (λ e. (e ≡ Refusal.Memory) × (self.new ≡ self.old)) }
 
-        // The replies and the pad are the machine's, where no event ran out of memory.
-        ensures machine { IfOk result (λ replies. FoundMemory replies.items → machine_run events.now self.old ≡ (replies.items, self.new)) }
+        // The replies and the pad are the machine's if no event ran out of memory.
+        ensures machine { IfOk result (λ replies. FoundMemory replies.items
+            → machine_run events.now self.old ≡ (replies.items, self.new)) }
 
         // What was read last of the present text, authors or comments depends on the set of the pad's operations alone: it is the
         // answer of any other pad with the same ones.
-        ensures alike { IfOk result (λ replies. LastReadsAlike events.now replies.items self.new.log) }
+        ensures alike { IfOk result (λ replies. LastReadsAlike events.now replies.items
+            self.new.log) }
     {
         let mut replies = match Vec::with_capacity(alloc, events.len()) {
             Ok(replies) => replies,
@@ -252,7 +279,7 @@ impl<S: Sequence> Pad<S> {
         Ok(replies)
     }
 
-    /// An author's act, where nothing speaks against it.
+    /// An author's act, unless it is refused.
     fn author_step(
         &mut self,
         alloc: Global,
@@ -260,8 +287,11 @@ impl<S: Sequence> Pad<S> {
         visit: Option<u64>,
         act: &Act,
     ) -> Result<PadReply, Refusal>
-        ensures answers { (owned : _) → self.old.owned ≡ Some owned → Answers self.old (author_stepped owned name.now visit act.now self.old) result self.new }
-        ensures exact { takes_memory act.now ≡ false → (owned : _) → self.old.owned ≡ Some owned → author_stepped owned name.now visit act.now self.old ≡ (result, self.new) }
+        ensures answers { (owned : _) → self.old.owned ≡ Some owned
+            → Answers self.old (author_stepped owned name.now visit act.now self.old) result
+            self.new }
+        ensures exact { takes_memory act.now ≡ false → (owned : _) → self.old.owned ≡ Some owned
+            → author_stepped owned name.now visit act.now self.old ≡ (result, self.new) }
     {
         let Some(owned) = &self.owned else {
             return Err(Refusal::NoPad);
@@ -274,12 +304,13 @@ impl<S: Sequence> Pad<S> {
 
     /// Ends an author's visit, if it is one.
     fn author_leaves(&mut self, name: &Name, visit: u64)
-        ensures { (owned : _) → self.old.owned ≡ Some owned → self.new ≡ (author_stepped owned name.now (Some visit) Act.Leave self.old).1 }
+        ensures { (owned : _) → self.old.owned ≡ Some owned
+            → self.new ≡ (author_stepped owned name.now (Some visit) Act.Leave self.old).1 }
     {
         depart(&mut self.presence, name, visit);
     }
 
-    /// What an author may do, it does.
+    /// Does an act that the author may do.
     fn author_act(
         &mut self,
         alloc: Global,
@@ -288,8 +319,12 @@ impl<S: Sequence> Pad<S> {
         act: &Act,
     ) -> Result<PadReply, Refusal>
         requires { IsAdmitted self.old.owned self.old.presence name.now visit act.now }
-        ensures answers { (owned : _) → self.old.owned ≡ Some owned → Answers self.old (author_acted owned name.now (unwrap_or visit 0) act.now self.old) result self.new }
-        ensures exact { takes_memory act.now ≡ false → (owned : _) → self.old.owned ≡ Some owned → author_acted owned name.now (unwrap_or visit 0) act.now self.old ≡ (result, self.new) }
+        ensures answers { (owned : _) → self.old.owned ≡ Some owned
+            → Answers self.old (author_acted owned name.now (unwrap_or visit 0) act.now self.old)
+            result self.new }
+        ensures exact { takes_memory act.now ≡ false → (owned : _) → self.old.owned ≡ Some owned
+            → author_acted owned name.now (unwrap_or visit 0) act.now self.old
+            ≡ (result, self.new) }
     {
         let visit = visit.unwrap_or(0);
         let ledger = &mut self.ledger;
@@ -331,7 +366,10 @@ impl<S: Sequence> Pad<S> {
 
     /// A peer's act on the pad of this name.
     fn peer_act(&mut self, alloc: Global, version: Version, act: &Act) -> Result<PadReply, Refusal>
-        ensures { (name : _) (number : ℕ) → name_of self.old.owned ≡ Some name → Answers self.old (peer_acted version act.now self.old) result self.new ⊎ ((result ≡ Err Refusal.Memory) × IsCutShort name (Who.Peer number version) act.now self.old self.new) }
+        ensures { (name : _) (number : ℕ) → name_of self.old.owned ≡ Some name
+            → Answers self.old (peer_acted version act.now self.old) result self.new
+            ⊎ ((result ≡ Err Refusal.Memory)
+            × IsCutShort name (Who.Peer number version) act.now self.old self.new) }
     {
         match act {
             Act::Vector => read_vector(&self.ledger, version),

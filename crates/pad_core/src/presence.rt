@@ -1,4 +1,4 @@
-//! Who is present, and where their carets stand.
+//! Who is present, and where their carets are.
 ghost use Rattle.std.specs.Prelude.{◌≡◌, IfOk, length, map, true};
 ghost use Rattle.std.specs.List.{list_any};
 ghost use Rattle.pad_model.specs.Answers.{Answers};
@@ -13,7 +13,7 @@ use pad_model::{Author, Name, Refusal, Row, Sequence};
 use sessions::{PresenceBook, Visit};
 use std::alloc::{AllocError, Global};
 
-/// One more visit of an author.
+/// Starts a visit of an author.
 pub fn join(
     alloc: Global,
     presence: &mut PresenceBook,
@@ -26,7 +26,7 @@ pub fn join(
     Ok(PadReply::Joined { now, visit })
 }
 
-/// The end of a visit.
+/// Ends a visit.
 pub fn leave(presence: &mut PresenceBook, now: u64, visit: u64) -> Result<PadReply, Refusal>
     requires { list_any (has_number visit) presence.old.present ≡ true }
     ensures { left now visit presence.old ≡ (result, presence.new) }
@@ -35,7 +35,7 @@ pub fn leave(presence: &mut PresenceBook, now: u64, visit: u64) -> Result<PadRep
     Ok(PadReply::Done { now })
 }
 
-/// Ends a visit where it is present and this author's; else it does nothing.
+/// Ends a visit if it is present and this author's; otherwise it does nothing.
 #[tactic(auto, using(crate::proofs::Admitted::number_there))]
 pub fn depart(presence: &mut PresenceBook, author: &Name, visit: u64)
     ensures { presence.new ≡ departed author.now visit presence.old }
@@ -45,7 +45,7 @@ pub fn depart(presence: &mut PresenceBook, author: &Name, visit: u64)
     }
 }
 
-/// Puts a caret behind the character in front of a place of a revision.
+/// Puts a caret after the character before a place of a revision.
 pub fn put_caret<S: Sequence>(
     ledger: &Ledger<S>,
     presence: &mut PresenceBook,

@@ -23,7 +23,7 @@ pub struct Released {
     pub dropped: u64,
 }
 
-/// Takes an operation from a peer, and releases what waited. A release that finds no memory keeps what it delivered,
+/// Takes an operation from a peer, and releases what waited. A release that runs out of memory keeps what it delivered,
 /// and the operation that it could not deliver stays held.
 pub fn push<S: Sequence>(
     alloc: Global,
@@ -33,7 +33,9 @@ pub fn push<S: Sequence>(
     op: &Op,
 ) -> Result<PadReply, Refusal>
     requires held { AllByRecursion (λ op. IsTrue (is_checked op)) held.old }
-    ensures answer { Answers (ledger.old, held.old) (pushed replica op.now (ledger.old, held.old)) result (ledger.new, held.new) ⊎ ((result ≡ Err Refusal.Memory) × Stopped replica op.now (ledger.old, held.old) (ledger.new, held.new)) }
+    ensures answer { Answers (ledger.old, held.old) (pushed replica op.now (ledger.old, held.old))
+        result (ledger.new, held.new) ⊎ ((result ≡ Err Refusal.Memory)
+        × Stopped replica op.now (ledger.old, held.old) (ledger.new, held.new)) }
     ensures held { AllByRecursion (λ op. IsTrue (is_checked op)) held.new }
 {
     let state = receive(alloc, ledger, held, replica, op)?;
@@ -55,7 +57,8 @@ fn receive<S: Sequence>(
     op: &Op,
 ) -> Result<Pushed, Refusal>
     requires held { AllByRecursion (λ op. IsTrue (is_checked op)) held.old }
-    ensures answer { Answers (ledger.old, held.old) (received replica op.now (ledger.old, held.old)) result (ledger.new, held.new) }
+    ensures answer { Answers (ledger.old, held.old) (received replica op.now (ledger.old, held.old))
+        result (ledger.new, held.new) }
     ensures held { AllByRecursion (λ op. IsTrue (is_checked op)) held.new }
 {
     op.check()?;
@@ -71,7 +74,7 @@ fn receive<S: Sequence>(
     hold_back(held, op, ledger.seen())
 }
 
-/// Holds a new operation of another server back, which has to wait for others.
+/// Holds back a new operation of another server that has to wait for others.
 fn hold_back(held: &mut Hold, op: &Op, seen: &Seen) -> Result<Pushed, Refusal>
     requires new { (is_covered seen.now op.now.name || is_held op.now.name held.old) ≡ false }
     requires waits { is_ready seen.now op.now ≡ false }
@@ -104,7 +107,9 @@ fn is_known<S: Sequence>(ledger: &Ledger<S>, held: &Hold, name: OpName) -> bool
 fn deliver<S: Sequence>(alloc: Global, ledger: &mut Ledger<S>, op: &Op) -> Result<Pushed, Refusal>
     requires checked { IsTrue (is_checked op.now) }
     requires ready { IsTrue (is_ready (vector_of ledger.old) op.now) }
-    ensures { (held : List Op) → Answers (ledger.old, held) (delivered op.now (delivery_refusal op.now ledger.old) ledger.old held) result (ledger.new, held) }
+    ensures { (held : List Op) → Answers (ledger.old, held)
+        (delivered op.now (delivery_refusal op.now ledger.old) ledger.old held) result
+        (ledger.new, held) }
 {
     if let Some(refusal) = ledger.refusal_of(op) {
         return Err(refusal);
@@ -121,8 +126,11 @@ fn settle<S: Sequence>(
     held: &mut Hold,
 ) -> Result<Released, Refusal>
     requires held { AllByRecursion (λ op. IsTrue (is_checked op)) held.old }
-    ensures ok { IfOk result (λ released. delivery released ledger.new held.new ≡ settled_from (unsettled (ledger.old, held.old))) }
-    ensures memory { IfErr result (λ e. (e ≡ Refusal.Memory) × (n : ℕ) × ((ledger.new, held.new) ≡ both_of (steps n (unsettled (ledger.old, held.old)))) × IsStuck (ledger.new, held.new)) }
+    ensures ok { IfOk result (λ released. delivery released ledger.new held.new
+        ≡ settled_from (unsettled (ledger.old, held.old))) }
+    ensures memory { IfErr result (λ e. (e ≡ Refusal.Memory) × (n : ℕ)
+        × ((ledger.new, held.new) ≡ both_of (steps n (unsettled (ledger.old, held.old))))
+        × IsStuck (ledger.new, held.new)) }
     ensures held { AllByRecursion (λ op. IsTrue (is_checked op)) held.new }
 {
     let mut released = Released {
@@ -137,8 +145,8 @@ fn settle<S: Sequence>(
     Ok(released)
 }
 
-/// Takes the ready operation of the least origin out: it is delivered, or dropped where it is refused. The answer is
-/// whether there was one.
+/// Takes out the ready operation of the least origin: delivers it, or drops it if it is refused. Returns whether there
+/// was one.
 fn release<S: Sequence>(
     alloc: Global,
     ledger: &mut Ledger<S>,
@@ -147,9 +155,12 @@ fn release<S: Sequence>(
 ) -> Result<bool, Refusal>
     requires held { AllByRecursion (λ op. IsTrue (is_checked op)) held.old }
     requires few { released.old.delivered + released.old.dropped < u64.MAX }
-    ensures ok { OnOk result (delivery released.new ledger.new held.new ≡ released_one (delivery released.old ledger.old held.old)) }
+    ensures ok { OnOk result (delivery released.new ledger.new held.new
+        ≡ released_one (delivery released.old ledger.old held.old)) }
     ensures settled { result ≡ Ok false → find (is_ready (vector_of ledger.old)) held.old ≡ None }
-    ensures memory { IfErr result (λ e. (e ≡ Refusal.Memory) × (delivery released.new ledger.new held.new ≡ delivery released.old ledger.old held.old) × IsStuck (ledger.new, held.new)) }
+    ensures memory { IfErr result (λ e. (e ≡ Refusal.Memory)
+        × (delivery released.new ledger.new held.new ≡ delivery released.old ledger.old held.old)
+        × IsStuck (ledger.new, held.new)) }
     ensures held { AllByRecursion (λ op. IsTrue (is_checked op)) held.new }
 {
     let Some(op) = next_op(ledger, held) else {

@@ -1,7 +1,7 @@
 //! What authors read of a pad's log.
-ghost use Rattle.std.specs.Prelude.{◌≡◌, ℕ, ◌+◌, ◌≤◌, IfOk, count_by, length, MatchResult};
+ghost use Rattle.std.specs.Prelude.{◌≡◌, ℕ, ◌+◌, ◌≤◌, IfOk, length};
 ghost use Rattle.pad_model.specs.Answers.{Tells};
-ghost use Rattle.pad_core.specs.Reads.{entries_from, entry_of, is_note as notes, kind_of as kind, read_changes as changes_read, read_comments as comments_read, read_entries as entries_read, read_revs as revs_read, read_runs as runs_read, read_text as text_read};
+ghost use Rattle.pad_core.specs.Reads.{entries_from, entry_of, kind_of as kind, read_changes as changes_read, read_comments as comments_read, read_entries as entries_read, read_revs as revs_read, read_runs as runs_read, read_text as text_read};
 
 use crate::ledger::Ledger;
 use crate::reply::{Entry, Kind, PadReply};
@@ -84,7 +84,7 @@ pub fn read_changes<S: Sequence>(
         return Err(Refusal::TooMuch);
     }
     let pieces = ledger.changes(alloc, rev, to)?;
-    let notes = count_notes(ledger.entries(rev + 1, to - rev));
+    let notes = ledger.count_notes(rev + 1, to - rev);
     Ok(PadReply::Changes {
         now,
         rev,
@@ -94,21 +94,7 @@ pub fn read_changes<S: Sequence>(
     })
 }
 
-/// How many operations comment or resolve.
-fn count_notes(ops: &[Op]) -> u64
-    ensures { result ≡ count_by notes ops.now }
-{
-    ops.iter().filter(|op| is_note(op)).count() as u64
-}
-
-/// Whether an operation comments or resolves.
-fn is_note(op: &Op) -> bool
-    ensures { result ≡ notes op.now }
-{
-    !op.is_edit()
-}
-
-/// How long the pad is, with and without what was erased.
+/// The length of the pad, with and without erased characters.
 pub fn read_revs<S: Sequence>(ledger: &Ledger<S>) -> Result<PadReply, Refusal>
     ensures { result ≡ revs_read ledger.now }
 {
@@ -120,7 +106,7 @@ pub fn read_revs<S: Sequence>(ledger: &Ledger<S>) -> Result<PadReply, Refusal>
     })
 }
 
-/// What made some revisions.
+/// The operations that made some revisions.
 pub fn read_entries<S: Sequence>(
     alloc: Global,
     ledger: &Ledger<S>,
@@ -139,7 +125,8 @@ pub fn read_entries<S: Sequence>(
     if MAX_ENTRIES < count {
         return Err(Refusal::TooMuch);
     }
-    let entries = list(alloc, from, ledger.entries(from, count))?;
+    let ops = ledger.entries(alloc, from, count)?;
+    let entries = list(alloc, from, ops.as_slice())?;
     Ok(PadReply::Entries {
         now,
         entries: Row::from_vec(entries),

@@ -9,7 +9,7 @@ use crate::pad::Pad;
 use pad_model::{OpName, Refusal, Sequence, Text};
 use std::alloc::Global;
 
-/// What somebody was told of a pad.
+/// A fact about a pad that was reported to somebody.
 #[derive(Clone, Debug, Drop, PartialEq)]
 pub enum Recorded {
     /// The text of a revision was read.
@@ -58,7 +58,7 @@ fn audit_log<S: Sequence>(
     Ok(())
 }
 
-/// Whether a record agrees, behind those before it.
+/// Whether a record agrees, after those before it.
 fn agrees<S: Sequence>(
     alloc: Global,
     ledger: &Ledger<S>,
@@ -89,8 +89,8 @@ fn stands_at<S: Sequence>(ledger: &Ledger<S>, name: OpName, rev: u64) -> bool
     if rev == 0 {
         return false;
     }
-    match ledger.operation(rev - 1) {
-        Some(op) => op.name == name,
+    match ledger.name_at(rev - 1) {
+        Some(other) => other == name,
         None => false,
     }
 }

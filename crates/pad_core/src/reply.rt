@@ -1,4 +1,4 @@
-//! What a pad answers, and what a server answers.
+//! The replies of a pad and of a server.
 use anchors::Shown;
 use pad_model::{Author, AuthorRun, Name, Op, OpName, Piece, Row, Seen, Text, Version};
 use rights::{Grant, Right};
@@ -28,7 +28,7 @@ pub struct Entry {
 pub struct Present {
     pub visit: u64,
     pub author: Author,
-    /// How many visible characters stand before the caret.
+    /// The number of visible characters before the caret.
     pub caret: u64,
 }
 
@@ -72,7 +72,7 @@ pub enum PadReply {
         now: u64,
         name: OpName,
     },
-    /// The operation has this name, made the revision `now`, and hid so many characters that were visible.
+    /// The operation has this name, made the revision `now`, and hid this many visible characters.
     Changed {
         now: u64,
         name: OpName,
@@ -96,8 +96,8 @@ pub enum PadReply {
         rev: u64,
         comments: Row<Shown>,
     },
-    /// What leads from the text of one revision to that of another, and how many comments and resolutions made the
-    /// revisions between.
+    /// The changes that lead from the text of one revision to that of another, and how many comments and resolutions
+    /// made the revisions between.
     Changes {
         now: u64,
         rev: u64,
@@ -105,13 +105,13 @@ pub enum PadReply {
         pieces: Row<Piece>,
         notes: u64,
     },
-    /// How many characters there are with those that are erased, and how many are visible.
+    /// The number of characters, erased ones included, and the number of visible ones.
     Revs {
         now: u64,
         cells: u64,
         length: u64,
     },
-    /// What made some revisions.
+    /// The operations that made some revisions.
     Entries {
         now: u64,
         entries: Row<Entry>,
@@ -126,12 +126,12 @@ pub enum PadReply {
         now: u64,
         rights: Row<Grant>,
     },
-    /// How many operations of each origin were delivered.
+    /// The number of delivered operations of each origin.
     Vector {
         now: u64,
         seen: Seen,
     },
-    /// What became of a pushed operation, and how many held ones were then delivered, and dropped.
+    /// What became of a pushed operation, and how many held operations were then delivered and dropped.
     Pushed {
         now: u64,
         state: Pushed,
@@ -148,7 +148,7 @@ pub enum PadReply {
 /// What a server answers to a session.
 #[derive(Debug, Drop)]
 pub enum Reply {
-    /// The session is this author's now.
+    /// The session is now this author's.
     Hello { author: Author },
     /// The session is a peer's now: the replica number of this server, and the version that the peer can read.
     Peer { replica: u16, version: Version },

@@ -1,4 +1,4 @@
-//! What a session asks of its server.
+//! A session's requests to its server.
 ghost use Rattle.std.specs.Prelude.{◌≡◌};
 
 use crate::act::Act;
@@ -6,7 +6,7 @@ use pad_model::{Name, Version};
 use sessions::Word;
 use std::alloc::AllocError;
 
-/// What a session asks of its server.
+/// A session's requests to its server.
 #[derive(Debug, Drop)]
 pub enum Request {
     /// Begins an author's session.
@@ -14,13 +14,13 @@ pub enum Request {
         name: Name,
         token: Word,
     },
-    /// Begins a peer's session. A number that no replica can have is no account's.
+    /// Begins a peer's session. No account has a number that no replica can have.
     Peer {
         number: u64,
         token: Word,
         version: Version,
     },
-    /// Creates a pad, and is present on it.
+    /// Creates a pad and joins it.
     Create {
         pad: Name,
     },

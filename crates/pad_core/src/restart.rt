@@ -1,4 +1,4 @@
-//! How the parts of a pad are put together again after a restart.
+//! How the parts of a pad are restored after a restart.
 ghost use Rattle.std.specs.Prelude.{◌≡◌, ◌++◌, ◌∷◌, [], IsTrue, Ok, Option, Some};
 ghost use Rattle.pad_model.specs.Answers.{Answers};
 ghost use Rattle.sessions.specs.Presence.{Presence, joined};
@@ -22,14 +22,23 @@ pub fn own_again(
     owner: &str,
 ) -> Result<(), Refusal>
     requires { presence.old ≡ nobody_present presence.old.limit }
-    ensures { Answers {S = Option Owned × Presence} (owned.old, presence.old) (Ok tt, (Some (record { name = name.now; rights = record { owner = owner.now; grants = [] } }), ended (joined owner.now presence.old))) result (owned.new, presence.new) }
+    ensures { Answers {S = Option Owned × Presence} (owned.old, presence.old) (
+      Ok tt,
+      (
+        Some (record {
+          name = name.now;
+          rights = record { owner = owner.now; grants = [] };
+        }),
+        ended (joined owner.now presence.old),
+      ),
+    ) result (owned.new, presence.new) }
 {
     own(alloc, owned, presence, name, owner)?;
     let _left = presence.leave(1);
     Ok(())
 }
 
-/// One more visit, which has ended. It counts towards no limit of those present.
+/// Counts a visit that has ended, which counts towards no limit of those present.
 pub fn visit_again(alloc: Global, presence: &mut PresenceBook, author: &str) -> Result<(), Refusal>
     ensures { Answers presence.old (visited author.now presence.old) result presence.new }
 {
@@ -38,7 +47,7 @@ pub fn visit_again(alloc: Global, presence: &mut PresenceBook, author: &str) -> 
     Ok(())
 }
 
-/// Gives a right, or takes it away, where a pad has a name.
+/// Gives a right, or takes it away, if the pad has a name.
 pub fn grant_again(
     owned: &mut Option<Owned>,
     author: &Name,

@@ -1,9 +1,11 @@
-//! The files of a server's pads while it runs: what was answered is noted under the pad's lock, and synced before a reply is
-//! written.
+//! The files of a server's pads while it runs: each answer is noted under its pad's lock, and synced before its reply
+//! is written.
 ghost use Rattle.std.specs.Prelude.{◌≡◌, ◌⊎◌, IfErr};
 
+use crate::handle::Handle;
 use crate::progress::{Progress, Turn};
 use crate::reserve::{Reserve, is_full};
+use crate::shared_sync::SharedSync;
 use crate::spares::{Spare, Spares};
 use journal::Journal;
 use log::{error, warn};
@@ -11,18 +13,18 @@ use pad_core::Request;
 use pad_model::Refusal;
 use records::{Record, records_of};
 use shared_pads::Answered;
-use std::alloc::Global;
+use std::alloc::{AllocError, Global};
 use std::fs::File;
 use std::io;
 use std::io::{ErrorKind, Write};
-use std::sync::atomic::{AtomicBool, AtomicU64, Ordering};
+use std::sync::atomic::{AtomicBool, Ordering};
 use std::sync::{Mutex, Wait};
 use std::thread::yield_now;
 use std::time::{SystemTime, UNIX_EPOCH};
 use store::{header_text, link, record_text};
 
-/// How often at most a thread that is about to sync lets others run first, whose notes then go with its own. It waits for no more
-/// notes than went with the last sync, so that one author alone is never kept waiting.
+/// The most times that a thread yields before a sync, so that others' notes join its own. It waits for no more notes
+/// than the last sync had, so that a single author is never kept waiting.
 const LOOKS: u32 = 16;
 
 /// A pad's file, open for appending, and the sum of its last line.
@@ -30,48 +32,6 @@ const LOOKS: u32 = 16;
 pub struct Book {
     pub file: Option<File>,
     pub sum: String,
-}
-
-/// A second handle of a pad's file, by which it is synced while others append.
-#[derive(Drop)]
-pub struct Handle {
-    file: Mutex<Option<File>>,
-    /// How many notes were appended, and how many of these are synced.
-    appended: AtomicU64,
-    synced: AtomicU64,
-}
-
-impl Handle {
-    /// Of a file of which all is synced; None: it is still to be made.
-    pub fn new(file: Option<File>) -> Handle {
-        Handle {
-            file: Mutex::new(file),
-            appended: AtomicU64::new(0),
-            synced: AtomicU64::new(0),
-        }
-    }
-
-    // One more note was appended.
-    fn note(&self) {
-        self.appended.fetch_add(1, Ordering::SeqCst);
-    }
-
-    // Whether all that was appended is synced.
-    fn is_synced(&self) -> bool {
-        self.synced.load(Ordering::SeqCst) == self.appended.load(Ordering::SeqCst)
-    }
-
-    // Syncs what was appended so far.
-    fn sync<R: Wait>(&self, rt: &R) -> io::Result<()> {
-        let appended = self.appended.load(Ordering::SeqCst);
-        if self.synced.load(Ordering::SeqCst) != appended {
-            if let Some(file) = &*self.file.lock(rt) {
-                file.sync_data()?;
-            }
-            self.synced.store(appended, Ordering::SeqCst);
-        }
-        Ok(())
-    }
 }
 
 /// The files of all cells.
@@ -84,21 +44,22 @@ pub struct Books {
 /// Keeps the pads of a server in files, one for each pad that has a name. `restore` makes it, and all threads share it.
 #[derive(Drop)]
 pub struct Keeper {
-    // By which files are made, the time is read and faults are logged.
+    // Makes files, reads the time and logs faults.
     files: HostRuntime,
     folder: String,
     replica: u16,
     books: Vec<Mutex<Book>>,
     handles: Vec<Handle>,
     progress: Progress,
+    syncs: SharedSync,
     reserve: Reserve,
     spares: Spares,
-    // Whether it was said that no file can be made for a pad.
+    // Whether it was logged that no file can be made for a pad.
     is_short: AtomicBool,
     held: Held,
 }
 
-/// What is held open of a store as long as the server runs.
+/// What stays open of a store as long as the server runs.
 #[derive(Drop)]
 pub struct Held {
     /// The lock of the folder.
@@ -125,6 +86,7 @@ impl Keeper {
             books: books.all,
             handles: books.handles,
             progress: Progress::new(),
+            syncs: SharedSync::new(),
             reserve,
             spares,
             is_short: AtomicBool::new(false),
@@ -132,11 +94,11 @@ impl Keeper {
         }
     }
 
-    /// Notes what a request leaves to be kept, by a line for each record at the end of the pad's file. It is called under the
-    /// pad's lock, so that the lines have the order of the steps. A failure is logged, and from then on nothing is settled
-    /// any more.
+    /// Notes what a request leaves to be kept, as a line for each record at the end of the pad's file. It is called
+    /// under the pad's lock, so that the lines have the order of the steps. A failure is logged, and from then on
+    /// nothing is settled.
     pub fn note<R: Wait>(&self, rt: &R, alloc: Global, told: &Answered<'_>) {
-        // What stands behind a line that was not written whole would be damage at the next start.
+        // Anything after a line that was not written whole would count as damage at the next start.
         if self.progress.has_failed() {
             return;
         }
@@ -158,7 +120,7 @@ impl Keeper {
         self.spares.release(rt);
     }
 
-    // Whether a creation has ended and has named no pad: it was refused, or went past the last cell.
+    // Whether a creation has ended without naming a pad: it was refused, or went past the last cell.
     fn has_named_nothing(&self, told: &Answered<'_>) -> bool {
         match (told.request, told.answer) {
             (Request::Create { .. }, Err(_)) => true,
@@ -169,9 +131,12 @@ impl Keeper {
         }
     }
 
-    // Appends the records of a request to the pad's file, and says whether there were any.
+    // Appends the records of a request to the pad's file, and returns whether there were any.
     fn write<R: Wait>(&self, rt: &R, alloc: Global, told: &Answered<'_>) -> io::Result<bool> {
-        let records = records_of(alloc, told.who, told.request, told.answer, told.more)?;
+        let Ok(more) = told.more else {
+            return Err(io::Error::from(AllocError));
+        };
+        let records = records_of(alloc, told.who, told.request, told.answer, more.as_slice())?;
         let Some(first) = records.first() else {
             return Ok(false);
         };
@@ -205,7 +170,7 @@ impl Keeper {
         Ok(true)
     }
 
-    // Whether all that was appended to the file of a cell is synced.
+    // Whether everything that was appended to the file of a cell is synced.
     fn is_synced(&self, cell: usize) -> bool {
         match self.handles.get(cell) {
             Some(handle) => handle.is_synced(),
@@ -213,7 +178,7 @@ impl Keeper {
         }
     }
 
-    // Appends lines. Where the disk is full, what was written of them is cut off, and they get the room of the reserve.
+    // Appends lines. If the disk is full, what was written of them is cut off, and they get the room of the reserve.
     fn put<R: Wait>(&self, rt: &R, file: &mut File, lines: &[u8]) -> io::Result<()> {
         let before = file.metadata()?.len();
         match file.write_all(lines) {
@@ -234,9 +199,9 @@ impl Keeper {
         Ok(())
     }
 
-    /// Whether what a request leaves can be kept, as far as that is known: 901 where it can't, 900 where there is no memory
-    /// to make a file with. It is called before any pad is asked. A creation is promised a file, which `note` or `release`
-    /// takes back.
+    /// Whether what a request leaves can be kept, as far as that is known: 901 if it cannot, 900 if there is no memory
+    /// to make a file with. It is called before any pad is asked. A creation is promised a file, which `note` or
+    /// `release` takes back.
     pub fn keeps<R: Wait>(&self, rt: &R, alloc: Global, request: &Request) -> Result<(), Refusal>
         ensures { IfErr result (λ e. (e ≡ Refusal.StoreFull) ⊎ (e ≡ Refusal.Memory)) }
     {
@@ -249,7 +214,7 @@ impl Keeper {
         }
     }
 
-    // Promises a file to a creation. Where none can be made, that is said, once until one can be made again.
+    // Promises a file to a creation. If none can be made, this is logged, once until one can be made again.
     fn promise_file<R: Wait>(&self, rt: &R) -> Result<(), Refusal>
         ensures { IfErr result (λ e. (e ≡ Refusal.StoreFull) ⊎ (e ≡ Refusal.Memory)) }
     {
@@ -268,7 +233,7 @@ impl Keeper {
         }
     }
 
-    // Whether there is room on the disk. Where it was full, it is found out once in a second whether there is room again.
+    // Whether there is room on the disk. If it was full, this is checked again once a second.
     fn has_room<R: Wait>(&self, rt: &R, alloc: Global) -> bool {
         if self.reserve.is_whole(rt) {
             return true;
@@ -280,7 +245,7 @@ impl Keeper {
         has_room
     }
 
-    // The lines of records behind a line with this sum, which is synced or not, and the sum of the last.
+    // The lines of records after a line with this sum, which is synced or not, and the sum of the last.
     fn append(
         &self,
         alloc: Global,
@@ -330,7 +295,7 @@ impl Keeper {
         self.held.folder.sync_all()?;
         let Spare { file, handle, .. } = spare;
         if let Some(kept) = self.handles.get(cell) {
-            *kept.file.lock(rt) = Some(handle);
+            kept.set(rt, handle);
         }
         let text = header_text(alloc, name, self.replica)?;
         let linked = link(alloc, "", text.as_str())?;
@@ -338,7 +303,7 @@ impl Keeper {
         Ok((file, linked.sum))
     }
 
-    // The time of day in seconds since 1970, or 0 where the clock does not tell.
+    // The time of day in seconds since 1970, or 0 if the clock fails.
     fn seconds(&self) -> u64 {
         match SystemTime::now(&self.files) {
             Ok(now) => match now.duration_since(UNIX_EPOCH) {
@@ -349,13 +314,13 @@ impl Keeper {
         }
     }
 
-    /// Whether a write or a sync has failed, after which nothing is settled any more.
+    /// Whether a write or a sync has failed, after which nothing is settled.
     pub fn has_failed(&self) -> bool {
         self.progress.has_failed()
     }
 
-    /// Waits until all that was noted before is synced, or fails. It is called before a reply is written, under no pad's lock.
-    /// One thread syncs for all that wait; after a failed write or sync each call fails.
+    /// Waits until everything noted before is synced, or fails. It is called before a reply is written, under no pad's
+    /// lock. One thread syncs for all that wait; after a failed write or sync each call fails.
     pub fn settle<R: Wait>(&self, rt: &R) -> io::Result<()> {
         match self.progress.turn(rt) {
             Turn::Done => Ok(()),
@@ -370,7 +335,7 @@ impl Keeper {
         }
     }
 
-    // Lets other threads run, whose notes can go with a sync that is about to begin.
+    // Yields to other threads, whose notes can join a sync that is about to begin.
     fn gather(&self) {
         for _look in 0..LOOKS {
             if self.progress.is_crowded() {
@@ -382,12 +347,21 @@ impl Keeper {
 
     // Syncs the files to which something was appended.
     fn sync<R: Wait>(&self, rt: &R) -> io::Result<()> {
-        for handle in &self.handles {
-            if let Err(cause) = handle.sync(rt) {
-                error!(Journal(&self.files); "the store {} cannot be synced: {cause}", self.folder);
-                return Err(cause);
-            }
+        let synced = self.syncs.sync(rt, self.handles.as_slice());
+        if let Err(cause) = &synced {
+            error!(Journal(&self.files); "the store {} cannot be synced: {cause}", self.folder);
         }
-        Ok(())
+        synced
+    }
+
+    /// Helps other threads to sync the files of many pads, until `end_help` is called. A server calls it in threads that do
+    /// nothing else.
+    pub fn help<R: Wait>(&self, rt: &R) {
+        self.syncs.help(rt, self.handles.as_slice());
+    }
+
+    /// Ends the threads that help.
+    pub fn end_help(&self) {
+        self.syncs.end();
     }
 }

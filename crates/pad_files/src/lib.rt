@@ -1,9 +1,11 @@
 //! The files of a store: read at a server's start, and appended to and synced while it runs.
 //!
-//! It depends on `store` for the lines of a file, on `records` for what a request leaves, and on `shared_pads` for the row
-//! of pads. It knows no clients and no peers: who writes replies calls `Keeper::settle` first, or writes through `Settled`.
+//! It depends on `store` for the lines of a file, on `records` for what a request leaves, and on `shared_pads` for the
+//! row of pads. It knows nothing of clients and peers: whoever writes replies calls `Keeper::settle` first, or writes
+//! through `Settled`.
 #![tactic(auto)]
 
+mod handle;
 mod keeper;
 mod owner;
 mod pad_file;
@@ -11,6 +13,7 @@ mod progress;
 mod reading;
 mod reserve;
 mod settled;
+mod shared_sync;
 mod spares;
 mod store_error;
 mod stored;

@@ -23,21 +23,21 @@ pub struct PadFile<S: Sequence> {
     pub handle: File,
 }
 
-/// Why a file of a store is not taken.
+/// Why a file of a store is refused.
 #[derive(Clone, Copy, Debug)]
 pub enum Unloaded {
     /// It could not be read, cut or moved.
     Untouched(io::Error),
-    /// It is damaged, which was told with its line.
+    /// It is damaged, and its line was printed.
     Damaged,
-    /// It is a server's with this number.
+    /// It belongs to a server with this number.
     OtherReplica(u64),
     /// Operations have the number that is to be new.
     UsedReplica(u16),
 }
 
 impl Unloaded {
-    /// Why the server does not start then.
+    /// The reason why the server does not start.
     pub fn in_folder(self, folder: &str) -> StoreError<'_> {
         match self {
             Unloaded::Untouched(cause) => StoreError::Unopened { folder, cause },
@@ -54,7 +54,7 @@ impl From<io::Error> for Unloaded {
     }
 }
 
-/// Loads one pad. Its file is cut behind the last line that was read; a file whose pad was never named is moved aside.
+/// Loads one pad. Its file is cut after the last line that was read; a file whose pad was never named is moved aside.
 pub fn load_file<S: Sequence>(
     files: &HostRuntime,
     folder: &str,
@@ -92,7 +92,7 @@ fn path_of(alloc: Global, folder: &str, name: &str) -> io::Result<String> {
     Ok(format!(in alloc; "{folder}/{name}")?)
 }
 
-// Whether a pad's file is this server's, or may become so: where the number is new, no operation has it.
+// Whether a pad's file is this server's, or may become so: if the number is new, no operation has it.
 fn check_owner<S: Sequence>(owner: &Owner, loaded: &Loaded<S>) -> Result<(), Unloaded> {
     let replica = loaded.header.replica;
     if replica == u64::from(owner.replica()) {
@@ -102,18 +102,13 @@ fn check_owner<S: Sequence>(owner: &Owner, loaded: &Loaded<S>) -> Result<(), Unl
         return Err(Unloaded::OtherReplica(replica));
     }
     let number = owner.replica();
-    if loaded
-        .pad
-        .since(0)
-        .iter()
-        .any(|op| op.name.origin == number)
-    {
+    if loaded.pad.count(number) > 0 {
         return Err(Unloaded::UsedReplica(number));
     }
     Ok(())
 }
 
-// Moves a file aside whose pad was never named, to a name that no file has.
+// Moves aside a file whose pad was never named, to a name that no file has.
 fn move_aside(files: &HostRuntime, path: &str) -> io::Result<()> {
     for number in 1..=MOST_ASIDE {
         let aside = format!(in files.alloc(); "{path}.unnamed-{number}")?;
@@ -125,7 +120,7 @@ fn move_aside(files: &HostRuntime, path: &str) -> io::Result<()> {
     Err(io::Error::from(ErrorKind::AlreadyExists))
 }
 
-// A pad with its file, which is cut behind the last line that was read. A server with a new number begins with a header.
+// A pad with its file, which is cut after the last line that was read. A server with a new number begins with a header.
 fn open_loaded<S: Sequence>(
     files: &HostRuntime,
     path: &str,
@@ -156,7 +151,7 @@ fn open_loaded<S: Sequence>(
     })
 }
 
-// Appends the header of a server with another number, and answers its sum.
+// Appends the header of a server with another number, and returns its sum.
 fn begin_again(
     alloc: Global,
     file: &mut File,
@@ -171,7 +166,7 @@ fn begin_again(
     Ok(linked.sum)
 }
 
-// Opens a file for appending behind its whole lines, twice.
+// Opens a file for appending after its whole lines, twice.
 fn open_file(files: &HostRuntime, path: &str, whole: u64) -> io::Result<(File, File)> {
     let mut options = OpenOptions::new();
     options.append(true);

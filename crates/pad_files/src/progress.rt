@@ -1,29 +1,29 @@
-//! How far the files of a store are synced, for the threads that wait for it.
+//! The progress of a store's syncs, for the threads that wait for them.
 use std::sync::Wait;
 use std::sync::atomic::{AtomicBool, AtomicU64, Ordering};
 
-/// What a thread does that waits for its notes to be synced.
+/// What becomes of a thread that waits for its notes to be synced.
 pub enum Turn {
     /// They are synced.
     Done,
     /// They will not be.
     Failed,
-    /// It syncs for all, and says by `Progress::finish` what became of it.
+    /// It syncs for all, and reports the result by `Progress::finish`.
     Leads,
 }
 
-/// How many notes were made, and how many of them are synced.
+/// The number of notes that were made, and of those that are synced.
 ///
-/// There is no lock: threads that wait for one sync would all take it in turn once they wake up.
+/// It has no lock, which all threads that wait for one sync would take in turn once they wake up.
 #[derive(Drop)]
 pub struct Progress {
     noted: AtomicU64,
     settled: AtomicU64,
-    /// How many notes went with the last sync.
+    /// The number of notes in the last sync.
     last: AtomicU64,
-    /// How many syncs have begun and have ended, counted together: odd while a thread syncs.
+    /// The number of syncs begun plus the number ended: odd while a thread syncs.
     turns: AtomicU64,
-    /// Whether a write or a sync has failed, after which nothing is promised any more.
+    /// Whether a write or a sync has failed, after which nothing is promised.
     failed: AtomicBool,
 }
 
@@ -44,7 +44,7 @@ impl Progress {
         self.failed.load(Ordering::SeqCst)
     }
 
-    /// From now on nothing is settled any more.
+    /// From now on nothing is settled.
     pub fn fail(&self) {
         self.failed.store(true, Ordering::SeqCst);
     }
@@ -54,12 +54,12 @@ impl Progress {
         self.noted.fetch_add(1, Ordering::SeqCst);
     }
 
-    /// How many notes there are.
+    /// The number of notes.
     pub fn noted(&self) -> u64 {
         self.noted.load(Ordering::SeqCst)
     }
 
-    /// Whether as many notes are to be synced as went with the last sync.
+    /// Whether as many notes are to be synced as the last sync had.
     pub fn is_crowded(&self) -> bool {
         let settled = self.settled.load(Ordering::SeqCst);
         self.noted().saturating_sub(settled) >= self.last.load(Ordering::SeqCst)
@@ -93,7 +93,7 @@ impl Progress {
             .is_ok()
     }
 
-    /// Tells all who wait what became of a sync of so many notes.
+    /// Reports the result of a sync of this many notes to all threads that wait.
     pub fn finish(&self, noted: u64, synced: bool) {
         if synced {
             let before = self.settled.swap(noted, Ordering::SeqCst);

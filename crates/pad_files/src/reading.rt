@@ -8,7 +8,7 @@ use std::thread;
 use std::thread::Threads;
 use std::time::{Clock, Instant};
 
-/// After how many seconds a start tells how far it is, and then again each second.
+/// The seconds after which a start prints its progress, and then again each second.
 const SILENCE: u64 = 2;
 
 /// A file that is to be read, or was.
@@ -20,24 +20,24 @@ pub struct Read<S: Sequence> {
 }
 
 impl<S: Sequence> Read<S> {
-    /// The pad of the file; None where no pad was named in it.
+    /// The pad of the file; None if no pad was named in it.
     pub fn into_pad(self) -> Result<Option<PadFile<S>>, Unloaded> {
         self.outcome.unwrap_or(Ok(None))
     }
 }
 
-/// How far a start is.
+/// The progress of a start.
 #[derive(Drop)]
 struct Tally {
     files: usize,
     began: Option<Instant>,
     read: AtomicU64,
-    /// Up to which second it was told.
+    /// The second in which it was last printed.
     told: AtomicU64,
 }
 
 impl Tally {
-    // One more file was read. If a second has passed since that was told last, it is told how many are.
+    // Counts one more file that was read. At most once a second, the count is printed.
     fn note<R: Clock + Eprint>(&self, rt: &R) {
         let read = self.read.fetch_add(1, Ordering::SeqCst).saturating_add(1);
         let Some(Ok(passed)) = self.began.map(|began| began.elapsed(rt)) else {
@@ -56,8 +56,8 @@ impl Tally {
     }
 }
 
-/// Reads the files of a folder, in as many threads as there are processors. A start that takes long tells each second how
-/// far it is.
+/// Reads the files of a folder, in as many threads as there are processors. A start that takes long prints its progress
+/// each second.
 pub fn read_all<R: Threads + Sync, S: Sequence + Send>(
     rt: &R,
     files: &HostRuntime,

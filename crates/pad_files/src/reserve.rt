@@ -1,4 +1,4 @@
-//! Room on the disk of a store, held in reserve: with it, what was done can still be written down when the disk is full.
+//! Room on the disk of a store, held in reserve, so that what was done can still be written when the disk is full.
 use crate::spares::PRIVATE;
 use std::alloc::Global;
 use std::fs::{File, OpenOptions};
@@ -7,19 +7,19 @@ use std::io::{ErrorKind, Write};
 use std::os::unix::fs::OpenOptionsExt;
 use std::sync::{Mutex, Wait};
 
-/// How many bytes are held in reserve. A thread has at most one request under way when the disk is full.
+/// The number of bytes held in reserve. A thread has at most one request under way when the disk is full.
 const BYTES: usize = 16_777_216;
 
-/// How many of them are written at once.
+/// The number of these that are written at once.
 const BLOCK: usize = 1_048_576;
 
-/// The file, and how it stands.
+/// The file and its state.
 #[derive(Drop)]
 struct State {
     file: File,
     /// Whether all its bytes are there.
     is_whole: bool,
-    /// The second in which it was last to be made whole.
+    /// The second of the last attempt to make it whole.
     tried: u64,
 }
 
@@ -30,7 +30,7 @@ pub struct Reserve {
 }
 
 impl Reserve {
-    /// The reserve in a file. Where the disk has no room for it, it is spent already.
+    /// The reserve in a file. If the disk has no room for it, it counts as spent.
     pub fn open(files: &HostRuntime, path: &str) -> io::Result<Reserve> {
         let mut options = OpenOptions::new();
         options.append(true).create(true).mode(PRIVATE);
@@ -53,7 +53,7 @@ impl Reserve {
         self.state.lock(rt).is_whole
     }
 
-    /// Gives the room back to the disk. False: it was given back before.
+    /// Gives the room back to the disk. Returns false if it was given back before.
     pub fn spend<R: Wait>(&self, rt: &R) -> io::Result<bool> {
         let mut state = self.state.lock(rt);
         let was_whole = state.is_whole;
@@ -62,7 +62,7 @@ impl Reserve {
         Ok(was_whole)
     }
 
-    /// Writes a reserve that was spent again, once in a second at most, and says whether it is whole now.
+    /// Writes a spent reserve again, at most once a second, and returns whether it is whole now.
     pub fn renew<R: Wait>(&self, rt: &R, alloc: Global, second: u64) -> bool {
         let mut state = self.state.lock(rt);
         if state.is_whole || state.tried == second {
@@ -97,7 +97,7 @@ impl State {
     }
 }
 
-/// Whether a call failed because the disk, or what the server may have of it, is full.
+/// Whether a call failed because the disk, or the server's quota of it, is full.
 pub fn is_full(cause: &io::Error) -> bool {
     matches!(
         cause.kind(),

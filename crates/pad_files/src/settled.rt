@@ -4,7 +4,7 @@ use std::io;
 use std::io::Write;
 use std::sync::Wait;
 
-/// A writer by which a line goes out only after all that was noted before it is synced.
+/// A writer that lets a line out only after everything noted before it is synced.
 #[derive(Drop)]
 pub struct Settled<'a, W, R> {
     rt: &'a R,

@@ -1,4 +1,4 @@
-//! Files that are open before a pad is named, so that to name one takes no more open files of the system.
+//! Files that are opened before a pad is named, so that naming it opens no more files of the system.
 use std::alloc::Global;
 use std::fs::{File, OpenOptions};
 use std::io::ErrorKind;
@@ -6,7 +6,7 @@ use std::os::unix::fs::OpenOptionsExt;
 use std::sync::{Mutex, Wait};
 use std::{fs, io};
 
-/// Who may read and write the files of a store: the server's user alone.
+/// The permissions of the files of a store: for the server's user alone.
 pub const PRIVATE: u32 = 0o600;
 
 /// A file without a pad, open for appending, twice.
@@ -18,7 +18,7 @@ pub struct Spare {
 }
 
 impl Spare {
-    /// Gives the file the name of a pad's, which no other file has.
+    /// Gives the file the name of a pad's file, which no other file has.
     pub fn rename(&self, files: &HostRuntime, path: &str) -> io::Result<()> {
         if fs::exists(files, path)? {
             return Err(io::Error::from(ErrorKind::AlreadyExists));
@@ -27,7 +27,7 @@ impl Spare {
     }
 }
 
-// The files that are ready, to how many creations one is promised, and how many were made.
+// The files that are ready, the number of creations to which one is promised, and the number that were made.
 #[derive(Drop)]
 struct State {
     ready: Vec<Spare>,
@@ -42,7 +42,7 @@ pub struct Spares {
 }
 
 impl Spares {
-    /// None is made yet.
+    /// No file is made yet.
     pub fn new(alloc: Global) -> Spares {
         Spares {
             state: Mutex::new(State {
@@ -53,7 +53,7 @@ impl Spares {
         }
     }
 
-    /// Promises a file in this folder to a creation, and makes one where all are promised already.
+    /// Promises a file in this folder to a creation, and makes one if all are promised already.
     pub fn promise<R: Wait>(&self, rt: &R, files: &HostRuntime, folder: &str) -> io::Result<()> {
         let mut state = self.state.lock(rt);
         if state.ready.len() <= state.promised {
@@ -65,7 +65,7 @@ impl Spares {
         Ok(())
     }
 
-    /// A creation that was promised a file has named no pad.
+    /// Takes a promise back from a creation that has named no pad.
     pub fn release<R: Wait>(&self, rt: &R) {
         let mut state = self.state.lock(rt);
         state.promised = state.promised.saturating_sub(1);
@@ -79,7 +79,7 @@ impl Spares {
     }
 }
 
-// Makes an empty file, or opens one that a server left that has ended.
+// Makes an empty file, or opens one left by a server that has ended.
 fn open(files: &HostRuntime, folder: &str, number: u64) -> io::Result<Spare> {
     let path = format!(in files.alloc(); "{folder}/spare-{number}")?;
     let mut options = OpenOptions::new();

@@ -12,7 +12,7 @@ pub enum StoreError<'a> {
     /// Another process holds the folder's lock.
     #[error("the store {folder} is in use by another process")]
     InUse { folder: &'a str },
-    /// Bytes of a file were changed that had been synced. Standard error has named the file and its line before.
+    /// Bytes of a file that had been synced were changed. The file and its line were named on standard error before.
     #[error("the store {folder} is damaged")]
     Damaged { folder: &'a str },
     /// The last header of a file is that of a server with this number, and the owner's is not new.
@@ -21,7 +21,7 @@ pub enum StoreError<'a> {
     /// The owner's number is to be new, and operations of a pad have it.
     #[error("the store {folder} has operations of a server with replica number {number}")]
     UsedReplica { folder: &'a str, number: u16 },
-    /// More files have a pad than the row is to have cells.
+    /// There are more files with a pad than the row is to have cells.
     #[error("the store {folder} has more pads than there are cells")]
     TooManyPads { folder: &'a str },
     /// There is no memory for a pad or for a list of them.

@@ -1,5 +1,6 @@
 //! The pads of a store at the start of the server.
-use crate::keeper::{Book, Books, Handle, Held, Keeper};
+use crate::handle::Handle;
+use crate::keeper::{Book, Books, Held, Keeper};
 use crate::owner::Owner;
 use crate::pad_file::PadFile;
 use crate::reading::{Read, read_all};
@@ -19,7 +20,7 @@ use std::sync::{Mutex, Wait};
 use std::thread::Threads;
 use std::{fs, io};
 
-/// Who may look into the folder of a store that the server makes: its user alone.
+/// The permissions of a store's folder that the server makes: for its user alone.
 const PRIVATE_FOLDER: u32 = 0o700;
 
 /// The row of a server, and who keeps it in files.
@@ -29,22 +30,22 @@ pub struct Stored {
     pub cells: Vec<SharedPad<BlockSeq>>,
     /// The revision of the pad at each cell.
     pub revisions: Vec<u64>,
-    /// Who notes what is answered at these cells. It holds the folder's lock until it is dropped.
+    /// Notes what is answered at these cells. It holds the folder's lock until it is dropped.
     pub keeper: Keeper,
 }
 
-/// How large a row is to be.
+/// The size that a row is to have.
 #[derive(Clone, Copy)]
 pub struct Size {
-    /// How many cells there are to be.
+    /// The number of cells.
     pub cells: u32,
-    /// How many threads are to have a seat at each pad.
+    /// The number of threads that have a seat at each pad.
     pub seats: u32,
 }
 
-/// Loads the pads of a folder, each from its file, in the order of the files' names. The other cells are free. A server calls
-/// it once, before it serves anyone. The folder is made if it is not there, and its lock is taken; each file is cut off
-/// behind its last whole line, and 16 MiB of the disk are taken as a reserve.
+/// Loads the pads of a folder, each from its file, in the order of the files' names. The other cells are free. A server
+/// calls it once, before it serves anyone. The folder is made if it is not there, and its lock is taken; each file is
+/// cut off after its last whole line, and 16 MiB of the disk are taken as a reserve.
 pub fn restore<'f, R>(
     rt: &R,
     files: HostRuntime,
@@ -94,7 +95,7 @@ where
     }
 }
 
-// The pads of these files, and free cells behind them.
+// The pads of these files, and free cells after them.
 fn load_row<'f, R>(
     rt: &R,
     files: &HostRuntime,
@@ -138,7 +139,7 @@ where
 // The pads so far, each with its file.
 #[derive(Drop)]
 struct Loading {
-    /// How many threads are to have a seat at each pad.
+    /// The number of threads that have a seat at each pad.
     seats: u32,
     cells: Vec<SharedPad<BlockSeq>>,
     revisions: Vec<u64>,
@@ -146,7 +147,7 @@ struct Loading {
 }
 
 impl Loading {
-    // One more pad.
+    // Adds a pad.
     fn add(&mut self, alloc: Global, opened: PadFile<BlockSeq>) -> Result<(), AllocError> {
         let cell = u32::try_from(self.cells.len()).unwrap_or(u32::MAX);
         let PadFile {
@@ -155,7 +156,7 @@ impl Loading {
             file,
             handle,
         } = opened;
-        self.revisions.push(pad.since(0).len() as u64)?;
+        self.revisions.push(pad.revision())?;
         let Ok(pad) = SharedPad::new(alloc, pad, cell, self.seats) else {
             return Err(AllocError);
         };
@@ -168,7 +169,7 @@ impl Loading {
         Ok(())
     }
 
-    // One more cell without a pad.
+    // Adds a cell without a pad.
     fn add_free(&mut self, alloc: Global, owner: &Owner, cell: u32) -> Result<(), AllocError> {
         let Ok(pad) = Pad::new(alloc, owner.replica(), owner.present()) else {
             return Err(AllocError);
@@ -187,7 +188,7 @@ impl Loading {
     }
 }
 
-// Makes the folder where it is not there, and takes its lock. None: another process has it.
+// Makes the folder if it is not there, and takes its lock. None: another process has it.
 fn lock_folder<R: Runtime<A = Global, File = File>>(
     rt: &R,
     folder: &str,

@@ -87,7 +87,7 @@ IsInOrder-with_run rev run author cells o h =
       is = order-order character_of (cells ++ new_cells rev run author) more;
     }
 
--- what an insertion answers, case by case
+-- the result of an insertion, case by case
 pub insert_run-fault : (rev : ℕ) (run : Run) (author : Author) (cells : List Cell) →
     run_may_join character_of cells run.first run.after ≡ false → insert_run rev run author cells
     ≡ (Err PeerFault, cells)

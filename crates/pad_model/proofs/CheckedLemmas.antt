@@ -28,7 +28,7 @@ stopped f most (x ∷ xs) from le =
     step : (n rest : ℕ) → min (min (from + n) most + rest) most ≡ min (from + (n + rest)) most
     step n rest = omega arith
 
--- a sum whose terms stop at the bound too is no other
+-- a sum whose terms stop at the bound too is the same
 stopped_terms : {A : Type 0} (f : A → ℕ) (most : ℕ) (xs : List A) (from : ℕ) →
     fold (λ total x. min (total + min (f x) most) most) from xs ≡ fold (λ total x. min (total + f x) most) from xs
 stopped_terms {A} f most [] from = refl

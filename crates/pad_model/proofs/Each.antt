@@ -32,7 +32,7 @@ pub each-permutation : {A : Type 0} (P : A → Type 0) (xs ys : List A) → IsPe
     AllByRecursion P ys
 each-permutation P xs ys p h = recursion_from_All P ys (All-permutation P xs ys p (All-from_recursion P xs h))
 
--- no item passes a test where no item is found by it, and the other way round
+-- no item passes a test exactly if none is found by it
 pub each_fails : {A : Type 0} (t : A → Bool) (xs : List A) → list_any t xs ≡ false →
     AllByRecursion (λ x. t x ≡ false) xs
 each_fails t [] e = tt
@@ -43,7 +43,7 @@ pub none_found : {A : Type 0} (t : A → Bool) (xs : List A) → AllByRecursion 
 none_found t [] h = Rattle.std.proofs.Common.refl
 none_found t (x ∷ xs) h = Rattle.std.proofs.lemmas.Bool.or_from _ _ h.0 (none_found t xs h.1)
 
--- where an item passes the test, one has all that each item has
+-- if some item passes the test, there is one that passes it and has what each item has
 pub found_has : {A : Type 0} (t : A → Bool) (P : A → Type 0) (xs : List A) → list_any t xs ≡ true →
     AllByRecursion P xs → (x : A) × ((t x ≡ true) × P x)
 found_has t P [] e h = absurd (Rattle.std.proofs.lemmas.Bool.false≢true e)

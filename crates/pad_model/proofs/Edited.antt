@@ -24,7 +24,7 @@ use Rattle.pad_model.proofs.Local.{run_may_join-cells_of}
 use Rattle.pad_model.proofs.Maps.{list_any-map}
 use Rattle.pad_model.proofs.Parts.{all_same}
 
--- a stamp is in a log's cells where it was inserted
+-- a stamp is in a log's cells if it was inserted
 pub has_stamp-cells_of : (log : List Op) (s : Stamp) → IsTree itself (characters_in log).inserted →
     has_stamp character_of (cells_of log) s ≡ has_stamp itself (characters_in log).inserted s
 has_stamp-cells_of log s t =
@@ -32,7 +32,7 @@ has_stamp-cells_of log s t =
     ∙ sym (list_any-IsPermutation (λ c. same_stamp (itself c).stamp s) (characters_in log).inserted
     (map character_of (cells_of log)) (cells_of-permutation log t))
 
--- an insertion or a deletion fits a log's cells where it is valid after the log
+-- an insertion or a deletion fits a log's cells if it is valid after the log
 part_fits-cells_of : (log : List Op) (part : Part) → IsTree itself (characters_in log).inserted → is_edit part ≡ true →
     part_fits character_of (cells_of log) part ≡ part_is_valid part log
 part_fits-cells_of log (Insert run) t e = run_may_join-cells_of log run.first run.after t
@@ -50,7 +50,7 @@ each_fits-cells_of log (part ∷ parts) t e =
     let both = and_parts _ _ e in
     ap₂ (λ a b. a && b) (part_fits-cells_of log part t both.0) (each_fits-cells_of log parts t both.1)
 
--- the parts of an edit fit a log's cells where the edit is valid after the log
+-- the parts of an edit fit a log's cells if the edit is valid after the log
 pub parts_fit-cells_of : (log : List Op) (op : Op) → IsTree itself (characters_in log).inserted →
     list_all is_edit op.parts ≡ true → parts_fit (author_of op) op.parts (cells_of log) ≡ is_valid op log
 parts_fit-cells_of log op t e = ap (λ b. b && all_differ (inserted_by op)) (each_fits-cells_of log op.parts t e)

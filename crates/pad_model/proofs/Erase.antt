@@ -55,7 +55,7 @@ IsDistinct-map f at (x ∷ xs) d =
     IsDistinct-from_parts at (f x) (map f xs)
     (each-map f (λ y. same_stamp (at (f x)).stamp (at y).stamp ≡ false) xs parts.0) (IsDistinct-map f at xs parts.1)
 
--- a tree seen through a function is one
+-- items whose images form a tree are mapped to one
 pub IsTree-map : {A B : Type 0} (f : A → B) (at : B → Character) (xs : List A) → IsTree (λ x. at (f x)) xs →
     IsTree at (map f xs)
 IsTree-map f at xs t = record {
@@ -77,7 +77,7 @@ pub IsTree-same : {A : Type 0} (at to : A → Character) → ((x : A) → at x �
 IsTree-same at to h xs t = IsTree-of_map to (λ c. c) xs (subst (IsTree (λ c. c)) (same_characters at to h xs)
     (IsTree-map at (λ c. c) xs t))
 
--- cells in order stay so where each keeps its character
+-- cells in order stay so if each keeps its character
 pub IsInOrder-map : (f : Cell → Cell) → ((c : Cell) → character_of (f c) ≡ character_of c) → (cells : List Cell) →
     IsInOrder cells → IsInOrder (map f cells)
 IsInOrder-map f h cells o = record {
@@ -141,7 +141,7 @@ is_erased-spans (span ∷ spans) s =
     list_any-append (λ e. same_stamp e s) (span_stamps span) (flat_map span_stamps spans)
     ∙ ap₂ (λ a b. a || b) (is_erased-stamps_from span.first span.len s) (is_erased-spans spans s)
 
--- all stamps of some spans are there where those of each span are
+-- all stamps of some spans are there if those of each span are
 pub has_spans-each : (t : Stamp → Bool) (spans : List Span) → list_all t (flat_map span_stamps spans)
     ≡ list_all (λ span. list_all t (span_stamps span)) spans
 has_spans-each t [] = refl

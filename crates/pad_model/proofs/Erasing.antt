@@ -1,4 +1,4 @@
--- The spans of a stretch of the visible text: what they name, and that they are in the limits.
+-- The spans of a stretch of the visible text: what they name, and that they are within the limits.
 use Rattle.std.proofs.Common.{◌≡◌, ℕ, suc, ◌+◌, ◌≤◌, true, leb, List, [], ◌∷◌, ◌++◌, length, refl, sym, ap, ◌∙◌}
 use Rattle.std.proofs.Common.{flat_map, sum_by, arith, le-leb, leb-true}
 use Rattle.std.proofs.lemmas.Bool.{and_parts, and_from}
@@ -13,7 +13,7 @@ use Rattle.pad_model.specs.declared.limits.TheConstants.{MAX_COUNTER}
 use Rattle.pad_model.specs.declared.op.Span.{Span}
 use Rattle.pad_model.proofs.Newer.{split, same_stamp-true}
 
--- a stamp in front of spans is a stamp in front of theirs
+-- joining a stamp to spans puts it before their stamps
 join_span-stamps : (s : Stamp) (ss : List Span) → flat_map span_stamps (join_span s ss) ≡ s ∷ flat_map span_stamps ss
 join_span-stamps s [] = refl
 join_span-stamps s (span ∷ ss) =
@@ -27,7 +27,7 @@ join_span-stamps s (span ∷ ss) =
         (let m : span.len + 1 ≡ suc span.len = omega arith in m)
         ∙ ap (λ f. s ∷ stamps_from f span.len ++ flat_map span_stamps ss) e
 
--- the spans of stamps name just these, in their order
+-- the spans of stamps name exactly these, in their order
 pub spans-stamps : (stamps : List Stamp) → flat_map span_stamps (spans stamps) ≡ stamps
 spans-stamps [] = refl
 spans-stamps (s ∷ stamps) = join_span-stamps s (spans stamps) ∙ ap (λ l. s ∷ l) (spans-stamps stamps)
@@ -69,7 +69,7 @@ join_span-checked s (span ∷ ss) low h =
     rw e (and_from _ _ (span_checked s (span.len + 1) (omega arith) (omega arith)) both.1))
     (λ e. rw e (and_from _ _ (span_checked s 1 (omega arith) (omega arith)) h))
 
--- and each is in the limits where the stamps are
+-- and each is within the limits if the stamps are
 pub spans-checked : (stamps : List Stamp) → AllByRecursion (λ s. s.counter ≤ MAX_COUNTER) stamps →
     list_all is_span (spans stamps) ≡ true
 spans-checked [] h = refl

@@ -1,4 +1,4 @@
--- The order of the items that pass a test is what of the order passes it.
+-- The order of the items that pass a test is the part of the order that passes it.
 use Rattle.std.proofs.Common.{◌≡◌, ◌<◌, ◌⊎◌, inl, inr, Bool, true, false, List, [], ◌∷◌, Option, Some, None, refl, sym}
 use Rattle.std.proofs.Common.{ap, ◌∙◌, subst, append-nil, filter}
 use Rattle.std.proofs.lemmas.Bool.{both_ways}
@@ -74,7 +74,7 @@ rising-filter at t s d =
     (λ c h. let m = Has-filter t (rising at s) c h in Has-permutation (filter t s) (rising at (filter t s)) c q
     (Has-from_filter t s c (Has-permutation (rising at s) s c (IsPermutation-sym s (rising at s) p) m.0) m.1))
 
--- nothing that passes the test hangs below what does not
+-- no item that passes the test is a child of one that fails it
 abbrev pub IsClosed : {A : Type 0} → (A → Character) → (A → Bool) → List A → Type 0
 IsClosed at t [] = Unit {0}
 IsClosed at t (x ∷ later) = (t x ≡ false → AllByRecursion (λ y. same_parent (at y).parent (Some (at x).stamp) ≡ false)

@@ -42,7 +42,7 @@ spans-erases (Delete spans ∷ parts) = flat_map-append span_stamps spans (spans
 spans-erases (Comment first last text ∷ parts) = spans-erases parts
 spans-erases (Resolve comment ∷ parts) = spans-erases parts
 
--- one more operation gives a death where there was none
+-- one more operation gives a death to cells that had none
 death_in-more : (rev : ℕ) (log : List Op) (op : Op) (s : Stamp) → death_in rev (log ++ op ∷ []) s
     ≡ cond (is_erased (erased_by op) s && is_none (death_in rev log s)) (Some (rev + length log)) (death_in rev log s)
 death_in-more rev [] op s = split (is_erased (erased_by op) s)
@@ -69,7 +69,7 @@ all_dated-more : (log : List Op) (op : Op) (cells : List Cell) → map (dated (l
 all_dated-more log op [] = refl
 all_dated-more log op (c ∷ cells) = ap₂ (λ (x : Cell) l. x ∷ l) (dated-more log op c) (all_dated-more log op cells)
 
--- in a list without repeats what stands behind is not in front
+-- in a list without repeats, a later item is not among the earlier ones
 behind_fresh : {A : Type 0} (at : A → Character) (xs ys : List A) → IsDistinct (same_item at) (xs ++ ys) →
     AllByRecursion (λ y. has_stamp at xs (at y).stamp ≡ false) ys
 behind_fresh at [] ys d = each_none ys

@@ -1,4 +1,4 @@
--- A log that grows by an operation in the limits that is valid stays a tree.
+-- A log that grows by a valid operation within the limits stays a tree.
 use Rattle.std.proofs.Common.{◌≡◌, ℕ, zero, suc, ◌+◌, ◌-◌, ◌<◌, ◌≤◌, ◌⊎◌, inl, inr, Bool, true, false, not, ◌&&◌, ◌||◌}
 use Rattle.std.proofs.Common.{cond, eqb, leb, ltb, List, [], ◌∷◌, ◌++◌, length, Option, Some, None, refl, sym, ap, ap₂}
 use Rattle.std.proofs.Common.{◌∙◌, subst, map, filter, fold, flat_map, take, max, IsPermutation, arith, append-nil}
@@ -30,7 +30,7 @@ run_below first p [] author most h = tt
 run_below first p (c ∷ text) author most h =
     (omega arith, run_below (next first) (Some first) text author most (omega arith))
 
--- the parts of an operation join a tree one after the other
+-- the parts of an operation join a tree one after another
 parts_join : (author : Author) (before mine : List Character) (floor : ℕ) (parts : List Part) (log : List Op) →
     before ≡ (characters_in log).inserted →
     IsTree itself (before ++ mine) → AllByRecursion (λ c. c.stamp.counter < floor) mine → counters_rise floor parts
@@ -102,7 +102,7 @@ continues_part : (before more rest : List Op) → Continues before (more ++ rest
 continues_part before [] rest c = tt
 continues_part before (op ∷ more) rest c = (c.0, c.1, continues_part (before ++ op ∷ []) more rest c.2)
 
--- the first operations of a history are one
+-- the first operations of a history are a history
 pub IsHistory-take : (log : List Op) (k : ℕ) → IsHistory log → IsHistory (take k log)
 IsHistory-take log k h = continues_part [] (take k log) (Rattle.std.proofs.Common.drop k log)
     (subst (Continues []) (sym (Rattle.std.proofs.Common.take-append-drop k log)) h)
@@ -117,7 +117,7 @@ continues_push before (one ∷ more) op c checked valid = (
       (sym (append_assoc before (one ∷ []) more)) valid),
 )
 
--- a history goes on by an operation that is in the limits and valid
+-- a valid operation within the limits extends a history
 pub IsHistory-push : (log : List Op) (op : Op) → IsHistory log → is_checked op ≡ true → is_valid op log ≡ true →
     IsHistory (log ++ op ∷ [])
 IsHistory-push log op h checked valid = continues_push [] log op h checked valid

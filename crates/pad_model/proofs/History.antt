@@ -177,7 +177,7 @@ cells_by-order log k whole part =
     ap (map character_of) (sym (order-filter character_of by all tree old_tree))
     ∙ sym (order-map character_of itself old) ∙ ap (order itself) old_is
 
--- a cell lives after a revision just where the first operations do not erase it
+-- a cell is alive after a revision exactly if the first operations do not erase it
 pub cells_alive : (log : List Op) (k : ℕ) → IsTree itself (characters_in log).inserted →
     AllByRecursion (λ c. is_after k c.died ≡ not (is_erased (characters_in (take k log)).erased c.stamp)) (cells_of log)
 cells_alive log k whole =

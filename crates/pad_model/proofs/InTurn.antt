@@ -1,4 +1,4 @@
--- Parts that fit leave the same cells at once and one after the other.
+-- Parts that fit leave the same cells when they are made at once as when they are made one after another.
 use Rattle.std.proofs.Common.{◌≡◌, ℕ, ◌+◌, ◌<◌, Bool, true, false, List, [], ◌∷◌, ◌++◌, Option, Some, refl, sym, ap}
 use Rattle.std.proofs.Common.{ap₂, ◌∙◌, subst, map, flat_map, arith}
 use Rattle.std.proofs.lemmas.Bool.{and_parts, and_from, both_ways, or_left, false≢true}
@@ -67,7 +67,7 @@ all_follow : {A : Type 0} (p q : A → Bool) → ((x : A) → p x ≡ true → q
 all_follow p q h [] e = refl
 all_follow p q h (x ∷ xs) e = let both = and_parts _ _ e in and_from _ _ (h x both.0) (all_follow p q h xs both.1)
 
--- what was there is there when a run has joined
+-- a run that joins removes nothing
 has_spans-with_run : (rev : ℕ) (run : Run) (author : Author) (cells : List Cell) (spans : List Span) → IsInOrder cells →
     run_may_join character_of cells run.first run.after ≡ true → has_spans character_of cells spans ≡ true →
     has_spans character_of (with_run rev run author cells) spans ≡ true
@@ -83,7 +83,7 @@ has_spans-with_run rev run author cells spans o may named =
     ∙ list_any-append (λ c. same_stamp (character_of c).stamp s) cells new ∙ or_left _ _ e)
     (flat_map span_stamps spans) named
 
--- the parts one after the other leave what their runs leave among the cells that are marked already
+-- the parts made one after another leave what their runs leave among the cells already marked as dead
 in_turn : (rev : ℕ) (author : Author) (cells : List Cell) (parts : List Part) → IsInOrder cells →
     RunsJoin rev author (without_spans rev (spans_in parts) cells) parts → has_spans character_of cells (spans_in parts)
     ≡ true →
@@ -126,7 +126,7 @@ spans_fit cells (Delete spans ∷ parts) h =
 spans_fit cells (Comment first last text ∷ parts) h = absurd (false≢true h)
 spans_fit cells (Resolve comment ∷ parts) h = absurd (false≢true h)
 
--- parts at once are parts one after the other
+-- parts made at once leave what they leave when made one after another
 pub with_parts-each : (rev : ℕ) (author : Author) (parts : List Part) (cells : List Cell) → IsInOrder cells →
     are_parts author.origin parts ≡ true → parts_fit author parts cells ≡ true →
     with_parts rev parts author cells ≡ with_each_part rev author cells parts

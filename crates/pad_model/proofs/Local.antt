@@ -133,7 +133,7 @@ counters_below xs (Some s) most h e =
     let same : found.0.stamp.counter ≡ s.counter = ap (λ z. z.counter) (same_stamp-true found.0.stamp s found.1.1) in
     omega arith
 
--- a run newer than all may join behind any character
+-- a run newer than all may join after any character
 pub newest_joins : (xs : List Character) (first : Stamp) (p : Option Stamp) → clock_of_characters xs < first.counter →
     has_parent itself xs p ≡ true → run_may_join itself xs first p ≡ true
 newest_joins xs first p h e =

@@ -1,4 +1,4 @@
--- What patched since a revision of a log.
+-- A text patched with the changes since a revision of a log.
 use Rattle.std.proofs.Common.{◌≡◌, ℕ, zero, suc, ◌+◌, ◌≤◌, ◌<◌, true, false, List, [], ◌∷◌, ◌++◌, length, ◌&&◌, nat_le}
 use Rattle.std.proofs.Common.{take, drop, map, filter, refl, sym, ap, ap₂, ◌∙◌, arith, is_none, Option, Some, None}
 use Rattle.std.specs.List.{AllByRecursion}

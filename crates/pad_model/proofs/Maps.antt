@@ -65,7 +65,7 @@ walk_rising-map f at (x ∷ later) q =
     (x ∷ walk_rising (λ x. at (f x)) later (Some (at (f x)).stamp)))))
     (λ e. rw e (walk_rising-map f at later q))
 
--- the order of items seen through a function is the order of the items, seen so
+-- the order of mapped items is the mapped order of the items
 pub order-map : {A B : Type 0} (f : A → B) (at : B → Character) (s : List A) → order at (map f s)
     ≡ map f (order (λ x. at (f x)) s)
 order-map f at s = ap (λ u. walk_rising at u None) (rising_onto-map f at [] s)
@@ -77,7 +77,7 @@ scan_from-map f at first block [] = refl
 scan_from-map f at first block (x ∷ xs) = split (newer (at (f x)).stamp first)
     (λ e. rw e (ap (λ l. f x ∷ l) (scan_from-map f at first block xs))) (λ e. rw e (sym (map-append f block (x ∷ xs))))
 
--- a block put among items seen through a function is one put among the items, seen so
+-- inserting a mapped block among mapped items is mapping the result of the insertion
 pub put-map : {A B : Type 0} (f : A → B) (at : B → Character) (p : Option Stamp) (first : Stamp) (block xs : List A) →
     put at p first (map f block) (map f xs) ≡ map f (put (λ x. at (f x)) p first block xs)
 put-map f at None first block xs = scan_from-map f at first block xs
@@ -107,7 +107,7 @@ IsDistinct-of_map f at (x ∷ xs) d =
     (each-of_map f (λ y. same_stamp (at (f x)).stamp (at y).stamp ≡ false) xs parts.0)
     (IsDistinct-of_map f at xs parts.1)
 
--- items seen as a tree are one
+-- items whose images form a tree form one themselves
 pub IsTree-of_map : {A B : Type 0} (f : A → B) (at : B → Character) (xs : List A) → IsTree at (map f xs) →
     IsTree (λ x. at (f x)) xs
 IsTree-of_map f at xs t = record {
@@ -118,7 +118,7 @@ IsTree-of_map f at xs t = record {
   later = each-of_map f (λ y. counter_of (at y).parent < (at y).stamp.counter) xs t.later;
 }
 
--- counting in front of a stamp, through a function or not
+-- the count before a stamp is the same for mapped items
 pub shown_before-map : {A B : Type 0} (f : A → B) (at : B → Character) (shown : B → Bool) (xs : List A) (a : Stamp) →
     shown_before at shown (map f xs) a ≡ shown_before (λ x. at (f x)) (λ x. shown (f x)) xs a
 shown_before-map f at shown [] a = refl

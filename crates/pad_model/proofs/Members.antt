@@ -1,4 +1,4 @@
--- The order has just the items of the set, and a new item joins it where the scan puts it.
+-- The order has exactly the items of the set, and a new item joins it where the scan puts it.
 use Rattle.std.proofs.Common.{◌≡◌, ℕ, ◌<◌, Bool, true, false, cond, ◌||◌, List, [], ◌∷◌, ◌++◌, Option, Some, None, refl}
 use Rattle.std.proofs.Common.{sym, ap, ◌∙◌, subst, append_assoc, append-nil, IsPermutation, arith}
 use Rattle.std.proofs.lemmas.Bool.{both_ways, false≢true, or_from, or_parts}
@@ -37,7 +37,7 @@ IsTree-permutation at xs ys h t = record {
   later = each-permutation (λ c. counter_of (at c).parent < (at c).stamp.counter) xs ys h t.later;
 }
 
--- what is older than c hangs not below c
+-- an item older than c is not a child of c
 pub not_below : {A : Type 0} (at : A → Character) (c x : A) → counter_of (at x).parent < (at x).stamp.counter →
     newer (at c).stamp (at x).stamp ≡ true → same_parent (at x).parent (Some (at c).stamp) ≡ false
 not_below at c x later older =
@@ -47,7 +47,7 @@ not_below at c x later older =
     (same_parent-true (at x).parent (at c).stamp e) later))))
     (λ e. e)
 
--- the items in front of c are older, and rise
+-- the items before c are older, and rise
 pub rising_front : {A : Type 0} (at : A → Character) (w : List A) (c : A) (rest : List A) →
     IsRising at (w ++ c ∷ rest) → AllByRecursion (λ x. newer (at c).stamp (at x).stamp ≡ true) w × IsRising at w
     × IsRising at (c ∷ rest)
@@ -59,7 +59,7 @@ rising_front at (x ∷ w) c rest r =
       later.2,
     )
 
--- a parent older than c stands in front of c
+-- a parent older than c comes before c
 older_in_front : {A : Type 0} (at : A → Character) (w : List A) (c : A) (rest : List A) (q : Stamp) →
     IsRising at (c ∷ rest) → newer (at c).stamp q ≡ true → has_stamp at (w ++ c ∷ rest) q ≡ true → has_stamp at w q
     ≡ true

@@ -5,26 +5,22 @@ use Rattle.std.proofs.lemmas.Bool.Decides.{nat_tests}
 use Rattle.pad_model.specs.Log.{precedes, same_name}
 use Rattle.pad_model.specs.declared.op.OpName.{OpName}
 
--- the order goes on along a chain
+-- the order is transitive
 pub precedes-trans : (a b c : OpName) → precedes a b ≡ true → precedes b c ≡ true → precedes a c ≡ true
 precedes-trans a b c p q = grind (arith, nat_tests)
 
--- no name stands before an equal one
+-- no name comes before an equal one
 pub precedes-same : (a b : OpName) → same_name a b ≡ true → precedes a b ≡ false
 precedes-same a b e = grind (arith, nat_tests)
 
--- a name that stands before another is another
+-- a name that comes before another is not equal to it
 pub same-precedes : (a b : OpName) → precedes a b ≡ true → same_name a b ≡ false
 same-precedes a b p = grind (arith, nat_tests)
 
 pub same-follows : (a b : OpName) → precedes b a ≡ true → same_name a b ≡ false
 same-follows a b p = grind (arith, nat_tests)
 
--- names of which neither stands before the other are one
-pub same-neither : (a b : OpName) → precedes a b ≡ false → precedes b a ≡ false → same_name a b ≡ true
-same-neither a b p q = grind (arith, nat_tests)
-
--- one of two names that differ stands before the other
+-- of two names that differ, one comes before the other
 pub precedes-other : (a b : OpName) → precedes a b ≡ false → same_name a b ≡ false → precedes b a ≡ true
 precedes-other a b p q = grind (arith, nat_tests)
 
@@ -33,11 +29,11 @@ pub follows : (first later name : OpName) → precedes first name ≡ false → 
     same_name later name ≡ false
 follows first later name stops h = grind (arith, nat_tests)
 
--- a name that stands behind another stands behind each one that is the same
+-- a name that comes after another comes after each equal one
 pub precedes-alike : (a b c : OpName) → same_name a b ≡ true → precedes a c ≡ true → precedes b c ≡ true
 precedes-alike a b c e p = grind (arith, nat_tests)
 
--- what it means that a name stands before another
+-- what it means that a name comes before another
 pub precedes-cases : (a b : OpName) → precedes a b ≡ true → (a.origin < b.origin)
     ⊎ ((a.origin ≡ b.origin) × (a.number < b.number))
 precedes-cases a b e =

@@ -1,4 +1,4 @@
--- The runs of one operation's parts join the cells one after the other.
+-- The runs of one operation's parts join the cells one after another.
 use Rattle.std.proofs.Common.{◌≡◌, ℕ, zero, suc, ◌+◌, ◌<◌, ◌≤◌, Bool, true, false, not, ◌&&◌, ◌||◌, cond, eqb, leb, ltb}
 use Rattle.std.proofs.Common.{List, [], ◌∷◌, ◌++◌, length, Option, Some, None, refl, sym, ap, ap₂, ◌∙◌, subst, map}
 use Rattle.std.proofs.Common.{flat_map, IsPermutation, arith, append-nil, append_assoc, leb-true, lt-ltb, ne_eqb}
@@ -83,7 +83,7 @@ new_below rev first p [] author most h = tt
 new_below rev first p (c ∷ text) author most h =
     (omega arith, new_below rev (next first) (Some first) text author most (omega arith))
 
--- a run among cells that were walked already goes where it goes among them unwalked
+-- a run goes to the same place among cells in preorder as among the same cells in any order
 with_run-order : (rev : ℕ) (run : Run) (author : Author) (cells : List Cell) → IsTree character_of cells →
     IsTree character_of (cells ++ new_cells rev run author) →
     with_run rev run author (order character_of cells) ≡ order character_of (cells ++ new_cells rev run author)
@@ -93,7 +93,7 @@ with_run-order rev run author cells t more =
     (IsPermutation-append_left (new_cells rev run author) cells (order character_of cells)
     (order-permutation character_of cells t)) more)
 
--- runs that fit what stood before them join it one after the other, and together they are in preorder
+-- runs that fit the cells before the operation join them one after another, and together they are in preorder
 pub runs_join : (rev : ℕ) (author : Author) (base mine : List Cell) (floor : ℕ) (parts : List Part) →
     IsTree character_of (base ++ mine) →
     AllByRecursion (λ c. c.stamp.counter < floor) mine → counters_rise floor parts ≡ true →
@@ -205,7 +205,7 @@ inserts_differ author floor (Resolve comment ∷ parts) h = inserts_differ autho
 pub rises_of_parts : (origin : ℕ) (parts : List Part) → are_parts origin parts ≡ true → counters_rise 0 parts ≡ true
 rises_of_parts origin parts h = (and_parts _ _ (and_parts _ _ h).0).1
 
--- parts in the limits fit where each of them does
+-- parts within the limits fit if each of them does
 pub parts_fit-each : (author : Author) (parts : List Part) (cells : List Cell) → are_parts author.origin parts ≡ true →
     parts_fit author parts cells ≡ list_all (part_fits character_of cells) parts
 parts_fit-each author parts cells h =
@@ -232,7 +232,7 @@ pub all_same : {A : Type 0} (p q : A → Bool) → ((x : A) → p x ≡ q x) →
 all_same p q h [] = refl
 all_same p q h (x ∷ xs) = ap₂ (λ a b. a && b) (h x) (all_same p q h xs)
 
--- a part fits items just where it fits others that carry the same characters
+-- a part fits items exactly if it fits others that carry the same characters
 part_fits-same : {A : Type 0} (at to : A → Character) → ((x : A) → at x ≡ to x) → (xs : List A) (part : Part) →
     part_fits at xs part ≡ part_fits to xs part
 part_fits-same at to h xs (Insert run) =

@@ -251,19 +251,19 @@ full-cells rev to (c ∷ cells) = let rest = full-cells rev to cells in
 pub full-changes : (rev to : ℕ) (cells : List Cell) → AllByRecursion full (changes rev to cells)
 full-changes rev to cells = full-cells rev to cells
 
--- ---- two answers in a row
+-- ---- two successive answers
 pub composed-changes : (a b c : ℕ) (cells : List Cell)
     → patched (changes b c cells) (patched (changes a b cells) (written_in (cells_at a cells)))
     ≡ patched (changes a c cells) (written_in (cells_at a cells))
 composed-changes a b c cells = ap (patched (changes b c cells)) (patched-changes a b cells)
     ∙ patched-changes b c cells ∙ sym (patched-changes a c cells)
 
--- ---- the same in front of others
+-- ---- the same before others
 pub fewest-append : (xs ys zs : List Piece) → fewest ys ≡ fewest zs → fewest (xs ++ ys) ≡ fewest (xs ++ zs)
 fewest-append [] ys zs h = h
 fewest-append (x ∷ xs) ys zs h = ap (join_piece x) (fewest-append xs ys zs h)
 
--- two that are alike, in front of others, and the one that they make
+-- two that are alike, before others, and the one that they make
 pub fewest-together : (a b : Piece) (zs : List Piece) → are_alike a b ≡ true → fewest (a ∷ b ∷ zs)
     ≡ fewest (together a b ∷ zs)
 fewest-together a b zs h = join-together a b (fewest zs) h

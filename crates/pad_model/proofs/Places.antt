@@ -11,7 +11,7 @@ use Rattle.pad_model.proofs.Newer.{split}
 abbrev pub spliced : {A : Type 0} → ℕ → List A → List A → List A
 spliced n block xs = take n xs ++ block ++ drop n xs
 
--- how many items in front are newer
+-- how many items at the front are newer
 abbrev pub passed : {A : Type 0} → (A → Character) → Stamp → List A → ℕ
 passed at first xs = prefix_len (λ x. newer (at x).stamp first) xs
 
@@ -28,7 +28,7 @@ abbrev pub up_to : {A : Type 0} → (A → Character) → Stamp → List A → �
 up_to at p [] = 0
 up_to at p (x ∷ xs) = cond (same_stamp (at x).stamp p) 1 (suc (up_to at p xs))
 
--- the place of a block: behind its parent, past each newer item
+-- the place of a block: after its parent, past each newer item
 abbrev pub place_in : {A : Type 0} → (A → Character) → Option Stamp → Stamp → List A → ℕ
 place_in at None first xs = passed at first xs
 place_in at (Some p) first xs = up_to at p xs + passed at first (drop (up_to at p xs) xs)

@@ -140,50 +140,6 @@ run_undated log rev first p (c ∷ text) author h a =
     (λ x. x.stamp.replica ≡ first.replica → x.stamp.counter < first.counter + 1) (λ x k e. let l : x.stamp.counter
     < first.counter = k e in omega arith) (characters_in log).inserted a))
 
--- one more insertion puts its run among the cells
-pub cells_of-push_run : (log : List Op) (op : Op) (run : Run) → IsHistory log → op.parts ≡ Insert run ∷ [] →
-    is_checked op ≡ true → is_valid op log ≡ true →
-    cells_of (log ++ op ∷ []) ≡ with_run (length log + 1) run (author_of op) (cells_of log)
-cells_of-push_run log op run h one checked valid =
-    let cs = run_characters run.first run.after run.text (author_of op) in
-    let mine : inserted_by op ≡ cs = ap (flat_map (Rattle.pad_model.specs.Operation.part_inserts (author_of op))) one
-    ∙ append-nil cs in
-    let none : erased_by op ≡ [] = ap (flat_map part_erases) one in
-    let old = map (dated log) (births 1 log) in
-    let new = new_cells (length log + 1) run (author_of op) in
-    let tree = IsTree-history log h in
-    let part_valid : run_may_join itself (characters_in log).inserted run.first run.after ≡ true =
-    (and_parts _ _ (subst (λ ps. list_all (λ part. part_is_valid part log) ps ≡ true) one (and_parts _ _ valid).0)).0 in
-    let joins = RunMayJoin-from_test itself (characters_in log).inserted run.first run.after part_valid in
-    let same_dates : (xs : List Cell) → map (dated (log ++ op ∷ [])) xs ≡ map (dated log) xs =
-    λ xs. dates xs log op none in
-    let made : map (dated (log ++ op ∷ [])) (births 1 (log ++ op ∷ [])) ≡ old ++ new =
-    same_dates (births 1 (log ++ op ∷ []))
-    ∙ ap (map (dated log)) (births-append 1 log (op ∷ []) ∙ ap (λ l. births 1 log ++ l)
-    (append-nil (map (born_at (1 + length log)) (inserted_by op)) ∙ ap₂ (λ n l. map (born_at n) l)
-    (let e : 1 + length log ≡ length log + 1 = omega arith in e) mine))
-    ∙ map-append (dated log) (births 1 log) new
-    ∙ ap (λ l. old ++ l) (run_undated log (length log + 1) run.first run.after run.text (author_of op) h joins.above)
-    in
-    let grown : IsTree character_of (old ++ new) =
-    subst (IsTree character_of) made (IsTree-of_map character_of itself
-    (map (dated (log ++ op ∷ [])) (births 1 (log ++ op ∷ [])))
-    (subst (IsTree itself) (sym (dated-characters (log ++ op ∷ []))) (tree_grows log op checked valid tree))) in
-    let old_tree = IsTree-of_map character_of itself old (subst (IsTree itself) (sym (dated-characters log)) tree) in
-    ap (order character_of) made
-    ∙ order-permuted character_of (old ++ new) (cells_of log ++ new) (IsPermutation-append_left new old (cells_of log)
-    (order-permutation character_of old old_tree)) grown
-  where
-    dates : (xs : List Cell) (log : List Op) (op : Op) → erased_by op ≡ [] → map (dated (log ++ op ∷ [])) xs
-        ≡ map (dated log) xs
-    dates [] log op none = refl
-    dates (x ∷ xs) log op none =
-        ap₂ (λ (y : Cell) l. y ∷ l)
-        (ap (λ d. let it : Cell = record
-        { stamp = x.stamp; parent = x.parent; character = x.character; author = x.author; born = x.born; died = d } in
-        it) (death_in-push 1 log op x.stamp none))
-        (dates xs log op none)
-
 born_before : (rev : ℕ) (cs : List Character) (most : ℕ) → rev < most → AllByRecursion (λ (c : Cell). c.born < most)
     (map (born_at rev) cs)
 born_before rev [] most h = tt

@@ -63,7 +63,7 @@ scan_from-extend at c second rest (x ∷ xs) n f =
     (λ e. rw (e, parts.0) (ap (λ l. x ∷ l) (scan_from-extend at c second rest xs n parts.1)))
     (λ e. rw (e, same_stamp-refl (at c).stamp, still_old (at x).stamp (at c).stamp second n e) refl)
 
--- the rest of a run goes right behind its first item
+-- the rest of a run goes directly after its first item
 pub put-extend : {A : Type 0} (at : A → Character) (p : Option Stamp) (c : A) (second : Stamp) (rest xs : List A) →
     newer second (at c).stamp ≡ true → has_stamp at xs (at c).stamp ≡ false → has_parent at xs p ≡ true →
     put at (Some (at c).stamp) second rest (put at p (at c).stamp (c ∷ []) xs) ≡ put at p (at c).stamp (c ∷ rest) xs
@@ -149,7 +149,7 @@ scan_from-newest : {A : Type 0} (at : A → Character) (first : Stamp) (block xs
 scan_from-newest at first block [] h = sym (append-nil block)
 scan_from-newest at first block (x ∷ xs) h = rw (newer-asym first (at x).stamp h.0) refl
 
--- a block newer than all goes right behind its parent
+-- a block newer than all goes directly after its parent
 pub put-newest : {A : Type 0} (at : A → Character) (p : Option Stamp) (first : Stamp) (block xs : List A) →
     AllByRecursion (λ x. newer first (at x).stamp ≡ true) xs → put at p first block xs ≡ put_right_behind at p block xs
 put-newest at None first block xs h = scan_from-newest at first block xs h

@@ -14,7 +14,8 @@ use Rattle.pad_model.proofs.Newer.{split, newer-trans, newer-asym, newer_of_coun
 use Rattle.pad_model.proofs.Each.{each-append, each-imply}
 use Rattle.pad_model.proofs.Rising.{IsRising, IsDistinct-parts}
 
--- c put at the start where b says so, and behind each item with the stamp of its parent, always past newer items
+-- the items with c inserted at the start if b is true, and after each item with the stamp of its parent, always past
+-- newer items
 abbrev pub everywhere : {A : Type 0} → (A → Character) → Option Stamp → A → Bool → List A → List A
 everywhere at p c b [] = cond b (c ∷ []) []
 everywhere at p c b (x ∷ xs) =
@@ -39,14 +40,14 @@ everywhere-append at p c b (z ∷ zs) x ys old =
     (λ e. rw e (ap (λ l. z ∷ l) (everywhere-append at p c b zs x ys old)))
     (λ e. rw e (joined b c z _ _ _ [] (everywhere-append at p c (same_parent p (Some (at z).stamp)) zs x ys old)))
 
--- where all items are newer, c goes last
+-- if all items are newer, c goes last
 pub everywhere_all_newer : {A : Type 0} (at : A → Character) (p : Option Stamp) (c : A) (b : Bool) (xs : List A) →
     AllByRecursion (λ x. newer (at x).stamp (at c).stamp ≡ true) xs →
     everywhere at p c b xs ≡ xs ++ cond b (c ∷ []) []
 everywhere_all_newer at p c b [] h = refl
 everywhere_all_newer at p c b (x ∷ xs) h = rw h.0 (ap (λ l. x ∷ l) (everywhere_all_newer at p c b xs h.1))
 
--- what is known of each item is known of each item of a walk
+-- what holds for each item holds for each item of a walk
 pub each-walk : {A : Type 0} (at : A → Character) (P : A → Type 0) (u : List A) (q : Option Stamp) →
     AllByRecursion P u → AllByRecursion P (walk_rising at u q)
 each-walk at P [] q h = tt
@@ -56,7 +57,7 @@ each-walk at P (x ∷ later) q h =
     (each-walk at P later q h.1) (h.0, each-walk at P later (Some (at x).stamp) h.1)))
     (λ e. rw e (each-walk at P later q h.1))
 
--- nothing hangs below a place that is no item's parent
+-- a place that is no item's parent has no descendants
 pub walk_none : {A : Type 0} (at : A → Character) (u : List A) (q : Option Stamp) →
     AllByRecursion (λ x. same_parent (at x).parent q ≡ false) u → walk_rising at u q ≡ []
 walk_none at [] q h = refl
@@ -94,7 +95,7 @@ walk-put at p c (x ∷ later) q is r n =
     (walk_rising at later (Some (at x).stamp)) e)))
     (λ f. rw f (walk-put at p c later q is r.1 n.1))))
 
--- where no item is the parent, there is no place but the start
+-- if no item is the parent, the start is the only place
 pub everywhere_none : {A : Type 0} (at : A → Character) (p : Option Stamp) (c : A) (xs : List A) →
     AllByRecursion (λ x. same_parent p (Some (at x).stamp) ≡ false) xs → everywhere at p c false xs ≡ xs
 everywhere_none at p c [] h = refl
@@ -112,7 +113,7 @@ everywhere_scan at p c (x ∷ xs) h =
     (λ e. rw e (ap (λ l. x ∷ l) (everywhere_scan at p c xs h.1)))
     (λ e. rw (e, h.0) (ap (λ l. c ∷ x ∷ l) (everywhere_none at p c xs h.1)))
 
--- where one item is the parent, the place is behind it
+-- if one item is the parent, the place is after it
 pub everywhere_behind : {A : Type 0} (at : A → Character) (p : Stamp) (c : A) (xs : List A) → newer (at c).stamp p
     ≡ true → IsDistinct (same_item at) xs → has_stamp at xs p ≡ true →
     everywhere at (Some p) c false xs ≡ scan_behind at p (at c).stamp (c ∷ []) xs
@@ -167,7 +168,7 @@ each_root : {A : Type 0} (at : A → Character) (xs : List A) → AllByRecursion
 each_root at [] = tt
 each_root at (x ∷ xs) = (refl, each_root at xs)
 
--- where the parent is the root or one of the items, there is one place
+-- if the parent is the root or one of the items, there is exactly one place
 pub everywhere-put : {A : Type 0} (at : A → Character) (p : Option Stamp) (c : A) (xs : List A) → has_parent at xs p
     ≡ true → counter_of p < (at c).stamp.counter → IsDistinct (same_item at) xs →
     everywhere at p c (same_parent p None) xs ≡ put at p (at c).stamp (c ∷ []) xs

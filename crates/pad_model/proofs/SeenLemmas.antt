@@ -1,4 +1,4 @@
--- Version vectors: what a count is read as after a change, and what a search among their pairs finds.
+-- Version vectors: the counts after a change, and what a search among their pairs finds.
 use Rattle.std.proofs.Common.{◌≡◌, ◌≢◌, ℕ, zero, suc, ◌≤◌, ◌<◌, ◌⊎◌, inl, inr, List, [], ◌∷◌, length, get_or, set}
 use Rattle.std.proofs.Common.{Result, Ok, Err, IfOk, IfErr, refl, sym, ap, ◌∙◌, subst, arith}
 use Rattle.std.specs.List.{AllByRecursion, insert, remove}
@@ -51,7 +51,7 @@ with_before p v o n lt = cond-false _ _ _ (le-ltb p.origin o (omega arith)) ∙ 
 first_some : (o n : ℕ) (v : List Counted) → 1 ≤ n → with_first o n v ≡ record { origin = o; count = n } ∷ v
 first_some o n v le = cond-false _ _ _ (ne_eqb n 0 (λ e. omega arith))
 
--- the count in front of pairs of later origins
+-- the count before pairs of later origins
 count_first : (o n : ℕ) (v : List Counted) → IsAbove o v → count_in (with_first o n v) o ≡ n
 count_first o zero v h = count_below v o h
 count_first o (suc n) v h = ap (λ pairs. count_in pairs o) (first_some o (suc n) v (omega arith))
@@ -168,7 +168,7 @@ vectors_same (p ∷ v) (q ∷ w) h k same = elim (cases_order p.origin q.origin)
         ∙ sym (count_below w o (subst (λ a. IsAbove a w) (sym e ∙ here) k.1))
     tails o e (inr other) = sym (count_later p v o other) ∙ same o ∙ count_later q w o (λ f. other (e ∙ f))
 
--- a pair behind the first has a greater origin
+-- a pair after the first has a greater origin
 origin_above : (a : ℕ) (v : List Counted) (k : ℕ) → IsAbove a v → k < length v → a < origin_at v k
 origin_above a [] k h lt = absurd (omega arith)
 origin_above a (p ∷ v) zero h lt = h.0
@@ -209,7 +209,7 @@ gap_at v h o (Err at) in_range parted =
       greater_after = λ j le lt. ranked _ o _ (sym (sides.1 j first le lt));
     }
 
--- at its place a pair is read, written over or taken out
+-- at its place a pair is read, replaced or removed
 pub count_at : (v : List Counted) → IsVector v → (o i : ℕ) → IsAt v o i → (d : Counted) → count_in v o
     ≡ (get_or v i d).count
 count_at [] h o i at d = absurd (omega (arith, at.in_range))

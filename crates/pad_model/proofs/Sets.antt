@@ -1,4 +1,4 @@
--- The order depends on the set of items alone.
+-- The order depends only on the set of items.
 use Rattle.std.proofs.Common.{◌≡◌, ℕ, zero, suc, ◌+◌, ◌<◌, ◌≤◌, ◌⊎◌, inl, inr, ◌↔◌, Bool, true, false, cond, List, []}
 use Rattle.std.proofs.Common.{◌∷◌, ◌++◌, length, get_or, refl, sym, ap, ◌∙◌, subst, IsPermutation, Contains, filter}
 use Rattle.std.proofs.Common.{arith}

@@ -147,7 +147,7 @@ distinct_cells log h =
     (IsTree-history log h)) in
     distinct-permutation character_of all (cells_of log) (order-permutation character_of all tree) tree.distinct
 
--- how many visible characters of a revision stand before one that it has
+-- how many visible characters of a revision come before one that it has
 pub before_at-cells_of : (log : List Op) (k : ℕ) (a : Stamp) → IsHistory log →
     has_stamp itself (characters_in (take k log)).inserted a ≡ true → before_at k (cells_of log) a
     ≡ Some (visible_before (characters_in (take k log)) a)

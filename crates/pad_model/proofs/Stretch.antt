@@ -1,4 +1,4 @@
--- A deletion of what a log shows: it is in the limits and fits, and how many characters it hides.
+-- A deletion of what a log shows: it is within the limits and fits, and how many characters it hides.
 use Rattle.std.proofs.Common.{◌≡◌, ℕ, ◌+◌, ◌-◌, ◌<◌, ◌≤◌, Bool, true, false, not, ◌&&◌, List, [], ◌∷◌, ◌++◌, length}
 use Rattle.std.proofs.Common.{refl, sym, ap, ap₂, ◌∙◌, subst, map, filter, take, drop, flat_map, count_by, sum_by}
 use Rattle.std.proofs.Common.{is_none, Option, Some, None, arith, leb-true, le-ltb}
@@ -103,7 +103,7 @@ has_spans-stretch log k i n h =
     ∙ list_all-map (λ s. has_stamp itself all s) (λ (c : Character). c.stamp) cs
     ∙ all_pass (λ c. has_stamp itself all c.stamp) cs each
 
--- its spans are in the limits
+-- its spans are within the limits
 pub spans_of-checked : (log : List Op) (i n : ℕ) → IsHistory log → list_all is_span (spans_of (characters_in log) i n)
     ≡ true
 spans_of-checked log i n h =
@@ -124,7 +124,7 @@ pub spans_of-len : (set : Characters) (i n : ℕ) → i + n ≤ length (visible 
     sum_by (λ span. span.len) (spans_of set i n) ≡ n
 spans_of-len set i n l = spans-len (map (λ c. c.stamp) (take n (drop i (visible set)))) ∙ stretch_len set i n l
 
--- and there is one at least where it is not empty
+-- and there is at least one if it is not empty
 pub spans_of-some : (set : Characters) (i n : ℕ) → i + n ≤ length (visible set) → 1 ≤ n → 1 ≤ length (spans_of set i n)
 spans_of-some set i n l some = spans-some (map (λ c. c.stamp) (take n (drop i (visible set))))
     (omega (arith, stretch_len set i n l))

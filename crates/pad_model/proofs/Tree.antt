@@ -1,4 +1,4 @@
--- The walk is the textbook's: the children of a place, newest first, each with what hangs below it; and no other
+-- The walk is the textbook's: the children of a place, newest first, each followed by its descendants; and no other
 -- function is.
 use Rattle.std.proofs.Common.{◌≡◌, ◌<◌, Bool, true, false, List, [], ◌∷◌, ◌++◌, Option, Some, refl, sym, ap, ◌∙◌, subst}
 use Rattle.std.proofs.Common.{append_assoc, append-nil, reverse, filter, flat_map, lt_irrefl}
@@ -15,7 +15,7 @@ use Rattle.pad_model.proofs.Each.{each-append, each-both, each-left, each-right}
 use Rattle.pad_model.proofs.Rising.{IsRising, IsRising-rising, rising-permutation}
 use Rattle.pad_model.proofs.Members.{same_parent-true, rising_front, not_below, IsTree-permutation}
 
--- an item and what hangs below it, where f says what does
+-- an item followed by its descendants, which f gives
 below : {A : Type 0} → (A → Character) → (Option Stamp → List A) → A → List A
 below at f c = c ∷ f (Some (at c).stamp)
 
@@ -35,7 +35,7 @@ not_own_parent at x l =
     (λ e. absurd (lt_irrefl (at x).stamp.counter (subst (λ p. counter_of p < (at x).stamp.counter)
     (same_parent-true (at x).parent (at x).stamp e) l))) (λ e. e)
 
--- no item up to x hangs below x
+-- no item up to x is a child of x
 pub none_up_to : {A : Type 0} (at : A → Character) (w : List A) (x : A) (rest : List A) → IsRising at (w ++ x ∷ rest) →
     AllByRecursion (λ c. counter_of (at c).parent < (at c).stamp.counter) (w ++ x ∷ rest) →
     AllByRecursion (λ y. same_parent (at y).parent (Some (at x).stamp) ≡ false) (w ++ x ∷ [])
@@ -46,13 +46,13 @@ none_up_to at w x rest r l =
     (each-left (λ c. counter_of (at c).parent < (at c).stamp.counter) w (x ∷ rest) l) (rising_front at w x rest r).0)
     (not_own_parent at x (each-right (λ c. counter_of (at c).parent < (at c).stamp.counter) w (x ∷ rest) l).0, tt)
 
--- items that hang elsewhere can be left out in front
+-- leading items with another parent can be left out
 walk_front : {A : Type 0} (at : A → Character) (w v : List A) (q : Option Stamp) →
     AllByRecursion (λ y. same_parent (at y).parent q ≡ false) w → walk_rising at (w ++ v) q ≡ walk_rising at v q
 walk_front at [] v q h = refl
 walk_front at (y ∷ w) v q h = rw h.0 (walk_front at w v q h.1)
 
--- f agrees with the walk below each item where it agrees with what stands behind the item
+-- f gives the walk if, for each item, agreeing on the items after it makes f agree below the item
 children_walked : {A : Type 0} (at : A → Character) (f : Option Stamp → List A) (u w v : List A) → u ≡ w ++ v →
     ((w' : List A) (x : A) (rest : List A) → u ≡ w' ++ x ∷ rest →
     ((q : Option Stamp) → flat_map (below at f) (reverse (filter (λ c. same_parent (at c).parent q) rest))

@@ -1,5 +1,4 @@
--- The cells of a sequence: its characters in preorder, those that are erased included, each with its birth and its
--- death.
+-- The cells of a sequence: its characters in preorder, erased ones included, each with its birth and its death.
 use Rattle.std.specs.Prelude.{◌≡◌, ℕ, ◌+◌, ◌≤◌, Bool, true, not, ◌&&◌, ◌==◌, nat_lt, nat_le, if◌then◌else◌, List, ◌++◌}
 use Rattle.std.specs.Prelude.{length, Option, Some, None, Result, Ok, Err, map, filter, fold, max, slice_get}
 use Rattle.std.specs.Prelude.{option_map, flat_map, is_none, count_by, take, drop}
@@ -30,14 +29,19 @@ pub record Cell : Type 0 where
 
 -- the character of a cell
 abbrev pub character_of : Cell → Character
-character_of cell = record { stamp = cell.stamp; parent = cell.parent; character = cell.character; author = cell.author }
+character_of cell = record {
+  stamp = cell.stamp;
+  parent = cell.parent;
+  character = cell.character;
+  author = cell.author;
+}
 
--- whether a death comes after a revision; no death does
+-- whether a death comes after a revision; a cell without a death counts as after
 abbrev pub is_after : ℕ → Option ℕ → Bool
 is_after rev None = true
 is_after rev (Some died) = nat_lt rev died
 
--- whether a cell is visible at a revision: it is born, and did not die yet
+-- whether a cell is visible at a revision: it is born by then, and not yet dead
 abbrev pub shown_at : ℕ → Cell → Bool
 shown_at rev cell = nat_le cell.born rev && is_after rev cell.died
 
@@ -55,7 +59,14 @@ cell_stamp_at rev cells i = option_map (λ c. c.stamp) (slice_get (cells_at rev 
 
 -- a new cell of a character
 abbrev pub born_at : ℕ → Character → Cell
-born_at rev c = record { stamp = c.stamp; parent = c.parent; character = c.character; author = c.author; born = rev; died = None }
+born_at rev c = record {
+  stamp = c.stamp;
+  parent = c.parent;
+  character = c.character;
+  author = c.author;
+  born = rev;
+  died = None;
+}
 
 -- the new cells of a run
 abbrev pub new_cells : ℕ → Run → Author → List Cell
@@ -67,7 +78,8 @@ clock_of cells = fold (λ most c. max most c.stamp.counter) 0 cells
 
 -- the greatest counter of a replica's cells, or 0
 abbrev pub last_of : ℕ → List Cell → ℕ
-last_of replica cells = fold (λ most c. if c.stamp.replica == replica then max most c.stamp.counter else most) 0 cells
+last_of replica cells = fold (λ most c. if c.stamp.replica == replica then max most c.stamp.counter
+    else most) 0 cells
 
 -- no birth and no death is later than a revision
 abbrev pub IsBy : ℕ → Cell → Type 0
@@ -77,7 +89,7 @@ IsBy rev cell = (cell.born ≤ rev) × ((died : ℕ) → cell.died ≡ Some died
 abbrev pub is_named : List Span → Cell → Bool
 is_named spans cell = is_erased (flat_map span_stamps spans) cell.stamp
 
--- whether a cell did not die yet
+-- whether a cell is not yet dead
 abbrev pub is_alive : Cell → Bool
 is_alive cell = is_none cell.died
 
@@ -93,10 +105,11 @@ erased_at rev spans cell = if is_hidden_by spans cell then record cell { died = 
 abbrev pub without_spans : ℕ → List Span → List Cell → List Cell
 without_spans rev spans cells = map (erased_at rev spans) cells
 
--- what a deletion answers, and the cells after it
+-- the result of a deletion, and the cells after it
 abbrev pub delete_spans : ℕ → List Span → List Cell → Result ℕ Refusal × List Cell
 delete_spans rev spans cells =
-    if has_spans character_of cells spans then (Ok (count_by (is_hidden_by spans) cells), without_spans rev spans cells)
+    if has_spans character_of cells spans
+    then (Ok (count_by (is_hidden_by spans) cells), without_spans rev spans cells)
     else (Err PeerFault, cells)
 
 -- the author runs at a revision
@@ -107,23 +120,26 @@ runs_at rev cells = runs (map (λ c. c.author) (cells_at rev cells))
 abbrev pub spans_at : ℕ → List Cell → ℕ → ℕ → List Span
 spans_at rev cells at n = spans (map (λ c. c.stamp) (take n (drop at (cells_at rev cells))))
 
--- how many cells visible at a revision stand before a stamp, if it is there
+-- how many cells that are visible at a revision come before a stamp, if it is there
 abbrev pub before_at : ℕ → List Cell → Stamp → Option ℕ
-before_at rev cells a = if has_stamp character_of cells a then Some (shown_before character_of (shown_at rev) cells a)
+before_at rev cells a = if has_stamp character_of cells a
+    then Some (shown_before character_of (shown_at rev) cells a)
     else None
 
--- how many cells visible at a revision stand up to and including a stamp, if it is there
+-- how many cells that are visible at a revision come before a stamp or have it, if it is there
 abbrev pub through_at : ℕ → List Cell → Stamp → Option ℕ
-through_at rev cells a = if has_stamp character_of cells a then Some (shown_through character_of (shown_at rev) cells a)
+through_at rev cells a = if has_stamp character_of cells a
+    then Some (shown_through character_of (shown_at rev) cells a)
     else None
 
--- whether a is b or stands before it, if both are there
+-- whether a is b or comes before it, if both are there
 abbrev pub is_before : List Cell → Stamp → Stamp → Option Bool
 is_before cells a b =
-    if has_stamp character_of cells a && has_stamp character_of cells b then Some (stands_before character_of cells a b)
+    if has_stamp character_of cells a && has_stamp character_of cells b
+    then Some (stands_before character_of cells a b)
     else None
 
--- the cells form a tree of insertions and stand in its preorder
+-- the cells form a tree of insertions and are in its preorder
 pub record IsInOrder (cells : List Cell) : Type 0 where
   pub tree : IsTree character_of cells
   pub is : order character_of cells ≡ cells
@@ -132,7 +148,7 @@ pub record IsInOrder (cells : List Cell) : Type 0 where
 abbrev pub with_run : ℕ → Run → Author → List Cell → List Cell
 with_run rev run author cells = order character_of (cells ++ new_cells rev run author)
 
--- what an insertion answers, and the cells after it
+-- the result of an insertion, and the cells after it
 abbrev pub insert_run : ℕ → Run → Author → List Cell → Result (Unit {0}) Refusal × List Cell
 insert_run rev run author cells =
     if not (run_may_join character_of cells run.first run.after) then (Err PeerFault, cells)

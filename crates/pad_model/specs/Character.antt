@@ -3,7 +3,7 @@ use Rattle.std.specs.Prelude.{ℕ, ◌+◌, List, [], ◌∷◌, Option, Some}
 use Rattle.pad_model.specs.Stamp.{Stamp}
 use Rattle.pad_model.specs.declared.who.Author.{Author}
 
--- one inserted character: its stamp, the character that it was inserted after, if any, and who typed it
+-- one inserted character: its stamp, the character after which it was inserted, if any, and who typed it
 pub record Character : Type 0 where
   pub stamp : Stamp
   pub parent : Option Stamp
@@ -18,5 +18,6 @@ next s = record s { counter = s.counter + 1 }
 abbrev pub run_characters : Stamp → Option Stamp → List ℕ → Author → List Character
 run_characters first parent [] author = []
 run_characters first parent (c ∷ text) author =
-    record { stamp = first; parent = parent; character = c; author = author } ∷ run_characters (next first)
+    record { stamp = first; parent = parent; character = c; author = author }
+    ∷ run_characters (next first)
     (Some first) text author

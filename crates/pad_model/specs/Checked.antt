@@ -1,4 +1,4 @@
--- What an operation must look like by itself, wherever it comes from.
+-- The checks that an operation must pass by itself, before any pad is asked.
 use Rattle.std.specs.Prelude.{ℕ, ◌+◌, Bool, true, false, not, ◌&&◌, ◌||◌, ◌==◌, nat_le, List, [], ◌∷◌, length, sum_by}
 use Rattle.std.specs.List.{list_all}
 use Rattle.pad_model.specs.declared.seen.Counted.{Counted}
@@ -18,7 +18,7 @@ is_within n most = nat_le 1 n && nat_le n most
 abbrev pub is_name_byte : ℕ → Bool
 is_name_byte b = (nat_le 97 b && nat_le b 122) || (nat_le 48 b && nat_le b 57) || b == 45
 
--- whether a name has 1 to 32 of these
+-- whether a name has 1 to 32 such bytes
 abbrev pub is_name : List ℕ → Bool
 is_name name = is_within (length name) MAX_NAME && list_all is_name_byte name
 
@@ -31,16 +31,16 @@ is_seen own pairs = list_all (λ pair. is_within pair.count MAX_NUMBER && nat_le
 abbrev pub fits_clock : ℕ → ℕ → Bool
 fits_clock counter n = nat_le (counter + n) (MAX_COUNTER + 1)
 
--- whether a run of this origin is in the limits
+-- whether a run of this origin is within the limits
 abbrev pub is_run : ℕ → Run → Bool
 is_run origin run = is_within (length run.text) MAX_TEXT && run.first.replica == origin
     && fits_clock run.first.counter (length run.text)
 
--- whether a span is not empty and within the limit of a counter
+-- whether a span is not empty and its counters are within the limit
 abbrev pub is_span : Span → Bool
 is_span span = nat_le 1 span.len && fits_clock span.first.counter span.len
 
--- whether a part of this origin is in the limits
+-- whether a part of this origin is within the limits
 abbrev pub is_part : ℕ → Part → Bool
 is_part origin (Insert run) = is_run origin run
 is_part origin (Delete spans) = nat_le 1 (length spans) && list_all is_span spans
@@ -74,9 +74,10 @@ counters_rise floor (Resolve comment ∷ parts) = counters_rise floor parts
 abbrev pub are_parts : ℕ → List Part → Bool
 are_parts origin parts =
     is_within (length parts) MAX_PARTS && (nat_le (length parts) 1 || list_all is_edit parts)
-    && list_all (is_part origin) parts && counters_rise 0 parts && nat_le (sum_by part_size parts) MAX_TEXT
+    && list_all (is_part origin) parts && counters_rise 0 parts
+    && nat_le (sum_by part_size parts) MAX_TEXT
 
--- whether an operation is in the limits
+-- whether an operation is within the limits
 abbrev pub is_checked : Op → Bool
 is_checked op =
     is_name op.author && nat_le 1 op.name.origin && is_within op.name.number MAX_NUMBER

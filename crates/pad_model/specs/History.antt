@@ -1,4 +1,4 @@
--- The cells that a log makes, and the logs that a pad can have.
+-- The cells that result from a log, and the logs that a pad can have.
 use Rattle.std.specs.Prelude.{ℕ, suc, if◌then◌else◌, List, [], ◌∷◌, ◌++◌, Option, Some, None, map, fold, max, IsTrue}
 use Rattle.pad_model.specs.Stamp.{Stamp}
 use Rattle.pad_model.specs.Character.{Character}
@@ -18,7 +18,8 @@ births rev (op ∷ log) = map (born_at rev) (inserted_by op) ++ births (suc rev)
 -- the revision that erases a stamp first, if any
 abbrev pub death_in : ℕ → List Op → Stamp → Option ℕ
 death_in rev [] s = None
-death_in rev (op ∷ log) s = if is_erased (erased_by op) s then Some rev else death_in (suc rev) log s
+death_in rev (op ∷ log) s = if is_erased (erased_by op) s then Some rev
+    else death_in (suc rev) log s
 
 -- a cell with the death that a log gives it
 abbrev pub dated : List Op → Cell → Cell
@@ -28,12 +29,13 @@ dated log cell = record cell { died = death_in 1 log cell.stamp }
 abbrev pub cells_of : List Op → List Cell
 cells_of log = order character_of (map (dated log) (births 1 log))
 
--- each further operation is in the limits and fits what stands before it
+-- each further operation is within the limits and valid after those before it
 abbrev pub Continues : List Op → List Op → Type 0
 Continues before [] = Unit {0}
-Continues before (op ∷ more) = IsTrue (is_checked op) × IsTrue (is_valid op before) × Continues (before ++ op ∷ []) more
+Continues before (op ∷ more) = IsTrue (is_checked op) × IsTrue (is_valid op before)
+    × Continues (before ++ op ∷ []) more
 
--- a log that was made operation by operation, each in the limits and valid at its place
+-- a log that was made operation by operation, each within the limits and valid after those before it
 abbrev pub IsHistory : List Op → Type 0
 IsHistory log = Continues [] log
 

@@ -13,7 +13,7 @@ abbrev pub has_parent : {A : Type 0} → (A → Character) → List A → Option
 has_parent at items None = true
 has_parent at items (Some p) = has_stamp at items p
 
--- whether two items have one stamp
+-- whether two items have the same stamp
 abbrev pub same_item : {A : Type 0} → (A → Character) → A → A → Bool
 same_item at x y = same_stamp (at x).stamp (at y).stamp
 
@@ -38,12 +38,14 @@ pub record MayJoin {A : Type 0} (at : A → Character) (items : List A) (c : A) 
 -- counter
 pub record RunMayJoin {A : Type 0} (at : A → Character) (items : List A) (first : Stamp)
     (parent : Option Stamp) : Type 0 where
-  pub above : AllByRecursion (λ x. (at x).stamp.replica ≡ first.replica → (at x).stamp.counter < first.counter) items
+  pub above : AllByRecursion (λ x. (at x).stamp.replica ≡ first.replica
+      → (at x).stamp.counter < first.counter) items
   pub rooted : has_parent at items parent ≡ true
   pub later : counter_of parent < first.counter
 
--- the items are a run: their stamps follow on each other, and each hangs below the one before it
+-- the items are a run: their stamps are consecutive, and the parent of each is the one before it
 abbrev pub IsRun : {A : Type 0} → (A → Character) → Stamp → Option Stamp → List A → Type 0
 IsRun at first parent [] = Unit {0}
-IsRun at first parent (x ∷ xs) = ((at x).stamp ≡ first) × ((at x).parent ≡ parent) × IsRun at (next first)
+IsRun at first parent (x ∷ xs) = ((at x).stamp ≡ first) × ((at x).parent ≡ parent)
+    × IsRun at (next first)
     (Some first) xs

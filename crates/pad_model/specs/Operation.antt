@@ -1,4 +1,4 @@
--- What operations insert and erase, one by one and in a log.
+-- What operations insert and erase, singly and in a log.
 use Rattle.std.specs.Prelude.{ℕ, zero, suc, List, [], ◌∷◌, flat_map}
 use Rattle.pad_model.specs.Stamp.{Stamp}
 use Rattle.pad_model.specs.Character.{Character, next, run_characters}
@@ -47,10 +47,6 @@ inserted_by op = flat_map (part_inserts (author_of op)) op.parts
 -- the stamps that an operation erases
 abbrev pub erased_by : Op → List Stamp
 erased_by op = flat_map part_erases op.parts
-
--- what one operation inserts and erases (RGA)
-abbrev pub characters_of : Op → Characters
-characters_of op = record { inserted = inserted_by op; erased = erased_by op }
 
 -- what the operations of a log insert and erase together
 abbrev pub characters_in : List Op → Characters

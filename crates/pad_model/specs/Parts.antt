@@ -15,7 +15,7 @@ use Rattle.pad_model.specs.declared.refusal.Refusal.{Refusal}
 use Rattle.pad_model.specs.declared.refusal.Refusal.TheVariants.{PeerFault, PadFull}
 use Rattle.pad_model.specs.declared.who.Author.{Author}
 
--- whether an insertion or a deletion fits what stands there
+-- whether an insertion or a deletion fits the items
 abbrev pub part_fits : {A : Type 0} → (A → Character) → List A → Part → Bool
 part_fits at items (Insert run) = run_may_join at items run.first run.after
 part_fits at items (Delete spans) = has_spans at items spans
@@ -37,29 +37,32 @@ spans_in parts = flat_map part_spans parts
 abbrev pub inserts_in : Author → List Part → List Character
 inserts_in author parts = flat_map (part_inserts author) parts
 
--- whether each part fits the cells that stood before all of them, and no stamp is inserted twice
+-- whether each part fits the cells before the operation, and no stamp is inserted twice
 abbrev pub parts_fit : Author → List Part → List Cell → Bool
-parts_fit author parts cells = list_all (part_fits character_of cells) parts && all_differ (inserts_in author parts)
+parts_fit author parts cells = list_all (part_fits character_of cells) parts
+    && all_differ (inserts_in author parts)
 
 -- the cells with what the parts insert, in preorder, and with the deaths of what they erase
 abbrev pub with_parts : ℕ → List Part → Author → List Cell → List Cell
-with_parts rev parts author cells = order character_of (without_spans rev (spans_in parts) cells ++ map (born_at rev)
+with_parts rev parts author cells = order character_of
+    (without_spans rev (spans_in parts) cells ++ map (born_at rev)
     (inserts_in author parts))
 
--- what the parts of one operation answer, and the cells after them: all of them, or none
+-- the result of the parts of one operation, and the cells after it: either all parts are made or none
 abbrev pub apply : ℕ → List Part → Author → List Cell → Result ℕ Refusal × List Cell
 apply rev parts author cells =
     if not (parts_fit author parts cells) then (Err PeerFault, cells)
-    else if nat_lt MAX_CHARACTERS (length cells + length (inserts_in author parts)) then (Err PadFull, cells)
+    else if nat_lt MAX_CHARACTERS (length cells + length (inserts_in author parts))
+    then (Err PadFull, cells)
     else (Ok (count_by (is_hidden_by (spans_in parts)) cells), with_parts rev parts author cells)
 
--- the cells after one part alone
+-- the cells after a single part
 abbrev pub with_part : ℕ → Author → List Cell → Part → List Cell
 with_part rev author cells (Insert run) = with_run rev run author cells
 with_part rev author cells (Delete spans) = without_spans rev spans cells
 with_part rev author cells (Comment first last text) = cells
 with_part rev author cells (Resolve comment) = cells
 
--- the cells after the parts, one after the other
+-- the cells after the parts, made one after another
 abbrev pub with_each_part : ℕ → Author → List Cell → List Part → List Cell
 with_each_part rev author cells parts = fold (with_part rev author) cells parts

@@ -27,18 +27,18 @@ text_of set = map (λ c. c.character) (visible set)
 abbrev pub authors_of : Characters → List Author
 authors_of set = map (λ c. c.author) (visible set)
 
--- whether two authors have one name at one origin
+-- whether two authors have the same name and the same origin
 abbrev pub same_author : Author → Author → Bool
 same_author a b = bytes_eq a.name b.name && a.origin == b.origin
 
--- one more character in front of runs
+-- the runs with one more character in front, joined to the first if it is of the same author
 abbrev pub join_run : Author → List AuthorRun → List AuthorRun
 join_run author [] = record { author = author; len = 1 } ∷ []
 join_run author (run ∷ runs) =
     if same_author author run.author then record run { len = run.len + 1 } ∷ runs
     else record { author = author; len = 1 } ∷ run ∷ runs
 
--- a list of authors as the fewest runs
+-- a list of authors, as the fewest runs
 abbrev pub runs : List Author → List AuthorRun
 runs [] = []
 runs (author ∷ authors) = join_run author (runs authors)
@@ -47,25 +47,28 @@ runs (author ∷ authors) = join_run author (runs authors)
 abbrev pub runs_of : Characters → List AuthorRun
 runs_of set = runs (authors_of set)
 
--- how many of the items in front of the stamp a are shown
+-- how many of the items before the stamp a are shown
 abbrev pub shown_before : {A : Type 0} → (A → Character) → (A → Bool) → List A → Stamp → ℕ
 shown_before at shown [] a = 0
-shown_before at shown (x ∷ xs) a = if same_stamp (at x).stamp a then 0 else (if shown x then 1 else 0)
+shown_before at shown (x ∷ xs) a = if same_stamp (at x).stamp a then 0
+    else (if shown x then 1 else 0)
     + shown_before at shown xs a
 
--- how many of the items up to the stamp a are shown
+-- how many of the items up to and including the stamp a are shown
 abbrev pub shown_through : {A : Type 0} → (A → Character) → (A → Bool) → List A → Stamp → ℕ
 shown_through at shown [] a = 0
 shown_through at shown (x ∷ xs) a = (if shown x then 1 else 0)
     + (if same_stamp (at x).stamp a then 0 else shown_through at shown xs a)
 
--- how many visible characters stand before the stamp a in the order with what was erased
+-- how many visible characters come before the stamp a in the order with erased characters
 abbrev pub visible_before : Characters → Stamp → ℕ
-visible_before set a = shown_before itself (λ c. not (is_erased set.erased c.stamp)) (order itself set.inserted) a
+visible_before set a = shown_before itself (λ c. not (is_erased set.erased c.stamp))
+    (order itself set.inserted) a
 
--- how many visible characters stand up to and including the stamp a
+-- how many visible characters come before the stamp a or have it
 abbrev pub visible_through : Characters → Stamp → ℕ
-visible_through set a = shown_through itself (λ c. not (is_erased set.erased c.stamp)) (order itself set.inserted) a
+visible_through set a = shown_through itself (λ c. not (is_erased set.erased c.stamp))
+    (order itself set.inserted) a
 
 -- a stretch of the visible text
 pub record Range : Type 0 where
@@ -74,30 +77,33 @@ pub record Range : Type 0 where
 
 -- the range of a comment from the stamp a to the stamp b: what is visible before a, and from a to b, both included
 abbrev pub range_of : Characters → Stamp → Stamp → Range
-range_of set a b = record { at = visible_before set a; len = visible_through set b - visible_before set a }
+range_of set a b = record {
+  at = visible_before set a;
+  len = visible_through set b - visible_before set a;
+}
 
--- the place of a caret: behind its character, or at the start
+-- the position of a caret: after its character, or at the start
 abbrev pub caret_of : Characters → Option Stamp → ℕ
 caret_of set None = 0
 caret_of set (Some a) = visible_through set a
 
--- the stamp of the visible character at place i, from 0
+-- the stamp of the visible character at position i, from 0
 abbrev pub stamp_at : Characters → ℕ → Option Stamp
 stamp_at set i = option_map (λ c. c.stamp) (slice_get (visible set) i)
 
--- one more stamp in front of spans
+-- the spans with one more stamp in front, joined to the first if it is the next after it
 abbrev pub join_span : Stamp → List Span → List Span
 join_span s [] = record { first = s; len = 1 } ∷ []
 join_span s (span ∷ spans) =
     if same_stamp (next s) span.first then record { first = s; len = span.len + 1 } ∷ spans
     else record { first = s; len = 1 } ∷ span ∷ spans
 
--- a list of stamps as the fewest spans of stamps that follow on each other
+-- a list of stamps, as the fewest spans of consecutive stamps
 abbrev pub spans : List Stamp → List Span
 spans [] = []
 spans (s ∷ stamps) = join_span s (spans stamps)
 
--- the spans of the n visible characters from place i on
+-- the spans of the n visible characters from position i on
 abbrev pub spans_of : Characters → ℕ → ℕ → List Span
 spans_of set i n = spans (map (λ c. c.stamp) (take n (drop i (visible set))))
 

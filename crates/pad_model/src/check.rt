@@ -1,4 +1,4 @@
-//! What an operation must look like by itself.
+//! The checks that an operation must pass by itself, before any pad is asked.
 ghost use Rattle.std.specs.Prelude.{◌≡◌, ◌≤◌, min, sum_by};
 ghost use Rattle.std.specs.List.{list_all};
 ghost use Rattle.pad_model.specs.Checked.{is_within, is_seen, fits_clock, is_run, is_span, is_part, part_size, is_edit, counters_rise, are_parts, is_checked};
@@ -8,7 +8,7 @@ use crate::op::{Op, Part, Run, Span};
 use crate::seen::Counted;
 use crate::stamp::Stamp;
 
-/// Whether an operation is in its limits, wherever it comes from.
+/// Whether an operation is within its limits.
 pub fn is_checked(op: &Op) -> bool
     ensures { result ≡ is_checked op.now }
 {
@@ -99,7 +99,7 @@ fn fits_clock(first: Stamp, len: u64) -> bool
     first.counter().saturating_add(len) <= MAX_COUNTER + 1
 }
 
-/// Whether each insertion begins behind the counters of the one before it.
+/// Whether each insertion's counters are above those of the one before it.
 fn counters_rise(parts: &[Part]) -> bool
     requires { sum_by part_size parts.now ≤ MAX_TEXT }
     ensures { result ≡ counters_rise 0 parts.now }
@@ -117,7 +117,7 @@ fn counters_rise(parts: &[Part]) -> bool
     true
 }
 
-/// How many characters the parts insert or erase together, or u64::MAX where they are more.
+/// The number of characters that all parts insert or erase, at most u64::MAX.
 fn total_size(parts: &[Part]) -> u64
     ensures { result ≡ min (sum_by part_size parts.now) u64.MAX }
 {
@@ -126,7 +126,7 @@ fn total_size(parts: &[Part]) -> u64
         .fold(0, |total, part| total.saturating_add(size_of(part)))
 }
 
-/// How many characters the part inserts or erases, or u64::MAX where they are more.
+/// The number of characters that the part inserts or erases, at most u64::MAX.
 fn size_of(part: &Part) -> u64
     ensures { result ≡ min (part_size part.now) u64.MAX }
 {
@@ -137,7 +137,7 @@ fn size_of(part: &Part) -> u64
     }
 }
 
-/// How many stamps the spans have together, or u64::MAX where they are more.
+/// The total length of the spans, at most u64::MAX.
 fn total_len(spans: &[Span]) -> u64
     ensures { result ≡ min (sum_by (λ span. span.len) spans.now) u64.MAX }
 {

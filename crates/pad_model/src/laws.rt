@@ -8,17 +8,17 @@ pub fn tree_law()
     ensures { TreeLaw }
 {}
 
-/// Nothing but the walk is that preorder.
+/// Only the walk is that preorder.
 pub fn uniqueness_law()
     ensures { UniquenessLaw }
 {}
 
-/// The order has just the characters of the set, each once.
+/// The order has exactly the characters of the set, each once.
 pub fn members_law()
     ensures { MembersLaw }
 {}
 
-/// The order depends on the set of characters alone.
+/// The order depends only on the set of characters.
 pub fn set_law()
     ensures { SetLaw }
 {}
@@ -28,22 +28,22 @@ pub fn subset_law()
     ensures { SubsetLaw }
 {}
 
-/// What was there at an earlier time can be read from the order of today.
+/// The order at an earlier time can be read from the present order.
 pub fn revision_law()
     ensures { RevisionLaw }
 {}
 
-/// Where RGA's scan puts a character is its place in the preorder (Roh and others 2011).
+/// RGA's scan puts a character at its place in the preorder (Roh and others 2011).
 pub fn scan_law()
     ensures { ScanLaw }
 {}
 
-/// A text that is inserted at once is one block of the order.
+/// A text that is inserted at once stays one block when it joins the order.
 pub fn run_law()
     ensures { RunLaw }
 {}
 
-/// A local insertion stands right behind the character that it was typed after.
+/// A local insertion goes directly after the character that it was typed after.
 pub fn newest_law()
     ensures { NewestLaw }
 {}
@@ -53,12 +53,12 @@ pub fn slider_law()
     ensures { SliderLaw }
 {}
 
-/// The parts of one operation leave the same at once and one after the other.
+/// Applying the parts of an operation at once, or one after another, gives the same cells.
 pub fn parts_law()
     ensures { PartsLaw }
 {}
 
-/// What an operation does to the cells of its log is what its parts do.
+/// An operation changes the cells of its log as its parts do.
 pub fn growth_law()
     ensures { GrowthLaw }
 {}
@@ -73,37 +73,37 @@ pub fn legal_law()
     ensures { LegalLaw }
 {}
 
-/// Cells stand in the order of their characters.
+/// The order of cells is the order of their characters.
 pub fn cell_order_law()
     ensures { CellOrderLaw }
 {}
 
-/// Each revision of a log can be read from its cells by birth, what was erased included.
+/// Each revision of a log, erased characters included, can be read from its cells by birth.
 pub fn birth_law()
     ensures { BirthLaw }
 {}
 
-/// The changes between two revisions lead from what the first shows to what the second shows.
+/// The changes between two revisions turn what the first shows into what the second shows.
 pub fn changes_law()
     ensures { ChangesLaw }
 {}
 
-/// Changes are the fewest.
+/// Changes have the fewest pieces.
 pub fn fewest_law()
     ensures { FewestLaw }
 {}
 
-/// Since a time when nothing was there, the changes are the author runs with their texts.
+/// Since an empty revision, the changes are the author runs with their texts.
 pub fn first_changes_law()
     ensures { FirstLaw }
 {}
 
-/// Who follows a text by one answer after the other gets where a single answer leads.
+/// Applying two successive answers gives what a single answer gives.
 pub fn composed_law()
     ensures { ComposedLaw }
 {}
 
-/// The changes between two revisions of a log lead from what its first operations show to what more of them show.
+/// The changes between two revisions of a log turn what the first k operations show into what the first n show.
 pub fn log_changes_law()
     ensures { LogChangesLaw }
 {}

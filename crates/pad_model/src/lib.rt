@@ -1,4 +1,4 @@
-//! The words of a pad: stamps, operations, version vectors, refusals, and the trait of a sequence of characters.
+//! The basic types of a pad: stamps, operations, version vectors, refusals, and the trait of a sequence of characters.
 #![tactic(auto)]
 
 mod check;

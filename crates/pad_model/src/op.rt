@@ -20,7 +20,7 @@ pub struct OpName {
 }
 
 impl OpName {
-    /// Whether it stands before another name: by origin, then by number.
+    /// Whether it comes before another name: by origin, then by number.
     pub fn precedes(self, other: OpName) -> bool
         ensures { result ≡ precedes self other }
     {
@@ -35,7 +35,8 @@ pub struct Span {
     pub len: u64,
 }
 
-/// A text that was inserted at once: its first character hangs below `after` (None: the root), each other below the one before it.
+/// A text that was inserted at once. The parent of its first character is `after` (None: the root), and the parent of
+/// each other character is the one before it.
 #[derive(Clone, Debug, PartialEq, Drop)]
 pub struct Run {
     pub first: Stamp,
@@ -58,7 +59,7 @@ pub enum Part {
     },
 }
 
-/// One change of a pad, as its maker sends it to every server.
+/// One change of a pad, in the form that its maker sends to every server.
 #[derive(Debug, PartialEq, Drop)]
 pub struct Op {
     pub name: OpName,
@@ -104,16 +105,17 @@ impl Op {
         self == other
     }
 
-    /// Whether it only inserts and erases, as each operation of several parts does.
+    /// Whether it only inserts and erases. Each operation of several parts does.
     pub fn is_edit(&self) -> bool
         ensures { result ≡ list_all is_edit self.now.parts }
     {
         are_edits(self.parts.as_slice())
     }
 
-    /// Refuses an operation that breaks a limit, wherever it comes from.
+    /// Refuses an operation that breaks a limit, with `BadOp`.
     pub fn check(&self) -> Result<(), Refusal>
-        ensures { MatchResult result (λ _. IsTrue (is_checked self.now)) (λ e. (e ≡ Refusal.BadOp) × (is_checked self.now ≡ false)) }
+        ensures { MatchResult result (λ _. IsTrue (is_checked self.now))
+            (λ e. (e ≡ Refusal.BadOp) × (is_checked self.now ≡ false)) }
     {
         if is_checked(self) {
             Ok(())

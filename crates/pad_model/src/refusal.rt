@@ -5,26 +5,26 @@ ghost use Rattle.pad_model.specs.declared.refusal.Refusal.TheVariants.{Memory};
 
 use std::alloc::{AllocError, AllocFailed};
 
-/// Why a request or a call was refused. What was refused has changed nothing, unless the call says so.
+/// Why a request or a call was refused. A refused call changes nothing, unless its documentation says otherwise.
 #[derive(Clone, Copy, Debug, PartialEq, Eq)]
 pub enum Refusal {
     /// 100: a line is longer than 8 MiB.
     TooLong,
     /// 101: a line is not JSON.
     NotJson,
-    /// 102: a line is JSON of another form than a request.
+    /// 102: a line is JSON, but not a request.
     NotRequest,
     /// 200: the request needs an author's session.
     NoSession,
-    /// 201: the name or number is unknown, or its token is another.
+    /// 201: the name or number is unknown, or the token is wrong.
     BadToken,
-    /// 202: the session is somebody's already.
+    /// 202: the session has already logged in.
     HaveSession,
-    /// 203: a scan or an end of the session is under way.
+    /// 203: a scan is under way, or the session is ending.
     Busy,
     /// 300: no pad has this name.
     NoPad,
-    /// 301: a pad has this name already.
+    /// 301: a pad with this name already exists.
     PadExists,
     /// 302: the server has no room for one more pad.
     NoSlot,
@@ -32,27 +32,27 @@ pub enum Refusal {
     BadName,
     /// 310: the session has not joined the pad.
     NotJoined,
-    /// 311: the session has joined the pad already.
+    /// 311: the session has already joined the pad.
     Joined,
     /// 312: the author lacks the right.
     Denied,
-    /// 313: as many sessions are present on the pad as the server lets be.
+    /// 313: the pad has as many sessions present as the server allows.
     Crowded,
-    /// 314: the pad has given all its visit numbers.
+    /// 314: the pad has no visit number left.
     VisitsSpent,
-    /// 315: the creator's right does not change.
+    /// 315: the creator's right cannot change.
     OwnerKept,
     /// 316: the pad has 256 grants.
     GrantsFull,
-    /// 317: a pad has made all its 64 seats.
+    /// 317: the pad has made all of its 64 seats.
     SeatsGone,
-    /// 318: a seat is not the one that its pad knows, or is missing.
+    /// 318: a seat does not match its pad, or is missing.
     SeatsOut,
     /// 319: the server has 1,024 actors.
     ActorsFull,
     /// 320: the pad has no such revision.
     NoRevision,
-    /// 321: a place is behind the end of the revision.
+    /// 321: a position is past the end of the revision.
     OutOfRange,
     /// 322: a text or a length is empty.
     Empty,
@@ -76,11 +76,11 @@ pub enum Refusal {
     PeerFault,
     /// 404: the request needs a peer's session.
     NotPeer,
-    /// 405: the answer cannot be said in the first version of the wire.
+    /// 405: version 1 of the wire cannot express the answer.
     OldPeer,
     /// 410: a stamp is outside its limits.
     BadStamp,
-    /// 900: there was no memory.
+    /// 900: out of memory.
     Memory,
     /// 901: the disk that keeps the pads is full.
     StoreFull,

@@ -48,7 +48,7 @@ impl<T> Row<T> {
         }
     }
 
-    /// A row of one item, with no room for more: a vector that grows would begin with room for four.
+    /// A row of one item, with room for that item only; a vector that grows would start with room for four.
     pub fn of_one(alloc: Global, item: T) -> Result<Row<T>, AllocError>
     where
         T: Drop,
@@ -84,7 +84,7 @@ impl<T> Row<T> {
         self.items.is_empty()
     }
 
-    /// The item at a place, from 0.
+    /// The item at an index, from 0.
     pub fn get(&self, place: usize) -> Option<&T>
         ensures { option_copied result ≡ slice_get self.now place }
     {

@@ -9,14 +9,14 @@ use crate::refusal::Refusal;
 use std::alloc::{AllocError, Global};
 use std::marker::Model;
 
-/// How many operations of an origin were delivered.
+/// The number of operations of an origin that were delivered.
 #[derive(Clone, Copy, Debug, PartialEq, Eq)]
 pub struct Counted {
     pub origin: u16,
     pub count: u64,
 }
 
-/// A version vector: for each origin the number of its operations, counts of 0 left out.
+/// A version vector: the number of operations of each origin, without counts of 0.
 #[derive(Debug, Drop)]
 pub struct Seen {
     pairs: Vec<Counted>,
@@ -63,7 +63,7 @@ impl Seen {
         }
     }
 
-    /// How many operations of an origin were delivered.
+    /// The number of operations of an origin that were delivered.
     pub fn count(&self, origin: u16) -> u64
         ensures { result ≡ count_in self.now origin }
     {
@@ -80,8 +80,8 @@ impl Seen {
         name.number <= self.count(name.origin)
     }
 
-    /// Sets the count of an origin; 0 takes the origin out, and gives its room back. It needs no memory where the origin is
-    /// there already.
+    /// Sets the count of an origin; 0 removes the origin and frees its room. It needs no memory if the origin already
+    /// has a count.
     pub fn set(&mut self, origin: u16, count: u64) -> Result<(), Refusal>
         ensures ok { OnOk result (self.new ≡ with_count self.old origin count) }
         ensures memory { IfErr result (λ e. (e ≡ Refusal.Memory) × (self.new ≡ self.old)) }
@@ -101,17 +101,18 @@ impl Seen {
         Ok(())
     }
 
-    /// Counts one more operation of an origin. It needs no memory where the origin is there already.
+    /// Counts one more operation of an origin. It needs no memory if the origin already has a count.
     pub fn advance(&mut self, origin: u16) -> Result<(), Refusal>
         requires { count_in self.old origin < MAX_NUMBER }
-        ensures ok { OnOk result (self.new ≡ with_count self.old origin (count_in self.old origin + 1)) }
+        ensures ok { OnOk result (self.new
+            ≡ with_count self.old origin (count_in self.old origin + 1)) }
         ensures memory { IfErr result (λ e. (e ≡ Refusal.Memory) × (self.new ≡ self.old)) }
         ensures room { 1 ≤ count_in self.old origin → IsOk result }
     {
         self.set(origin, self.count(origin) + 1)
     }
 
-    /// The pairs, by rising origin.
+    /// The pairs, in ascending order of origin.
     pub fn pairs(&self) -> &[Counted]
         ensures value { result.now ≡ self.now }
         ensures vector { IsVector self.now }
@@ -120,7 +121,7 @@ impl Seen {
     }
 }
 
-/// The place of an origin's pair; an error is the place where it would go.
+/// The index of an origin's pair, or the index at which it would be inserted, as an error.
 fn place_of(pairs: &[Counted], origin: u16) -> Result<usize, usize>
     requires { IsVector pairs.now }
     ensures found { IfOk result (λ place. IsAt pairs.now origin place) }

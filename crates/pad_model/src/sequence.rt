@@ -1,4 +1,4 @@
-//! What a pad asks of the sequence that keeps its characters.
+//! The interface between a pad and the sequence of its characters.
 ghost use Rattle.std.specs.Prelude.{◌≡◌, ℕ, ◌+◌, ◌≤◌, ◌<◌, ◌↔◌, List, [], IsTrue, IfOk, Some, None, MatchOption, MatchResult, slice_get, option_map, length};
 ghost use Rattle.std.specs.List.{AllByRecursion, list_all};
 ghost use Rattle.pad_model.specs.Answers.{Answers};
@@ -18,11 +18,11 @@ use crate::text::Text;
 use crate::who::{Author, AuthorRun};
 use std::alloc::Global;
 
-/// A character of a sequence, with its author lent.
+/// A character of a sequence, with its author by reference.
 #[derive(Clone, Copy, Debug)]
 pub struct CellView<'a> {
     pub stamp: Stamp,
-    /// The character that it was inserted after; None is the start of the text.
+    /// The character after which it was inserted; None is the start of the text.
     pub parent: Option<Stamp>,
     pub character: char,
     pub author: &'a Author,
@@ -32,12 +32,12 @@ pub struct CellView<'a> {
     pub died: Option<u64>,
 }
 
-/// The characters of a pad in the preorder of their tree of insertions, those that are erased included.
+/// The characters of a pad, erased ones included, in the preorder of their tree of insertions.
 ///
-/// A revision is a number that the caller counts up: readers take any, and see the characters born at it or before
-/// and not dead by then.
+/// A revision is a number that the caller counts up. Readers accept any revision, and see the characters that were
+/// inserted at or before it and not erased by then.
 pub trait Sequence: Drop {
-    /// The cells, however they are kept.
+    /// The cells, independent of how they are stored.
     ghost cells: { Self → List Cell };
 
     /// The sequence without characters.
@@ -54,17 +54,20 @@ pub trait Sequence: Drop {
     ) -> Result<(), Refusal>
         requires checked { IsTrue (is_run author.now.origin run.now) }
         requires latest { AllByRecursion (IsBy rev) (cells self.old) }
-        ensures { Answers (cells self.old) (insert_cells rev run.now author.now (cells self.old)) result (cells self.new) };
+        ensures { Answers (cells self.old) (insert_cells rev run.now author.now (cells self.old))
+            result (cells self.new) };
 
-    /// Erases the characters of the spans that are not erased yet, and answers their number.
+    /// Erases the characters of the spans that are not yet erased, and returns their number.
     fn delete_spans(&mut self, spans: &[Span], rev: u64) -> Result<u64, Refusal>
         requires checked { IsTrue (list_all is_span spans.now) }
         requires latest { AllByRecursion (IsBy rev) (cells self.old) }
-        ensures { Answers (cells self.old) (delete_cells rev spans.now (cells self.old)) result (cells self.new) };
+        ensures { Answers (cells self.old) (delete_cells rev spans.now (cells self.old)) result
+            (cells self.new) };
 
-    /// Makes the insertions and deletions of one operation, and answers how many visible characters they hide.
+    /// Makes the insertions and deletions of one operation, and returns the number of visible characters that they
+    /// hide.
     ///
-    /// Each part is judged by what stood before all of them. All parts are made, or none.
+    /// Each part is checked against the cells before the operation. Either all parts are made or none.
     fn apply(
         &mut self,
         alloc: Global,
@@ -75,50 +78,55 @@ pub trait Sequence: Drop {
         requires checked { IsTrue (are_parts author.now.origin parts.now) }
         requires edits { IsTrue (list_all is_edit parts.now) }
         requires latest { AllByRecursion (IsBy rev) (cells self.old) }
-        ensures { Answers (cells self.old) (apply_parts rev parts.now author.now (cells self.old)) result (cells self.new) };
+        ensures { Answers (cells self.old) (apply_parts rev parts.now author.now (cells self.old))
+            result (cells self.new) };
 
-    /// Whether each part of one operation of an origin fits what stands there, as `apply` wants it.
+    /// Whether each part of an operation of this origin fits the cells, as `apply` requires.
     fn fits(&self, parts: &[Part], origin: u16) -> bool
         requires checked { IsTrue (are_parts origin parts.now) }
         ensures { result ≡ list_all (part_fits character_of (cells self.now)) parts.now };
 
-    /// How many characters are visible.
+    /// The number of visible characters.
     fn len_at(&self, rev: u64) -> u64
         ensures { result ≡ length (cells_at rev (cells self.now)) };
 
-    /// The stamp of the visible character at a place, from 0.
+    /// The stamp of the visible character at a position, from 0.
     fn stamp_at(&self, rev: u64, place: u64) -> Option<Stamp>
         ensures { result ≡ cell_stamp_at rev (cells self.now) place };
 
     fn text_at(&self, alloc: Global, rev: u64) -> Result<Text, Refusal>
-        ensures { MatchResult result (λ text. text ≡ cells_text rev (cells self.now)) (λ e. e ≡ Refusal.Memory) };
+        ensures { MatchResult result (λ text. text ≡ cells_text rev (cells self.now))
+            (λ e. e ≡ Refusal.Memory) };
 
-    /// The authors of the visible characters, in the longest runs.
+    /// The authors of the visible characters, in the fewest runs.
     fn authors_at(&self, alloc: Global, rev: u64) -> Result<Row<AuthorRun>, Refusal>
-        ensures { MatchResult result (λ runs. runs ≡ runs_at rev (cells self.now)) (λ e. e ≡ Refusal.Memory) };
+        ensures { MatchResult result (λ runs. runs ≡ runs_at rev (cells self.now))
+            (λ e. e ≡ Refusal.Memory) };
 
-    /// What leads from the text of one revision to that of another, in the fewest pieces.
+    /// The changes that turn the text of one revision into that of another, in the fewest pieces.
     fn changes(&self, alloc: Global, rev: u64, to: u64) -> Result<Row<Piece>, Refusal>
-        ensures { MatchResult result (λ pieces. pieces ≡ cells_changes rev to (cells self.now)) (λ e. e ≡ Refusal.Memory) };
+        ensures { MatchResult result (λ pieces. pieces ≡ cells_changes rev to (cells self.now))
+            (λ e. e ≡ Refusal.Memory) };
 
-    /// The stamps of `len` visible characters from a place on, in the longest spans.
+    /// The stamps of the `len` visible characters from a position on, in the fewest spans.
     fn spans_at(&self, alloc: Global, rev: u64, at: u64, len: u64) -> Result<Row<Span>, Refusal>
         requires { at + len ≤ length (cells_at rev (cells self.now)) }
-        ensures { MatchResult result (λ spans. spans ≡ cells_spans rev (cells self.now) at len) (λ e. e ≡ Refusal.Memory) };
+        ensures { MatchResult result (λ spans. spans ≡ cells_spans rev (cells self.now) at len)
+            (λ e. e ≡ Refusal.Memory) };
 
-    /// How many visible characters stand before a character; None where it is missing.
+    /// The number of visible characters before a character; None if there is no such character.
     fn before(&self, stamp: Stamp, rev: u64) -> Option<u64>
         ensures { result ≡ before_at rev (cells self.now) stamp };
 
-    /// How many visible characters stand up to and including a character; None where it is missing.
+    /// The number of visible characters up to and including a character; None if there is no such character.
     fn through(&self, stamp: Stamp, rev: u64) -> Option<u64>
         ensures { result ≡ through_at rev (cells self.now) stamp };
 
-    /// Whether `a` is `b` or stands before it, erased or not; None where one is missing.
+    /// Whether `a` is `b` or comes before it, erased or not; None if one of them is missing.
     fn stands_before(&self, a: Stamp, b: Stamp) -> Option<bool>
         ensures { result ≡ is_before (cells self.now) a b };
 
-    /// Whether a character is there, erased or not.
+    /// Whether the sequence has a character, erased or not.
     fn has(&self, stamp: Stamp) -> bool
         ensures { result ≡ has_stamp character_of (cells self.now) stamp };
 
@@ -130,12 +138,12 @@ pub trait Sequence: Drop {
     fn last_of(&self, replica: u16) -> u64
         ensures { result ≡ last_of replica (cells self.now) };
 
-    /// How many characters there are, those that are erased included.
+    /// The number of characters, erased ones included.
     fn cell_count(&self) -> u64
         ensures value { result ≡ length (cells self.now) }
         ensures order { IsInOrder (cells self.now) };
 
-    /// The cell at a place of the preorder, from 0.
+    /// The cell at a position of the preorder, from 0.
     fn cell_at(&self, place: u64) -> Option<CellView<'_>>
         ensures { IsViewOf result (slice_get (cells self.now) place) };
 }

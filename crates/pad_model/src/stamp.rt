@@ -6,7 +6,7 @@ use crate::limits::MAX_COUNTER;
 use crate::refusal::Refusal;
 use std::marker::Model;
 
-/// What the clock of a replica showed when a character was inserted (Lamport 1978).
+/// A Lamport timestamp: the clock of a replica when a character was inserted (Lamport 1978).
 ///
 /// Stamps are ordered by counter, then by replica: the newer one is the greater one.
 #[derive(Clone, Copy, Debug, PartialEq, Eq, PartialOrd, Ord, Hash)]
@@ -28,9 +28,11 @@ impl Model for Stamp {
 }
 
 impl Stamp {
-    /// The stamp of this counter and replica number.
+    /// The stamp with this counter and replica number, or `BadStamp` if one is out of its limits.
     pub fn new(counter: u64, replica: u16) -> Result<Stamp, Refusal>
-        ensures value { MatchResult result (λ s. (s.counter ≡ counter) × (s.replica ≡ replica) × IsInLimits counter replica) (λ e. (e ≡ Refusal.BadStamp) × (IsInLimits counter replica → ⊥)) }
+        ensures value { MatchResult result
+            (λ s. (s.counter ≡ counter) × (s.replica ≡ replica) × IsInLimits counter replica)
+            (λ e. (e ≡ Refusal.BadStamp) × (IsInLimits counter replica → ⊥)) }
     {
         if counter == 0 || counter > MAX_COUNTER || replica == 0 {
             return Err(Refusal::BadStamp);
@@ -52,7 +54,7 @@ impl Stamp {
         self.replica
     }
 
-    /// The stamp of the character that stands this many places behind this one in its run.
+    /// The stamp of the character `places` after this one in its run.
     pub fn plus(self, places: u64) -> Stamp
         requires { self.counter + places ≤ MAX_COUNTER }
         ensures { result ≡ record self { counter = self.counter + places } }

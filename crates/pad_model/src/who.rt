@@ -1,6 +1,6 @@
 use crate::name::Name;
 
-/// The author of a character: a name, and the replica number of the server that knows it.
+/// The author of a character: a name, and the replica number of the server with that account.
 #[derive(Clone, Debug, PartialEq, Drop)]
 pub struct Author {
     pub name: Name,
@@ -14,14 +14,14 @@ pub struct AuthorRun {
     pub len: u64,
 }
 
-/// What a peer can read: the first version of the wire has smaller limits.
+/// The version of the wire that a peer can read. Version 1 has smaller limits.
 #[derive(Clone, Copy, Debug, PartialEq, Eq)]
 pub enum Version {
     One,
     Two,
 }
 
-/// Whose session it is.
+/// Who a session belongs to.
 #[derive(Clone, Debug, PartialEq, Drop)]
 pub enum Who {
     Nobody,

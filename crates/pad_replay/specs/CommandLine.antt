@@ -7,16 +7,16 @@ use Rattle.sessions.specs.declared.presence.TheConstants.{DEFAULT_PRESENT, MAX_P
 use Rattle.server_core.specs.declared.limits.TheConstants.{DEFAULT_CELLS, MAX_CELLS}
 use Rattle.pad_replay.specs.declared.args.Asked.{Asked}
 
--- an option that has to be there
+-- an option that is required
 abbrev pub mandatory : Rule → Rule
 mandatory rule = record rule { required = true }
 
--- the command line: clap's words say which words it takes, and what they give under a name
+-- the command line, in the terms of clap, which define the words that it accepts and what they give under a name
 abbrev pub line : App
 line = with_rule (with_rule (with_rule (with_rule (with_rule (versioned (new_app (codes "pad_replay"))) replica_rule)
     (mandatory cells_rule)) present_rule) (mandatory accounts_rule)) (flag_rule (codes "plain"))
 
--- the words ask for this: the numbers that they give under `--replica`, `--cells` and `--present`, the path under
+-- what the words ask for: the numbers that they give under `--replica`, `--cells` and `--present`, the path under
 -- `--accounts`, and `--plain`
 pub record AsksFor (words : List (List ℕ)) (asked : Asked) : Type 0 where
   pub replica : Gives line words (codes "replica") 1 65535 1 asked.replica

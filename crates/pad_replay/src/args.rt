@@ -16,7 +16,7 @@ use std::alloc::{AllocError, Global};
 /// What the command line asks for.
 #[derive(Clone, Copy)]
 pub struct Asked<'a> {
-    /// The replica number of a server whose title names none, at least 1.
+    /// The replica number of a server whose title does not name one, at least 1.
     pub replica: u16,
     /// How many pads a server has room for, 1 to 4,096.
     pub cells: u32,
@@ -24,11 +24,12 @@ pub struct Asked<'a> {
     pub present: u64,
     /// The path of the accounts file.
     pub accounts: &'a str,
-    /// Whether pads keep their characters in the plain sequence, which is slow, and not as blocks. No reply differs.
+    /// Whether pads keep their characters in the plain sequence, which is slow, instead of blocks. The replies are the
+    /// same.
     pub plain: bool,
 }
 
-// The option, which has to be there.
+// Makes an option required.
 fn mandatory<'a>(option: Arg<'a>) -> Arg<'a>
     ensures rule { rule_of result ≡ mandatory (rule_of option.entry) }
     ensures local { result.global ≡ option.entry.global }

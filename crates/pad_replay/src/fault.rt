@@ -12,11 +12,11 @@ use std::{fmt, io};
 /// Why a story could not be played.
 #[derive(Drop)]
 pub enum Fault {
-    /// A line of the accounts file is at fault.
+    /// A line of the accounts file is invalid.
     BadAccounts { line: u64 },
-    /// A line of the story, counted from 1, has no form of a story.
+    /// A line of the story, counted from 1, has none of the forms of a story.
     NoStory { line: u64 },
-    /// A title, at this line of the story, names no number that a replica can have.
+    /// A title, at this line of the story, names a number that no replica can have.
     NoReplica { line: u64 },
     /// There was no room for a session, or no memory.
     Refused(Refusal),
@@ -27,7 +27,7 @@ pub enum Fault {
 }
 
 impl Fault {
-    /// 2 for a bad line of the accounts file, else 1.
+    /// 2 for an invalid line of the accounts file, otherwise 1.
     pub fn status(&self) -> ExitCode
         ensures { exit_status result ≡ status self.now }
     {

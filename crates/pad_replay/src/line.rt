@@ -10,11 +10,11 @@ pub enum Line<'a> {
     Note,
     /// The session with this name ends.
     End { name: &'a [u8] },
-    /// The session with this name asks something.
+    /// The session with this name makes a request.
     Ask { name: &'a [u8], request: &'a [u8] },
-    /// A title whose number is no replica's.
+    /// A title with a number that no replica can have.
     NoReplica,
-    /// None of these: there is no tab in it.
+    /// None of these: the line has no tab.
     Unknown,
 }
 
@@ -37,7 +37,7 @@ impl<'a> Line<'a> {
         }
     }
 
-    // The last word of a title has to be a replica number where the word `replica` stands in front of it.
+    // If the word before the last one of a title is `replica`, the last one has to be a replica number.
     fn title(title: &[u8]) -> Line<'static> {
         let mut words = title.rsplitn(3, |byte| *byte == b' ');
         match (words.next(), words.next(), words.next()) {
@@ -52,7 +52,7 @@ impl<'a> Line<'a> {
     }
 }
 
-/// The replica number that a word writes: 1 to 65,535.
+/// The replica number that a word represents: 1 to 65,535.
 fn read_replica(word: &[u8]) -> Option<u16>
     ensures { IfSome result (λ replica. 1 ≤ replica) }
 {

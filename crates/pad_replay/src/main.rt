@@ -1,7 +1,7 @@
 //! Plays several sessions against one server in one thread: a tool for people and tests.
 //!
-//! Its input is a story: lines of sessions that each begin with the session's name and a tab. Its output has the reply of
-//! each request behind the same name, and repeats titles, notes and empty lines.
+//! Its input is a story: lines of sessions that each begin with the session's name and a tab. Its output has the reply
+//! to each request after the same name, and repeats titles, notes and empty lines.
 #![tactic(auto)]
 
 ghost use Rattle.std.specs.Prelude.{◌≤◌};
@@ -49,14 +49,14 @@ fn main(rt: HostRuntime) -> anyhow::Result<ExitCode> {
     match played {
         Ok(()) => Ok(ExitCode::SUCCESS),
         Err(fault) => {
-            // The status says it too, where standard error is closed.
+            // If standard error is closed, the status still reports it.
             let _told = eprintln!(rt; "pad_replay: {fault}");
             Ok(fault.status())
         }
     }
 }
 
-/// Plays the story of standard input, with the characters of pads in a sequence of this kind.
+/// Plays the story on standard input, with pads that keep their characters in a sequence of this kind.
 fn play_all<S: Sequence>(rt: &HostRuntime, asked: Asked<'_>, accounts: Vec<u8>) -> Result<(), Fault>
     requires { (1 ≤ asked.replica) × (asked.cells ≤ MAX_CELLS) }
 {

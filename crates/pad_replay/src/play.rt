@@ -1,4 +1,4 @@
-//! Playing a story: its lines in, what is repeated and the replies out.
+//! Plays a story: reads its lines, and writes what is repeated and the replies.
 use crate::fault::Fault;
 use crate::line::Line;
 use crate::story_server::StoryServer;
@@ -6,7 +6,7 @@ use pad_model::Sequence;
 use std::alloc::Global;
 use std::io::{BufRead, Write};
 
-/// Plays the lines of a reader to its end. Each line is answered before the next one is read.
+/// Plays all lines of a reader. Each line is answered before the next one is read.
 pub fn play<S: Sequence, R: BufRead, W: Write>(
     alloc: Global,
     server: &mut StoryServer<S>,
@@ -59,7 +59,7 @@ fn repeat<W: Write>(line: &[u8], writer: &mut W) -> Result<(), Fault> {
     Ok(())
 }
 
-/// Asks, and writes the reply behind the session's name. An empty request has no reply.
+/// Makes a request, and writes the reply after the session's name. An empty request has no reply.
 fn tell<S: Sequence, W: Write>(
     alloc: Global,
     server: &mut StoryServer<S>,

@@ -11,10 +11,11 @@ use sessions::Accounts;
 use std::alloc::Global;
 use wire_json::{read_request, reply_line};
 
-/// A server whose pads keep their characters in a sequence of this kind, and the names of its sessions in the order of their first use: the place of a name is its actor's number.
+/// A server whose pads keep their characters in a sequence of this kind, and the names of its sessions in order of
+/// first use: the index of a name is its actor's number.
 #[derive(Drop)]
 pub struct StoryServer<S: Sequence> {
-    /// The replica number of a server whose title names none.
+    /// The replica number of a server whose title does not name one.
     replica: u16,
     /// How many visits may be present on a pad at once.
     present: u64,
@@ -45,7 +46,7 @@ fn step_of(alloc: Global, line: &[u8]) -> Result<Step, Refusal> {
 }
 
 impl<S: Sequence> StoryServer<S> {
-    /// A new server, of which each later one takes the row and the accounts.
+    /// Creates a first server. Each later one has as many cells and the same accounts.
     pub fn new(
         alloc: Global,
         replica: u16,
@@ -67,7 +68,7 @@ impl<S: Sequence> StoryServer<S> {
         })
     }
 
-    /// Begins again with a new server, of this replica number.
+    /// Begins again with a new server with this replica number.
     pub fn renew(&mut self, alloc: Global, replica: Option<u16>) -> Result<(), Fault> {
         let replica = replica_or(replica, self.replica);
         self.server = make_server(
@@ -81,7 +82,7 @@ impl<S: Sequence> StoryServer<S> {
         Ok(())
     }
 
-    /// The reply line of a request, its LF included.
+    /// Makes a request, and returns its reply line, including the LF.
     pub fn ask(&mut self, alloc: Global, name: &[u8], line: &[u8]) -> Result<String, Fault> {
         let reply = match step_of(alloc, line) {
             Ok(step) => self.answer(alloc, name, &step)?,
@@ -90,7 +91,7 @@ impl<S: Sequence> StoryServer<S> {
         Ok(reply_line(alloc, &reply)?)
     }
 
-    /// Ends a session. It is unauthenticated then.
+    /// Ends a session, which is unauthenticated from then on.
     pub fn end(&mut self, alloc: Global, name: &[u8]) -> Result<(), Fault> {
         let _ended = self.answer(alloc, name, &Step::End)?;
         Ok(())
@@ -117,7 +118,7 @@ impl<S: Sequence> StoryServer<S> {
         Ok(self.server.open(alloc)?)
     }
 
-    /// Makes a step, and goes on with what it began until that is done.
+    /// Makes a step, and continues what it began until that is done.
     fn finish(
         &mut self,
         alloc: Global,

@@ -1,8 +1,8 @@
--- What the command line asks of a server over TCP.
+-- The settings of a server over TCP, from the command line.
 use Rattle.pad_server.specs.declared.args.Asked.{Asked}
 use Rattle.serving.specs.declared.settings.Settings.{Settings}
 
--- all that a server over TCP has to know beside its address and its accounts
+-- everything that a server over TCP has to know, except its address and its accounts
 abbrev pub settings_of : Asked → Settings
 settings_of asked = record {
   replica = asked.replica;

@@ -1,4 +1,4 @@
--- The command line of the program, and what it gives.
+-- The command line of the program, and what its words give.
 use Rattle.std.specs.Prelude.{◌≡◌, List, ℕ, codes, option_map, unwrap_or}
 use Rattle.clap.specs.Words.{App, Rule, matches_of, new_app, one_of, with_rule}
 use Rattle.command_line.specs.Options.{Gives, IsFlag, accounts_rule, cells_rule, flag_rule, number_rule, option_rule}
@@ -21,15 +21,15 @@ listen_rule = option_rule (codes "listen")
 abbrev pub workers_rule : Rule
 workers_rule = number_rule (codes "workers") 1 MAX_WORKERS
 
--- `--connections N`, a number that a u32 holds
+-- `--connections N`, a number of 32 bits
 abbrev pub connections_rule : Rule
 connections_rule = number_rule (codes "connections") 1 4294967295
 
--- `--clients N`, a number that a u32 holds
+-- `--clients N`, a number of 32 bits
 abbrev pub clients_rule : Rule
 clients_rule = number_rule (codes "clients") 1 4294967295
 
--- `--idle SECONDS`, a number that a u32 holds
+-- `--idle SECONDS`, a number of 32 bits
 abbrev pub idle_rule : Rule
 idle_rule = number_rule (codes "idle") 1 4294967295
 
@@ -49,25 +49,28 @@ web_rule = option_rule (codes "web")
 abbrev pub web_origins_rule : Rule
 web_origins_rule = option_rule (codes "web-origin")
 
--- the options that say what is served, by which server, and for whom
-abbrev pub first_line : App
-first_line = with_rule (with_rule (with_rule (with_rule (versioned (new_app (codes "pad_server"))) stdin_rule)
+-- the command line with the options that say what is served, by which server, and for whom
+abbrev pub line_with_service : App
+line_with_service = with_rule (with_rule (with_rule (with_rule (versioned (new_app (codes "pad_server"))) stdin_rule)
     listen_rule) replica_rule) accounts_rule
 
--- with those that say how many pads, visits on a pad, threads and connections there are
-abbrev pub second_line : App
-second_line = with_rule (with_rule (with_rule (with_rule first_line cells_rule) present_rule) workers_rule)
+-- the same, with the options that limit pads, visits on a pad, threads and connections
+abbrev pub line_with_sizes : App
+line_with_sizes = with_rule (with_rule (with_rule (with_rule line_with_service cells_rule) present_rule)
+    workers_rule)
     connections_rule
 
--- with those that say how many clients there are, when a silent connection is closed, and where the pads are kept
-abbrev pub third_line : App
-third_line = with_rule (with_rule (with_rule (with_rule second_line clients_rule) idle_rule) store_rule) new_replica_rule
+-- the same, with the options that say how many clients there may be, when a silent connection is closed, and where pads
+-- are stored
+abbrev pub line_with_clients_and_store : App
+line_with_clients_and_store = with_rule (with_rule (with_rule (with_rule line_with_sizes clients_rule) idle_rule)
+    store_rule) new_replica_rule
 
--- the command line: clap's words say which words it takes, and what they give under a name
+-- the whole command line, in the terms of clap, which define the words that it accepts and what they give under a name
 abbrev pub line : App
-line = with_rule (with_rule third_line web_rule) web_origins_rule
+line = with_rule (with_rule line_with_clients_and_store web_rule) web_origins_rule
 
--- the words give this: the numbers, the flag and the texts under the names of the options
+-- what the words give: the numbers, the flags and the texts under the names of the options
 pub record AsksFor (words : List (List ℕ)) (asked : Asked) : Type 0 where
   pub replica : Gives line words (codes "replica") 1 65535 1 asked.replica
   pub cells : Gives line words (codes "cells") 0 MAX_CELLS DEFAULT_CELLS asked.cells

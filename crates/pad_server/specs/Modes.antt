@@ -1,4 +1,4 @@
--- What the server serves, by what the command line gives.
+-- What the server serves, by its command line.
 use Rattle.std.specs.Prelude.{List, ℕ, Bool, true, false, not, ◌&&◌, if◌then◌else◌, Option, Some, None, Result, Ok, Err}
 use Rattle.std.specs.Option.{is_some}
 use Rattle.std.specs.Borrow.{Bor}
@@ -25,13 +25,13 @@ reading asked =
     else if is_some asked.web_origins then Err NoWebOrigins
     else Ok Stdin
 
--- just one of standard input and connections over TCP
+-- exactly one of standard input and connections over TCP
 abbrev pub served : Bool → Option (Bor (List ℕ)) → Asked → Result Mode Misuse
 served true None asked = reading asked
 served true (Some address) asked = Err NotOne
 served false None asked = Err NotOne
 served false (Some address) asked = listening address asked.accounts asked
 
--- what is asked for is served so
+-- what a command line asks the server to serve
 abbrev pub mode_of : Asked → Result Mode Misuse
 mode_of asked = served asked.stdin asked.listen asked

@@ -6,7 +6,8 @@ use Rattle.serving.specs.declared.serving_error.ServingError.TheVariants.{Accoun
 use Rattle.pad_server.specs.declared.failure.Failure.{Failure}
 use Rattle.pad_server.specs.declared.failure.Failure.TheVariants.{Accounts, Serving}
 
--- 2 after a bad line of the accounts file, for the store of another server and for a number that is not new, else 1
+-- 2 after an invalid line of the accounts file, for the store of another server and for a number that is not new,
+-- otherwise 1
 abbrev pub status : Failure → ℕ
 status (Accounts (BadLine path line mistake)) = 2
 status (Serving (ServingAccounts (BadLine path line mistake))) = 2

@@ -3,7 +3,7 @@ ghost use Rattle.std.specs.Prelude.{◌≡◌, ◌≤◌, IfOk, map, string_byte
 ghost use Rattle.clap.specs.Faults.{fault_of};
 ghost use Rattle.clap.specs.Words.{FailsBy, app_of};
 ghost use Rattle.server_core.specs.declared.limits.TheConstants.{MAX_CELLS};
-ghost use Rattle.pad_server.specs.CommandLine.{AsksFor, first_line, line, second_line, third_line};
+ghost use Rattle.pad_server.specs.CommandLine.{AsksFor, line_with_service, line, line_with_sizes, line_with_clients_and_store};
 
 use crate::options::{
     clients_of, clients_option, connections_of, connections_option, idle_of, idle_option,
@@ -22,31 +22,31 @@ use std::alloc::{AllocError, Global};
 pub struct Asked<'a> {
     /// The replica number of this server, at least 1.
     pub replica: u16,
-    /// How many pads the server has room for, 1 to 4,096.
+    /// The number of pads that the server has room for, 1 to 4,096.
     pub cells: u32,
-    /// How many visits may be present on a pad at once, 1 to 1,024.
+    /// The limit of visits that may be present on a pad at once, 1 to 1,024.
     pub present: u64,
     /// The path of the accounts file.
     pub accounts: Option<&'a str>,
-    /// Whether standard input and output are served.
+    /// Whether to serve standard input and output.
     pub stdin: bool,
-    /// The address where connections are served.
+    /// The address at which to serve connections.
     pub listen: Option<&'a str>,
-    /// How many threads serve connections, 1 to 63. None: one for each processor.
+    /// The number of threads that serve connections, 1 to 63. None: one for each processor.
     pub workers: Option<u32>,
-    /// After how many connections the server ends. None: it does not.
+    /// The number of connections after which the server ends. None: no limit.
     pub connections: Option<u32>,
-    /// How many clients may be connected at once, at least 1.
+    /// The most clients that may be connected at once, at least 1.
     pub clients: u32,
-    /// After how many seconds of silence a connection is closed. None: never.
+    /// The seconds of silence after which a connection is closed. None: never.
     pub idle: Option<u32>,
-    /// The directory where pads are kept. None: they are lost when the server ends.
+    /// The directory in which pads are stored. None: they are lost when the server ends.
     pub store: Option<&'a str>,
-    /// Whether no server has used the replica number before, so that the store may be one of another number.
+    /// Whether no server has used the replica number before. Then the store may be that of another number.
     pub new_replica: bool,
-    /// The address where the page for browsers is served.
+    /// The address at which to serve the page for browsers.
     pub web: Option<&'a str>,
-    /// Whose pages may connect beside the server's own: origins, separated by commas.
+    /// The origins whose pages may connect beside the server's own, separated by commas.
     pub web_origins: Option<&'a str>,
 }
 
@@ -57,9 +57,9 @@ const USAGE: &str =
 const ACCOUNTS_HELP: &str =
     "The file of authors and peers that may log in; --listen needs it [with --stdin, default: the author solo]";
 
-// What is served, by which server, and for whom.
-fn first_options<'a>(alloc: Global) -> Result<Command<'a>, AllocError>
-    ensures { IfOk result (λ command. app_of command ≡ first_line) }
+// Declares the options `--stdin`, `--listen`, `--replica` and `--accounts`.
+fn with_service_options<'a>(alloc: Global) -> Result<Command<'a>, AllocError>
+    ensures { IfOk result (λ command. app_of command ≡ line_with_service) }
 {
     let replica_help = "The replica number of this server, 1 to 65535, different on each server";
     Command::new(alloc, "pad_server")
@@ -72,24 +72,24 @@ fn first_options<'a>(alloc: Global) -> Result<Command<'a>, AllocError>
         .arg(accounts_option(alloc, ACCOUNTS_HELP))
 }
 
-// How many pads, visits on one, threads and connections there are.
-fn second_options<'a>(alloc: Global) -> Result<Command<'a>, AllocError>
-    ensures { IfOk result (λ command. app_of command ≡ second_line) }
+// Adds the options `--cells`, `--present`, `--workers` and `--connections`.
+fn with_size_options<'a>(alloc: Global) -> Result<Command<'a>, AllocError>
+    ensures { IfOk result (λ command. app_of command ≡ line_with_sizes) }
 {
     let cells_help = "How many pads the server has room for, 1 to 4,096 [default: 64]";
     let present_help = "How many visits may be present on a pad at once, 1 to 1,024 [default: 64]";
-    first_options(alloc)?
+    with_service_options(alloc)?
         .arg(cells_option(alloc, cells_help))?
         .arg(present_option(alloc, present_help))?
         .arg(workers_option(alloc))?
         .arg(connections_option(alloc))
 }
 
-// How many clients there are, when a silent connection is closed, and where the pads are kept.
-fn third_options<'a>(alloc: Global) -> Result<Command<'a>, AllocError>
-    ensures { IfOk result (λ command. app_of command ≡ third_line) }
+// Adds the options `--clients`, `--idle`, `--store` and `--new-replica`.
+fn with_client_and_store_options<'a>(alloc: Global) -> Result<Command<'a>, AllocError>
+    ensures { IfOk result (λ command. app_of command ≡ line_with_clients_and_store) }
 {
-    second_options(alloc)?
+    with_size_options(alloc)?
         .arg(clients_option(alloc))?
         .arg(idle_option(alloc))?
         .arg(store_option(alloc))?
@@ -99,7 +99,7 @@ fn third_options<'a>(alloc: Global) -> Result<Command<'a>, AllocError>
 fn command<'a>(alloc: Global) -> Result<Command<'a>, AllocError>
     ensures { IfOk result (λ command. app_of command ≡ line) }
 {
-    third_options(alloc)?
+    with_client_and_store_options(alloc)?
         .arg(web_option(alloc))?
         .arg(web_origins_option(alloc))
 }

@@ -1,4 +1,4 @@
-//! What the command line asks of a server over TCP.
+//! The settings of a server over TCP, from the command line.
 ghost use Rattle.std.specs.Prelude.{◌≡◌};
 ghost use Rattle.pad_server.specs.Asking.{settings_of};
 
@@ -6,7 +6,7 @@ use crate::args::Asked;
 use serving::Settings;
 
 impl<'a> Asked<'a> {
-    /// What a server over TCP is asked for.
+    /// The settings of a server over TCP.
     pub fn settings(self) -> Settings<'a>
         ensures { result ≡ settings_of self.entry }
     {

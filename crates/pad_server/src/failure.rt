@@ -33,7 +33,7 @@ pub enum Failure<'a> {
 }
 
 impl<'a> Failure<'a> {
-    /// A connection's fault, with the system's error if its device reported one.
+    /// The failure for a connection's fault, with the system's error if its device reported one.
     pub fn of(
         fault: Fault,
         unread: Option<io::Error>,
@@ -53,7 +53,7 @@ impl<'a> Failure<'a> {
         }
     }
 
-    /// What is wrong with the accounts file. None: it is another failure.
+    /// What is wrong with the accounts file; None for another failure.
     pub fn accounts(self) -> Option<AccountsFileError<'a>> {
         match self {
             Failure::Accounts(error) => Some(error),
@@ -62,7 +62,8 @@ impl<'a> Failure<'a> {
         }
     }
 
-    /// 2 for a bad line of the accounts file, the store of another server or a number that is not new; otherwise 1.
+    /// 2 for an invalid line of the accounts file, the store of another server or a number that is not new; otherwise
+    /// 1.
     pub fn status(self) -> ExitCode
         ensures { exit_status result ≡ status self.entry }
     {

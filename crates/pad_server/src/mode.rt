@@ -12,7 +12,7 @@ pub enum Mode<'a> {
     Stdin,
     /// Connections over TCP.
     Listen {
-        /// The address, as `127.0.0.1:7878`.
+        /// The address, such as `127.0.0.1:7878`.
         address: &'a str,
         /// The path of the accounts file.
         accounts: &'a str,
@@ -39,8 +39,8 @@ pub enum Misuse {
 }
 
 impl<'a> Asked<'a> {
-    /// What is served. Exactly one of `--stdin` and `--listen` has to be given: the first without `--store`, `--idle`,
-    /// `--new-replica` and `--web`, the second with `--accounts`. `--web-origin` is for `--web`.
+    /// Returns what is served. Exactly one of `--stdin` and `--listen` has to be given: the first without `--store`,
+    /// `--idle`, `--new-replica` and `--web`, the second with `--accounts`. `--web-origin` is for `--web`.
     pub fn mode(self) -> Result<Mode<'a>, Misuse>
         ensures { result ≡ mode_of self.entry }
     {

@@ -1,4 +1,4 @@
-//! The server of one session, with its session.
+//! The server of one session.
 ghost use Rattle.std.specs.Prelude.{◌≤◌};
 ghost use Rattle.server_core.specs.declared.limits.TheConstants.{MAX_CELLS};
 
@@ -18,7 +18,8 @@ use workers::{Alone, Pads};
 /// The author of a server without accounts, and its token.
 const SOLO: &str = "solo";
 
-/// The server of the command line. Its actor is the author `solo` if there is no accounts file, otherwise nobody.
+/// Opens the server that the command line asks for. Its actor is the author `solo` if there is no accounts file, and
+/// otherwise unauthenticated.
 pub fn open<'a, R>(rt: &R, asked: Asked<'a>) -> Result<Alone<BlockSeq>, Failure<'a>>
 where
     R: AllocGlobal + Files + Clock + Eprint,
@@ -36,12 +37,12 @@ where
     Ok(pads)
 }
 
-/// The accounts of a server without a file of them.
+/// The accounts of a server without an accounts file.
 fn solo_accounts(alloc: Global) -> Result<Accounts, AccountsFileError<'static>> {
     Accounts::read(alloc, b"author solo solo\n").map_err(|error| AccountsFileError::of(SOLO, error))
 }
 
-/// A server with one actor, which is nobody yet.
+/// Opens a server with one unauthenticated actor.
 fn open_server(
     alloc: Global,
     replica: u16,
@@ -63,7 +64,7 @@ fn hello(alloc: Global) -> Result<Request, Refusal> {
     })
 }
 
-/// Logs the author `solo` in.
+/// Logs in the author `solo`.
 fn greet(alloc: Global, pads: &mut Alone<BlockSeq>) -> Result<(), Refusal> {
     let hello = hello(alloc)?;
     let _welcome = pads.call(alloc, &hello)?;

@@ -1,4 +1,4 @@
-//! The options that no other program has.
+//! The options that only this program has.
 ghost use Rattle.std.specs.Prelude.{◌≡◌, ◌≤◌, ℕ, codes, false, unwrap_or};
 ghost use Rattle.clap.specs.Words.{rule_of};
 ghost use Rattle.command_line.specs.Options.{Holds};
@@ -8,7 +8,7 @@ use clap::{Arg, ArgAction, ArgMatches, value_parser};
 use serving::MAX_WORKERS;
 use std::alloc::Global;
 
-/// How many clients may be connected without `--clients`.
+/// The most clients that may be connected at once, without `--clients`.
 pub const DEFAULT_CLIENTS: u32 = 10_000;
 
 /// `--stdin`.

@@ -1,4 +1,4 @@
--- What a pad answers to who reads it, and that its log stays.
+-- What a pad answers to readers, and that its log stays unchanged.
 use Rattle.std.proofs.Common.{◌≡◌, ◌⊎◌, inl, inr, ℕ, Bool, true, false, List, Option, Some, None, unwrap_or, Result, Ok, Err}
 use Rattle.std.proofs.Common.{refl, sym, ap, ◌∙◌, subst, bytes_eq, length, encode_utf8_all, IfErr, IfOk, MatchResult}
 use Rattle.pad_model.specs.declared.op.Op.{Op}
@@ -27,7 +27,7 @@ use Rattle.pad_store.specs.declared.book.Book.{Book}
 use Rattle.pad_store.specs.declared.trouble.Trouble.{Trouble}
 use Rattle.pad_store.specs.declared.trouble.Trouble.TheVariants as trouble
 
--- an author's act is answered by the log alone, and changes nothing; a peer's is refused
+-- an author's act that reads is answered from the log alone, and changes nothing; a peer's is refused
 abbrev IsReading : Act → (List Op → Result PadReply Refusal) → Type 0
 IsReading a told =
     ((owned : Owned) (name : List ℕ) (visit : ℕ) (m : Machine) → author_act owned name visit a m ≡ (told m.log, m))
@@ -104,7 +104,7 @@ was_stepped m new event answer (inl (inl h)) = absurd (no_memory answer h.0)
 was_stepped m new event answer (inl (inr h)) = h
 was_stepped m new event answer (inr h) = absurd (no_memory answer h.0)
 
--- so what a pad answers to who reads it is what its log says
+-- so a pad answers readers what its log says
 pub told : (m new : Machine) (event : PadEvent) (r : Result PadReply Refusal) (answer : PadReply) →
     r ≡ Ok answer → Stepped m event r new → IsTold event.act.now answer m.log new.log
 told m new event r answer is h = told_step event.act.now event.pad.now event.who.now event.visit m new answer
@@ -131,7 +131,7 @@ joins_step pad who visit None replica log held p = refl
 joins_step pad who visit (Some owned) replica log held p =
     split (bytes_eq owned.name pad) (λ yes. rw yes (joins_session owned who visit _)) (λ no. rw no refl)
 
--- who joins a pad leaves its log as it is
+-- joining a pad leaves its log unchanged
 pub joined : (m new : Machine) (event : PadEvent) (r : Result PadReply Refusal) (answer : PadReply) →
     event.act.now ≡ act.Join → r ≡ Ok answer → Stepped m event r new → new.log ≡ m.log
 joined m new event r answer is answered h =
@@ -141,7 +141,7 @@ joined m new event r answer is answered h =
     ap (λ (d : Result PadReply Refusal × Machine). d.1.log) (sym done)
     ∙ joins_step event.pad.now event.who.now event.visit m.owned m.replica m.log m.held m.presence
 
--- where nothing is said to be damaged, nothing is said wrongly
+-- if no damage is reported, no damage is reported wrongly
 pub faultless : (bytes : List ℕ) (t : Trouble) → IsNoDamage t → IsFault bytes t
 unfolding IsFault
 faultless bytes trouble.Memory none = tt
@@ -149,7 +149,7 @@ faultless bytes (trouble.Damaged damage) none = absurd none
 faultless bytes trouble.NoRevision none = tt
 faultless bytes trouble.Unread none = tt
 
--- what holds of a result holds of what it answers
+-- what holds for a result holds for its value
 pub of_ok : {A E : Type 0} (P : A → Type 0) (Q : E → Type 0) (r : Result A E) (x : A) → r ≡ Ok x → MatchResult r P Q →
     P x
 of_ok P Q r x is h = subst (λ q. MatchResult q P Q) is h
@@ -158,7 +158,7 @@ pub of_err : {A E : Type 0} (P : A → Type 0) (Q : E → Type 0) (r : Result A 
     MatchResult r P Q → Q e
 of_err P Q r e is h = subst (λ q. MatchResult q P Q) is h
 
--- and so where only one of the two is told
+-- and so if only one of the two is known
 pub if_ok : {A E : Type 0} (P : A → Type 0) (r : Result A E) (x : A) → r ≡ Ok x → IfOk r P → P x
 if_ok P r x is h = subst (λ q. IfOk q P) is h
 

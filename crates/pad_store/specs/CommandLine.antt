@@ -1,39 +1,40 @@
--- The command line of the program, and what it gives.
+-- The command line of the program, and what its words give.
 use Rattle.std.specs.Prelude.{◌≡◌, List, ℕ, codes, option_map, pos, true, Some, unwrap_or}
 use Rattle.clap.specs.Words.{App, Rule, matches_of, new_app, new_rule, one_of, with_rule}
 use Rattle.clap.specs.declared.builder.value_parser.ValueParser.TheVariants as parser
 use Rattle.command_line.specs.Options.{Gives, IsFlag, flag_rule, number_rule, option_rule, text_given, versioned}
 use Rattle.pad_store.specs.declared.args.Asked.{Asked}
 
--- a word that has to be there
+-- a positional argument that is required
 abbrev pub needed_word : List ℕ → Rule
 needed_word name = record (new_rule name) { value_names = 1; required = true }
 
--- a revision as a word, a number that a u32 holds
+-- a revision as a positional argument, which is a number of 32 bits
 abbrev pub revision_word : List ℕ → Rule
-revision_word name = record (new_rule name) { value_names = 1; parser = Some (parser.Signed (pos 0) (pos 4294967295)) }
+revision_word name = record (new_rule name)
+    { value_names = 1; parser = Some (parser.Signed (pos 0) (pos 4294967295)) }
 
 -- an option that takes a revision
 abbrev pub revision_option : List ℕ → Rule
 revision_option name = number_rule name 0 4294967295
 
--- the words: what is done, with which file, and two revisions
-abbrev pub first_line : App
-first_line = with_rule (with_rule (with_rule (with_rule (versioned (new_app (codes "pad_store")))
+-- the command line with its positional arguments: the command, the path, and two revisions
+abbrev pub line_with_arguments : App
+line_with_arguments = with_rule (with_rule (with_rule (with_rule (versioned (new_app (codes "pad_store")))
     (needed_word (codes "command"))) (needed_word (codes "path"))) (revision_word (codes "first")))
     (revision_word (codes "second"))
 
--- with the options that take a value
-abbrev pub second_line : App
-second_line = with_rule (with_rule (with_rule first_line (revision_option (codes "rev")))
+-- the same, with the options that take a value
+abbrev pub line_with_values : App
+line_with_values = with_rule (with_rule (with_rule line_with_arguments (revision_option (codes "rev")))
     (revision_option (codes "from"))) (option_rule (codes "sum"))
 
--- the command line: clap's words say which words it takes, and what they give under a name
+-- the whole command line, in the terms of clap, which define the words that it accepts and what they give under a name
 abbrev pub line : App
-line = with_rule (with_rule (with_rule second_line (flag_rule (codes "authors"))) (flag_rule (codes "comments")))
+line = with_rule (with_rule (with_rule line_with_values (flag_rule (codes "authors"))) (flag_rule (codes "comments")))
     (flag_rule (codes "markdown"))
 
--- the words give this: the texts, numbers and flags under the names of the options
+-- what the words give: the texts, numbers and flags under the names of the options
 pub record AsksFor (words : List (List ℕ)) (asked : Asked) : Type 0 where
   pub command : option_map (λ word. word.now) asked.command ≡ text_given line words (codes "command")
   pub path : option_map (λ path. path.now) asked.path ≡ text_given line words (codes "path")

@@ -1,4 +1,4 @@
--- What the program does, by what the command line gives.
+-- What the program does, by its command line.
 use Rattle.std.specs.Prelude.{List, ℕ, Bool, true, false, ◌&&◌, ◌||◌, bytes_eq, codes, if◌then◌else◌}
 use Rattle.std.specs.Prelude.{Option, Some, None, Result, Ok, Err, is_some}
 use Rattle.std.specs.Borrow.{Bor}
@@ -10,7 +10,7 @@ use Rattle.pad_store.specs.declared.mode.Misuse.TheVariants as misuse
 use Rattle.pad_store.specs.declared.mode.Mode.{Mode}
 use Rattle.pad_store.specs.declared.mode.Mode.TheVariants as mode
 
--- what a command means
+-- the command with a name
 abbrev pub deed_of : List ℕ → Option Deed
 deed_of command =
     if bytes_eq command (codes "check") then Some deed.Check
@@ -20,7 +20,7 @@ deed_of command =
     else if bytes_eq command (codes "export") then Some deed.Export
     else None
 
--- the first option that stands there and may not
+-- the first option that is given although the command has none
 abbrev pub needless : Bool → Bool → Bool → Bool → Bool → Asked → Option Misuse
 needless no_rev no_from no_sum no_view no_words asked =
     if no_rev && is_some asked.rev then Some misuse.Rev
@@ -30,7 +30,7 @@ needless no_rev no_from no_sum no_view no_words asked =
     else if no_words && (is_some asked.first || is_some asked.second) then Some misuse.Revisions
     else None
 
--- what is wrong with the options of a command, if anything is: each is one of its own
+-- what is wrong with the options of a command, if anything: each has to belong to the command
 abbrev pub misuse_of : Deed → Asked → Option Misuse
 misuse_of deed.Check asked = needless true true true true true asked
 misuse_of deed.Show asked = needless false true true false true asked
@@ -38,18 +38,18 @@ misuse_of deed.Log asked = needless true false true true true asked
 misuse_of deed.Diff asked = needless true true true true false asked
 misuse_of deed.Export asked = needless false true (is_some asked.rev) true true asked
 
--- two revisions are needed
+-- a comparison, which needs two revisions
 abbrev pub compare : Bor (List ℕ) → Option ℕ → Option ℕ → Result Mode Misuse
 compare path (Some rev) (Some to) = Ok (mode.Diff path rev to)
 compare path (Some rev) None = Err misuse.NoRevisions
 compare path None second = Err misuse.NoRevisions
 
--- the operations are written, or a sum is looked for
+-- an export of the operations, or a search for a sum if one is given
 abbrev pub export_or_find : Bor (List ℕ) → Option ℕ → Option (Bor (List ℕ)) → Mode
 export_or_find path rev (Some sum) = mode.Find path sum
 export_or_find path rev None = mode.Export path rev
 
--- what a command does with its options
+-- a command with its arguments
 abbrev pub done_with : Asked → Bor (List ℕ) → Deed → Result Mode Misuse
 done_with asked path deed.Check = Ok (mode.Check path)
 done_with asked path deed.Show = Ok (mode.Show path asked.rev
@@ -58,22 +58,22 @@ done_with asked path deed.Log = Ok (mode.Log path asked.from)
 done_with asked path deed.Diff = compare path asked.first asked.second
 done_with asked path deed.Export = Ok (export_or_find path asked.rev asked.sum)
 
--- unless something is wrong
+-- the mode, unless something is wrong with the options
 abbrev pub unless_misused : Option Misuse → Result Mode Misuse → Result Mode Misuse
 unless_misused (Some wrong) mode = Err wrong
 unless_misused None mode = mode
 
--- what is done with a path by a command, if there is such a command
+-- the mode of a command and a path, if there is such a command
 abbrev pub with_deed : Asked → Bor (List ℕ) → Option Deed → Result Mode Misuse
 with_deed asked path None = Err misuse.NoCommand
 with_deed asked path (Some done) = unless_misused (misuse_of done asked) (done_with asked path done)
 
--- what the command line asks for is done, with a file
+-- the mode of a command line with this command and this path, both of which are needed
 abbrev pub mode_with : Asked → Option (Bor (List ℕ)) → Option (Bor (List ℕ)) → Result Mode Misuse
 mode_with asked (Some command) (Some path) = with_deed asked path (deed_of command.now)
 mode_with asked (Some command) None = Err misuse.NoCommand
 mode_with asked None path = Err misuse.NoCommand
 
--- what a command line asks for
+-- the mode of a command line
 abbrev pub mode_of : Asked → Result Mode Misuse
 mode_of asked = mode_with asked asked.command asked.path

@@ -1,4 +1,4 @@
--- What is read of the bytes of a pad's file.
+-- What is read from the bytes of a pad's file.
 use Rattle.std.specs.Prelude.{◌≡◌, ◌⊎◌, ℕ, List, length, encode_utf8_all, Option, Result, Ok, Err}
 use Rattle.pad_model.specs.declared.op.Op.{Op}
 use Rattle.pad_model.specs.declared.refusal.Refusal.{Refusal}
@@ -17,35 +17,37 @@ use Rattle.pad_store.specs.declared.trouble.Trouble.TheVariants.{Memory, Damaged
 
 -- the bytes of a file lead to a pad with this log, under some name
 unfoldable pub LeadTo : List ℕ → List Op → Type 0
-LeadTo bytes log = (name : List ℕ) × (read : Read) × (pad_read 1 DEFAULT_PRESENT name bytes ≡ Ok read) × (log ≡ read.pad.log)
+LeadTo bytes log = (name : List ℕ) × (read : Read)
+    × (pad_read 1 DEFAULT_PRESENT name bytes ≡ Ok read) × (log ≡ read.pad.log)
 
 -- a text in UTF-8 is that of a revision of the pad that the bytes of a file lead to; None is the present revision
 unfoldable pub Shows : List ℕ → Option ℕ → List ℕ → Type 0
 Shows bytes rev text = (log : List Op) × LeadTo bytes log × (at : ℕ) × (shown : List ℕ)
     × (read_text rev log ≡ Ok (Text (length log) at shown)) × (text ≡ encode_utf8_all shown)
 
--- what the refusal of a pad means to who reads its file
+-- the trouble that a refusal of a pad means
 abbrev pub trouble_of : Refusal → Trouble
 trouble_of refusal.Memory = Memory
 trouble_of refusal.NoRevision = NoRevision
 trouble_of other = Unread
 
--- what damage means
+-- the trouble that damage means
 abbrev pub trouble_after : Damage → Trouble
 trouble_after damage.Memory = Memory
 trouble_after other = Damaged other
 
--- where the bytes of a file are said to be damaged, they are so
+-- if the bytes of a file are reported as damaged, they are damaged so
 unfoldable pub IsFault : List ℕ → Trouble → Type 0
-IsFault bytes (Damaged found) = (name : List ℕ) × (pad_read 1 DEFAULT_PRESENT name bytes ≡ Err found)
+IsFault bytes (Damaged found) = (name : List ℕ)
+    × (pad_read 1 DEFAULT_PRESENT name bytes ≡ Err found)
 IsFault bytes other = Unit {0}
 
--- nothing is said to be damaged
+-- no damage is reported
 abbrev pub IsNoDamage : Trouble → Type 0
 IsNoDamage (Damaged found) = ⊥
 IsNoDamage other = Unit {0}
 
--- what a log answers to an act that reads it, with no claim about any other act
+-- the answer to an act that reads the log is that of the log, with no claim about any other act
 abbrev pub IsAnswered : Act → PadReply → List Op → Type 0
 IsAnswered (act.Text rev) answer log = read_text rev log ≡ Ok answer
 IsAnswered (act.Runs rev) answer log = read_runs rev log ≡ Ok answer
@@ -63,6 +65,7 @@ Reads (act.Changes rev to wait) = Unit {0}
 Reads act.Revs = Unit {0}
 Reads other = ⊥
 
--- an act that reads is answered by the log, which stays, unless the pad has another name
+-- an act that reads is answered from the log, which stays unchanged, unless the pad has another name
 abbrev pub IsTold : Act → PadReply → List Op → List Op → Type 0
-IsTold this answer old new = Reads this → ((answer ≡ Elsewhere) ⊎ IsAnswered this answer old) × (new ≡ old)
+IsTold this answer old new = Reads this
+    → ((answer ≡ Elsewhere) ⊎ IsAnswered this answer old) × (new ≡ old)

@@ -3,7 +3,7 @@ ghost use Rattle.std.specs.Prelude.{◌≡◌, IfOk, codes, map, string_bytes};
 ghost use Rattle.clap.specs.Faults.{fault_of};
 ghost use Rattle.clap.specs.Words.{FailsBy, app_of, new_app};
 ghost use Rattle.command_line.specs.Options.{versioned};
-ghost use Rattle.pad_store.specs.CommandLine.{AsksFor, first_line, line, second_line};
+ghost use Rattle.pad_store.specs.CommandLine.{AsksFor, line_with_arguments, line, line_with_values};
 
 use crate::options::{flag, revision_of, revision_option, revision_word, sum_option, word};
 use clap::{Command, Error};
@@ -13,19 +13,19 @@ use std::alloc::{AllocError, Global};
 /// What the words of the command line give.
 #[derive(Clone, Copy)]
 pub struct Asked<'a> {
-    /// What is done.
+    /// The command.
     pub command: Option<&'a str>,
-    /// The file, or the folder.
+    /// The file or the folder.
     pub path: Option<&'a str>,
-    /// The first revision of `diff`.
+    /// The older revision of `diff`.
     pub first: Option<u32>,
-    /// Its second one.
+    /// The newer revision of `diff`.
     pub second: Option<u32>,
-    /// The revision that is shown, or the last that is exported.
+    /// The revision to show, or the last one to export.
     pub rev: Option<u32>,
     /// The first revision of `log`.
     pub from: Option<u32>,
-    /// The sum that is looked for.
+    /// The sum to look for.
     pub sum: Option<&'a str>,
     pub authors: bool,
     pub comments: bool,
@@ -38,7 +38,7 @@ const USAGE: &str = "pad_store check <DIR|FILE>
        pad_store diff <FILE> <REV> <REV>
        pad_store export <FILE> [--rev <N>] [--sum <SUM>]";
 
-// The name, and what the help says.
+// The program's name and its help.
 fn start<'a>(alloc: Global) -> Command<'a>
     ensures { app_of result ≡ versioned (new_app (codes "pad_store")) }
 {
@@ -48,9 +48,9 @@ fn start<'a>(alloc: Global) -> Command<'a>
         .override_usage(USAGE)
 }
 
-// The words: what is done, with which file, and two revisions.
-fn first_options<'a>(alloc: Global) -> Result<Command<'a>, AllocError>
-    ensures { IfOk result (λ command. app_of command ≡ first_line) }
+// Adds the positional arguments: the command, the path, and two revisions.
+fn with_positional_arguments<'a>(alloc: Global) -> Result<Command<'a>, AllocError>
+    ensures { IfOk result (λ command. app_of command ≡ line_with_arguments) }
 {
     let path_help = "A file NAME.pad, or with check a folder of such files";
     start(alloc)
@@ -65,13 +65,13 @@ fn first_options<'a>(alloc: Global) -> Result<Command<'a>, AllocError>
         .arg(revision_word(alloc, "second", "With diff: the newer revision"))
 }
 
-// The options that take a value.
-fn second_options<'a>(alloc: Global) -> Result<Command<'a>, AllocError>
-    ensures { IfOk result (λ command. app_of command ≡ second_line) }
+// Adds the options that take a value.
+fn with_value_options<'a>(alloc: Global) -> Result<Command<'a>, AllocError>
+    ensures { IfOk result (λ command. app_of command ≡ line_with_values) }
 {
     let rev_help =
         "The revision that is shown, or the last one that is exported [default: the present one]";
-    first_options(alloc)?
+    with_positional_arguments(alloc)?
         .arg(revision_option(alloc, "rev", rev_help))?
         .arg(revision_option(alloc, "from", "The first revision of the log [default: 1]"))?
         .arg(sum_option(alloc))
@@ -80,7 +80,7 @@ fn second_options<'a>(alloc: Global) -> Result<Command<'a>, AllocError>
 fn command<'a>(alloc: Global) -> Result<Command<'a>, AllocError>
     ensures { IfOk result (λ command. app_of command ≡ line) }
 {
-    second_options(alloc)?
+    with_value_options(alloc)?
         .arg(flag(alloc, "authors", "Shows who wrote what"))?
         .arg(flag(alloc, "comments", "Shows the comments"))?
         .arg(flag(alloc, "markdown", "Shows the revision as Markdown"))

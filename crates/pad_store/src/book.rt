@@ -1,4 +1,4 @@
-//! The pad of a file, read by its owner.
+//! The pad of a file, which its owner reads.
 ghost use Rattle.std.specs.Prelude.{◌≡◌, IfErr, IfOk, MatchResult, OnOk, Ok, Some, length};
 ghost use Rattle.pad_core.specs.Reads.{read_changes, read_comments, read_runs, read_text};
 ghost use Rattle.pad_core.specs.declared.reply.PadReply.TheVariants as reply;
@@ -14,7 +14,7 @@ use sessions::DEFAULT_PRESENT;
 use std::alloc::Global;
 use store::{Loaded, load};
 
-/// The pad of a file, which its owner has joined to read it, and what the file says beside it.
+/// The pad of a file, which its owner has joined to read it, with more information about the file.
 #[derive(Drop)]
 pub struct Book {
     pad: Pad<BlockSeq>,
@@ -23,16 +23,17 @@ pub struct Book {
     visit: u64,
     /// The sum of the last line.
     pub sum: String,
-    /// How many bytes the whole lines have.
+    /// The number of bytes of the whole lines.
     pub whole: u64,
-    /// How many bytes follow them.
+    /// The number of bytes after them.
     pub cut: u64,
 }
 
 impl Book {
-    /// Reads the bytes of a file, under the name that its first line says.
+    /// Reads the bytes of a file, for the pad name in its first line.
     pub fn read(alloc: Global, bytes: &[u8]) -> Result<Book, Trouble>
-        ensures { MatchResult result (λ book. LeadTo bytes.now book.pad.log) (λ trouble. IsFault bytes.now trouble) }
+        ensures { MatchResult result (λ book. LeadTo bytes.now book.pad.log)
+            (λ trouble. IsFault bytes.now trouble) }
     {
         let names = match names_in(alloc, bytes) {
             Ok(names) => names,
@@ -44,7 +45,7 @@ impl Book {
         }
     }
 
-    /// How many revisions there are after the empty one, each made by an operation.
+    /// The number of revisions after the empty one. Each is made by one operation.
     pub fn revision(&self) -> u64
         ensures { result ≡ length self.now.pad.log }
     {
@@ -53,7 +54,9 @@ impl Book {
 
     /// The text of a revision; None is the present one.
     pub fn text(&mut self, alloc: Global, rev: Option<u64>) -> Result<Text, Trouble>
-        ensures told { IfOk result (λ text. (at : _) × (read_text rev self.old.pad.log ≡ Ok (reply.Text (length self.old.pad.log) at text))) }
+        ensures told { IfOk result (λ text. (at : _)
+            × (read_text rev self.old.pad.log
+            ≡ Ok (reply.Text (length self.old.pad.log) at text))) }
         ensures kept { OnOk result (self.new.pad.log ≡ self.old.pad.log) }
         ensures fault { IfErr result IsNoDamage }
     {
@@ -63,9 +66,11 @@ impl Book {
         }
     }
 
-    /// Who wrote the text of a revision.
+    /// The author runs of a revision; None is the present one.
     pub fn runs(&mut self, alloc: Global, rev: Option<u64>) -> Result<Row<AuthorRun>, Trouble>
-        ensures told { IfOk result (λ runs. (at : _) × (read_runs rev self.old.pad.log ≡ Ok (reply.Runs (length self.old.pad.log) at runs))) }
+        ensures told { IfOk result (λ runs. (at : _)
+            × (read_runs rev self.old.pad.log
+            ≡ Ok (reply.Runs (length self.old.pad.log) at runs))) }
         ensures kept { OnOk result (self.new.pad.log ≡ self.old.pad.log) }
         ensures fault { IfErr result IsNoDamage }
     {
@@ -75,9 +80,11 @@ impl Book {
         }
     }
 
-    /// The comments of a revision, by name.
+    /// The comments of a revision, in ascending order of name; None is the present one.
     pub fn comments(&mut self, alloc: Global, rev: Option<u64>) -> Result<Row<Shown>, Trouble>
-        ensures told { IfOk result (λ comments. (at : _) × (read_comments rev self.old.pad.log ≡ Ok (reply.Comments (length self.old.pad.log) at comments))) }
+        ensures told { IfOk result (λ comments. (at : _)
+            × (read_comments rev self.old.pad.log
+            ≡ Ok (reply.Comments (length self.old.pad.log) at comments))) }
         ensures kept { OnOk result (self.new.pad.log ≡ self.old.pad.log) }
         ensures fault { IfErr result IsNoDamage }
     {
@@ -87,9 +94,11 @@ impl Book {
         }
     }
 
-    /// What leads from the text of one revision to that of a later one.
+    /// The changes from the text of one revision to that of a later one.
     pub fn changes(&mut self, alloc: Global, rev: u64, to: u64) -> Result<Row<Piece>, Trouble>
-        ensures told { IfOk result (λ pieces. (notes : _) × (read_changes rev (Some to) 0 self.old.pad.log ≡ Ok (reply.Changes (length self.old.pad.log) rev to pieces notes))) }
+        ensures told { IfOk result (λ pieces. (notes : _)
+            × (read_changes rev (Some to) 0 self.old.pad.log
+            ≡ Ok (reply.Changes (length self.old.pad.log) rev to pieces notes))) }
         ensures kept { OnOk result (self.new.pad.log ≡ self.old.pad.log) }
         ensures fault { IfErr result IsNoDamage }
     {
@@ -104,7 +113,7 @@ impl Book {
         }
     }
 
-    /// How many characters the present revision has.
+    /// The number of characters of the present revision.
     pub fn length(&mut self, alloc: Global) -> Result<u64, Trouble> {
         match self.ask(alloc, &Act::Revs)? {
             PadReply::Revs { length, .. } => Ok(length),
@@ -112,9 +121,10 @@ impl Book {
         }
     }
 
-    // What the pad answers the owner.
+    // Makes an act on the pad as its owner.
     fn ask(&mut self, alloc: Global, act: &Act) -> Result<PadReply, Trouble>
-        ensures told { IfOk result (λ answer. IsTold act.now answer self.old.pad.log self.new.pad.log) }
+        ensures told { IfOk result (λ answer. IsTold act.now answer self.old.pad.log
+            self.new.pad.log) }
         ensures fault { IfErr result IsNoDamage }
     {
         let event = PadEvent {
@@ -130,9 +140,10 @@ impl Book {
     }
 }
 
-// The pad of the bytes of a file, under this name.
+// Loads the pad with this name from the bytes of its file.
 fn load_pad(alloc: Global, name: &str, bytes: &[u8]) -> Result<Loaded<BlockSeq>, Trouble>
-    ensures { MatchResult result (λ loaded. LeadTo bytes.now loaded.pad.log) (λ trouble. IsFault bytes.now trouble) }
+    ensures { MatchResult result (λ loaded. LeadTo bytes.now loaded.pad.log)
+        (λ trouble. IsFault bytes.now trouble) }
 {
     match load(alloc, 1, DEFAULT_PRESENT, name, bytes) {
         Ok(loaded) => Ok(loaded),
@@ -140,7 +151,7 @@ fn load_pad(alloc: Global, name: &str, bytes: &[u8]) -> Result<Loaded<BlockSeq>,
     }
 }
 
-// The pad that was loaded, joined by its owner.
+// Lets the owner join the pad that was loaded.
 fn begin(alloc: Global, loaded: Loaded<BlockSeq>, names: Names) -> Result<Book, Trouble>
     ensures { MatchResult result (λ book. book.pad.log ≡ loaded.pad.log) IsNoDamage }
 {
@@ -165,7 +176,7 @@ fn begin(alloc: Global, loaded: Loaded<BlockSeq>, names: Names) -> Result<Book, 
     })
 }
 
-// The visit of an author who joins a pad.
+// Lets an author join a pad, and returns the visit.
 fn join(alloc: Global, pad: &mut Pad<BlockSeq>, name: &str, who: &Who) -> Result<u64, Trouble>
     ensures { MatchResult result (λ _. pad.new.log ≡ pad.old.log) IsNoDamage }
 {

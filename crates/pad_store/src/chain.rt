@@ -1,12 +1,12 @@
 //! The two parts of a line: its text and its sum.
 
-/// How many bytes a line has beside its text: the brackets, the comma, the quotes and the 64 digits of the sum.
+/// The number of bytes of a line beside its text: the brackets, the comma, the quotes and the 64 digits of the sum.
 const AROUND: usize = 69;
 
-/// How many bytes of them end the line: the sum, its quote and the bracket.
+/// The number of those bytes that end the line: the sum, its closing quote and the bracket.
 const SUM_AND_END: usize = 66;
 
-/// The text of a line. None: the line is too short to have one.
+/// The text of a line; None if the line is too short to have one.
 pub fn text_on(line: &[u8]) -> Option<&[u8]> {
     if line.len() < AROUND {
         return None;
@@ -14,7 +14,7 @@ pub fn text_on(line: &[u8]) -> Option<&[u8]> {
     Some(&line[1..line.len() - (AROUND - 1)])
 }
 
-/// The sum at the end of a line. None: the line is too short to have one.
+/// The sum at the end of a line; None if the line is too short to have one.
 pub fn sum_on(line: &[u8]) -> Option<&[u8]> {
     if line.len() < AROUND {
         return None;
@@ -22,7 +22,7 @@ pub fn sum_on(line: &[u8]) -> Option<&[u8]> {
     Some(&line[line.len() - SUM_AND_END..line.len() - 2])
 }
 
-/// Which of the lines of some bytes has this sum, counted from 1.
+/// The number of the line that has this sum, counted from 1.
 pub fn line_with_sum(bytes: &[u8], sum: &[u8]) -> Option<usize> {
     let mut number: usize = 0;
     for line in bytes.split(|byte| *byte == b'\n') {

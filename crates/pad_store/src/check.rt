@@ -1,4 +1,4 @@
-//! Verifying files.
+//! Verifies files.
 use crate::book::Book;
 use crate::failure::Failure;
 use crate::files::{is_folder, names_of, read_file};
@@ -9,7 +9,7 @@ use std::io::{Eprint, Write};
 use std::rt::Runtime;
 use store::Damage;
 
-/// Verifies a file, or each file of a folder, and prints a line for each. Answers whether all are undamaged.
+/// Verifies a file, or each file of a folder, and prints a line for each. Returns whether all are undamaged.
 pub fn check<'a, R: Runtime<A = Global>, W: Write>(
     rt: &R,
     path: &'a str,
@@ -28,7 +28,8 @@ pub fn check<'a, R: Runtime<A = Global>, W: Write>(
     }
 }
 
-// Verifies these files of a folder. One that is damaged or cannot be read is reported, and the next ones are verified.
+// Verifies these files of a folder. A file that is damaged or cannot be read is reported, and the others are still
+// verified.
 fn check_files<'a, R: Runtime<A = Global>, W: Write>(
     rt: &R,
     folder: &'a str,
@@ -46,7 +47,7 @@ fn check_files<'a, R: Runtime<A = Global>, W: Write>(
     Ok(whole)
 }
 
-// Verifies the file of this name in a folder.
+// Verifies the file with this name in a folder.
 fn check_named<'a, R: Runtime<A = Global>, W: Write>(
     rt: &R,
     folder: &'a str,
@@ -66,7 +67,7 @@ fn check_named<'a, R: Runtime<A = Global>, W: Write>(
     }
 }
 
-// Verifies a file, which in a folder is to be that of the pad of its name.
+// Verifies a file. In a folder, it has to be the file of the pad after which it is named.
 fn check_file<'a, R: Runtime<A = Global>, W: Write>(
     rt: &R,
     path: &'a str,
@@ -88,7 +89,7 @@ fn check_file<'a, R: Runtime<A = Global>, W: Write>(
     }
 }
 
-// The line of a file.
+// The output line for a file.
 fn summary(alloc: Global, bytes: &[u8], pad: Option<&str>) -> Result<String, Trouble> {
     match Book::read(alloc, bytes) {
         Ok(mut book) => line_of(alloc, &mut book, pad),
@@ -96,7 +97,7 @@ fn summary(alloc: Global, bytes: &[u8], pad: Option<&str>) -> Result<String, Tro
     }
 }
 
-// The line of a file's pad.
+// The output line for a file's pad.
 fn line_of(alloc: Global, book: &mut Book, pad: Option<&str>) -> Result<String, Trouble> {
     if pad.is_some() && pad != Some(book.name.as_str()) {
         return Err(Trouble::Damaged(Damage::OtherPad));
@@ -105,7 +106,7 @@ fn line_of(alloc: Global, book: &mut Book, pad: Option<&str>) -> Result<String, 
     Ok(line_with(alloc, book, length)?)
 }
 
-// The line of a file's pad that has so many characters.
+// The output line for a file's pad with this many characters.
 fn line_with(alloc: Global, book: &Book, length: u64) -> Result<String, AllocError> {
     let rev = book.revision();
     let name = book.name.as_str();

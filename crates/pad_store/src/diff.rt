@@ -1,14 +1,14 @@
-//! What leads from one revision to another.
+//! The difference between two revisions.
 use crate::book::Book;
 use crate::pieces::{Marks, marked};
 use crate::trouble::Trouble;
 use pad_model::Text;
 use std::alloc::{AllocError, Global};
 
-/// The character that begins a command for a terminal.
+/// The escape character, which begins a terminal command.
 const ESCAPE: u8 = 27;
 
-/// The text of a revision with what went and what came up to a later one.
+/// The text of a revision, with what was deleted and inserted up to a later one.
 pub fn diff(
     alloc: Global,
     bytes: &[u8],
@@ -25,7 +25,7 @@ pub fn diff(
     }
 }
 
-// The marks, with colours or without.
+// The marks, with or without colours.
 fn coloured_marks(alloc: Global, coloured: bool) -> Result<Marks, AllocError> {
     let gone = colour(alloc, coloured, "31")?;
     let come = colour(alloc, coloured, "32")?;
@@ -33,7 +33,7 @@ fn coloured_marks(alloc: Global, coloured: bool) -> Result<Marks, AllocError> {
     marks(alloc, gone.as_str(), come.as_str(), end.as_str())
 }
 
-// What sets a colour on a terminal, or nothing where there are no colours.
+// The command that sets a colour on a terminal, or nothing without colours.
 fn colour(alloc: Global, coloured: bool, code: &str) -> Result<String, AllocError> {
     if !coloured {
         return Ok(String::new(alloc));
@@ -42,7 +42,7 @@ fn colour(alloc: Global, coloured: bool, code: &str) -> Result<String, AllocErro
     format!(in alloc; "{escape}[{code}m")
 }
 
-// The marks, with what stands in front of them, and behind the last of each pair.
+// The marks, with a prefix for each pair and a suffix after its last mark.
 fn marks(alloc: Global, gone: &str, come: &str, end: &str) -> Result<Marks, AllocError> {
     let before_gone = mark(alloc, gone, "[-")?;
     let behind_gone = mark(alloc, "-]", end)?;
@@ -56,13 +56,13 @@ fn marks(alloc: Global, gone: &str, come: &str, end: &str) -> Result<Marks, Allo
     })
 }
 
-// Two texts as one.
+// Joins two texts.
 fn mark(alloc: Global, front: &str, back: &str) -> Result<Text, AllocError> {
     let both = format!(in alloc; "{front}{back}")?;
     Text::from_str(alloc, both.as_str())
 }
 
-// The older text with what went and what came, which ends a line.
+// The older text with what was deleted and inserted, ended by a line feed.
 fn compared(
     alloc: Global,
     book: &mut Book,
@@ -77,7 +77,7 @@ fn compared(
     Ok(shown)
 }
 
-// Ends the last line of a text.
+// Adds a line feed to a text whose last line has none.
 fn end_line(text: &mut Text) -> Result<(), AllocError> {
     if text.as_slice().last() != Some(&'\n') {
         text.push('\n')?;

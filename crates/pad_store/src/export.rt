@@ -1,4 +1,4 @@
-//! The operations of a file, for other programs.
+//! Exports the operations of a file, for other programs.
 use crate::book::Book;
 use crate::chain::line_with_sum;
 use crate::failure::Failure;
@@ -28,7 +28,7 @@ pub fn export<'a, R: Runtime<A = Global>, W: Write>(
     put_lines(rt, &bytes[..bytes.len().min(whole)], last, out)
 }
 
-// The number of revisions of a file's pad, and how many bytes its whole lines have.
+// The number of revisions of a file's pad, and the number of bytes of its whole lines.
 fn read(alloc: Global, bytes: &[u8]) -> Result<(u64, usize), Trouble> {
     let book = Book::read(alloc, bytes)?;
     Ok((book.revision(), book.whole as usize))
@@ -56,7 +56,7 @@ fn put_lines<'a, R: Runtime<A = Global>, W: Write>(
     Ok(())
 }
 
-// The line of an operation.
+// The output line for an operation.
 fn line_of(alloc: Global, rev: u64, done: &Operation<'_>) -> Result<String, AllocError> {
     let at = done.at.unwrap_or(0);
     let op = done.json.as_str();
@@ -64,7 +64,7 @@ fn line_of(alloc: Global, rev: u64, done: &Operation<'_>) -> Result<String, Allo
     format!(in alloc; "{{\"at\":{at},\"op\":{op},\"rev\":{rev},\"sum\":\"{sum}\"}}\n")
 }
 
-/// Prints which line of a file has a sum.
+/// Prints the number of the line with a sum.
 pub fn find<'a, W: Write>(
     alloc: Global,
     path: &'a str,

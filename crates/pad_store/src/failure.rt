@@ -9,17 +9,17 @@ use std::{fmt, io};
 #[derive(Clone, Copy, Debug)]
 pub enum Failure<'a> {
     Memory,
-    /// The arguments cannot be read.
+    /// The arguments could not be read.
     Unasked(io::Error),
-    /// A file or a folder cannot be read.
+    /// A file or a folder could not be read.
     Unread { path: &'a str, cause: io::Error },
-    /// The pad of a file cannot be read.
+    /// The pad of a file could not be read.
     Troubled { path: &'a str, trouble: Trouble },
-    /// No line of a file has the sum that is looked for.
+    /// No line of a file has the sum.
     NoSum { path: &'a str },
-    /// The older revision of a comparison is not the older one.
+    /// The first revision of a comparison is the newer one.
     Backwards,
-    /// Standard output fails.
+    /// Standard output failed.
     Unwritten(io::Error),
 }
 
@@ -48,7 +48,7 @@ impl<'a> Failure<'a> {
         }
     }
 
-    /// Whether nobody reads standard output any more, which is no failure.
+    /// Whether standard output has lost its reader, which is not a failure.
     pub fn is_end(self) -> bool {
         match self {
             Failure::Unwritten(cause) => cause.kind() == ErrorKind::BrokenPipe,
@@ -56,7 +56,7 @@ impl<'a> Failure<'a> {
         }
     }
 
-    /// 2 where the command line is at fault, else 1.
+    /// 2 if the command line is wrong, otherwise 1.
     pub fn status(self) -> ExitCode {
         match self {
             Failure::Backwards => ExitCode::from(2),

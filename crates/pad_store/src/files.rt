@@ -6,7 +6,7 @@ use std::io::Eprint;
 use std::rt::Runtime;
 use std::{fs, io};
 
-/// From how many MiB on a file is announced: replaying so many takes about a second.
+/// The size in MiB from which a file is announced: replaying that much takes about a second.
 const LARGE: usize = 16;
 
 /// Whether a path is that of a folder.
@@ -28,7 +28,7 @@ pub fn names_of<R: Runtime<A = Global>>(rt: &R, folder: &str) -> io::Result<Vec<
     Ok(names)
 }
 
-/// The bytes of a file. A large one is announced on standard error.
+/// Reads a file. A large one is announced on standard error.
 pub fn read_file<'a, R: Runtime<A = Global>>(
     rt: &R,
     path: &'a str,

@@ -1,4 +1,4 @@
-//! Who did what and when.
+//! The log of a pad: who did what, and when.
 use crate::book::Book;
 use crate::failure::Failure;
 use crate::operation::{Operation, kind_of, operation_on};
@@ -65,7 +65,8 @@ fn put_line<'a, W: Write>(
     }
 }
 
-// The line of a revision: its number, when and by whom it was made, what it is, and the words that went and came.
+// The output line for a revision: its number, its time, its author, its kind, and the words that were deleted and
+// inserted.
 fn line_of(
     alloc: Global,
     book: &mut Book,
@@ -80,7 +81,7 @@ fn line_of(
     Ok(format!(in alloc; "{rev} {time} {name}@{origin} {kind}{words}\n")?)
 }
 
-// A time of day, in UTC, or `-` where there is none.
+// A time in UTC, or `-` if there is none.
 fn time_of(alloc: Global, at: Option<u64>) -> Result<String, AllocError> {
     let second = match at {
         Some(at) => i64::try_from(at).unwrap_or(i64::MAX),
@@ -92,7 +93,7 @@ fn time_of(alloc: Global, at: Option<u64>) -> Result<String, AllocError> {
     }
 }
 
-// The words of a revision. The text before it is read only where words went.
+// The words of a revision. The text before it is read only if words were deleted.
 fn words_of(
     alloc: Global,
     book: &mut Book,
@@ -116,7 +117,7 @@ fn erases(parts: &[Part]) -> bool {
     false
 }
 
-// The words that went and came between two revisions.
+// The words that were deleted and inserted between two revisions.
 fn words_between(alloc: Global, book: &mut Book, rev: u64, to: u64) -> Result<String, Trouble> {
     let pieces = book.changes(alloc, rev, to)?;
     let text = book.text(alloc, Some(rev))?;

@@ -1,4 +1,4 @@
-//! Reads the files in which a server keeps pads: verifies them, and prints what they hold. It changes nothing.
+//! Verifies the files in which a server keeps pads, and prints their contents. It changes nothing.
 #![tactic(auto)]
 
 mod args;
@@ -63,7 +63,7 @@ fn words_of(rt: &HostRuntime, alloc: Global) -> io::Result<Vec<String>> {
     Ok(std::env::args(rt)?.collect(alloc)?)
 }
 
-/// Prints why the program ends, unless nobody reads its output any more, and returns the status.
+/// Prints why the program ends, unless its output has lost its reader, and returns the exit status.
 fn end(rt: &HostRuntime, failure: Failure<'_>) -> ExitCode {
     if failure.is_end() {
         return ExitCode::SUCCESS;
@@ -72,7 +72,7 @@ fn end(rt: &HostRuntime, failure: Failure<'_>) -> ExitCode {
     failure.status()
 }
 
-/// Does what the command line asks for, and writes out what is left.
+/// Does what the command line asks for, and flushes the output.
 fn run<'a>(rt: &HostRuntime, alloc: Global, mode: Mode<'a>) -> Result<ExitCode, Failure<'a>> {
     let mut out = BufWriter::new(alloc, std::io::writer(rt))?;
     let status = perform(rt, mode, &mut out)?;
@@ -106,7 +106,7 @@ fn perform<'a, W: Write>(
     }
 }
 
-/// Writes what is asked for of the bytes of a file.
+/// Writes what the command line asks for about the bytes of a file.
 fn tell<'a, W: Write>(
     rt: &HostRuntime,
     path: &'a str,

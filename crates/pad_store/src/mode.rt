@@ -1,4 +1,4 @@
-//! What the program does, by what the command line gives.
+//! What the program does, by its command line.
 ghost use Rattle.std.specs.Prelude.{◌≡◌};
 ghost use Rattle.pad_store.specs.Modes.{compare, deed_of as deed_named, done_with, export_or_find, misuse_of, mode_of, needless, with_deed};
 
@@ -6,7 +6,7 @@ use crate::args::Asked;
 use crate::view::View;
 use thiserror::Error;
 
-/// What is done with a file.
+/// A command of the program.
 #[derive(Clone, Copy, Debug, PartialEq, Eq)]
 pub enum Deed {
     Check,
@@ -16,7 +16,7 @@ pub enum Deed {
     Export,
 }
 
-/// What is done, with all that it needs.
+/// A command with its arguments.
 #[derive(Clone, Copy, Debug, PartialEq, Eq)]
 pub enum Mode<'a> {
     /// Verifies a file, or each file of a folder.
@@ -29,12 +29,12 @@ pub enum Mode<'a> {
         rev: Option<u32>,
         view: View,
     },
-    /// Prints who did what, from a revision on.
+    /// Prints who did what and when, from a revision on.
     Log {
         path: &'a str,
         from: Option<u32>,
     },
-    /// Prints what leads from one revision to another.
+    /// Prints the difference between two revisions.
     Diff {
         path: &'a str,
         rev: u32,
@@ -45,7 +45,7 @@ pub enum Mode<'a> {
         path: &'a str,
         rev: Option<u32>,
     },
-    /// Says whether a line has a sum.
+    /// Prints the number of the line with a sum, if there is one.
     Find {
         path: &'a str,
         sum: &'a str,
@@ -72,7 +72,7 @@ pub enum Misuse {
 }
 
 impl<'a> Asked<'a> {
-    /// What is done. Each option has to be one of the command's.
+    /// The command with its arguments. Each option has to belong to the command.
     pub fn mode(self) -> Result<Mode<'a>, Misuse>
         ensures { result ≡ mode_of self.entry }
     {
@@ -82,7 +82,7 @@ impl<'a> Asked<'a> {
         }
     }
 
-    // What is done with a file.
+    // A command of the program.
     fn mode_with(self, path: &'a str, deed: Option<Deed>) -> Result<Mode<'a>, Misuse>
         ensures { result ≡ with_deed self.entry path.entry deed }
     {
@@ -95,7 +95,7 @@ impl<'a> Asked<'a> {
         }
     }
 
-    // What a command does with its options.
+    // The mode of a command with its options.
     fn done(self, path: &'a str, deed: Deed) -> Result<Mode<'a>, Misuse>
         ensures { result ≡ done_with self.entry path.entry deed }
     {
@@ -119,7 +119,7 @@ impl<'a> Asked<'a> {
         }
     }
 
-    // What is wrong with the options of a command, if anything is.
+    // What is wrong with the options of a command, if anything.
     fn misuse(self, deed: Deed) -> Option<Misuse>
         ensures { result ≡ misuse_of deed self.entry }
     {
@@ -132,7 +132,7 @@ impl<'a> Asked<'a> {
         }
     }
 
-    // The first option that stands there and may not.
+    // The first option that is given although the command has none.
     fn needless(
         self,
         no_rev: bool,
@@ -159,7 +159,7 @@ impl<'a> Asked<'a> {
     }
 }
 
-// Two revisions are needed.
+// A comparison, which needs two revisions.
 fn compared<'a>(path: &'a str, first: Option<u32>, second: Option<u32>) -> Result<Mode<'a>, Misuse>
     ensures { result ≡ compare path.entry first second }
 {
@@ -169,7 +169,7 @@ fn compared<'a>(path: &'a str, first: Option<u32>, second: Option<u32>) -> Resul
     }
 }
 
-// The operations are written, or a sum is looked for.
+// An export of the operations, or a search for a sum if one is given.
 fn exported<'a>(path: &'a str, rev: Option<u32>, sum: Option<&'a str>) -> Mode<'a>
     ensures { result ≡ export_or_find path.entry rev sum.entry }
 {
@@ -179,7 +179,7 @@ fn exported<'a>(path: &'a str, rev: Option<u32>, sum: Option<&'a str>) -> Mode<'
     }
 }
 
-// What a command means.
+// The command with this name.
 fn deed_of(command: &str) -> Option<Deed>
     ensures { result ≡ deed_named command.now }
 {

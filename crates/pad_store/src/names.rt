@@ -1,4 +1,4 @@
-//! What the first lines of a file say of its pad.
+//! What the first lines of a file say about its pad.
 use crate::chain::text_on;
 use pad_model::{Name, Refusal};
 use records::Record;
@@ -6,21 +6,21 @@ use serde_json::Value;
 use std::alloc::{AllocError, Global};
 use store::{Entry, Header, read_entry};
 
-/// The name of a pad, and who made it: the owner may read all of it.
+/// The name of a pad, and its owner, who may read all of it.
 #[derive(Debug, Drop)]
 pub struct Names {
     pub pad: Name,
     pub owner: Name,
 }
 
-/// The names that the lines of a file say, as far as they say them: the others are empty. Nothing is verified.
+/// The names in the lines of a file. Those that the lines do not have are empty. Nothing is verified.
 pub fn names_in(alloc: Global, bytes: &[u8]) -> Result<Names, AllocError> {
     let pad = pad_in(alloc, bytes)?;
     let owner = owner_in(alloc, bytes)?;
     Ok(Names { pad, owner })
 }
 
-/// The name that the first line says.
+/// The pad's name in the first line.
 fn pad_in(alloc: Global, bytes: &[u8]) -> Result<Name, AllocError> {
     let Some(line) = bytes.split(|byte| *byte == b'\n').next() else {
         return Name::from_str(alloc, "");
@@ -31,7 +31,7 @@ fn pad_in(alloc: Global, bytes: &[u8]) -> Result<Name, AllocError> {
     }
 }
 
-/// The owner that the first record of a name says.
+/// The owner in the first record of a name.
 fn owner_in(alloc: Global, bytes: &[u8]) -> Result<Name, AllocError> {
     for line in bytes.split(|byte| *byte == b'\n') {
         match entry_on(alloc, line)? {
@@ -43,7 +43,7 @@ fn owner_in(alloc: Global, bytes: &[u8]) -> Result<Name, AllocError> {
     Name::from_str(alloc, "")
 }
 
-/// What a line says, whatever line it follows. None: it says nothing.
+/// The entry of a line, whatever line it follows; None if it has none.
 fn entry_on(alloc: Global, line: &[u8]) -> Result<Option<Entry>, AllocError> {
     let Some(text) = text_on(line) else {
         return Ok(None);

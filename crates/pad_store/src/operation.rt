@@ -7,10 +7,10 @@ use serde_json::Value;
 use std::alloc::{AllocError, Global};
 use store::{Entry, read_entry};
 
-/// An operation with what its line says beside it.
+/// An operation, with the other fields of its line.
 #[derive(Drop)]
 pub struct Operation<'a> {
-    /// The time of day in seconds since 1970, if the line says one.
+    /// The time in seconds since 1970, if the line has one.
     pub at: Option<u64>,
     pub op: Op,
     /// The operation as JSON.
@@ -19,7 +19,7 @@ pub struct Operation<'a> {
     pub sum: &'a str,
 }
 
-/// The operation of a line. None: the line says something else.
+/// The operation of a line; None if the line has none.
 pub fn operation_on(alloc: Global, line: &[u8]) -> Result<Option<Operation<'_>>, AllocError> {
     let (Some(text), Some(sum)) = (text_on(line), sum_on(line)) else {
         return Ok(None);
@@ -47,7 +47,7 @@ pub fn operation_on(alloc: Global, line: &[u8]) -> Result<Option<Operation<'_>>,
     }
 }
 
-/// What an operation does, in a word.
+/// The kind of an operation, as a word.
 pub fn kind_of(parts: &[Part]) -> &'static str {
     if parts.len() != 1 {
         return "edit";

@@ -7,7 +7,7 @@ ghost use Rattle.pad_store.specs.CommandLine.{needed_word, revision_option as re
 use clap::{Arg, ArgAction, ArgMatches, value_parser};
 use std::alloc::Global;
 
-/// A word that has to be there.
+/// A positional argument that is required.
 pub fn word<'a>(alloc: Global, name: &'a str, shown: &'a str, help: &'a str) -> Arg<'a>
     ensures { (rule_of result ≡ needed_word name.now) × (result.global ≡ false) }
 {
@@ -17,7 +17,7 @@ pub fn word<'a>(alloc: Global, name: &'a str, shown: &'a str, help: &'a str) -> 
         .help(help)
 }
 
-/// A revision as a word.
+/// A revision as a positional argument.
 pub fn revision_word<'a>(alloc: Global, name: &'a str, help: &'a str) -> Arg<'a>
     ensures { (rule_of result ≡ word_rule name.now) × (result.global ≡ false) }
 {
@@ -57,7 +57,7 @@ pub fn flag<'a>(alloc: Global, name: &'a str, help: &'a str) -> Arg<'a>
         .help(help)
 }
 
-/// The revision that stands under a name, if there is one.
+/// The revision under a name, if there is one.
 pub fn revision_of(matches: &ArgMatches<'_>, name: &str) -> Option<u32>
     ensures { (other : ℕ) → Holds name.now 0 4294967295 other matches.now (unwrap_or result other) }
 {

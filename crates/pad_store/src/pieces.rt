@@ -1,4 +1,4 @@
-//! Stretches of text, and what leads from one text to another.
+//! Stretches of text, and the difference between two texts.
 ghost use Rattle.std.specs.Prelude.{◌≡◌, ◌++◌, IfOk, drop, take};
 ghost use Rattle.pad_model.specs.Pieces.{old_len};
 ghost use Rattle.pad_store.specs.Marks.{marked as marked_by, shown_piece};
@@ -7,7 +7,7 @@ use pad_model::{Piece, Text};
 use serde_json::Value;
 use std::alloc::{AllocError, Global};
 
-/// What stands before and behind the characters that went, and those that came.
+/// The marks before and after deleted characters, and before and after inserted ones.
 #[derive(Drop)]
 pub struct Marks {
     pub before_gone: Text,
@@ -16,7 +16,7 @@ pub struct Marks {
     pub behind_come: Text,
 }
 
-/// The first characters of a text, and those behind them.
+/// Splits a text after its first `count` characters, or at its end if it has fewer.
 pub fn split(text: &[char], count: u64) -> (&[char], &[char])
     ensures front { result.0.now ≡ take count text.now }
     ensures behind { result.1.now ≡ drop count text.now }
@@ -33,7 +33,7 @@ pub fn quoted(alloc: Global, text: &[char]) -> Result<String, AllocError> {
     Value::String(text).to_string(alloc)
 }
 
-/// The older text with what went and what came, each between its marks.
+/// The older text with what was deleted and inserted, each between its marks.
 pub fn marked(
     alloc: Global,
     marks: &Marks,
@@ -50,14 +50,16 @@ pub fn marked(
     Ok(shown)
 }
 
-// Adds what a piece shows, and answers what it leaves of the older text.
+// Adds what a piece shows, and returns what is left of the older text.
 fn add_piece<'a>(
     shown: &mut Text,
     marks: &Marks,
     piece: &Piece,
     text: &'a [char],
 ) -> Result<&'a [char], AllocError>
-    ensures { IfOk result (λ rest. (shown.new ≡ shown.old ++ shown_piece marks.now piece.now text.now) × (rest.now ≡ drop (old_len piece.now) text.now)) }
+    ensures { IfOk result (λ rest. (shown.new
+        ≡ shown.old ++ shown_piece marks.now piece.now text.now)
+        × (rest.now ≡ drop (old_len piece.now) text.now)) }
 {
     match piece {
         Piece::Keep(count) => {
@@ -81,7 +83,7 @@ fn add_piece<'a>(
     }
 }
 
-/// The words that went and came, each as a JSON string behind a sign.
+/// The words that were deleted and inserted, each as a JSON string after a sign.
 pub fn words(alloc: Global, pieces: &[Piece], text: &[char]) -> Result<String, AllocError> {
     let mut out = String::new(alloc);
     let mut rest = text;
@@ -101,7 +103,7 @@ pub fn words(alloc: Global, pieces: &[Piece], text: &[char]) -> Result<String, A
     Ok(out)
 }
 
-/// Adds words as a JSON string behind a sign.
+/// Adds words as a JSON string after a sign.
 pub fn put_words(
     alloc: Global,
     out: &mut String,

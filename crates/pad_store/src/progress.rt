@@ -1,22 +1,22 @@
-//! Messages on standard error while something takes long.
+//! Progress messages on standard error.
 use std::io::Eprint;
 use std::time::{Clock, Instant};
 
-/// Reports how far something is, once a second.
+/// Reports progress once a second.
 #[derive(Drop)]
 pub struct Progress {
     last: Option<Instant>,
 }
 
 impl Progress {
-    /// From now on. Without a clock, nothing is reported.
+    /// Starts to count the seconds. Without a clock, nothing is reported.
     pub fn start<C: Clock>(clock: &C) -> Progress {
         Progress {
             last: Instant::now(clock).ok(),
         }
     }
 
-    /// Prints how many of all are done, if a second has passed since the start or the last message.
+    /// Prints how much of everything is done, if a second has passed since the start or the last message.
     pub fn report<R: Clock + Eprint>(&mut self, rt: &R, what: &str, done: u64, all: u64) {
         if self.is_due(rt) {
             let _told = eprintln!(rt; "pad_store: {what} {done} of {all}");

@@ -1,4 +1,4 @@
-//! Why the bytes of a file are not read.
+//! Why the bytes of a file could not be read.
 ghost use Rattle.std.specs.Prelude.{◌≡◌};
 ghost use Rattle.pad_store.specs.Reading.{trouble_after, trouble_of};
 
@@ -7,7 +7,7 @@ use std::alloc::{AllocError, AllocFailed};
 use store::Damage;
 use thiserror::Error;
 
-/// Why a revision of a file's pad is not read.
+/// Why a revision of a file's pad could not be read.
 #[derive(Clone, Copy, Debug, PartialEq, Eq, Error)]
 pub enum Trouble {
     #[error("900 Memory")]
@@ -21,7 +21,7 @@ pub enum Trouble {
 }
 
 impl Trouble {
-    /// What the damage of a file means here.
+    /// The trouble that the damage of a file means.
     pub fn of_damage(damage: Damage) -> Trouble
         ensures { result ≡ trouble_after damage }
     {
@@ -31,7 +31,7 @@ impl Trouble {
         }
     }
 
-    /// What a refusal of a pad means here.
+    /// The trouble that a refusal of a pad means.
     pub fn of(refusal: Refusal) -> Trouble
         ensures { result ≡ trouble_of refusal }
     {

@@ -16,7 +16,7 @@ pub struct View {
 }
 
 impl View {
-    /// Whether the text alone is shown.
+    /// Whether only the text is shown.
     pub fn is_plain(self) -> bool {
         !self.authors && !self.comments && !self.markdown
     }
@@ -56,7 +56,7 @@ fn view_of(alloc: Global, book: &mut Book, at: u64, view: View) -> Result<String
     Ok(out)
 }
 
-// The pad's name and the revision, as Markdown.
+// Adds the pad's name and the revision, as Markdown.
 fn put_title(out: &mut String, name: &str, at: u64) -> Result<(), Trouble> {
     match write!(out, "# {name}\n\nRevision {at}\n\n") {
         Ok(()) => Ok(()),
@@ -64,7 +64,7 @@ fn put_title(out: &mut String, name: &str, at: u64) -> Result<(), Trouble> {
     }
 }
 
-// The text of a revision, with its authors.
+// Adds the text of a revision with its authors.
 fn put_authors(
     alloc: Global,
     out: &mut String,
@@ -77,7 +77,7 @@ fn put_authors(
     Ok(put_runs(alloc, out, text, &runs, markdown)?)
 }
 
-// The comments of a revision.
+// Adds the comments of a revision.
 fn put_notes(
     alloc: Global,
     out: &mut String,
@@ -90,7 +90,7 @@ fn put_notes(
     Ok(put_comments(alloc, out, text, &comments, markdown)?)
 }
 
-// The text, which ends a line.
+// Adds the text, ended by a line feed.
 fn put_text(alloc: Global, out: &mut String, text: &Text) -> Result<(), AllocError> {
     out.push_str(text.to_string(alloc)?.as_str())?;
     if text.as_slice().last() != Some(&'\n') {
@@ -99,7 +99,7 @@ fn put_text(alloc: Global, out: &mut String, text: &Text) -> Result<(), AllocErr
     Ok(())
 }
 
-// Who wrote what: a line for each stretch.
+// Adds who wrote what: a line for each author run.
 fn put_runs(
     alloc: Global,
     out: &mut String,
@@ -120,7 +120,7 @@ fn put_runs(
     Ok(())
 }
 
-// The comments: a line for each, behind an empty one.
+// Adds the comments: an empty line, and then a line for each.
 fn put_comments(
     alloc: Global,
     out: &mut String,

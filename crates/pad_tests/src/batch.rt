@@ -1,14 +1,14 @@
-//! Pulls of a pad of many operations: how many of them one answer holds.
+//! Pulls of a pad with many operations: how many of them one answer holds.
 use pad_model::Refusal;
 use rig::{ANN, PEER, Rig, is_refusal, ops_in};
 use std::alloc::Global;
 use std::process::Abort;
 use std::test::Fail;
 
-/// How many bytes an answer has at most: 1 MiB of operations, and what is around them.
+/// The most bytes of an answer: 1 MiB of operations, and what is around them.
 const MOST: usize = 1_048_576 + 64;
 
-/// The fields of a pull, and how many operations come, of 300 of one character each.
+/// The fields of a pull, and how many operations it returns, of 300 with one character each.
 const SHORT: &[(&str, usize)] = &[
     (r#""seen":[],"max":4"#, 4),
     (r#""seen":[],"max":1"#, 1),
@@ -22,7 +22,7 @@ const SHORT: &[(&str, usize)] = &[
     (r#""seen":[[1,300]],"max":4,"batch":256"#, 0),
 ];
 
-/// The same of 20 of 10,000 characters each. One counts as 60,256 bytes: 17 are less than 1 MiB, 18 are more.
+/// The same, of 20 with 10,000 characters each. One counts as 60,256 bytes: 17 are less than 1 MiB, 18 are more.
 const LONG: &[(&str, usize)] = &[
     (r#""seen":[],"max":4"#, 4),
     (r#""seen":[],"max":4,"batch":16"#, 16),
@@ -35,7 +35,7 @@ const LONG: &[(&str, usize)] = &[
     (r#""seen":[[1,20]],"max":4,"batch":256"#, 0),
 ];
 
-/// The same of 20 by ann and 20 by another server, in turn.
+/// The same, of 20 by ann and 20 by another server, in turn.
 const TURNS: &[(&str, usize)] = &[
     (r#""seen":[[2,20]],"max":4,"batch":256"#, 20),
     (r#""seen":[[1,20]],"max":4,"batch":256"#, 20),
@@ -54,7 +54,7 @@ fn type_text(alloc: Global, rig: &mut Rig, rev: u64, text: &str) -> Result<(), R
     rig.tell(ANN, line.as_str())
 }
 
-/// A server on whose pad ann has inserted a text so many times.
+/// A server on whose pad ann has inserted a text this many times.
 fn typed(alloc: Global, text: &str, times: u64) -> Result<Rig, Refusal> {
     let mut rig = Rig::new(alloc, 1)?;
     for rev in 0..times {
@@ -71,7 +71,7 @@ fn push_next(alloc: Global, rig: &mut Rig, number: u64) -> Result<(), Refusal> {
     rig.tell(PEER, line.as_str())
 }
 
-/// A server on whose pad ann and server 2 have inserted a character in turn, so many times.
+/// A server on whose pad ann and server 2 have inserted a character in turn, this many times.
 fn typed_in_turn(alloc: Global, times: u64) -> Result<Rig, Refusal> {
     let mut rig = Rig::new(alloc, 1)?;
     for done in 0..times {
@@ -87,7 +87,7 @@ fn pulled(alloc: Global, rig: &mut Rig, fields: &str) -> Result<String, Refusal>
     rig.say(PEER, line.as_str())
 }
 
-/// Sees that a pull with these fields is answered with so many operations.
+/// Asserts that a pull with these fields is answered with this many operations.
 fn gives(
     rt: &impl Abort,
     alloc: Global,

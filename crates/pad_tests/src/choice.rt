@@ -1,4 +1,4 @@
-//! What an author does next, by dice.
+//! An author's next action, by dice.
 use dice::Dice;
 use std::alloc::{AllocError, Global};
 
@@ -23,7 +23,7 @@ impl Choice {
         }
     }
 
-    /// The request for it, on a revision of this length, or on a comment of this name.
+    /// The request line, on a revision of this length, or on a comment with this name.
     pub fn line(
         self,
         alloc: Global,

@@ -1,4 +1,4 @@
-//! What no clause says: worked lines as a client sees them, and devices that cut and fail.
+//! What no contract covers: worked lines as a client sees them, and devices that transfer bytes in pieces and fail.
 ghost use Rattle.std.specs.Prelude.{◌≤◌};
 
 use crate::shown::text_of;
@@ -47,7 +47,7 @@ fn solo(alloc: Global) -> Result<Alone<BlockSeq>, Fail> {
 // How a connection ends.
 type Ended = Result<Served, Fault>;
 
-// How a connection to a fresh server ends.
+// Serves a connection to a fresh server, and returns how it ends.
 pub fn serve<R: Source, W: Sink>(
     alloc: Global,
     reader: &mut R,
@@ -63,7 +63,7 @@ const CREATED: &str = concat!(r#"{"now":0,"ok":true,"visit":1}"#, "\n");
 
 const NOBODY: &str = concat!(r#"{"code":200,"error":"NoSession","ok":false}"#, "\n");
 
-// The lines of a first session, with what is answered.
+// The lines of a first session, with the replies.
 pub const SESSION: [(&str, &str); 9] = [
     (CREATE, CREATED),
     (
@@ -106,7 +106,7 @@ pub const SESSION: [(&str, &str); 9] = [
     ),
 ];
 
-// The lines, and the answers, one after the other.
+// All lines, or all answers, joined.
 fn joined(alloc: Global, answers: bool) -> Result<String, Fail> {
     let mut text = String::new(alloc);
     for (line, answer) in SESSION {
@@ -115,10 +115,10 @@ fn joined(alloc: Global, answers: bool) -> Result<String, Fail> {
     Ok(text)
 }
 
-// What a connection is tried with: where it is cut, or in what pieces it comes.
+// How a connection is tried: where it is cut, or the size of the pieces.
 type Try = (&'static str, usize);
 
-// Sees that a connection ended so, and wrote just this.
+// Asserts that a connection ended so, and wrote exactly this.
 fn has_ended(
     rt: &impl Abort,
     tried: Try,
@@ -137,7 +137,8 @@ fn has_ended(
     );
 }
 
-// A session whose bytes come and go in pieces is answered so, by eight lines of which two were delivered.
+// Asserts that a session whose bytes come and go in pieces is answered so, with eight lines and two delivered
+// operations.
 fn is_served_in_pieces(
     rt: &impl Abort,
     alloc: Global,
@@ -174,7 +175,7 @@ fn a_session_in_pieces(rt: HostRuntime) -> Result<(), Fail> {
     Ok(())
 }
 
-// The writer fails at its second call, with just this written.
+// Asserts that exactly this was written when the writer fails at its second call.
 fn is_cut(rt: &impl Abort, alloc: Global, taken: usize, written: &str) -> Result<(), Fail> {
     let mut reader = Input::new(CREATE.as_bytes());
     let mut writer = Output::new(alloc).in_pieces(taken).failing_at(2);
@@ -188,7 +189,7 @@ fn is_cut(rt: &impl Abort, alloc: Global, taken: usize, written: &str) -> Result
     Ok(())
 }
 
-// A writer that takes ten bytes and then fails, or takes none: what was written is a front.
+// A writer that takes ten bytes and then fails, or takes none: a prefix was written.
 #[test]
 fn a_write_that_fails(rt: HostRuntime) -> Result<(), Fail> {
     for (taken, written) in [(10, r#"{"now":0,""#), (0, "")] {
@@ -197,7 +198,7 @@ fn a_write_that_fails(rt: HostRuntime) -> Result<(), Fail> {
     Ok(())
 }
 
-// How a second connection of a session ends with `create` after a writer that failed, and what it writes.
+// How a second connection of a session with `create` ends after a writer that failed, and what it writes.
 fn after_a_fault(alloc: Global, taken: usize) -> Result<(Ended, Output), Fail> {
     let mut pads = solo(alloc)?;
     let mut reader = Input::new(CREATE.as_bytes());
@@ -227,7 +228,7 @@ fn after_a_fault_the_session_is_unauthenticated(rt: HostRuntime) -> Result<(), F
     Ok(())
 }
 
-// The first answers, each of one write.
+// The first answers, one for each write.
 fn first_answers(alloc: Global, count: u64) -> Result<String, Fail> {
     let mut text = String::new(alloc);
     let mut left = count;
@@ -267,7 +268,7 @@ fn is_cut_at_write(rt: &impl Abort, alloc: Global, lines: &str, call: u64) -> Re
     Ok(())
 }
 
-// Whichever write fails, the answers before it were written, and nothing of its own.
+// Whichever write fails, the answers before it were written, and nothing of its own answer.
 #[test]
 fn each_write_fails_once(rt: HostRuntime) -> Result<(), Fail> {
     let lines = joined(rt.alloc(), false)?;
@@ -302,7 +303,7 @@ fn each_read_fails_once(rt: HostRuntime) -> Result<(), Fail> {
     Ok(())
 }
 
-// What two connections with a request to create `p` write, one after the other.
+// What two successive connections with a request to create `p` write.
 fn written_by_two(alloc: Global, pads: &mut Alone<BlockSeq>) -> Result<Output, Fail> {
     let mut writer = Output::new(alloc);
     for _ in 0..2 {
@@ -312,7 +313,7 @@ fn written_by_two(alloc: Global, pads: &mut Alone<BlockSeq>) -> Result<Output, F
     Ok(writer)
 }
 
-// Whether these are two lines and nothing else.
+// Whether this is exactly these two lines.
 fn are_both(written: &[u8], first: &str, second: &str) -> bool {
     written.strip_prefix(first.as_bytes()) == Some(second.as_bytes())
 }
@@ -350,7 +351,8 @@ fn the_session_is_ended(rt: HostRuntime) -> Result<(), Fail> {
 
 const REVS: &str = r#"{"do":"revs","pad":"p"}"#;
 
-// A pad's making, then a request for its length that so many spaces follow, and then that request alone.
+// The creation of a pad, then a request for its length followed by this many spaces, and then that request without
+// them.
 fn with_spaces(alloc: Global, spaces: usize) -> Result<Vec<u8>, Fail> {
     let mut lines = CREATE.as_bytes().to_vec(alloc)?;
     lines.extend_from_slice(REVS.as_bytes())?;
@@ -361,7 +363,7 @@ fn with_spaces(alloc: Global, spaces: usize) -> Result<Vec<u8>, Fail> {
     Ok(lines)
 }
 
-// These bytes are answered by a new pad's visit, and then so.
+// Asserts that these bytes are answered with a new pad's visit, and then with this.
 fn is_answered(rt: &impl Abort, alloc: Global, lines: &[u8], answer: &str) -> Result<(), Fail> {
     let mut reader = Input::new(lines);
     let mut writer = Output::new(alloc);
@@ -375,7 +377,7 @@ fn is_answered(rt: &impl Abort, alloc: Global, lines: &[u8], answer: &str) -> Re
     Ok(())
 }
 
-// A line that is too long is told, and nothing behind it is served.
+// A line that is too long is refused, and nothing after it is served.
 #[test]
 fn a_line_that_is_too_long(rt: HostRuntime) -> Result<(), Fail> {
     for (spaces, answer) in [

@@ -1,4 +1,4 @@
-//! The replies that a page would give, at a revision whose operations it took.
+//! The replies that a page gives, at a revision whose operations it took.
 use crate::page::{Page, Remark};
 use std::alloc::{AllocError, Global};
 
@@ -87,7 +87,7 @@ fn add_end(alloc: Global, line: &mut String, now: u64, rev: u64) -> Result<(), A
     line.push_str(end.as_str())
 }
 
-/// A comment, where it begins, and how many visible letters it covers.
+/// A comment, with where it begins and how many visible letters it covers.
 fn remark_text(alloc: Global, page: &Page, remark: &Remark) -> Result<String, AllocError> {
     let (at, len) = covered(page, remark);
     let origin = remark.name.origin;

@@ -1,5 +1,5 @@
-//! A text as the list of all its letters, kept by the textbook's scan: a letter goes behind the one that it was typed
-//! behind, past each newer one. It knows no revisions: what is erased stays erased.
+//! A text as the list of all its letters, kept by the textbook's scan: a letter goes after the one that it was typed
+//! after, past each newer one. It has no revisions: what is erased stays erased.
 use pad_model::{Op, OpName, Part, Refusal, Run, Span, Stamp};
 use std::alloc::Global;
 
@@ -10,7 +10,7 @@ pub struct Letter {
     pub is_erased: bool,
 }
 
-/// A comment: its first and its last letter, and what it says.
+/// A comment: its first and its last letter, and its text.
 #[derive(Drop)]
 pub struct Remark {
     pub name: OpName,
@@ -24,7 +24,7 @@ pub struct Remark {
 pub struct Page {
     alloc: Global,
     pub letters: Vec<Letter>,
-    /// By name.
+    /// In ascending order of name.
     pub remarks: Vec<Remark>,
 }
 
@@ -37,7 +37,7 @@ impl Page {
         }
     }
 
-    /// Takes an operation that fits.
+    /// Applies an operation that fits.
     pub fn take(&mut self, op: &Op) -> Result<(), Refusal> {
         for part in op.parts.as_slice() {
             self.take_part(op.name, part)?;
@@ -102,7 +102,7 @@ impl Page {
         Ok(())
     }
 
-    /// The place behind a letter; None is the start.
+    /// The index after a letter; None is the start.
     fn behind(&self, after: Option<Stamp>) -> Result<usize, Refusal> {
         let Some(stamp) = after else {
             return Ok(0);

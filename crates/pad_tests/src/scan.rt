@@ -1,3 +1,3 @@
-//! Tests of the server machine, step by step: scans of several actors in turn, which no story of whole lines shows.
+//! Tests of the server machine, step by step: scans of several actors in turn, which no story of whole lines can show.
 mod stage;
 mod steps;

@@ -1,4 +1,4 @@
-//! Two servers whose authors act on all revisions, and that hear of each other from time to time.
+//! Two servers whose authors act on all revisions, and which exchange operations from time to time.
 use crate::choice::Choice;
 use crate::expected::{comments_line, runs_line, text_line};
 use crate::page::Page;
@@ -11,7 +11,7 @@ use std::test::Fail;
 
 const EVENTS: u64 = 2_000;
 
-/// How many events of each kind made an operation, how many were refused, and how many characters were hidden.
+/// How many events of each kind made an operation, how many were refused, and how many characters were erased.
 #[derive(Clone, Copy, Debug, Default)]
 struct Shares {
     typed: u64,
@@ -49,13 +49,13 @@ impl Shares {
     }
 }
 
-/// The reply of a reading of a revision.
+/// The reply to a reading of a revision.
 fn read(alloc: Global, rig: &mut Rig, what: &str, rev: u64) -> Result<String, Refusal> {
     let line = format!(in alloc; r#"{{"do":"{what}","pad":"p","rev":{rev}}}"#)?;
     rig.say(ANN, line.as_str())
 }
 
-/// A reading of a revision is answered so.
+/// Asserts that a reading of a revision is answered so.
 fn reads(
     rt: &impl Abort,
     alloc: Global,
@@ -72,7 +72,7 @@ fn reads(
     Ok(())
 }
 
-/// How many characters a revision has.
+/// The number of characters of a revision.
 fn length_at(alloc: Global, rig: &mut Rig, rev: u64) -> Result<u64, Refusal> {
     let reply = read(alloc, rig, "text", rev)?;
     Ok(text_len(reply.as_str()))
@@ -83,7 +83,7 @@ fn revision(rig: &mut Rig) -> Result<u64, Refusal> {
     Ok(number_behind(reply.as_str(), r#""now":"#).unwrap_or(0))
 }
 
-/// One event of a server, at any of its revisions.
+/// Makes one event on a server, at any of its revisions.
 fn happen(
     alloc: Global,
     rig: &mut Rig,
@@ -117,7 +117,7 @@ fn act(
     Ok(())
 }
 
-/// The name of the comment at a place; that of no comment, where there is none.
+/// The name of the comment at an index; if there is none, a name that no comment has.
 fn one_of(noted: &[String], place: usize) -> &str {
     match noted.get(place) {
         Some(name) => name.as_str(),
@@ -139,14 +139,14 @@ fn lacking(alloc: Global, from: &mut Rig, seen: &str) -> Result<Vec<String>, Ref
     ops_in(alloc, reply.as_str())
 }
 
-/// The counts that were delivered to a server, as JSON.
+/// The version vector of a server, as JSON.
 fn vector(alloc: Global, rig: &mut Rig) -> Result<String, Refusal> {
     let reply = rig.say(PEER, r#"{"do":"vector","pad":"p"}"#)?;
     let seen = between(reply.as_str(), r#""seen":"#, "}").unwrap_or("[]");
     Ok(String::from_str(alloc, seen)?)
 }
 
-/// Pushes to a server what another one has more. Whether there was anything.
+/// Pushes to a server what it lacks of another one. Returns whether there was anything.
 fn hear_some(alloc: Global, rig: &mut Rig, other: &mut Rig) -> Result<bool, Refusal> {
     let seen = vector(alloc, rig)?;
     let ops = lacking(alloc, other, seen.as_str())?;
@@ -192,7 +192,7 @@ fn log_of(alloc: Global, rig: &mut Rig) -> Result<Vec<String>, Refusal> {
     Ok(log)
 }
 
-/// The next operations behind those that are counted. Whether there were any.
+/// Adds the next operations after those that are counted. Returns whether there were any.
 fn add_next(
     alloc: Global,
     rig: &mut Rig,
@@ -208,7 +208,7 @@ fn add_next(
     Ok(log.len() > before)
 }
 
-/// Counts one operation more of its server.
+/// Counts one more operation of its server.
 fn count(op: &str, counts: &mut [u64; 2]) {
     match number_behind(op, r#""name":["#) {
         Some(1) => counts[0] = counts[0].saturating_add(1),
@@ -227,7 +227,8 @@ fn seen_text(alloc: Global, counts: [u64; 2]) -> Result<String, Refusal> {
     })
 }
 
-/// A revision reads as a page does that took its operations: text, runs and, at each hundredth, comments.
+/// Asserts that a revision reads as a page that took its operations: text, runs and, at each hundredth revision,
+/// comments.
 fn agrees(
     rt: &impl Abort,
     alloc: Global,
@@ -280,7 +281,8 @@ fn comments_agree(
     reads(rt, alloc, rig, "comments", rev, want.as_str())
 }
 
-/// Each revision of a server, from 1 on, reads as a page does that took the log up to there. How many there are.
+/// Asserts that each revision of a server, from 1 on, reads as a page that took the log up to there. Returns the number
+/// of revisions.
 fn count_agreeing(rt: &impl Abort, alloc: Global, rig: &mut Rig) -> Result<u64, Refusal> {
     let log = log_of(alloc, rig)?;
     count_agreeing_with(rt, alloc, rig, log.as_slice())
@@ -308,7 +310,7 @@ fn take(alloc: Global, page: &mut Page, text: &str) -> Result<(), Refusal> {
     page.take(&op)
 }
 
-/// Lets all events happen, on one server or the other.
+/// Makes all events, on one server or the other.
 fn play(alloc: Global, one: &mut Rig, two: &mut Rig) -> Result<Shares, Refusal> {
     let mut dice = Dice::new(11);
     let mut noted = Vec::new(alloc);
@@ -319,7 +321,7 @@ fn play(alloc: Global, one: &mut Rig, two: &mut Rig) -> Result<Shares, Refusal> 
     Ok(shares)
 }
 
-/// One event on one server or the other, which may then hear of each other.
+/// Makes one event on one server or the other, which may then exchange operations.
 fn happen_somewhere(
     alloc: Global,
     one: &mut Rig,
@@ -364,7 +366,8 @@ fn are_same(rt: &impl Abort, one: &mut Rig, two: &mut Rig, line: &str) -> Result
     Ok(())
 }
 
-/// What came of a run: the shares of its events, and how many revisions each server has, all of which read as they should.
+/// The results of a run: the shares of its events, and how many revisions each server has, all of which read as
+/// expected.
 #[derive(Clone, Copy)]
 struct Played {
     shares: Shares,

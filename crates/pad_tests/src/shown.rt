@@ -1,4 +1,4 @@
-//! Bytes as a test that fails shows them.
+//! Bytes as a failing test shows them.
 
 pub fn text_of(bytes: &[u8]) -> &str {
     match str::from_utf8(bytes) {

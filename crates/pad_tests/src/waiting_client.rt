@@ -8,7 +8,7 @@ use std::test::Fail;
 use wire_lines::{Output, ReadError, Sink, Source, WriteError};
 use workers::Served;
 
-// A client that gives a line only once it has the replies to those before, and fails if it is asked earlier.
+// A client that sends a line only once it has the replies to those before, and fails if it is asked for one earlier.
 #[derive(Drop)]
 struct Client<'a> {
     lines: &'a [&'a str],
@@ -42,7 +42,7 @@ impl Source for Client<'_> {
     }
 }
 
-// What the client is sent.
+// What is sent to the client.
 #[derive(Drop)]
 struct Sent<'a> {
     output: Output,

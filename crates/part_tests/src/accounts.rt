@@ -1,4 +1,4 @@
-//! Which files of accounts are read, and which tokens they take.
+//! Which accounts files are read, and which tokens they accept.
 use sessions::{Accounts, AccountsError, Peer};
 use std::alloc::Global;
 use std::process::Abort;
@@ -30,7 +30,7 @@ fn knows_nobody(rt: &impl Abort, alloc: Global, text: &[u8]) -> Result<(), Fail>
     Ok(())
 }
 
-/// What is known of an author with a token.
+/// An author, a token, and whether the token is accepted.
 const AUTHORS: &[(&str, &str, bool)] = &[
     ("ann", "t1", true),
     ("ann", "t9", false),
@@ -39,7 +39,7 @@ const AUTHORS: &[(&str, &str, bool)] = &[
     ("bob", "t1", false),
 ];
 
-/// What is known of a peer with a token.
+/// A peer, a token, and whether the token is accepted.
 const PEERS: &[(u64, &str, bool)] = &[(2, "p2", true), (2, "p", false), (65_538, "p2", false)];
 
 fn authors_are(rt: &impl Abort, accounts: &Accounts, wanted: &[(&str, &str, bool)]) {
@@ -85,7 +85,7 @@ fn accounts_forms(rt: HostRuntime) -> Result<(), Fail> {
     Ok(())
 }
 
-/// Files whose first bad line has this number.
+/// Files, and the number of the first bad line of each.
 const BAD_FILES: &[(&[u8], u64)] = &[
     (b"author ann t\nauthor ann u\n", 2),
     (b"# x\n\nauthor Ann t\n", 3),
@@ -136,7 +136,7 @@ const BAD_FILES: &[(&[u8], u64)] = &[
     (b"peer 2 t h: 1\n", 1),
 ];
 
-/// The number of a file's first bad line, where it is refused for one.
+/// Returns the number of the first bad line, if the file is refused for one.
 fn bad_line(alloc: Global, text: &[u8]) -> Option<u64> {
     match Accounts::read(alloc, text) {
         Err(AccountsError::BadLine { line, .. }) => Some(line),
@@ -168,7 +168,7 @@ fn add_peers(alloc: Global, text: &mut String) -> Result<(), Fail> {
     Ok(())
 }
 
-/// An author, and peers from 1 to 999.
+/// Returns a file with an author and the peers from 1 to 999.
 fn thousand_accounts(alloc: Global) -> Result<String, Fail> {
     let mut text = String::from_str(alloc, "author ann t\n")?;
     add_peers(alloc, &mut text)?;

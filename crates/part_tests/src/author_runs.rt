@@ -1,4 +1,4 @@
-//! Who wrote what: runs that are cut and joined, as someone counts them, and room that is reserved.
+//! Who wrote what: runs that are cut and joined, compared with results worked out by hand, and memory that is reserved.
 use crate::author_runs::RunCase::{By, Len, Put, Runs, Take};
 use authorship::RunList;
 use pad_model::{Author, AuthorRun, Name, Refusal};
@@ -17,7 +17,7 @@ pub fn is_author(author: &Author, name: &str) -> bool {
     author.origin == 1 && author.name.is(name)
 }
 
-/// Puts characters in where the place is there, and says whether it was.
+/// Inserts characters if the place exists, and returns whether it did.
 pub fn put(
     list: &mut RunList,
     alloc: Global,
@@ -34,7 +34,7 @@ pub fn put(
     Ok(true)
 }
 
-/// Takes characters out where they are there, and says whether they were.
+/// Deletes characters if they exist, and returns whether they did.
 pub fn take(list: &mut RunList, pos: u64, n: u64) -> bool {
     let len = list.len();
     if pos > len || n > len - pos {
@@ -44,7 +44,7 @@ pub fn take(list: &mut RunList, pos: u64, n: u64) -> bool {
     true
 }
 
-/// The author of the character at a place, if one is there.
+/// The author of the character at a place, if there is one.
 pub fn author_at(list: &RunList, pos: u64) -> Option<&Author> {
     if pos < list.len() {
         Some(list.author_at(pos))
@@ -53,7 +53,7 @@ pub fn author_at(list: &RunList, pos: u64) -> Option<&Author> {
     }
 }
 
-/// Whether the character at a place is there, and this author's.
+/// Whether there is a character at a place, and it is this author's.
 pub fn is_by(list: &RunList, pos: u64, name: &str) -> bool {
     match author_at(list, pos) {
         Some(author) => is_author(author, name),
@@ -92,7 +92,7 @@ fn are_runs(
     Ok(())
 }
 
-/// A change of a list, or what it shows.
+/// A change to a list, or what the list shows.
 #[derive(Clone, Copy, Debug)]
 enum RunCase {
     Put(u64, &'static str, u64),
@@ -102,7 +102,7 @@ enum RunCase {
     Len(u64),
 }
 
-/// Does a step, or sees that the list shows what the step says.
+/// Makes a change, or asserts that the list shows what the step says.
 fn play(
     rt: &impl Abort,
     alloc: Global,
@@ -155,7 +155,7 @@ fn play_all(
     Ok(())
 }
 
-/// ann's five characters with one of bob's after the second, and without it again.
+/// Five characters of ann's, with one of bob's after the second, and then without it.
 const BOB_COMES_AND_GOES: &[RunCase] = &[
     Len(0),
     Put(0, "ann", 5),

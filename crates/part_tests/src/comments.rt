@@ -1,4 +1,4 @@
-//! Comments that are found by their names, and how many a book takes.
+//! Comments that are found by their names, and the number that a book can hold.
 use anchors::{CommentBook, NewComment};
 use pad_model::{Author, Name, OpName, Refusal, Stamp, Text};
 use std::alloc::Global;
@@ -9,7 +9,7 @@ fn named(origin: u16, number: u64) -> OpName {
     OpName { origin, number }
 }
 
-/// Enters a comment of ann's under a name that is new, and says whether it was.
+/// Adds a comment of ann's if its name is new, and returns whether it was.
 fn add(book: &mut CommentBook, alloc: Global, name: OpName) -> Result<bool, Refusal> {
     if book.has(name) {
         return Ok(false);
@@ -32,7 +32,7 @@ fn add(book: &mut CommentBook, alloc: Global, name: OpName) -> Result<bool, Refu
     Ok(true)
 }
 
-/// Sees whether a comment is there, and is resolved as wanted.
+/// Asserts whether there is a comment, and whether it is resolved.
 fn find(
     rt: &impl Abort,
     book: &mut CommentBook,
@@ -54,7 +54,7 @@ fn find(
 
 const ENTERED: &[(u16, u64)] = &[(2, 1), (1, 10), (1, 9), (3, 9)];
 
-/// Where a comment is looked for, whether it is there, and what its resolution is answered.
+/// The name to look for, whether there is such a comment, and the result of resolving it.
 const LOOKED_FOR: &[(u16, u64, bool, Result<(), Refusal>)] = &[
     (1, 9, true, Ok(())),
     (2, 1, true, Ok(())),
@@ -62,7 +62,7 @@ const LOOKED_FOR: &[(u16, u64, bool, Result<(), Refusal>)] = &[
     (2, 9, false, Err(Refusal::NoComment)),
 ];
 
-/// Enters four comments, each of which is new.
+/// Adds four comments, and asserts that each is new.
 fn add_four(rt: &impl Abort, book: &mut CommentBook, alloc: Global) -> Result<(), Refusal> {
     for (origin, number) in ENTERED {
         let is_new = add(book, alloc, named(*origin, *number))?;

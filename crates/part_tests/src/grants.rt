@@ -1,4 +1,4 @@
-//! Who may do what with a pad, as someone reads the rules, and how many names a pad takes.
+//! Who may do what with a pad, compared with results worked out by hand, and the number of names that a pad can hold.
 use crate::grants::GrantCase::{Counts, Grants, Lists, May};
 use pad_model::{Name, Refusal};
 use rights::Right::{Comment, Own, Read, Write};
@@ -11,10 +11,10 @@ fn book_of_ann(alloc: Global) -> Result<RightsBook, AllocError> {
     Ok(RightsBook::new(alloc, Name::from_str(alloc, "ann")?))
 }
 
-/// A name with its right.
+/// A name and its right.
 type Plain = (&'static str, Right);
 
-/// What a book does, and how it answers.
+/// A call of a book and its result.
 #[derive(Clone, Copy, Debug)]
 enum GrantCase {
     Grants(&'static str, Option<Right>, Result<(), Refusal>),
@@ -71,7 +71,7 @@ fn count(alloc: Global, book: &RightsBook) -> Result<u64, Refusal> {
     Ok(rows.len() as u64)
 }
 
-/// Does a step, or sees that the book answers what the step says.
+/// Makes a call, and asserts its result.
 fn play(
     rt: &impl Abort,
     alloc: Global,
@@ -109,7 +109,7 @@ fn play_all(
     Ok(())
 }
 
-/// bob is granted a right, and has those before it too.
+/// Bob is granted a right, and has the lesser rights too.
 const EACH_RIGHT: &[[GrantCase; 5]] = &[
     [
         Grants("bob", Some(Read), Ok(())),
@@ -141,7 +141,7 @@ const EACH_RIGHT: &[[GrantCase; 5]] = &[
     ],
 ];
 
-/// Plays steps in a book of ann's alone.
+/// Plays the steps in a book that only ann has rights in.
 fn play_in_new(rt: &impl Abort, alloc: Global, steps: &[GrantCase]) -> Result<(), Refusal> {
     let mut book = book_of_ann(alloc)?;
     play_all(rt, alloc, &mut book, steps)
@@ -176,7 +176,7 @@ fn the_creator_keeps_own_and_others_have_their_grants(rt: HostRuntime) -> Result
     Ok(play_in_new(&rt, rt.alloc(), SHARED)?)
 }
 
-/// A name of its own for each number below 26 * 26: `aa`, `ab`, ..
+/// Returns a distinct name for each number below 26 * 26: `aa`, `ab`, ..
 fn numbered(alloc: Global, number: u64) -> Result<String, Fail> {
     let mut text = String::new(alloc);
     for digit in [number / 26, number % 26] {
@@ -190,7 +190,7 @@ fn may_read(alloc: Global, book: &mut RightsBook, number: u64) -> Result<(), Fai
     Ok(grant(alloc, book, name.as_str(), Some(Read))?)
 }
 
-/// In a book that is full, where `ab` is the first of those who may read.
+/// Steps in a full book, where `ab` is the first of those who may read.
 const FULL: &[GrantCase] = &[
     Grants("zoe", Some(Read), Err(Refusal::GrantsFull)),
     Grants("zoe", None, Ok(())),
@@ -200,7 +200,7 @@ const FULL: &[GrantCase] = &[
     Grants("zoe", Some(Read), Ok(())),
 ];
 
-/// As many may read as there is room for, beside the creator.
+/// Grants the right to read to as many names as fit beside the creator.
 fn fill(alloc: Global, book: &mut RightsBook) -> Result<(), Fail> {
     for number in 1..MAX_GRANTS {
         may_read(alloc, book, number)?;

@@ -1,4 +1,4 @@
-//! Operations that wait for others: what a hold answers, as someone counts it.
+//! Operations that wait for others: the answers of a hold, compared with results worked out by hand.
 use crate::held::HoldCall::{Deliver, Fill, Get, Len, Next, Offer, Take};
 use holdback::Hold;
 use pad_model::{Name, Op, OpName, Refusal, Row, Seen};
@@ -6,7 +6,7 @@ use std::alloc::Global;
 use std::process::Abort;
 use std::test::Fail;
 
-/// An operation, and the count of another origin that it waits for.
+/// An operation, and the count of another origin for which it waits.
 #[derive(Clone, Copy, Debug)]
 pub struct Made {
     pub name: OpName,
@@ -17,7 +17,7 @@ pub fn name(origin: u16, number: u64) -> OpName {
     OpName { origin, number }
 }
 
-/// An operation that waits for no other origin.
+/// Returns an operation that waits for no other origin.
 pub fn plain(origin: u16, number: u64) -> Made {
     Made {
         name: name(origin, number),
@@ -37,10 +37,10 @@ fn op(alloc: Global, made: Made) -> Result<Op, Refusal> {
     })
 }
 
-/// What a hold is asked, or its caller does.
+/// A call of a hold, or an action of its caller.
 #[derive(Clone, Copy, Debug)]
 enum HoldCall {
-    /// Offers 256 operations that wait, and answers as all of them were answered, or as the first that is not held.
+    /// Offers 256 operations that wait. The answer is that of all of them, or of the first one that is not held.
     Fill,
     Offer(Made),
     Deliver(OpName),
@@ -58,14 +58,14 @@ pub enum HoldAnswer {
     Full,
     Delivered,
     Name(OpName),
-    /// The operation that was asked for, in all its parts.
+    /// The operation that was asked for, equal in all its parts.
     Itself,
     Another,
     Nothing,
     Count(u64),
 }
 
-/// Whether an operation that came back is the one that was made.
+/// Compares an operation that was returned with the one that was made.
 fn found(alloc: Global, found: Option<&Op>, made: Made) -> Result<HoldAnswer, Refusal> {
     let Some(found) = found else {
         return Ok(HoldAnswer::Nothing);
@@ -77,7 +77,7 @@ fn found(alloc: Global, found: Option<&Op>, made: Made) -> Result<HoldAnswer, Re
     }
 }
 
-/// A hold, and what was delivered.
+/// A hold, and the version vector of what was delivered.
 #[derive(Drop)]
 pub struct HoldRig {
     pub hold: Hold,
@@ -145,7 +145,7 @@ impl HoldRig {
         }
     }
 
-    /// Makes the calls, each of which is answered so.
+    /// Makes the calls, and asserts the answer of each.
     fn tell_all(
         &mut self,
         rt: &impl Abort,
@@ -224,7 +224,7 @@ const THIRD_NAME: OpName = OpName {
     number: 1,
 };
 
-/// Waits for the first of another origin.
+/// An operation that waits for the first one of another origin.
 const THIRD: Made = Made {
     name: THIRD_NAME,
     needs: FIRST_NAME,
@@ -243,7 +243,7 @@ fn an_operation_waits_for_another_origin(rt: HostRuntime) -> Result<(), Fail> {
     Ok(tell_new(&rt, rt.alloc(), OF_TWO_ORIGINS)?)
 }
 
-/// The first of the operations that fill a hold may go, and the last of them is held.
+/// When the hold is full, this operation is still ready, and `LAST_OF_ALL` is a repeat.
 const FIRST_OF_ALL: Made = Made {
     name: OpName {
         origin: 1,

@@ -1,4 +1,4 @@
-//! Operations that wait for others: a hold beside a plain list, by 500 offers in a seeded order.
+//! Operations that wait for others: a hold compared with a plain list, over 500 offers in a seeded order.
 use crate::held::{HoldAnswer, HoldRig, Made, name, plain};
 use dice::Dice;
 use holdback::MAX_HELD;
@@ -16,7 +16,8 @@ fn roll_origin(dice: &mut Dice) -> u16 {
     }
 }
 
-/// A third of them are near to what was delivered. Some wait for a greater origin, so that not all wait for ever.
+/// Returns some operation. A third of them are close to what was delivered. Some wait for a greater origin, so that not
+/// all wait for ever.
 fn some_operation(dice: &mut Dice, seen: &Seen) -> Made {
     let origin = roll_origin(dice);
     let count = seen.count(origin);
@@ -70,7 +71,7 @@ fn expected_next(held: &[Made], seen: &Seen) -> Option<OpName> {
     next
 }
 
-/// In how many offers the case came up.
+/// The number of offers in which each case occurred.
 #[derive(Clone, Copy, Debug)]
 struct Cases {
     ready: u64,
@@ -101,7 +102,7 @@ impl Cases {
     }
 }
 
-/// A hold with a plain list beside it.
+/// A hold, and a plain list beside it.
 #[derive(Drop)]
 struct Pair {
     rig: HoldRig,
@@ -109,7 +110,7 @@ struct Pair {
 }
 
 impl Pair {
-    /// A hundred operations of a fifth origin wait all along.
+    /// Creates a pair in which a hundred operations of a fifth origin wait throughout.
     fn new(alloc: Global) -> Result<Pair, Refusal> {
         let mut pair = Pair {
             rig: HoldRig::new(alloc),
@@ -122,7 +123,7 @@ impl Pair {
         Ok(pair)
     }
 
-    /// Offers an operation that came, which is delivered where it is ready, and sees that it is answered so.
+    /// Offers an operation, delivers it if it is ready, and asserts that the answer says so.
     fn offer(
         &mut self,
         rt: &impl Abort,
@@ -144,7 +145,7 @@ impl Pair {
         Ok(())
     }
 
-    /// Delivers the held operation that is next, and sees that it is there.
+    /// Delivers the next held operation, and asserts that the hold has it.
     fn release(&mut self, rt: &impl Abort, name: OpName) -> Result<(), Refusal> {
         assert!(rt;
             self.rig.hold.take(name).is_some(),
@@ -164,7 +165,7 @@ impl Pair {
         expected_next(self.held.as_slice(), &self.rig.seen)
     }
 
-    /// Sees that the hold has the same operation next as the list, and releases it.
+    /// Asserts that the next operation of the hold is that of the list, and releases it.
     fn release_next(&mut self, rt: &impl Abort) -> Result<Option<OpName>, Refusal> {
         let want = self.expected_next();
         let came = self.rig.hold.next_ready(&self.rig.seen);
@@ -180,7 +181,7 @@ impl Pair {
         assert!(rt; came == want, "held: wanted {want}, came {came}");
     }
 
-    /// Offers some operation, and delivers the one that is next: all goes as in the list.
+    /// Offers some operation, delivers the next one, and asserts that all is as in the list.
     fn play(
         &mut self,
         rt: &impl Abort,

@@ -1,4 +1,4 @@
-//! Tests of the tree of weighed items and of the index of blocks, each alone and against a plain list.
+//! Tests of the tree of weighted items and of the index of blocks, each alone and compared with a plain list.
 mod block_run;
 mod counts;
 mod places;

@@ -1,4 +1,4 @@
-//! Tests of the parts of a pad: the words, the log, author runs, comments, rights, held operations, accounts, visits,
+//! Tests of the parts of a pad: its types, the log, author runs, comments, rights, held operations, accounts, visits,
 //! and the tree and the index of the sequence of blocks.
 #![tactic(auto)]
 
@@ -18,6 +18,8 @@ mod held_seeded;
 mod index;
 #[cfg(test)]
 mod log;
+#[cfg(test)]
+mod packed_log;
 #[cfg(test)]
 mod presence;
 #[cfg(test)]

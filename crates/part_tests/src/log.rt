@@ -16,8 +16,8 @@ fn op(alloc: Global, origin: u16, number: u64) -> Result<Op, Fail> {
 }
 
 fn add(log: &mut OpLog, op: Op) -> Result<(), Fail> {
-    log.reserve()?;
-    log.push(op);
+    log.prepare(&op)?;
+    log.commit(&op);
     Ok(())
 }
 
@@ -59,7 +59,8 @@ const STRETCHES: &[Stretch] = &[
 fn stretches_of_a_log_end_where_it_ends(rt: HostRuntime) -> Result<(), Fail> {
     let log = log_of(rt.alloc(), &NAMES)?;
     for (from, count, want) in STRETCHES {
-        let came = names_of(rt.alloc(), log.entries(*from, *count))?;
+        let came = log.entries(rt.alloc(), *from, *count)?;
+        let came = names_of(rt.alloc(), came.as_slice())?;
         assert!(rt;
             came.as_slice() == *want,
             "{count} from {from} on: wanted {want:?}, came {came:?}"
@@ -123,13 +124,11 @@ const COUNTS: &[(u16, u64)] = &[(1, 3), (2, 2), (3, 0)];
 #[test]
 fn operations_by_place_origin_and_name(rt: HostRuntime) -> Result<(), Fail> {
     let log = log_of(rt.alloc(), &NAMES)?;
-    is_same(&rt, rt.alloc(), log.get(3), 2, 2)?;
+    let fourth = log.get(rt.alloc(), 3)?;
+    is_same(&rt, rt.alloc(), fourth.as_ref(), 2, 2)?;
     assert!(rt; log.len() == 5, "wanted 5 operations, came {}", log.len());
-    assert!(rt;
-        log.get(5).is_none(),
-        "wanted none at 5, came {:?}",
-        log.get(5)
-    );
+    let sixth = log.get(rt.alloc(), 5)?;
+    assert!(rt; sixth.is_none(), "wanted none at 5, came {sixth:?}");
     are_counts(&rt, &log, COUNTS);
     are_places(&rt, &log, &PLACES);
     Ok(())

@@ -1,4 +1,4 @@
-//! Who is present on a pad, and which pads a session has joined, as someone counts them.
+//! Who is present on a pad, and which pads a session has joined, compared with results worked out by hand.
 use crate::presence::VisitCase::{Caret, Holds, Join, Leave, Present};
 use pad_model::{Name, Refusal, Stamp, Version, Who};
 use sessions::{DEFAULT_PRESENT, MAX_PRESENT, PresenceBook, Room, Session, Visit};
@@ -12,7 +12,7 @@ type Place = (u64, u16);
 /// A visit's number, its author, and its caret.
 type Plain = (u64, &'static str, Option<Place>);
 
-/// What a book does, and how it answers; or what it shows.
+/// A call of a book and its result, or what the book shows.
 #[derive(Clone, Copy, Debug)]
 enum VisitCase {
     Join(&'static str, Result<u64, Refusal>),
@@ -67,7 +67,7 @@ fn are_present(
     Ok(())
 }
 
-/// Does a step, or sees that the book shows what the step says.
+/// Makes a call, or asserts that the book shows what the step says.
 fn play(
     rt: &impl Abort,
     alloc: Global,
@@ -134,14 +134,14 @@ fn join_and_leave(rt: HostRuntime) -> Result<(), Fail> {
     Ok(play_all(&rt, rt.alloc(), &mut book, VISITS)?)
 }
 
-/// Where 64 are present.
+/// Steps in a book where 64 visits are present.
 const CROWDED: &[VisitCase] = &[
     Join("ann", Err(Refusal::Crowded)),
     Leave(64, Ok(())),
     Join("ann", Ok(65)),
 ];
 
-/// Where 1,024 are present.
+/// Steps in a book where 1,024 visits are present.
 const CROWDED_AT_MOST: &[VisitCase] = &[
     Join("ann", Err(Refusal::Crowded)),
     Leave(1, Ok(())),
@@ -149,7 +149,7 @@ const CROWDED_AT_MOST: &[VisitCase] = &[
     Join("ann", Err(Refusal::Crowded)),
 ];
 
-/// So many visits of ann's, one after the other, and then the steps.
+/// Joins this many visits of ann's, one after another, then plays the steps.
 fn after_joins(
     rt: &impl Abort,
     alloc: Global,
@@ -177,7 +177,7 @@ fn limit_presence_at_most(rt: HostRuntime) -> Result<(), Fail> {
     Ok(after_joins(&rt, rt.alloc(), &mut book, 1_024, steps)?)
 }
 
-/// Where two may be present.
+/// Steps in a book where two visits may be present.
 const TWO: &[VisitCase] = &[
     Join("ann", Ok(1)),
     Join("bob", Ok(2)),
@@ -254,7 +254,7 @@ fn enter(
     Ok(())
 }
 
-/// Whether this is the room of a pad, with its cell and the visit; or none is there, where none is wanted.
+/// Whether this is the room of a pad, with its cell and the visit; or there is none, if none is wanted.
 fn is_room(room: Option<&Room>, want: Option<(&str, u32, u64)>) -> bool {
     match (room, want) {
         (Some(room), Some((pad, cell, visit))) => {
@@ -273,7 +273,7 @@ fn takes_first(rt: &impl Abort, session: &mut Session, want: Option<(&str, u32, 
     );
 }
 
-/// Sees that this is the room of a pad that was entered.
+/// Asserts the room of a pad.
 fn has_room(rt: &impl Abort, session: &Session, pad: &str, want: Option<(&str, u32, u64)>) {
     let came = session.room(pad);
     assert!(rt;
@@ -287,7 +287,7 @@ type Entry = (&'static str, u32, u64);
 
 const ENTERED: &[Entry] = &[("p", 0, 3), ("q", 5, 1), ("r", 2, 9)];
 
-/// What is taken from the front after `q` was left.
+/// The rooms that are taken from the front after `q` was left.
 const TAKEN: &[Option<Entry>] = &[Some(("p", 0, 3)), Some(("r", 2, 9)), None];
 
 fn enter_all(alloc: Global, session: &mut Session) -> Result<(), Refusal> {
@@ -297,7 +297,7 @@ fn enter_all(alloc: Global, session: &mut Session) -> Result<(), Refusal> {
     Ok(())
 }
 
-/// Sees that the rooms are there that were entered, and one is not any more once it is left.
+/// Asserts that the rooms that were entered are there, and that one that was left is not.
 fn are_entered_and_left(rt: &impl Abort, session: &mut Session) {
     has_room(rt, session, "q", Some(("q", 5, 1)));
     has_room(rt, session, "s", None);

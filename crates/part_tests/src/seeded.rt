@@ -1,4 +1,4 @@
-//! Three hundred seeded changes, compared after each with a plain list of authors.
+//! Three hundred seeded changes, after each of which the runs are compared with a plain list of authors.
 use crate::author_runs::{author_at, is_author, is_by, put, take};
 use authorship::RunList;
 use dice::Dice;
@@ -9,7 +9,7 @@ use std::test::Fail;
 
 const NAMES: [&str; 3] = ["ann", "bob", "cyd"];
 
-/// The place of each character's author among the names, one by one.
+/// For each character, the index of its author among the names.
 #[derive(Drop)]
 struct Plain {
     places: Vec<usize>,
@@ -33,7 +33,7 @@ impl Plain {
         }
     }
 
-    /// The name of a character's author.
+    /// The name of the author of a character.
     fn name_at(&self, pos: usize) -> Option<&'static str> {
         let place = self.places.get(pos)?;
         NAMES.get(*place).copied()
@@ -50,7 +50,7 @@ impl Plain {
         true
     }
 
-    /// At how many places another author begins.
+    /// The number of places at which another author begins.
     fn count_starts(&self) -> usize {
         let mut starts = 0usize;
         let mut last = None;
@@ -63,7 +63,7 @@ impl Plain {
         starts
     }
 
-    /// Whether the authors on both sides of a stretch are one, and another's characters are all that it has.
+    /// Whether a stretch that starts with another author's character has the same author on both sides.
     fn joins(&self, pos: usize, n: usize) -> bool {
         if pos == 0 || n == 0 {
             return false;
@@ -73,7 +73,7 @@ impl Plain {
     }
 }
 
-/// Whether the runs are those of the plain list: they have its authors, and are as few as they can be.
+/// Whether the runs have the authors of the plain list, and are as few as possible.
 fn are_runs_of(rows: &[AuthorRun], plain: &Plain) -> bool {
     let mut pos = 0usize;
     for row in rows {
@@ -93,7 +93,7 @@ fn is_author_of(list: &RunList, plain: &Plain, pos: usize) -> bool {
     }
 }
 
-/// Sees that each character has the plain list's author.
+/// Asserts that each character has the plain list's author.
 fn are_authors_of(rt: &impl Abort, list: &RunList, plain: &Plain, change: u64) {
     let (came, want) = (list.len(), plain.places.len());
     assert!(rt;
@@ -110,7 +110,7 @@ fn are_authors_of(rt: &impl Abort, list: &RunList, plain: &Plain, change: u64) {
     }
 }
 
-/// How many changes of each kind there were.
+/// The number of changes of each kind.
 #[derive(Clone, Copy, Debug)]
 struct Cases {
     inserts: u64,
@@ -124,7 +124,7 @@ impl Cases {
     }
 }
 
-/// A list of runs with the plain list beside it.
+/// A list of runs, and the plain list beside it.
 #[derive(Drop)]
 struct Pair {
     list: RunList,
@@ -165,7 +165,7 @@ impl Pair {
         take(&mut self.list, pos, n)
     }
 
-    /// Makes one change on both: two of five are deletions, of a stretch that is there.
+    /// Makes one change to both. Two of five are deletions, of an existing stretch.
     fn change(&mut self, alloc: Global, dice: &mut Dice) -> Result<bool, Refusal> {
         let len = self.plain.places.len() as u64;
         let pos = dice.roll(len.saturating_add(1));
@@ -177,7 +177,7 @@ impl Pair {
         self.put(alloc, pos, place, dice.roll(5))
     }
 
-    /// Sees that both have the same authors after a change.
+    /// Asserts that both have the same authors after a change.
     fn is_same(&self, rt: &impl Abort, alloc: Global, change: u64) -> Result<(), Refusal> {
         let rows = self.list.runs(alloc)?;
         assert!(rt;
@@ -192,7 +192,7 @@ impl Pair {
 
 const CHANGES: u64 = 300;
 
-/// Each change leaves the two the same.
+/// Makes all changes, and asserts after each that both are the same.
 fn change_all(rt: &impl Abort, alloc: Global, pair: &mut Pair) -> Result<(), Refusal> {
     let mut dice = Dice::new(27);
     for change in 0..CHANGES {

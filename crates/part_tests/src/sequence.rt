@@ -1,4 +1,4 @@
-//! Tests of operations, stamps, names and the forms that hold them.
+//! Tests of operations, stamps, names, and the types that hold them.
 mod names;
 mod old_wire;
 mod operations;

@@ -1,4 +1,4 @@
-//! How a thread that waits is woken, and what it is told.
+//! How a waiting thread is woken, and what it learns.
 use crossbeam_channel::{Receiver, Sender};
 use event_loop::CellSet;
 use std::alloc::{AllocError, Global};
@@ -6,8 +6,8 @@ use std::sync::Wait;
 use std::sync::atomic::{AtomicBool, Ordering};
 use std::time::{Clock, Duration};
 
-/// What wakes a thread, and the cells whose pads have moved since it looked last. Other threads ring it; if it was rung already
-/// and the thread has not looked, that is enough: the round after it serves both.
+/// Wakes a thread, and keeps the cells whose pads have changed since it last looked. Other threads ring the bell. If it
+/// was already rung and the thread has not yet looked, that is enough: its next round serves both.
 #[derive(Drop)]
 pub struct Bell {
     moved: CellSet,
@@ -17,7 +17,7 @@ pub struct Bell {
 }
 
 impl Bell {
-    /// Of a server with so many cells, none of which has moved; of none, if it only wakes.
+    /// A bell for a server with this many cells, none of which has changed; 0 for a bell that only wakes.
     pub fn new(alloc: Global, cells: usize) -> Result<Bell, AllocError> {
         let (to, from) = crossbeam_channel::bounded(alloc, 1)?;
         Ok(Bell {
@@ -28,12 +28,12 @@ impl Bell {
         })
     }
 
-    // The pad of a cell has moved, or was created.
+    // Notes that the pad of a cell has changed, or was created.
     pub(crate) fn note(&self, cell: u32) {
         self.moved.insert(cell);
     }
 
-    // The cells that were noted. The thread takes them out.
+    // The cells that were noted. The thread removes them.
     pub(crate) fn moved(&self) -> &CellSet {
         &self.moved
     }
@@ -43,18 +43,18 @@ impl Bell {
         let _waits_already = self.to.try_send(rt, ());
     }
 
-    /// Wakes the thread for the last time: what it does then is its last work.
+    /// Wakes the thread for the last time: it ends after the work that it does then.
     pub fn ring_last<R: Wait>(&self, rt: &R) {
         self.is_last.store(true, Ordering::SeqCst);
         self.ring(rt);
     }
 
-    /// Whether it was rung for the last time.
+    /// Whether the bell was rung for the last time.
     pub fn is_last(&self) -> bool {
         self.is_last.load(Ordering::SeqCst)
     }
 
-    /// Waits until it is rung, or for so many seconds. The thread that it wakes calls this, and no other.
+    /// Waits until the bell is rung, or for this many seconds. Only the thread that it wakes may call this.
     pub fn wait<R: Wait + Clock>(&self, rt: &R, seconds: u64) {
         let _in_time = self.from.recv_timeout(rt, Duration::from_secs(seconds));
     }

@@ -13,7 +13,7 @@ use std::time::{Clock, Instant};
 use wire_lines::{Fault, Std};
 use workers::Pads;
 
-/// After how many seconds all cells are visited again, and not those alone that have moved.
+/// Seconds after which a round visits all cells again, and not only those that have changed.
 const WHOLE: u64 = 60;
 
 /// Why a round failed.
@@ -21,7 +21,7 @@ const WHOLE: u64 = 60;
 pub enum Broken {
     /// There was no connection.
     Apart(io::Error),
-    /// The connection broke, or the peer's answer was not that of a server.
+    /// The connection broke, or the peer did not answer as a server does.
     Off {
         fault: Fault,
         cause: Option<io::Error>,
@@ -29,7 +29,7 @@ pub enum Broken {
 }
 
 impl Broken {
-    /// What kind of failure it is. One of a kind that was logged already is not logged again.
+    /// The kind of failure. A failure is logged again only when this changes.
     pub fn kind(self) -> (Option<Fault>, Option<ErrorKind>) {
         match self {
             Broken::Apart(error) => (None, Some(error.kind())),
@@ -47,12 +47,12 @@ type Writer<'a, R> = Std<Watched<Settled<'a, TcpStream, R>>>;
 pub struct Connection<'a, R> {
     link: Link<Reader, Writer<'a, R>>,
     version: Version,
-    /// When the last round over all cells was made.
+    /// The time of the last round over all cells.
     whole_at: Option<Instant>,
 }
 
 impl<'a, R: Wait + Clock> Connection<'a, R> {
-    /// Greets a peer over a connection that was just made. Each line to it waits until the keeper has synced what it reveals.
+    /// Greets a peer over a new connection. Each line to the peer waits until the keeper has synced what it reveals.
     pub fn open(
         rt: &'a R,
         alloc: Global,
@@ -78,7 +78,7 @@ impl<'a, R: Wait + Clock> Connection<'a, R> {
         }
     }
 
-    /// Whether the next round is to be one over all cells: it is the first, or the last such round was long ago.
+    /// Whether the next round has to visit all cells: it is the first, or the last such round was long ago.
     pub fn needs_whole(&self, clock: &R) -> bool {
         match self.whole_at {
             Some(at) => match at.elapsed(clock) {
@@ -89,12 +89,12 @@ impl<'a, R: Wait + Clock> Connection<'a, R> {
         }
     }
 
-    /// A round over all cells was made.
+    /// Notes that a round over all cells was made.
     pub fn note_whole(&mut self, clock: &R) {
         self.whole_at = Instant::now(clock).ok();
     }
 
-    /// Makes a round over these cells. After a fault the connection is gone.
+    /// Makes a round over these cells. On a fault the connection is lost.
     pub fn visit<P: Pads>(
         mut self,
         alloc: Global,
@@ -109,7 +109,7 @@ impl<'a, R: Wait + Clock> Connection<'a, R> {
     }
 }
 
-// Why a connection broke, with the error of the system.
+// Why a connection broke, with the system's error.
 fn why<R: Wait>(link: Link<Reader, Writer<'_, R>>, fault: Fault) -> Broken {
     let (reader, writer) = link.into_parts();
     let cause = match fault {

@@ -16,27 +16,27 @@ use std::sync::atomic::{AtomicU64, Ordering};
 use std::time::{Clock, Instant};
 use workers::{Pads, Row, Shared};
 
-/// The most threads that exchange with peers. Where there are more peers, a thread has several of them.
+/// The most threads that exchange with peers. If there are more peers, threads have several of them.
 pub const MAX_THREADS: usize = 16;
 
-/// For how many seconds a thread waits at most for pads to move, before it looks whether a round is due: where a round has failed,
-/// and else.
+/// Seconds between two checks whether a round is due, if no pad changes: `LOOK` after a failed round, and `LONG_LOOK`
+/// otherwise.
 const LOOK: u64 = 1;
 
 const LONG_LOOK: u64 = 60;
 
-/// What the threads that exchange with peers share: the bell of each, and how many have ended. The gate of the pads notes and
-/// rings; `finish` is for the thread that has started the others.
+/// What the threads that exchange with peers share: the bell of each, and how many have ended. The gate of the pads
+/// calls `note` and `ring`; the thread that started the others calls `finish`.
 #[derive(Drop)]
 pub struct Exchange {
     bells: Vec<Bell>,
     ended: AtomicU64,
-    /// It is rung by each thread that ends.
+    /// Rung by each thread that ends.
     end: Bell,
 }
 
 impl Exchange {
-    /// Of a server with so many peers and cells: a thread for each peer, up to 16.
+    /// Creates the state for a server with this many peers and cells: a thread for each peer, up to 16.
     pub fn new(alloc: Global, peers: usize, cells: usize) -> Result<Exchange, AllocError>
         ensures { IfOk result (λ exchange. length exchange.bells.items ≡ min peers MAX_THREADS) }
     {
@@ -51,29 +51,30 @@ impl Exchange {
         })
     }
 
-    /// How many threads there are.
+    /// The number of threads.
     pub fn threads(&self) -> usize
         ensures { result ≡ length self.now.bells.items }
     {
         self.bells.len()
     }
 
-    /// The pad of a cell has moved, or was created. It is called under the pad's lock, and wakes nobody.
+    /// Notes that the pad of a cell has changed, or was created. It is called under the pad's lock, and wakes no
+    /// thread.
     pub fn note(&self, cell: u32) {
         for bell in &self.bells {
             bell.note(cell);
         }
     }
 
-    /// Wakes all threads, which then visit the cells that were noted.
+    /// Wakes all threads, which then visit the noted cells.
     pub fn ring<R: Wait>(&self, rt: &R) {
         for bell in &self.bells {
             bell.ring(rt);
         }
     }
 
-    /// Has all threads end after their last rounds, and waits for so many of them, but no longer than for a peer: 30 seconds.
-    /// Exchanges that are still under way then are broken off.
+    /// Makes all threads end after their last rounds, and waits up to 30 seconds until this many have ended. Then
+    /// exchanges that are still under way are broken off.
     pub fn finish<R: Wait + Clock>(&self, rt: &R, threads: u64, guard: Guard<'_>) {
         for bell in &self.bells {
             bell.ring_last(rt);
@@ -91,14 +92,14 @@ impl Exchange {
         guard.end(rt);
     }
 
-    // A thread has ended.
+    // Notes that a thread has ended.
     fn leave<R: Wait>(&self, rt: &R) {
         self.ended.fetch_add(1, Ordering::SeqCst);
         self.end.ring(rt);
     }
 }
 
-// Whether it is longer ago than a server waits for a peer.
+// Whether `began` is longer ago than a server waits for a peer.
 fn is_past<C: Clock>(clock: &C, began: Option<Instant>) -> bool {
     match began.map(|began| began.elapsed(clock)) {
         Some(Ok(passed)) => passed.as_secs() >= PATIENCE,
@@ -106,13 +107,13 @@ fn is_past<C: Clock>(clock: &C, began: Option<Instant>) -> bool {
     }
 }
 
-/// The peers of a thread, and its seats at the pads.
+/// The peers of one thread, and its seats at the pads.
 #[derive(Drop)]
 pub struct Group<'a, R> {
-    /// Its place among the threads.
+    /// The index of the thread.
     place: usize,
     links: Vec<PeerLink<'a, R>>,
-    /// The cells that have moved since the last turn.
+    /// The cells that have changed since the last turn.
     moved: CellSet,
     seats: Vec<Seat>,
 }
@@ -121,8 +122,8 @@ impl<'a, R> Group<'a, R>
 where
     R: Net<Listener = TcpListener, Stream = TcpStream> + Clock + Wait + Eprint,
 {
-    /// The group of the thread at a place, with its seats, one at each cell: of 16 peers that follow one another one is in it,
-    /// unless it is the server itself.
+    /// The group of the thread with an index, and its seats, one at each cell. Every 16th peer, from that index on, is
+    /// in it, except the server itself.
     pub fn new(
         alloc: Global,
         place: usize,
@@ -147,11 +148,11 @@ where
     }
 }
 
-/// Makes rounds with the peers of a group until its bell rings for the last ones: over all cells at the start, after each
-/// reconnection and once a minute, and else over those that have moved. Where a peer gave operations, or its round broke off and
-/// may have brought some, all bells are rung, since other peers may lack them. In its last rounds only operations that are known to
-/// have come bring another one, so that a peer that breaks off each time keeps no server from ending. Where exchanges are broken
-/// off, no further round begins.
+/// Makes rounds with the peers of a group until its bell rings for the last ones: over all cells at the start, after
+/// each reconnection and once a minute, and otherwise over those that have changed. If a peer sent operations, or its
+/// round broke off and may have brought some, all bells are rung, since other peers may lack them. Among the last
+/// rounds, only operations that are known to have arrived cause a further one, so a peer that breaks off each time
+/// cannot keep the server from ending. After exchanges were broken off, no further round begins.
 pub fn exchange_all<'a, S: Sequence, R, G: Gate>(
     row: &Row<'a, S, R, G>,
     exchange: &Exchange,
@@ -198,7 +199,7 @@ where
     exchange.leave(rt);
 }
 
-// For how long to wait.
+// How long to wait, in seconds.
 fn look_of<R>(links: &Vec<PeerLink<'_, R>>) -> u64
 where
     R: Net<Listener = TcpListener, Stream = TcpStream> + Clock + Wait + Eprint,
@@ -210,7 +211,7 @@ where
     }
 }
 
-// One round with each peer that is due; in the last rounds with each.
+// Makes one round with each peer that is due; among the last rounds, with each peer.
 fn rounds<'a, P: Pads, R>(
     rt: &'a R,
     links: &mut Vec<PeerLink<'a, R>>,

@@ -1,4 +1,4 @@
-//! A peer that this server exchanges with, and how its rounds went.
+//! A peer that this server exchanges operations with, and the outcome of its rounds.
 use crate::connection::{Broken, Connection};
 use crate::stop::Guard;
 use devices::cause_of;
@@ -16,10 +16,10 @@ use std::time::{Clock, Duration, Instant};
 use wire_lines::Fault;
 use workers::Pads;
 
-/// How long this server waits for a peer, in seconds: to connect, for each reply, and for each line to be taken.
+/// How long this server waits for a peer, in seconds: to connect, for each reply, and for each line to be accepted.
 pub const PATIENCE: u64 = 30;
 
-/// For how many seconds of these it tries one connection. No further one is tried once the server has stopped.
+/// How long one attempt to connect takes, in seconds. No further one is made once the server has stopped.
 const TURN: u64 = 3;
 
 /// The pause after a failed round, in seconds. After each further one it is twice as long.
@@ -28,26 +28,26 @@ const FIRST_PAUSE: u64 = 1;
 /// The longest pause, in seconds.
 const LONGEST_PAUSE: u64 = 60;
 
-/// What a round with a peer brought.
+/// The outcome of a round with a peer.
 #[derive(Clone, Copy, Debug, PartialEq, Eq)]
 pub enum Brought {
-    /// No operation that this server lacked.
+    /// It brought no operation that this server lacked.
     Nothing,
-    /// Operations, which other peers may lack.
+    /// It brought operations, which other peers may lack.
     Operations,
-    /// The round broke off, perhaps after it had brought some.
+    /// It broke off, and may have brought some before.
     Unknown,
 }
 
-/// A peer, the connection to it, and how its last round went.
+/// A peer, the connection to it, and the outcome of its last round.
 #[derive(Drop)]
 pub struct PeerLink<'a, R> {
     peer: &'a Peer,
-    /// Its place among the peers.
+    /// The index of the peer.
     place: usize,
     guard: Guard<'a>,
     connection: Option<Connection<'a, R>>,
-    /// The cells that have moved since they were visited last.
+    /// The cells that have changed since they were last visited.
     moved: CellSet,
     /// The pause before the next round, in seconds; 0 if the last round succeeded.
     pause: u64,
@@ -59,7 +59,7 @@ impl<'a, R> PeerLink<'a, R>
 where
     R: Net<Listener = TcpListener, Stream = TcpStream> + Clock + Wait + Eprint,
 {
-    /// A peer without a round yet, by its place among the peers, of a server with so many cells.
+    /// A peer with which no round was made yet, by its index, on a server with this many cells.
     pub fn new(
         alloc: Global,
         peer: &'a Peer,
@@ -79,18 +79,18 @@ where
         })
     }
 
-    /// Whether its last round failed.
+    /// Whether the last round failed.
     pub fn has_failed(&self) -> bool {
         self.pause > 0
     }
 
-    /// These cells have moved.
+    /// Notes that these cells have changed.
     pub fn note(&self, moved: &CellSet) {
         self.moved.add_all(moved);
     }
 
-    /// Whether it is time for a round: after the pause that follows a failed one, or else if there is no connection, a pad has
-    /// moved, or all cells are to be visited again.
+    /// Whether a round is due: after a failed one, once its pause is over; otherwise if there is no connection, a pad
+    /// has changed, or all cells are to be visited again.
     pub fn is_due(&self, clock: &R) -> bool {
         if let Some(at) = self.failed_at {
             return match at.elapsed(clock) {
@@ -104,8 +104,8 @@ where
         }
     }
 
-    /// Makes a round. Where the connection has stood for a while and breaks, the peer may have closed it, and a new one is tried
-    /// at once. A failure is logged with its cause, and not again until the cause changes or a round succeeds.
+    /// Makes a round. If an older connection breaks, the peer may have closed it, and a new one is tried at once. A
+    /// failure is logged with its cause, and not again until the cause changes or a round succeeds.
     pub fn exchange<P: Pads>(
         &mut self,
         rt: &'a R,
@@ -140,7 +140,7 @@ where
         }
     }
 
-    // Makes a round over the cells that have moved, or over all, by the connection that there is, or by a new one.
+    // Makes a round over the cells that have changed, or over all, over the existing connection or a new one.
     fn make_round<P: Pads>(
         &mut self,
         rt: &'a R,
@@ -192,7 +192,7 @@ where
         connection.visit(alloc, pads, cells.as_slice())
     }
 
-    // The cells that a round visits, in their order.
+    // The cells that a round visits, in ascending order.
     fn cells(&self, alloc: Global, count: u32, is_whole: bool) -> Result<Vec<u32>, AllocError> {
         if !is_whole {
             return self.moved.list(alloc);
@@ -239,7 +239,7 @@ where
     }
 }
 
-// A connection to the first address that answers, with time limits for reading and writing.
+// Connects to the first address that answers, with time limits for reading and writing.
 fn connect_to<R>(rt: &R, address: &str, guard: Guard<'_>) -> io::Result<TcpStream>
 where
     R: Net<Listener = TcpListener, Stream = TcpStream> + Wait,
@@ -260,7 +260,7 @@ where
     Err(last)
 }
 
-// A connection to an address, which is tried for some seconds at a time.
+// Connects to an address, in attempts of a few seconds each.
 fn connect_in_turns<R>(rt: &R, address: &SocketAddr, guard: Guard<'_>) -> io::Result<TcpStream>
 where
     R: Net<Listener = TcpListener, Stream = TcpStream> + Wait,

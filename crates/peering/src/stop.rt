@@ -11,7 +11,8 @@ use std::sync::atomic::{AtomicBool, Ordering};
 use std::sync::{Mutex, Wait};
 use std::time::Clock;
 
-/// The sockets to the peers, by which exchanges are broken off, and whether they were. All threads of a server share one.
+/// The sockets to the peers, through which exchanges are broken off, and whether they were. All threads of a server
+/// share one.
 #[derive(Drop)]
 pub struct Stop {
     sockets: Vec<Mutex<Option<TcpStream>>>,
@@ -19,7 +20,7 @@ pub struct Stop {
 }
 
 impl Stop {
-    /// Of a server with so many peers that exchanges with none of them yet.
+    /// Creates the state for a server with this many peers and no exchange under way.
     pub fn new(alloc: Global, peers: usize) -> Result<Stop, AllocError>
         ensures { IfOk result (λ stop. length stop.sockets.items ≡ peers) }
     {
@@ -34,20 +35,21 @@ impl Stop {
     }
 }
 
-/// What an exchange with a peer looks at: the store, which has to be synced before a line is written to the peer, and whether
-/// the server ends.
+/// What an exchange with a peer depends on: the store, which has to be synced before a line is written to the peer, and
+/// whether the server is ending.
 #[derive(Clone, Copy)]
 pub struct Guard<'a> {
-    /// None: there is no store.
+    /// The keeper of the store; None if there is no store.
     pub keeper: Option<&'a Keeper>,
-    /// Made for as many peers as the accounts have.
+    /// Created for as many peers as the accounts have.
     pub stop: &'a Stop,
-    /// By which the whole server is ended if the store has failed.
+    /// The hub, through which the whole server is stopped if the store has failed.
     pub hub: &'a Hub,
 }
 
 impl Guard<'_> {
-    // A connection to a peer begins. It is broken off at once where the server has ended or the socket has no second handle.
+    // Registers a connection to a peer. It is broken off at once if the server has ended or the socket gets no second
+    // handle.
     pub(crate) fn enter<R: Wait + Clock + Eprint>(&self, rt: &R, peer: usize, stream: &TcpStream) {
         match stream.try_clone() {
             Ok(second) => {
@@ -65,21 +67,21 @@ impl Guard<'_> {
         }
     }
 
-    // The connection to a peer has ended.
+    // Removes the connection to a peer that has ended.
     pub(crate) fn leave<R: Wait>(&self, rt: &R, peer: usize) {
         if let Some(socket) = self.stop.sockets.get(peer) {
             *socket.lock(rt) = None;
         }
     }
 
-    // Ends the server, if the store has failed.
+    // Stops the server, if the store has failed.
     pub(crate) fn check(&self) {
         if self.keeper.is_some_and(|keeper| keeper.has_failed()) {
             self.hub.stop();
         }
     }
 
-    /// Breaks all exchanges off that are under way. None begins any more.
+    /// Breaks off all exchanges that are under way. No further ones begin.
     pub fn end<R: Wait>(&self, rt: &R) {
         self.stop.is_over.store(true, Ordering::SeqCst);
         for socket in &self.stop.sockets {
@@ -89,7 +91,7 @@ impl Guard<'_> {
         }
     }
 
-    // Whether the server was ended, or exchanges were broken off.
+    // Whether the server was stopped, or exchanges were broken off.
     pub(crate) fn has_stopped(&self) -> bool {
         self.hub.has_stopped() || self.stop.is_over.load(Ordering::SeqCst)
     }

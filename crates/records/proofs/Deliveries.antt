@@ -1,4 +1,4 @@
--- The operations of a log that a pad can have are delivered again, one behind the other.
+-- The operations of a log that a pad can have are delivered again, one after another.
 use Rattle.std.proofs.Common.{◌≡◌, ℕ, ◌+◌, ◌≤◌, true, cond, eq-eqb, List, [], ◌∷◌, ◌++◌}
 use Rattle.std.proofs.Common.{length, map, fold, flat_map, count_by, Option, None, Result, Ok, refl, sym, ap}
 use Rattle.std.proofs.Common.{◌∙◌, subst, arith, append-nil, append_assoc}
@@ -24,7 +24,7 @@ use Rattle.pad_core.proofs.Judged.{Allowed, not_refused}
 use Rattle.records.specs.Records.{replay_all, replayed, unless_refused}
 use Rattle.records.specs.declared.kept_record.Record.TheVariants.{Delivered}
 
--- a restarted pad with these
+-- a restarted pad with this owner, these numbers and this log
 abbrev pub bare : Option Owned → ℕ → ℕ → List Op → ℕ → Machine
 bare o replica limit log given = record { owned = o; replica = replica; log = log; held = []; presence = record { limit = limit; given = given; present = [] } }
 
@@ -40,7 +40,7 @@ next_at : (seen : List Counted) (log : List Op) (op : Op) (more : List Op) → A
 next_at seen [] op more n = n.0
 next_at seen (x ∷ log) op more n = next_at (counted seen x) log op more n.1
 
--- how many of a log's operations are comments, with one of them in its midst
+-- the number of a log's comments, with one of them in the middle
 comments_at : (log : List Op) (op : Op) (more : List Op) → is_comment op ≡ true → count_by is_comment log + 1
     ≤ count_by is_comment (log ++ op ∷ more)
 comments_at log op more e =
@@ -71,7 +71,7 @@ allowed_at log op more d =
       few = λ e. (let more_comments = comments_at log op more e in omega arith);
     }
 
--- an operation of such a log is delivered behind those before it
+-- an operation of such a log is delivered after those before it
 again_at : (log : List Op) (op : Op) (more : List Op) → IsDelivered (log ++ op ∷ more) → restore_refusal op log ≡ None
 again_at log op more d =
     let checked : is_checked op ≡ true = (checked_at [] log op more d.history).0 in
@@ -79,7 +79,7 @@ again_at log op more d =
     + 1) (next_at [] log op more d.numbered) in
     rw (checked, next) (not_refused log op (allowed_at log op more d))
 
--- and so a restarted pad has it
+-- a restarted pad delivers it
 one_again : (o : Option Owned) (replica limit : ℕ) (log : List Op) (given : ℕ) (op : Op) →
     restore_refusal op log ≡ None →
     replayed (Ok (bare o replica limit log given)) (Delivered op) ≡ Ok (bare o replica limit (log ++ op ∷ []) given)
@@ -91,7 +91,7 @@ one_again o replica limit log given op e = ap (λ (d : Result (Unit {0}) Refusal
     again : delivered_again op log ≡ (Ok tt, log ++ op ∷ [])
     again = rw e refl
 
--- and all of them
+-- a restarted pad delivers all of them
 pub all_again : (o : Option Owned) (replica limit : ℕ) (log more : List Op) (given : ℕ) → IsDelivered (log ++ more) →
     replay_all (map Delivered more) (bare o replica limit log given) ≡ Ok (bare o replica limit (log ++ more) given)
 all_again o replica limit log [] given d = ap (λ (l : List Op). Ok (bare o replica limit l given)) (sym (append-nil log))
@@ -102,7 +102,7 @@ all_again o replica limit log (op ∷ more) given d =
     (subst IsDelivered (sym (append_assoc log (op ∷ []) more)) d)
     ∙ ap (λ (l : List Op). Ok (bare o replica limit l given)) (append_assoc log (op ∷ []) more))
 
--- and the first of them alone
+-- a restarted pad delivers only the first of them
 pub front_again : (o : Option Owned) (replica limit : ℕ) (log first rest : List Op) (given : ℕ) →
     IsDelivered (log ++ (first ++ rest)) → replay_all (map Delivered first) (bare o replica limit log given)
     ≡ Ok (bare o replica limit (log ++ first) given)
@@ -115,7 +115,7 @@ front_again o replica limit log (op ∷ first) rest given d =
     (subst IsDelivered (sym (append_assoc log (op ∷ []) (first ++ rest))) d)
     ∙ ap (λ (l : List Op). Ok (bare o replica limit l given)) (append_assoc log (op ∷ []) first))
 
--- where nothing but the log and those present has changed
+-- if only the log and the present visits have changed
 pub quiet : (old after : Machine) (more : List Op) → after.owned ≡ old.owned → after.replica ≡ old.replica →
     after.presence.limit ≡ old.presence.limit → after.presence.given ≡ old.presence.given → after.log ≡ old.log ++ more →
     IsDelivered after.log → replay_all (map Delivered more) (restarted old) ≡ Ok (restarted after)

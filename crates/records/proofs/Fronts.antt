@@ -1,4 +1,4 @@
--- The first records of a pad's life lead to the restarted pad that it was by then.
+-- The first records of a pad's life lead to the restarted pad as it was by then.
 use Rattle.std.proofs.Common.{◌≡◌, ◌⊎◌, inl, inr, ℕ, ◌+◌, ◌-◌, ◌≤◌, ◌<◌, nat_le, true, false, List, [], ◌++◌}
 use Rattle.std.proofs.Common.{length, map, take, drop, fold, Some, None, Result, Ok, Err, refl, sym, ap, ◌∙◌}
 use Rattle.std.proofs.Common.{min, subst, arith}
@@ -29,12 +29,12 @@ use Rattle.records.proofs.Deliveries.{front_again}
 use Rattle.records.proofs.Numbers.{any_numbers}
 use Rattle.records.proofs.Steps.{life_again}
 
--- some records lead to a pad that was there on the way, whatever the server's numbers are
+-- some records lead to a pad as it was on the way, whatever the server's numbers are
 abbrev Found : ℕ → ℕ → List Record → Machine → List Record → Type 0
 Found replica present records m front = (had : Machine) × Had replica present records m front had
     × ((number most : ℕ) → rebuilt number most front ≡ Ok (restarted_by number most had))
 
--- one record at most, or one for each operation
+-- at most one record, or one for each operation
 abbrev IsFew : List Record → List Op → Type 0
 IsFew records more = (length records ≤ 1) ⊎ (records ≡ map Delivered more)
 
@@ -73,7 +73,7 @@ part_again replica present records old first rest life d =
     ∙ (ap (λ (r : Result Machine Refusal). fold replayed r (map Delivered first)) (life_again replica present records old life)
     ∙ front_again old.owned old.replica old.presence.limit old.log first rest old.presence.given d)
 
--- within a request
+-- the records of a part of a request
 part : (replica present : ℕ) (records : List Record) (w : Who) (this : Request) (cell : ℕ) (rooms : List Room) (old : Machine)
     (answer : Answer) (new : List Room) (after : Machine) (more first rest : List Op) →
     first ++ rest ≡ more → Life replica present records old → Left w this cell rooms old answer new after more →
@@ -94,7 +94,7 @@ part replica present records w this cell rooms old answer new after more first r
     delivered : IsDelivered (old.log ++ (first ++ rest))
     delivered = subst IsDelivered parted.grown parted.delivered
 
--- a front of what a request leaves
+-- a prefix of the records that a request leaves
 asked_front : (replica present : ℕ) (records : List Record) (w : Who) (this : Request) (cell : ℕ) (rooms : List Room)
     (old : Machine) (answer : Answer) (new : List Room) (after : Machine) (more : List Op) (n : ℕ) →
     Life replica present records old → Left w this cell rooms old answer new after more → 1 ≤ n →

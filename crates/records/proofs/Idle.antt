@@ -1,4 +1,4 @@
--- A request that may leave nothing to be kept leaves the operations as they are, and no records.
+-- A request that may leave no records leaves the operations unchanged, and leaves no records.
 use Rattle.std.proofs.Common.{◌≡◌, ◌⊎◌, inl, inr, ℕ, Bool, true, false, not, cond, List, [], ◌++◌, Option, Some, None}
 use Rattle.std.proofs.Common.{Result, Ok, Err, bytes_eq, unwrap_or, refl, sym, ap, ◌∙◌, subst, append-nil}
 use Rattle.std.proofs.lemmas.Bool.{false≢true}
@@ -25,7 +25,7 @@ use Rattle.records.specs.Laws.{Left}
 use Rattle.records.specs.Leaves.{is_kept, may_leave}
 use Rattle.records.specs.Records.{Answer, act_records, records_of}
 
--- the operations are as they were, or what an act does may be kept
+-- the operations are unchanged, or the act may leave records
 abbrev Stays : Act → List Op → List Op → Type 0
 Stays this old after = (after ≡ old) ⊎ (is_kept this ≡ true)
 
@@ -80,13 +80,13 @@ step_stays name w visit this (Some owned) replica log held p =
     (Ok pad.Elsewhere, machine (Some owned) replica log held p) _ (inl refl)
     (session_stays owned w visit this (machine (Some owned) replica log held p))
 
--- without operations, what is kept of an act is nothing
+-- without operations, an act leaves no records, or it may leave some
 without : (this : Act) (answer : Answer) → (act_records this answer [] ≡ []) ⊎ (is_kept this ≡ true)
 without act.Join answer = inr refl
 without (act.Grant author right) answer = inr refl
 without other answer = inl refl
 
--- an act that leaves the operations as they are leaves no records, or may be kept
+-- an act that leaves the operations unchanged leaves no records, or it may leave some
 act_idle : (this : Act) (answer : Answer) (old after more : List Op) → Stays this old after → after ≡ old ++ more →
     (act_records this answer more ≡ []) ⊎ (is_kept this ≡ true)
 act_idle this answer old after more (inr kept) grown = inr kept
@@ -96,7 +96,7 @@ act_idle this answer old after more (inl same) grown = subst (λ (ops : List Op)
     none : more ≡ []
     none = append_cancel_left old more [] (sym grown ∙ (same ∙ sym (append-nil old)))
 
--- no records, or a request that may leave some
+-- a request leaves no records, or it may leave some
 abbrev Idle : Who → Request → Answer → List Op → Type 0
 Idle w this answer more = (records_of w this answer more ≡ []) ⊎ (may_leave this ≡ true)
 

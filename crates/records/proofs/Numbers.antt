@@ -1,4 +1,4 @@
--- What records lead to does not depend on the server's numbers, and nobody is present there and nothing is held.
+-- The pad that records lead to does not depend on the server's numbers; it has nobody present, and holds no operations.
 use Rattle.std.proofs.Common.{◌≡◌, ◌⊎◌, inl, inr, ℕ, ◌+◌, Bool, true, false, List, [], ◌∷◌, fold, Option, Some}
 use Rattle.std.proofs.Common.{None, Result, Ok, Err, ◌&&◌, eq-eqb, refl, sym, ap, ◌∙◌, subst}
 use Rattle.pad_model.specs.Checked.{is_name}
@@ -23,7 +23,7 @@ pub alone : (limit given : ℕ) (name : List ℕ) →
     ≡ record { limit = limit; given = given + 1; present = [] }
 alone limit given name = rw (eq-eqb (given + 1) (given + 1) refl) refl
 
--- a record leads from a pad to another one, or is refused, whatever the server's numbers are
+-- a record leads from a pad to another, or is refused, whatever the server's numbers are
 abbrev Goes : Record → Option Owned → List Op → ℕ → Type 0
 Goes kept o log given = (done : Result (Unit {0}) Refusal) × (after : Option Owned) × (more : List Op) × (next : ℕ)
     × ((replica limit : ℕ) → replay kept (bare o replica limit log given) ≡ (done, bare after replica limit more next))
@@ -51,7 +51,7 @@ grants author right owned log given true is = (
 )
 grants author right owned log given false is = (Err BadName, Some owned, log, given, λ replica limit. rw is refl)
 
--- why no further number is given after this one, if so
+-- the refusal of a further number after this one, if there is one
 abbrev spent : ℕ → Option Refusal
 spent given = spent_refusal (record { limit = 0; given = given; present = [] })
 
@@ -110,7 +110,7 @@ err_is_no_ok e m h = cc
 same_ok : (m n : Machine) → (let r : Result Machine Refusal = Ok m in r) ≡ Ok n → m ≡ n
 same_ok m n h = cc
 
--- in what records lead to, nobody is present and nothing is held
+-- in the pad that records lead to, nobody is present and no operation is held
 pub bare_stays : (replica limit : ℕ) (records : List Record) (m : Machine) → rebuilt replica limit records ≡ Ok m →
     m ≡ restarted m
 bare_stays replica limit records m leads = at (all_go records None [] 0)
@@ -120,7 +120,7 @@ bare_stays replica limit records m leads = at (all_go records None [] 0)
     at (inr (after, more, next, is)) = subst (λ (n : Machine). n ≡ restarted n)
         (same_ok (bare after replica limit more next) m (sym (is replica limit) ∙ leads)) refl
 
--- and on a server with other numbers they lead to the same pad
+-- on a server with other numbers, records lead to the same pad
 pub any_numbers : (replica limit : ℕ) (records : List Record) (m : Machine) →
     rebuilt replica limit records ≡ Ok (restarted m) →
     (number most : ℕ) → rebuilt number most records ≡ Ok (restarted_by number most m)

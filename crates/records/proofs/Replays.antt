@@ -1,4 +1,4 @@
--- Records that are replayed one after the other.
+-- Records that are replayed one after another.
 use Rattle.std.proofs.Common.{◌≡◌, ◌⊎◌, inl, inr, List, [], ◌∷◌, fold, Result, Ok, Err, refl, sym, ap, ◌∙◌}
 use Rattle.pad_model.specs.Answers.{Answers}
 use Rattle.pad_model.specs.declared.refusal.Refusal.{Refusal}
@@ -14,7 +14,7 @@ refused_stays (x ∷ records) e = refused_stays records e
 not_err : (e : Refusal) → (let r : Result (Unit {0}) Refusal = Ok tt in r) ≡ Err e → ⊥
 not_err e h = cc
 
--- what is left, once one more record was replayed
+-- the records that remain after one more was replayed
 pub goes_on : (m new : Machine) (x : Record) (rest after : List Record) (result : Result (Unit {0}) Refusal)
     (whole : Result Machine Refusal) → rest ≡ x ∷ after → Answers m (replay x m) result new → result ≡ Ok tt →
     replay_all rest m ≡ whole → replay_all after new ≡ whole
@@ -24,7 +24,7 @@ goes_on m new x rest after result whole is (inr did) done h =
     ∙ ap (λ (r : Result (Unit {0}) Refusal). fold replayed (unless_refused (r, new)) after) done)
     ∙ (sym (ap (λ rs. replay_all rs m) is) ∙ h)
 
--- the first refusal is that of all
+-- the first refusal is that of the whole
 pub ends : (m new : Machine) (x : Record) (rest after : List Record) (result : Result (Unit {0}) Refusal)
     (whole : Result Machine Refusal) (e : Refusal) → rest ≡ x ∷ after → Answers m (replay x m) result new →
     result ≡ Err e → replay_all rest m ≡ whole → (e ≡ Memory) ⊎ (whole ≡ Err e)

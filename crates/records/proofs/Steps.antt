@@ -48,7 +48,7 @@ use Rattle.records.specs.declared.kept_record.Record.TheVariants as kept
 use Rattle.records.proofs.Deliveries.{bare, quiet}
 use Rattle.records.proofs.Numbers.{alone, bare_stays}
 
--- some records lead from a pad to another one, which delivered these operations
+-- some records lead from a pad to another, which delivered these operations
 abbrev Leads : (Answer → List Op → List Record) → Machine → Answer → Machine → Type 0
 Leads records old answer after = (more : List Op) → after.log ≡ old.log ++ more → IsDelivered after.log →
     replay_all (records answer more) (restarted old) ≡ Ok (restarted after)
@@ -60,7 +60,7 @@ either P false x y p q = q
 abbrev machine : Option Owned → ℕ → List Op → List Op → Presence → Machine
 machine o replica log held p = record { owned = o; replica = replica; log = log; held = held; presence = p }
 
--- where somebody can join, a further number is given
+-- if a client can join, a further number is given
 can_join : (p : Presence) → join_refusal p ≡ None → spent_refusal p ≡ None
 can_join p e = (unless (nat_le p.limit (length p.present)) Crowded _ e).1
 
@@ -114,7 +114,7 @@ grant_again owned replica limit log given author right book named is =
     grants_it = rw named (ap (λ (d : Result (Unit {0}) Refusal × Rights). (let r : Result (Unit {0}) Refusal
         × Machine = (d.0, bare (Some (record owned { rights = d.1 })) replica limit log given) in r)) is)
 
--- a grant is refused and changes nothing, or stands
+-- a grant is refused and changes nothing, or it takes effect
 abbrev Grants : Rights → Result (Unit {0}) Refusal × Rights → Type 0
 Grants old done = ((e : Refusal) × (done ≡ (Err e, old))) ⊎ ((new : Rights) × (done ≡ (Ok tt, new)))
 
@@ -144,7 +144,7 @@ gives owned author right m is named = at (grant owned.rights author right) refl 
         ≡ Ok (bare (Some (record owned { rights = new })) m.replica m.presence.limit m.log m.presence.given)) (sym is)
         (grant_again owned m.replica m.presence.limit m.log m.presence.given author right new named (q ∙ same)))
 
--- the operations alone lead from a pad to another one
+-- the operations alone lead from a pad to another
 abbrev Moves : Machine → Machine → Type 0
 Moves old after = (more : List Op) → after.log ≡ old.log ++ more → IsDelivered after.log →
     replay_all (map kept.Delivered more) (restarted old) ≡ Ok (restarted after)
@@ -176,7 +176,7 @@ carets rev at visit log m = present_alone m (put_caret rev at visit log m.presen
         (either (λ (done : Result PadReply Refusal × Presence). part done.1 ≡ part m.presence)
         (ltb (length (visible (characters_at rev log))) at) _ _ refl same_part)
 
--- what an author's act does
+-- an author's act
 author_leads : (owned : Owned) (name : List ℕ) (visit : ℕ) (this : Act) (m : Machine) → m.owned ≡ Some owned →
     ((author : List ℕ) (right : Option Right) → this ≡ act.Grant author right → is_name author ≡ true) →
     Leads (act_records this) m (passed_on (author_act owned name visit this m).0) (author_act owned name visit this m).1
@@ -193,17 +193,17 @@ author_leads owned name visit (act.Grant author right) m is named =
     gives owned author right m is (named author right refl)
 author_leads owned name visit other m is named = same m
 
--- where an act is refused, nothing is recorded but that nothing has changed
+-- a refused act leaves no records, and changes nothing
 idle : (this : Act) (e : Refusal) (m : Machine) → Leads (act_records this) m (Err e) m
 idle act.Join e m = same m
 idle other e m = same m
 
--- at a pad of another name
+-- an act at a pad of another name
 elsewhere : (this : Act) (m : Machine) → Leads (act_records this) m (Ok None) m
 elsewhere act.Join m = same m
 elsewhere other m = same m
 
--- what a peer's act does
+-- a peer's act
 peer_leads : (version : Version) (this : Act) (m : Machine) →
     Leads (act_records this) m (passed_on (peer_act version this m).0) (peer_act version this m).1
 peer_leads version (act.Push op) m = λ more grown d. quiet m (peer_act version (act.Push op) m).1 more refl refl refl
@@ -267,10 +267,6 @@ claim_again replica limit log given name owner named owned =
         rw (named, owned)
         (ap (λ (q : Presence). (let r : Result (Unit {0}) Refusal
         × Machine = (Ok tt, record { owned = Some (record { name = name; rights = record { owner = owner; grants = [] } }); replica = replica; log = log; held = []; presence = q }) in r)) (alone limit given owner))
-
--- nothing is recorded where a claim fails
-unclaimed : (m : Machine) → replay_all [] (restarted m) ≡ Ok (restarted m)
-unclaimed m = refl
 
 create_leads : (name : List ℕ) (w : Who) (cell : ℕ) (rooms : List Room) (o : Option Owned) (replica : ℕ)
     (log held : List Op) (p : Presence) → is_name name ≡ true →

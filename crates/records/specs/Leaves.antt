@@ -1,11 +1,11 @@
--- Which requests may leave something to be kept.
+-- Which requests may leave records.
 use Rattle.std.specs.Prelude.{Bool, true, false}
 use Rattle.pad_core.specs.declared.act.Act.{Act}
 use Rattle.pad_core.specs.declared.act.Act.TheVariants as act
 use Rattle.pad_core.specs.declared.request.Request.{Request}
 use Rattle.pad_core.specs.declared.request.Request.TheVariants as request
 
--- what an act does may be kept: it counts a visit, changes a right, or makes or takes an operation
+-- an act may leave records: it counts a visit, changes a right, or makes or takes an operation
 abbrev pub is_kept : Act → Bool
 is_kept act.Join = true
 is_kept (act.Grant author right) = true
@@ -17,7 +17,7 @@ is_kept (act.Resolve resolved) = true
 is_kept (act.Push op) = true
 is_kept other = false
 
--- a request may leave records: it creates a pad, or does such an act
+-- a request may leave records: it creates a pad, or makes such an act
 abbrev pub may_leave : Request → Bool
 may_leave (request.Create name) = true
 may_leave (request.On name act) = is_kept act

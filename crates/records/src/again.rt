@@ -1,4 +1,4 @@
-//! From records to a pad.
+//! Rebuilds a pad from its records.
 ghost use Rattle.std.specs.Prelude.{◌≡◌, ◌⊎◌, ◌≤◌, Ok, Err, MatchResult};
 ghost use Rattle.pad_model.specs.Answers.{Answers};
 ghost use Rattle.records.specs.Records.{rebuilt, replay as replayed};
@@ -8,7 +8,7 @@ use pad_core::Pad;
 use pad_model::{Refusal, Sequence};
 use std::alloc::Global;
 
-/// Does on a pad what a record tells, or refuses it and changes nothing.
+/// Applies a record to a pad. If the record is refused, the pad is unchanged.
 pub fn replay<S: Sequence>(alloc: Global, pad: &mut Pad<S>, kept: Record) -> Result<(), Refusal>
     ensures { Answers pad.old (replayed kept pad.old) result pad.new }
 {
@@ -20,7 +20,8 @@ pub fn replay<S: Sequence>(alloc: Global, pad: &mut Pad<S>, kept: Record) -> Res
     }
 }
 
-/// The pad of a server that some records lead to, where this many visits may be present at once. An error is the first record's refusal, or out of memory.
+/// Builds a pad from its records, on a server with this replica number, where at most `present` visits may be present
+/// at once. Fails with the refusal of the first record that is refused, or out of memory.
 pub fn rebuild<S: Sequence>(
     alloc: Global,
     replica: u16,
@@ -28,7 +29,8 @@ pub fn rebuild<S: Sequence>(
     records: Vec<Record>,
 ) -> Result<Pad<S>, Refusal>
     requires { 1 ≤ replica }
-    ensures { MatchResult result (λ pad. rebuilt replica present records.items ≡ Ok pad) (λ e. (e ≡ Refusal.Memory) ⊎ (rebuilt replica present records.items ≡ Err e)) }
+    ensures { MatchResult result (λ pad. rebuilt replica present records.items ≡ Ok pad)
+        (λ e. (e ≡ Refusal.Memory) ⊎ (rebuilt replica present records.items ≡ Err e)) }
 {
     let mut pad = Pad::new(alloc, replica, present)?;
     for kept in records {

@@ -2,7 +2,7 @@
 use pad_model::{Name, Op};
 use rights::Right;
 
-/// What was done on a pad and outlives a restart.
+/// A change to a pad that outlives a restart.
 #[derive(Clone, Debug, PartialEq, Drop)]
 pub enum Record {
     /// The pad was given a name and an owner, whose visit was the first.

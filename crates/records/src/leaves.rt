@@ -1,10 +1,11 @@
-//! Which requests may leave something to be kept.
+//! Which requests may leave records.
 ghost use Rattle.std.specs.Prelude.{◌≡◌};
 ghost use Rattle.records.specs.Leaves.{may_leave, is_kept as is_act_kept};
 
 use pad_core::{Act, Request};
 
-/// Whether a request may leave records, by what it asks alone. Where it may not, `records_of` is empty whatever the answer.
+/// Whether a request may leave records, judged by the request alone. If it may not, `records_of` is empty whatever the
+/// answer.
 pub fn leaves_records(request: &Request) -> bool
     ensures { result ≡ may_leave request.now }
 {

@@ -1,7 +1,7 @@
-//! What is kept of a pad to put it together again after a restart.
+//! The records of a pad, from which it is rebuilt after a restart.
 //!
-//! A request at a cell leaves records; replayed in their order they lead from the restarted pad before it to the restarted
-//! pad after it. How records are written down is decided above.
+//! A request at a cell leaves records. Replayed in order, they lead from the restarted pad before the request to the
+//! restarted pad after it. The crates above decide how records are written.
 #![tactic(auto)]
 
 mod again;

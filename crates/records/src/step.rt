@@ -1,4 +1,4 @@
-//! What a request at a cell leaves to be kept.
+//! The records that a request at a cell leaves.
 ghost use Rattle.std.specs.Prelude.{◌≡◌, [], ◌∷◌, IfOk, map};
 ghost use Rattle.records.specs.Records.{act_records, claim_records, records_of as records_left};
 ghost use Rattle.records.specs.declared.kept_record.Record.TheVariants as variant;
@@ -8,7 +8,7 @@ use pad_core::{Act, Reply, Request};
 use pad_model::{Name, Op, Refusal, Who};
 use std::alloc::{AllocError, Global};
 
-/// The records of a request at a cell, which was answered so and delivered these operations.
+/// Returns the records of a request at a cell, given its answer and the operations that it delivered.
 pub fn records_of(
     alloc: Global,
     who: &Who,
@@ -16,7 +16,8 @@ pub fn records_of(
     answer: &Result<Option<Reply>, Refusal>,
     more: &[Op],
 ) -> Result<Vec<Record>, AllocError>
-    ensures { IfOk result (λ records. records.items ≡ records_left who.now request.now answer.now more.now) }
+    ensures { IfOk result (λ records. records.items
+        ≡ records_left who.now request.now answer.now more.now) }
 {
     match request {
         Request::Create { pad } => records_of_claim(alloc, who, pad, answer),

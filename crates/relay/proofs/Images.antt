@@ -1,4 +1,4 @@
--- A round over some pads is a round over others, where each call and each look of the first is one of the second.
+-- A round over some pads is a round over others, if each call and each look of the first is one of the second.
 use Rattle.std.proofs.Common.{◌≡◌, ◌<◌, ℕ, zero, suc, ◌+◌, nat_le, Bool, true, false, List, [], ◌∷◌, Option, None, Some}
 use Rattle.std.proofs.Common.{Result, Ok, Err, IfOk, IfErr, refl, sym, ap, ◌∙◌, subst, arith}
 use Rattle.std.proofs.lemmas.Bool.{leb-false}
@@ -60,7 +60,7 @@ module _ {P Q : Type 0} (f : P → Q) (Holds : P → Type 0) (cells : ℕ) (call
   keeps_same : (u v : World P) → Keeps u → v ≡ u → Keeps v
   keeps_same u v k is = keeps_on u v k (ap (λ w. w.pads) is) (ap (λ w. w.cells) is)
 
-  -- what follows a world, there and here
+  -- what follows a world, for both kinds of pads
   abbrev IsLike : Stage × World P → Stage × World Q → World P → Type 0
   IsLike p q w = (step p ≡ q) × (p.1.pads ≡ w.pads) × (p.1.cells ≡ w.cells)
 
@@ -110,7 +110,7 @@ module _ {P Q : Type 0} (f : P → Q) (Holds : P → Type 0) (cells : ℕ) (call
   told_push_like name turn due gained whole None w = (refl, refl, refl)
   told_push_like name turn due gained whole (Some told) w = (refl, refl, refl)
 
-  -- the same of a vector that may be sent
+  -- the same for a vector that may be sent
   abbrev IsAskedLike : Stage × World P × Option Data → Stage × World Q × Option Data → World P → Type 0
   IsAskedLike p q w = (q ≡ (p.0, image p.1, p.2)) × (p.1.pads ≡ w.pads) × (p.1.cells ≡ w.cells)
 

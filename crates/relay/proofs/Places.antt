@@ -1,4 +1,4 @@
--- A visit to the cells in a list, as one of the pads behind it.
+-- A visit to the cells of a list, as a visit to the pads that it borrows.
 use Rattle.std.proofs.Common.{◌≡◌, ◌<◌, ℕ, ◌+◌, min, List, length, slice_get, Option, Some, Result, Ok, Err}
 use Rattle.std.proofs.Common.{IfOk, IfErr, refl, sym, ap, ◌∙◌, subst, arith}
 use Rattle.std.proofs.lemmas.List.FromFn.{get_or-range_with_len, length-range_with_len}
@@ -20,7 +20,7 @@ use Rattle.relay.specs.declared.chosen.Chosen.{Chosen}
 use Rattle.relay.specs.declared.relayed.Relayed.{Relayed}
 use Rattle.relay.proofs.Images.{breaks_image, reaches_image, visited_image}
 
--- the cell at a place in the list of all is that place
+-- the cell at a position in the list of all cells is that position
 at_all : (n i : ℕ) → i < n → slice_get (range_with_len 0 n) i ≡ Some i
 at_all n i low =
     let len = length-range_with_len 0 n in
@@ -28,7 +28,7 @@ at_all n i low =
     let same : 0 + i ≡ i = omega arith in
     slice_get-get_or (range_with_len 0 n) i 0 inside ∙ ap Some (get_or-range_with_len 0 n i 0 low ∙ same)
 
--- parts of what an answer says
+-- the parts of an answer
 both_ok : {A E : Type 0} (B : A → Type 0) (C : Type 0) (r : Result A E) → IfOk r (λ x. B x × C) → IfOk r B
 both_ok B C (Ok x) both = both.0
 both_ok B C (Err e) both = tt
@@ -44,7 +44,7 @@ either_way B D C (Err e) one other = other.1
 
 module _ {P : Type 0} (calls : P → Request → Answer → P → Type 0) (names : P → ℕ → Result (Option (List ℕ)) Refusal →
     P → Type 0) where
-  -- what is asked of the chosen pads is asked of the pads
+  -- a request to the chosen pads is one to the pads
   called : (first old : Chosen P) (request : Request) (said : Answer) (new : Chosen P) → IsSame first old →
       CallsChosen calls old request said new → calls old.pads.now request said new.pads.now × IsSame first new
   called first old request said new holds (asks, same) = (asks, (same.0 ∙ holds.0, same.1 ∙ holds.1))
@@ -57,7 +57,7 @@ module _ {P : Type 0} (calls : P → Request → Answer → P → Type 0) (names
     (same.0 ∙ holds.0, same.1 ∙ holds.1),
   )
 
-  -- a visit to them is a visit to the pads by the places in the list, and they stay borrowed
+  -- a visit to them is a visit to the pads by the positions in the list, and they stay borrowed
   visited_here : (r : Result Relayed Fault) (version : Version) (old new : Chosen P) (wire last : Wire) →
       IfOk r (λ relayed. Visited (CallsChosen calls) (NamesChosen names)
       (ready version (count_of old.cells.now) old wire) relayed last new) →
@@ -104,7 +104,7 @@ module _ {P : Type 0} (calls : P → Request → Answer → P → Type 0) (names
       (either_way _ _ _ r (visited_here r version old new wire last visited)
       (breaks_here r version old new wire last breaks)).0
 
-  -- by the list of all cells the steps are those of the cells themselves
+  -- over the list of all cells, the steps are those over the cells themselves
   pub all_cells : AllCellsLaw calls names
   all_cells first old last new = (
     λ steps. (reaches_image (λ p. p) (λ p. Unit {0}) old.cells calls (by_place (all_of old.cells) names) calls names

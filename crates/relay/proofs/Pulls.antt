@@ -44,12 +44,12 @@ abbrev pub is_gained : Bool → Option ℕ → Bool
 is_gained gained None = gained
 is_gained gained (Some count) = gained || nat_lt 0 count
 
--- a talk that counts an operation that was delivered here, or refused
+-- the state that counts an operation that was delivered here, or refused
 abbrev pub after_count : Option ℕ → Talk → Talk
 after_count None talk = counts with_refused talk
 after_count (Some count) talk = counts (with_pulled count) talk
 
--- a call whose answer a round takes for something was made
+-- a call was made, and the round reads its answer so
 pub was_asked : {P A : Type 0} (calls : P → Request → Answer → P → Type 0) (name : List ℕ) (does : Act)
     (own : Answer → Result A Fault) (r : Result A Fault) (x : A) (old new : P)
     → r ≡ Ok x → AsksFor calls name does own r old new → (said : Answer) × calls old (request.On name does) said new
@@ -59,7 +59,7 @@ was_asked calls name does own r x old new is (inr (none, same)) = absurd (cc)
 
 module _ {P : Type 0} (calls : P → Request → Answer → P → Type 0) (names : P → ℕ → Result (Option (List ℕ)) Refusal →
     P → Type 0) where
-  -- a pull turn's call, and what is sent then
+  -- the call of a pull turn, and what is sent then
   pull_goes : (name : List ℕ) (turn : ℕ) (talk : Talk) (old new : P) (wire : Wire)
       (r : Result (Option (List Counted)) Fault) (said : Answer) (stage : Stage) (w v : World P) (d : Option Data)
       → turn < MAX_PULL_TURNS → calls old (request.On name act.Vector) said new → own_vector said ≡ r
@@ -77,7 +77,7 @@ module _ {P : Type 0} (calls : P → Request → Answer → P → Type 0) (names
       else (Over, counted with_unsaid w, None))
   readable name turn seen w b is = rw is refl
 
-  -- this server's vector was sent, or the peer can't read it
+  -- this server's vector was sent, or the peer cannot read it
   pub asked_sent : (name : List ℕ) (seen : List Counted) (r : Result (Option (List Counted)) Fault)
       (answer : Result Bool Fault) (talk new_talk : Talk) (old new : P) (wire new_wire : Wire)
       → r ≡ Ok (Some seen) → AsksFor calls name act.Vector own_vector r old new
@@ -127,7 +127,7 @@ module _ {P : Type 0} (calls : P → Request → Answer → P → Type 0) (names
       one calls names _ _ _ _ (pull_goes name turn talk old new wire (Ok None) said Over (world talk new wire)
       (world talk new wire) None low call told refl refl)
 
-  -- a call of this server that is out of memory breaks a round off
+  -- a call to this server that runs out of memory breaks a round off
   pub no_memory : {A : Type 0} (name : List ℕ) (does : Act) (own : Answer → Result A Fault) (r : Result A Fault)
       (fault : Fault) (first : Stage) (talk : Talk) (old new : P) (wire : Wire)
       → r ≡ Err fault → fault ≡ Memory → AsksFor calls name does own r old new
@@ -242,7 +242,7 @@ module _ {P : Type 0} (calls : P → Request → Answer → P → Type 0) (names
         sym (ap (λ x. pulled name turn x (world talk pads new)) is),
       )
 
-  -- its line is no answer to a pull
+  -- its line is not an answer to a pull
   pub pulled_wrong : (name : List ℕ) (turn : ℕ) (r : Option (Told (List Op))) (talk : Talk) (pads : P)
       (wire new : Wire) → r ≡ None → HearsAs pull_answer r wire new
       → Breaks calls names PeerReply (Pulled name turn) (world talk pads wire) pads new
@@ -250,7 +250,7 @@ module _ {P : Type 0} (calls : P → Request → Answer → P → Type 0) (names
       wrong calls names pull_answer r (Pulled name turn) (world talk pads wire) new heard
       (r, world talk pads new, (heard, refl), sym (ap (λ x. pulled name turn x (world talk pads new)) is))
 
-  -- it gives operations
+  -- it sends operations
   pub pulled_ops : (name : List ℕ) (turn : ℕ) (r : Option (Told (List Op))) (ops : List Op) (talk : Talk) (pads : P)
       (wire new : Wire) → r ≡ Some (Said ops) → HearsAs pull_answer r wire new
       → Reaches calls names (Pulled name turn) (world talk pads wire) (Taking name turn false ops)
@@ -263,7 +263,7 @@ module _ {P : Type 0} (calls : P → Request → Answer → P → Type 0) (names
         sym (ap (λ x. pulled name turn x (world talk pads new)) is),
       )
 
-  -- all of them were taken
+  -- all of them were delivered
   pub pulled_taken : (name : List ℕ) (turn : ℕ) (r : Option (Told (List Op))) (ops : List Op)
       (taken : Result Bool Fault) (gained : Bool) (came : Turn) (talk mid last : Talk) (pads then_pads : P)
       (wire new : Wire)
@@ -296,7 +296,7 @@ module _ {P : Type 0} (calls : P → Request → Answer → P → Type 0) (names
       (subst (λ t. Breaks calls names fault (Taking name turn false ops) (world t pads new) then_pads new) same
       (lacks calls names fault _ (world mid pads new) then_pads (so turn new)))
 
-  -- a turn whose pull was sent, or whose pad's part is over
+  -- a turn whose pull was sent, or after which the exchange of the pad is over
   pub turn_asked : (name : List ℕ) (turn : ℕ) (r : Result Bool Fault) (asked : Bool) (u v : World P) → r ≡ Ok asked →
       turn < MAX_PULL_TURNS
       → IfOk r (λ asked. (turn : ℕ) → turn < MAX_PULL_TURNS →

@@ -29,7 +29,7 @@ use Rattle.relay.specs.declared.talk.Talk.{Talk}
 use Rattle.relay.proofs.Pulls.{chosen_false, chosen_true, no_memory, was_asked}
 use Rattle.relay.proofs.Steps.{join, lacks, later, one, unheard, unsent, wrong}
 
--- the item at a place stands at the front of those that are left
+-- the item at a place is the first of those that are left
 pub at_front : {A : Type 0} (items : List A) (i : ℕ) (x : A) → i < length items → x ≡ get_or items i x → drop i items
     ≡ x ∷ drop (i + 1) items
 at_front items i x inside is = rw add-one (drop-cons items i x inside ∙ ap (λ y. y ∷ drop (suc i) items) (sym is))
@@ -65,7 +65,7 @@ module _ {P : Type 0} (calls : P → Request → Answer → P → Type 0) (names
   pushes_spent name turn w spent = one calls names (Pushing name turn) w _ _
       (chosen_true _ _ _ (le-leb MAX_PUSH_TURNS turn spent) (refl, refl))
 
-  -- the peer tells its vector, or refuses, or says neither
+  -- the peer answers with its vector, or refuses, or neither
   pub counted_then : (name : List ℕ) (turn : ℕ) (r : Option (Told (List Counted))) (seen : List Counted) (talk : Talk)
       (pads : P) (wire new : Wire) → r ≡ Some (Said seen) → HearsAs vector_answer r wire new
       → Reaches calls names (Counting name turn) (world talk pads wire) (Lacking name turn seen) (world talk pads new)
@@ -95,7 +95,7 @@ module _ {P : Type 0} (calls : P → Request → Answer → P → Type 0) (names
       wrong calls names vector_answer r (Counting name turn) (world talk pads wire) new heard
       (r, world talk pads new, (heard, refl), sym (ap (λ x. told_vector name turn x (world talk pads new)) is))
 
-  -- this server tells what the peer lacks
+  -- this server answers with what the peer lacks
   pub lacks_ops : (name : List ℕ) (seen : List Counted) (r : Result (Option (List Op)) Fault) (ops : List Op)
       (talk : Talk) (old new : P) (wire : Wire)
       → r ≡ Ok (Some ops) → AsksFor calls name (act.Pull seen MAX_OPS (Some MAX_BATCH)) own_ops r old new → (turn : ℕ)
@@ -124,7 +124,7 @@ module _ {P : Type 0} (calls : P → Request → Answer → P → Type 0) (names
         sym (ap (λ x. lacked name turn x (world talk new wire)) told),
       )
 
-  -- or is out of memory
+  -- or runs out of memory
   pub lacks_none : (name : List ℕ) (seen : List Counted) (r : Result (Option (List Op)) Fault) (fault : Fault)
       (talk : Talk) (old new : P) (wire : Wire)
       → r ≡ Err fault → fault ≡ Memory → AsksFor calls name (act.Pull seen MAX_OPS (Some MAX_BATCH)) own_ops r old new → (turn : ℕ)
@@ -140,7 +140,7 @@ module _ {P : Type 0} (calls : P → Request → Answer → P → Type 0) (names
         sym (ap (λ x. lacked name turn x (world talk new wire)) told),
       )))
 
-  -- an operation was given
+  -- an operation was written
   given : (name : List ℕ) (turn due : ℕ) (op : Op) (others : List Op) (talk : Talk) (pads : P) (wire new : Wire) →
       is_readable talk.version (op_in_v1 op) ≡ true → Writes (line_of (push_request name op)) wire new
       → Reaches calls names (Giving name turn due (op ∷ others)) (world talk pads wire)
@@ -175,7 +175,7 @@ module _ {P : Type 0} (calls : P → Request → Answer → P → Type 0) (names
       (Giving name turn (due + 1) (drop (i + 1) ops)) (world talk pads wire) (world talk pads wire) new refl
       (λ v sends. chosen_true _ _ _ can (sends, refl)) un)
 
-  -- the peer's version can't say one
+  -- the peer's version cannot express one
   pub gives_unsaid : (name : List ℕ) (first : (turn : ℕ) → Stage) (u : World P) (due left i : ℕ) (op : Op)
       (ops : List Op) (talk next : Talk) (whole : Bool) (pads : P) (wire : Wire)
       → i < length ops → op ≡ get_or ops i op → is_readable talk.version (op_in_v1 op) ≡ false →
@@ -192,7 +192,7 @@ module _ {P : Type 0} (calls : P → Request → Answer → P → Type 0) (names
       (join calls names _ _ _ _ _ _ at (one calls names (Giving name turn due (op ∷ drop (i + 1) ops))
       (world talk pads wire) _ _ (chosen_false _ _ _ can (refl, refl))))))
 
-  -- all were given
+  -- all were written
   pub gives_end : (name : List ℕ) (first : (turn : ℕ) → Stage) (u : World P) (due left i : ℕ) (ops : List Op)
       (talk next : Talk) (whole : Bool) (pads : P) (wire : Wire)
       → drop i ops ≡ [] → next ≡ talk → whole ≡ true → left ≡ due →

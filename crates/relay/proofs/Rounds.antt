@@ -49,7 +49,7 @@ module _ {P : Type 0} (calls : P → Request → Answer → P → Type 0) (names
         sym (ap (λ x. greeted x (begun cells pads new)) is),
       )
 
-  -- it refuses, or says neither
+  -- it refuses, or does neither
   pub greeted_wrong : (cells : ℕ) (r : Option (Told Version)) (pads : P) (wire new : Wire) → (r ≡ Some Refused)
       ⊎ (r ≡ None) → HearsAs peer_answer r wire new
       → Breaks calls names PeerReply Greeted (begun cells pads wire) pads new

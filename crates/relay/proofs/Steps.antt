@@ -1,4 +1,4 @@
--- Steps of a round, one after the other, and how they break off.
+-- Steps of a round, one after another, and how they break off.
 use Rattle.std.proofs.Common.{◌≡◌, ◌⊎◌, inl, inr, ℕ, List, [], ◌++◌, take, drop, Option, None, Some, Result, Ok, Err}
 use Rattle.std.proofs.Common.{IfOk, IfErr, refl, sym, ap, ◌∙◌, subst, append_assoc, take-append-drop}
 use Rattle.std.specs.Io.KnownBytes.{Appends}
@@ -20,7 +20,7 @@ use Rattle.relay.specs.Round.Reaches.{here, on}
 use Rattle.relay.specs.Wire.{Wire, Writes, HearsAs, IsUnheard, Misses, MissesAnswer, wrote}
 use Rattle.relay.proofs.Grown.{Grows, made_then, reaches_grows, heard_grows}
 
--- what is left of a text when a front of it was written
+-- what is left of a text after a prefix of it was written
 whole_after : (a b : Option (List ℕ)) (text : List ℕ) (count : ℕ) → Appends a b (take count text) →
     (full : Option (List ℕ)) × Appends a full text × Appends b full (drop count text)
 whole_after None None text count app = (None, tt, tt)
@@ -178,7 +178,7 @@ module _ {P : Type 0} (calls : P → Request → Answer → P → Type 0) (names
         λ none. (refl, refl, (grows.reads none).1, grows.writes),
       )
 
-  -- it was out of memory, the peer aside
+  -- memory ran out, apart from the peer
   pub lacks : (fault : Fault) (first : Stage) (u : World P) (pads : P) → Lacks calls names fault first u pads →
       Breaks calls names fault first u pads u.wire
   lacks fault first u pads (is, stage, w, reaches, same, wire) = (
@@ -193,7 +193,7 @@ module _ {P : Type 0} (calls : P → Request → Answer → P → Type 0) (names
     λ none. subst (λ f. IsCause f stage [] u.wire u.wire) (sym is) (refl, refl),
   )
 
-  -- what follows some steps and answers where it leads
+  -- some steps, and then those that end as a result says, end so too
   pub join_ok : {A : Type 0} (r : Result A Fault) (end : A → Stage) (first : Stage) (u : World P) (mid : Stage)
       (v w : World P)
       → Reaches calls names first u mid v → IfOk r (λ x. Reaches calls names mid v (end x) w) →
@@ -209,7 +209,7 @@ module _ {P : Type 0} (calls : P → Request → Answer → P → Type 0) (names
   join_err (Ok x) first u mid v pads wire before breaks = tt
   join_err (Err fault) first u mid v pads wire before breaks = later fault first u mid v pads wire before breaks
 
-  -- the same of the value that came
+  -- the same for the value that arrived
   pub join_at : {A : Type 0} (r : Result A Fault) (x : A) (end : A → Stage) (first : Stage) (u : World P) (mid : Stage)
       (v w : World P)
       → Reaches calls names first u mid v → r ≡ Ok x → IfOk r (λ x. Reaches calls names mid v (end x) w) →
@@ -218,7 +218,7 @@ module _ {P : Type 0} (calls : P → Request → Answer → P → Type 0) (names
       (join first u mid v (end y) w before goes)
   join_at (Err fault) x end first u mid v w before is goes = absurd (cc)
 
--- what holds of a value holds of the one that came
+-- what holds for a value holds for the one that arrived
 pub at_ok : {A E : Type 0} (Holds : A → Type 0) (r : Result A E) (x : A) → r ≡ Ok x → IfOk r Holds → Holds x
 at_ok Holds (Ok y) x is holds = subst Holds (cc) holds
 at_ok Holds (Err e) x is holds = absurd (cc)

@@ -1,4 +1,4 @@
--- How a round ends before its time.
+-- How a round breaks off.
 use Rattle.std.specs.Prelude.{◌≡◌, ℕ, List, [], Option, None, Result}
 use Rattle.std.specs.Io.KnownBytes.{Appends}
 use Rattle.pad_model.specs.declared.refusal.Refusal.{Refusal}
@@ -11,9 +11,8 @@ use Rattle.relay.specs.Wire.{Wire, IsUnheard}
 use Rattle.relay.specs.Round.{Stage, World, Reaches}
 use Rattle.relay.specs.Round.Stage.{Failed}
 
--- why a round broke off at a stage, where these bytes of it were not written: the reader failed; the writer failed; the
--- peer's
--- line was no answer to what was asked; or it was out of memory
+-- why a round broke off at a stage, with these bytes of it not written: the reader failed; the writer failed; the
+-- peer's line was not an answer; or memory ran out
 abbrev pub IsCause : Fault → Stage → List ℕ → Wire → Wire → Type 0
 IsCause ReadFault stage rest old new = (rest ≡ []) × IsUnheard ReadFault old new
     × (new.write_failures ≡ old.write_failures)
@@ -22,13 +21,16 @@ IsCause WriteFault stage rest old new = (new.write_failures ≡ one_more old.wri
 IsCause PeerReply stage rest old new =
     (rest ≡ []) × (stage ≡ Failed PeerReply) × (new.read_failures ≡ old.read_failures)
     × (new.write_failures ≡ old.write_failures)
-IsCause Memory stage rest old new = (new.read_failures ≡ old.read_failures) × (new.write_failures ≡ old.write_failures)
+IsCause Memory stage rest old new = (new.read_failures ≡ old.read_failures)
+    × (new.write_failures ≡ old.write_failures)
 
-module _ {P : Type 0} (calls : P → Request → Answer → P → Type 0) (names : P → ℕ → Result (Option (List ℕ)) Refusal →
+module _ {P : Type 0} (calls : P → Request → Answer → P → Type 0)
+    (names : P → ℕ → Result (Option (List ℕ)) Refusal →
     P → Type 0) where
-  -- a round broke off: some steps lead to these pads, and what was written is a front of what they write
+  -- a round broke off: some steps lead to these pads, and what was written is a prefix of what they write
   abbrev pub Breaks : Fault → Stage → World P → P → Wire → Type 0
   Breaks fault first old pads wire =
-      (stage : Stage) × (w : World P) × (text rest : List ℕ) × Reaches calls names first old stage w × (pads ≡ w.pads)
+      (stage : Stage) × (w : World P) × (text rest : List ℕ) × Reaches calls names first old stage w
+      × (pads ≡ w.pads)
       × Appends old.wire.written wire.written text × Appends wire.written w.wire.written rest
       × (old.wire.stopped ≡ None → IsCause fault stage rest old.wire wire)

@@ -1,4 +1,4 @@
--- The pads of the cells in a list, as a visit holds them.
+-- The pads of the listed cells, as a visit holds them.
 use Rattle.std.specs.Prelude.{◌≡◌, ℕ, List, Option, Result}
 use Rattle.pad_model.specs.declared.refusal.Refusal.{Refusal}
 use Rattle.pad_core.specs.declared.request.Request.{Request}
@@ -6,17 +6,21 @@ use Rattle.workers.specs.Session.{Answer}
 use Rattle.relay.specs.Listed.{by_place}
 use Rattle.relay.specs.declared.chosen.Chosen.{Chosen}
 
--- the same pads are borrowed, and for the same list
+-- the same pads are borrowed, for the same list
 abbrev pub IsSame : {P : Type 0} → Chosen P → Chosen P → Type 0
 IsSame old new = (new.pads.ghost_name ≡ old.pads.ghost_name) × (new.cells ≡ old.cells)
 
--- the pads are asked
-abbrev pub CallsChosen : {P : Type 0} → (P → Request → Answer → P → Type 0) → Chosen P → Request → Answer → Chosen P →
+-- a request to the pads
+abbrev pub CallsChosen : {P : Type 0} → (P → Request → Answer → P → Type 0) → Chosen P → Request
+    → Answer → Chosen P →
     Type 0
-CallsChosen calls old request answer new = calls old.pads.now request answer new.pads.now × IsSame old new
+CallsChosen calls old request answer new = calls old.pads.now request answer new.pads.now
+    × IsSame old new
 
--- they tell the name of the cell at a place in the list
-abbrev pub NamesChosen : {P : Type 0} → (P → ℕ → Result (Option (List ℕ)) Refusal → P → Type 0) → Chosen P → ℕ →
+-- the pads tell the name of the cell at a position in the list
+abbrev pub NamesChosen : {P : Type 0} → (P → ℕ → Result (Option (List ℕ)) Refusal → P → Type 0)
+    → Chosen P → ℕ →
     Result (Option (List ℕ)) Refusal → Chosen P → Type 0
-NamesChosen names old place answer new = by_place old.cells.now names old.pads.now place answer new.pads.now
+NamesChosen names old place answer new = by_place old.cells.now names old.pads.now place answer
+    new.pads.now
     × IsSame old new

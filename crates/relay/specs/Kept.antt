@@ -1,4 +1,4 @@
--- The world of a round, as the code keeps it, and what its parts leave.
+-- The world of a round as the code keeps it, and the outcomes of its parts.
 use Rattle.std.specs.Prelude.{◌≡◌, ◌⊎◌, ℕ, ◌+◌, Bool, true, false, List, Option, None, Some, Result, Err}
 use Rattle.pad_model.specs.OldWire.{seen_in_v1}
 use Rattle.pad_model.specs.declared.refusal.Refusal.{Refusal}
@@ -25,19 +25,33 @@ use Rattle.relay.specs.declared.pull.Turn.TheVariants as turn_of
 use Rattle.relay.specs.declared.relayed.Relayed.{Relayed}
 use Rattle.relay.specs.declared.talk.Talk.{Talk}
 
--- the world of a talk, the pads and a wire
+-- the world of a round's state, the pads and a wire
 abbrev pub world : {P : Type 0} → Talk → P → Wire → World P
-world talk pads wire = record { cells = talk.cells; cell = talk.cell; version = talk.version; relayed = talk.relayed; pads = pads; wire = wire }
+world talk pads wire = record {
+  cells = talk.cells;
+  cell = talk.cell;
+  version = talk.version;
+  relayed = talk.relayed;
+  pads = pads;
+  wire = wire;
+}
 
 -- the world before a round
 abbrev pub begun : {P : Type 0} → ℕ → P → Wire → World P
-begun cells pads wire = record { cells = cells; cell = 0; version = One; relayed = none_yet; pads = pads; wire = wire }
+begun cells pads wire = record {
+  cells = cells;
+  cell = 0;
+  version = One;
+  relayed = none_yet;
+  pads = pads;
+  wire = wire;
+}
 
 -- the world of a peer that was greeted, before a visit to the cells
 abbrev pub ready : {P : Type 0} → Version → ℕ → P → Wire → World P
 ready version cells pads wire = with_version version (begun cells pads wire)
 
--- what follows a turn of pulling
+-- the stage after a turn of pulling
 abbrev pub after_turn : List ℕ → ℕ → Turn → Stage
 after_turn name turn turn_of.Gained = Pulling name (turn + 1)
 after_turn name turn turn_of.Spent = Pushing name 0
@@ -45,63 +59,76 @@ after_turn name turn turn_of.Over = Over
 
 -- a line was written in part, or not at all
 abbrev pub IsUnsent : Fault → List ℕ → Wire → Wire → Type 0
-IsUnsent fault line old new = ((fault ≡ WriteFault) × WritesPart line old new) ⊎ ((fault ≡ Memory) × (new ≡ old))
+IsUnsent fault line old new = ((fault ≡ WriteFault) × WritesPart line old new)
+    ⊎ ((fault ≡ Memory) × (new ≡ old))
 
--- a talk that counts more
+-- the state of a round with changed results
 abbrev pub counts : (Relayed → Relayed) → Talk → Talk
-counts more talk = record { cells = talk.cells; cell = talk.cell; version = talk.version; relayed = more talk.relayed }
+counts more talk = record {
+  cells = talk.cells;
+  cell = talk.cell;
+  version = talk.version;
+  relayed = more talk.relayed;
+}
 
--- this server's vector was sent to the peer, or the peer can't read it
+-- this server's vector was sent to the peer, or the peer cannot read it
 abbrev pub SendsPull : List ℕ → List Counted → Bool → Talk → Wire → Talk → Wire → Type 0
 SendsPull name seen true talk old then new =
-    (is_readable talk.version (seen_in_v1 seen) ≡ true) × Writes (line_of (pull_request name seen MAX_OPS (Some MAX_BATCH))) old new
+    (is_readable talk.version (seen_in_v1 seen) ≡ true)
+    × Writes (line_of (pull_request name seen MAX_OPS (Some MAX_BATCH))) old new
     × (then ≡ talk)
 SendsPull name seen false talk old then new =
-    (is_readable talk.version (seen_in_v1 seen) ≡ false) × (new ≡ old) × (then ≡ counts with_unsaid talk)
+    (is_readable talk.version (seen_in_v1 seen) ≡ false) × (new ≡ old)
+    × (then ≡ counts with_unsaid talk)
 
--- a pad of this server was asked, and this is what a round makes of its answer; or there was no memory to ask
-abbrev pub AsksFor : {P A : Type 0} → (P → Request → Answer → P → Type 0) → List ℕ → Act → (Answer → Result A Fault) →
+-- a pad of this server was asked, and the result is the answer as the round reads it; or there was no memory to ask
+abbrev pub AsksFor : {P A : Type 0} → (P → Request → Answer → P → Type 0) → List ℕ → Act
+    → (Answer → Result A Fault) →
     Result A Fault → P → P → Type 0
 AsksFor calls name act own result old new =
-    ((said : Answer) × calls old (On name act) said new × (result ≡ own said)) ⊎ ((result ≡ Err Memory) × (new ≡ old))
+    ((said : Answer) × calls old (On name act) said new × (result ≡ own said))
+    ⊎ ((result ≡ Err Memory) × (new ≡ old))
 
--- some steps without the peer lead to these pads, and then it was out of memory
+-- some steps without the peer lead to these pads, and then memory ran out
 abbrev pub Lacks : {P : Type 0} → (P → Request → Answer → P → Type 0) →
     (P → ℕ → Result (Option (List ℕ)) Refusal → P → Type 0) → Fault → Stage → World P → P → Type 0
 Lacks {P} calls names fault first old pads =
-    (fault ≡ Memory) × (stage : Stage) × (w : World P) × Reaches calls names first old stage w × (pads ≡ w.pads)
+    (fault ≡ Memory) × (stage : Stage) × (w : World P) × Reaches calls names first old stage w
+    × (pads ≡ w.pads)
     × (w.wire ≡ old.wire)
 
--- the peer was greeted, and said that it reads this version
+-- the peer was greeted, and answered that it reads this version
 abbrev pub Greets : ℕ → List ℕ → Version → Wire → Wire → Type 0
 Greets own token version old new =
     (mid : Wire) × Writes (line_of (peer_request own token)) old mid
     × HearsAs peer_answer (Some (Said version)) mid new
 
--- the peer refused the greeting, or said neither
+-- the peer refused the greeting, or its line was not an answer
 abbrev pub IsTurnedAway : Fault → Wire → Wire → Type 0
 IsTurnedAway fault old new =
     (fault ≡ PeerReply) × (said : Option (Told Version)) × ((said ≡ Some Refused) ⊎ (said ≡ None))
     × HearsAs peer_answer said old new
 
--- the greeting was not written, or in part; or no answer to it was heard; or one that is no version
+-- the greeting was not written or only in part; or no answer to it was heard; or the peer turned the server away
 abbrev pub MissesGreeting : ℕ → List ℕ → Fault → Wire → Wire → Type 0
 MissesGreeting own token fault old new =
     IsUnsent fault (line_of (peer_request own token)) old new
     ⊎ ((mid : Wire) × Writes (line_of (peer_request own token)) old mid
     × (MissesAnswer fault mid new ⊎ IsTurnedAway fault mid new))
 
--- the cells were gone through from here on, and this was counted
+-- the cells from here on were visited, with these results
 abbrev pub Visited : {P : Type 0} → (P → Request → Answer → P → Type 0) →
     (P → ℕ → Result (Option (List ℕ)) Refusal → P → Type 0)
     → World P → Relayed → Wire → P → Type 0
 Visited {P} calls names old relayed wire pads =
-    (w : World P) × Reaches calls names Next old Ended w × (w.relayed ≡ relayed) × (w.wire ≡ wire) × (w.pads ≡ pads)
+    (w : World P) × Reaches calls names Next old Ended w × (w.relayed ≡ relayed) × (w.wire ≡ wire)
+    × (w.pads ≡ pads)
 
--- a round was made, and counted this
+-- a round was made, with these results
 abbrev pub Made : {P : Type 0} → (P → Request → Answer → P → Type 0) →
     (P → ℕ → Result (Option (List ℕ)) Refusal → P → Type 0) → ℕ → List ℕ
     → World P → Relayed → Wire → P → Type 0
 Made {P} calls names own token old relayed wire pads =
-    (w : World P) × Reaches calls names (Greeting own token) old Ended w × (w.relayed ≡ relayed) × (w.wire ≡ wire)
+    (w : World P) × Reaches calls names (Greeting own token) old Ended w × (w.relayed ≡ relayed)
+    × (w.wire ≡ wire)
     × (w.pads ≡ pads)

@@ -1,4 +1,4 @@
--- What rounds have in common, whatever the pads.
+-- The statements of the laws of rounds, over any pads.
 use Rattle.std.specs.Prelude.{◌≡◌, ◌<◌, ℕ, List, Option, Result}
 use Rattle.std.specs.List.{range_with_len}
 use Rattle.pad_model.specs.declared.refusal.Refusal.{Refusal}
@@ -17,23 +17,28 @@ use Rattle.relay.specs.Wire.{Wire}
 abbrev pub all_of : ℕ → List ℕ
 all_of cells = range_with_len 0 cells
 
-module _ {P : Type 0} (calls : P → Request → Answer → P → Type 0) (names : P → ℕ → Result (Option (List ℕ)) Refusal →
+module _ {P : Type 0} (calls : P → Request → Answer → P → Type 0)
+    (names : P → ℕ → Result (Option (List ℕ)) Refusal →
     P → Type 0) where
   -- a greeting that was answered leads from the first stage to the first cell
   abbrev pub GreetedLaw : Type 0
-  GreetedLaw = (own : ℕ) (token : List ℕ) (version : Version) (cells : ℕ) (pads : P) (old new : Wire)
+  GreetedLaw = (own : ℕ) (token : List ℕ) (version : Version) (cells : ℕ) (pads : P)
+      (old new : Wire)
       → Greets own token version old new
-      → Reaches calls names (Greeting own token) (begun cells pads old) Next (ready version cells pads new)
+      → Reaches calls names (Greeting own token) (begun cells pads old) Next
+      (ready version cells pads new)
 
-  -- one that failed breaks a round off
+  -- a greeting that failed is a round that broke off
   abbrev pub MissedLaw : Type 0
   MissedLaw = (own : ℕ) (token : List ℕ) (fault : Fault) (cells : ℕ) (pads : P) (old new : Wire)
       → MissesGreeting own token fault old new
       → Breaks calls names fault (Greeting own token) (begun cells pads old) pads new
 
-  -- by the list of all cells the same steps are made as by the cells themselves, and all of them are counted
+  -- a round over the list of all cells makes the same steps as one over the cells themselves, and all cells count
   abbrev pub AllCellsLaw : Type 0
   AllCellsLaw = (first : Stage) (old : World P) (last : Stage) (new : World P)
-      → (Reaches calls (by_place (all_of old.cells) names) first old last new → Reaches calls names first old last new)
-      × (Reaches calls names first old last new → Reaches calls (by_place (all_of old.cells) names) first old last new)
+      → (Reaches calls (by_place (all_of old.cells) names) first old last new
+      → Reaches calls names first old last new)
+      × (Reaches calls names first old last new
+      → Reaches calls (by_place (all_of old.cells) names) first old last new)
       × (old.cells < 4294967296 → count_of (all_of old.cells) ≡ old.cells)

@@ -1,5 +1,4 @@
--- A relay round, stage by stage: what a server writes to a peer and does with its own pads, when the peer's lines are
--- these.
+-- A relay round, stage by stage: what a server writes to a peer and does with its own pads, given the peer's lines.
 use Rattle.std.specs.Prelude.{◌≡◌, ℕ, zero, suc, ◌+◌, nat_le, nat_lt, ◌||◌, ◌&&◌, Bool, true, false, if◌then◌else◌}
 use Rattle.std.specs.Prelude.{List, [], ◌∷◌, ◌++◌, Option, None, Some, Result, Ok, Err}
 use Rattle.serde_json.specs.Data.{Data}
@@ -33,39 +32,39 @@ use Rattle.relay.specs.Wire.{Wire, Writes, HearsAs}
 use Rattle.relay.specs.declared.limits.TheConstants.{MAX_OPS, MAX_PULL_TURNS, MAX_PUSH_TURNS}
 use Rattle.relay.specs.declared.relayed.Relayed.{Relayed}
 
--- what a round does next
+-- the stages of a round: what it does next
 pub data Stage : Type 0 where
-  -- the peer is to be greeted, by this server's number and their token
+  -- the peer is to be greeted, with this server's number and the shared token
   Greeting : ℕ → List ℕ → Stage
-  -- the peer's answer to that is due
+  -- the answer to the greeting is due
   Greeted : Stage
-  -- the next cell is looked at
+  -- the next cell is to be looked at
   Next : Stage
-  -- operations of a pad are pulled, after so many turns
+  -- operations of a pad are to be pulled, after this many turns
   Pulling : List ℕ → ℕ → Stage
   -- the answer to a pull is due
   Pulled : List ℕ → ℕ → Stage
-  -- operations that were pulled are delivered here; whether one was in this turn
+  -- these pulled operations are to be delivered here; whether any was in this turn
   Taking : List ℕ → ℕ → Bool → List Op → Stage
-  -- operations of a pad are pushed, after so many turns
+  -- operations of a pad are to be pushed, after this many turns
   Pushing : List ℕ → ℕ → Stage
   -- the answer to a vector is due
   Counting : List ℕ → ℕ → Stage
-  -- the operations that such a vector lacks are looked up
+  -- the operations that the peer's vector lacks are to be looked up
   Lacking : List ℕ → ℕ → List Counted → Stage
-  -- operations are written, so many were; all of them, or the peer's version can't say one
+  -- these operations are to be written, after this many; all of them, unless the peer's version cannot express one
   Giving : List ℕ → ℕ → ℕ → List Op → Stage
-  -- so many answers to pushes are due; whether one was delivered; whether the pad may have another turn
+  -- this many answers to pushes are due; whether any operation was delivered; whether the pad may have another turn
   Hearing : List ℕ → ℕ → ℕ → Bool → Bool → Stage
-  -- this pad's part is over
+  -- the exchange of this pad is over
   Over : Stage
   -- the round is made
   Ended : Stage
   -- the round ends in a fault
   Failed : Fault → Stage
 
--- a round under way: how many cells there are, and which is next; the peer's version; what was counted; the pads; and
--- the wire
+-- a round under way: the number of cells, and the next one; the peer's version; the results so far; the pads; and the
+-- wire
 pub record World (P : Type 0) : Type 0 where
   pub cells : ℕ
   pub cell : ℕ
@@ -83,27 +82,27 @@ abbrev pub Choice : Bool → Type 0 → Type 0 → Type 0
 Choice true A B = A
 Choice false A B = B
 
--- what this server tells of a cell; a refusal passes the cell, and running out of memory ends the round
+-- the name of a cell by this server's answer; a refusal skips the cell, and running out of memory ends the round
 abbrev pub own_name : Result (Option (List ℕ)) Refusal → Result (Option (List ℕ)) Fault
 own_name (Ok name) = Ok name
 own_name (Err refusal.Memory) = Err Memory
 own_name (Err other) = Ok None
 
--- its own vector of a pad, if it tells one
+-- this server's own vector of a pad, if its answer has one
 abbrev pub own_vector : Answer → Result (Option (List Counted)) Fault
 own_vector (Ok (reply.Pad (pad.Vector now seen))) = Ok (Some seen)
 own_vector (Ok other) = Ok None
 own_vector (Err refusal.Memory) = Err Memory
 own_vector (Err other) = Ok None
 
--- the operations that it gives, if it does
+-- the operations in this server's answer, if it has any
 abbrev pub own_ops : Answer → Result (Option (List Op)) Fault
 own_ops (Ok (reply.Pad (pad.Pulled now ops))) = Ok (Some ops)
 own_ops (Ok other) = Ok None
 own_ops (Err refusal.Memory) = Err Memory
 own_ops (Err other) = Ok None
 
--- how many operations it delivered, unless it refused
+-- how many operations this server delivered, unless it refused
 abbrev pub own_count : Answer → Result (Option ℕ) Fault
 own_count (Ok said) = Ok (Some (delivered_of (Ok said)))
 own_count (Err refusal.Memory) = Err Memory
@@ -114,13 +113,13 @@ abbrev pub is_delivered : Told Pushed → Bool
 is_delivered (Said pushed.Delivered) = true
 is_delivered other = false
 
--- what is counted of the peer's answer to a push
+-- the results after the peer's answer to a push
 abbrev pub after_push : Told Pushed → Relayed → Relayed
 after_push (Said pushed.Delivered) r = with_pushed r
 after_push (Said other) r = r
 after_push Refused r = with_refused r
 
--- whether a peer can read what has a form of the first version, or has none
+-- whether a peer can read something, by whether version 1 can express it
 abbrev pub is_readable : Version → Bool → Bool
 is_readable version.One in_v1 = in_v1
 is_readable version.Two in_v1 = true
@@ -128,29 +127,64 @@ is_readable version.Two in_v1 = true
 module _ {P : Type 0} where
   -- a world with other pads
   abbrev pub with_pads : P → World P → World P
-  with_pads pads w = record { cells = w.cells; cell = w.cell; version = w.version; relayed = w.relayed; pads = pads; wire = w.wire }
+  with_pads pads w = record {
+    cells = w.cells;
+    cell = w.cell;
+    version = w.version;
+    relayed = w.relayed;
+    pads = pads;
+    wire = w.wire;
+  }
 
   -- a world with another wire
   abbrev pub with_wire : Wire → World P → World P
-  with_wire wire w = record { cells = w.cells; cell = w.cell; version = w.version; relayed = w.relayed; pads = w.pads; wire = wire }
+  with_wire wire w = record {
+    cells = w.cells;
+    cell = w.cell;
+    version = w.version;
+    relayed = w.relayed;
+    pads = w.pads;
+    wire = wire;
+  }
 
-  -- a world with other counts
+  -- a world with changed results
   abbrev pub counted : (Relayed → Relayed) → World P → World P
-  counted more w = record { cells = w.cells; cell = w.cell; version = w.version; relayed = more w.relayed; pads = w.pads; wire = w.wire }
+  counted more w = record {
+    cells = w.cells;
+    cell = w.cell;
+    version = w.version;
+    relayed = more w.relayed;
+    pads = w.pads;
+    wire = w.wire;
+  }
 
-  -- a world where the peer speaks another version
+  -- a world whose peer reads another version
   abbrev pub with_version : Version → World P → World P
-  with_version version w = record { cells = w.cells; cell = w.cell; version = version; relayed = w.relayed; pads = w.pads; wire = w.wire }
+  with_version version w = record {
+    cells = w.cells;
+    cell = w.cell;
+    version = version;
+    relayed = w.relayed;
+    pads = w.pads;
+    wire = w.wire;
+  }
 
   -- a world that looks at the next cell
   abbrev pub past : World P → World P
-  past w = record { cells = w.cells; cell = w.cell + 1; version = w.version; relayed = w.relayed; pads = w.pads; wire = w.wire }
+  past w = record {
+    cells = w.cells;
+    cell = w.cell + 1;
+    version = w.version;
+    relayed = w.relayed;
+    pads = w.pads;
+    wire = w.wire;
+  }
 
   -- a request is written
   abbrev pub Sends : Data → World P → World P → Type 0
   Sends d old new = Writes (line_of d) old.wire new.wire × (new ≡ with_wire new.wire old)
 
-  -- a request is written, where there is one
+  -- a request is written, if there is one
   abbrev pub SendsIf : Option Data → World P → World P → Type 0
   SendsIf None old new = new ≡ old
   SendsIf (Some d) old new = Sends d old new
@@ -165,17 +199,19 @@ module _ {P : Type 0} where
   greeted (Some Refused) w = (Failed PeerReply, w)
   greeted (Some (Said version)) w = (Next, with_version version w)
 
-  -- after a look at a cell: one without a pad is passed
+  -- after a look at a cell: one without a pad is skipped
   abbrev pub named : Result (Option (List ℕ)) Fault → World P → Stage × World P
   named (Ok None) w = (Over, w)
   named (Ok (Some name)) w = (Pulling name 0, w)
   named (Err fault) w = (Failed fault, w)
 
-  -- after this server's own vector: what it lacks is asked for, where the peer can read the vector
-  abbrev pub asked : List ℕ → ℕ → Result (Option (List Counted)) Fault → World P → Stage × World P × Option Data
+  -- after this server's own vector: what it lacks is asked for, if the peer can read the vector
+  abbrev pub asked : List ℕ → ℕ → Result (Option (List Counted)) Fault → World P
+      → Stage × World P × Option Data
   asked name turn (Ok None) w = (Over, w, None)
   asked name turn (Ok (Some seen)) w =
-      if is_readable w.version (seen_in_v1 seen) then (Pulled name turn, w, Some (pull_request name seen MAX_OPS (Some MAX_BATCH)))
+      if is_readable w.version (seen_in_v1 seen)
+      then (Pulled name turn, w, Some (pull_request name seen MAX_OPS (Some MAX_BATCH)))
       else (Over, counted with_unsaid w, None)
   asked name turn (Err fault) w = (Failed fault, w, None)
 
@@ -186,7 +222,8 @@ module _ {P : Type 0} where
   pulled name turn (Some (Said ops)) w = (Taking name turn false ops, counted (with_pull turn) w)
 
   -- after the delivery of an operation here
-  abbrev pub taken : List ℕ → ℕ → Bool → List Op → Result (Option ℕ) Fault → World P → Stage × World P
+  abbrev pub taken : List ℕ → ℕ → Bool → List Op → Result (Option ℕ) Fault → World P
+      → Stage × World P
   taken name turn gained ops (Ok None) w = (Taking name turn gained ops, counted with_refused w)
   taken name turn gained ops (Ok (Some count)) w = (
     Taking name turn (gained || nat_lt 0 count) ops,
@@ -207,35 +244,42 @@ module _ {P : Type 0} where
   lacked name turn (Err fault) w = (Failed fault, w)
 
   -- after the answer to a push
-  abbrev pub told_push : List ℕ → ℕ → ℕ → Bool → Bool → Option (Told Pushed) → World P → Stage × World P
+  abbrev pub told_push : List ℕ → ℕ → ℕ → Bool → Bool → Option (Told Pushed) → World P
+      → Stage × World P
   told_push name turn due gained whole None w = (Failed PeerReply, w)
   told_push name turn due gained whole (Some told) w = (
     Hearing name turn due (gained || is_delivered told) whole,
     counted (after_push told) w,
   )
 
--- how a round goes on
-module _ {P : Type 0} (calls : P → Request → Answer → P → Type 0) (names : P → ℕ → Result (Option (List ℕ)) Refusal →
+-- how a round proceeds
+module _ {P : Type 0} (calls : P → Request → Answer → P → Type 0)
+    (names : P → ℕ → Result (Option (List ℕ)) Refusal →
     P → Type 0) where
   -- a pad is asked here
   abbrev pub Asks : List ℕ → Act → Answer → World P → World P → Type 0
-  Asks name act answer old new = calls old.pads (request.On name act) answer new.pads × (new ≡ with_pads new.pads old)
+  Asks name act answer old new = calls old.pads (request.On name act) answer new.pads
+      × (new ≡ with_pads new.pads old)
 
   -- one step of a round, by its stage
   abbrev pub Goes : Stage → World P → Stage → World P → Type 0
-  Goes (Greeting own token) old stage new = Sends (peer_request own token) old new × (stage ≡ Greeted)
-  Goes Greeted old stage new = (said : Option (Told Version)) × (mid : World P) × Heard peer_answer said old mid
+  Goes (Greeting own token) old stage new = Sends (peer_request own token) old new
+      × (stage ≡ Greeted)
+  Goes Greeted old stage new = (said : Option (Told Version)) × (mid : World P)
+      × Heard peer_answer said old mid
       × ((stage, new) ≡ greeted said mid)
   Goes Next old stage new =
       Choice (nat_le old.cells old.cell) ((stage ≡ Ended) × (new ≡ old))
-      ((name : Result (Option (List ℕ)) Refusal) × (mid : World P) × names old.pads old.cell name mid.pads
+      ((name : Result (Option (List ℕ)) Refusal) × (mid : World P)
+      × names old.pads old.cell name mid.pads
       × (mid ≡ with_pads mid.pads old)
       × ((stage, new) ≡ named (own_name name) mid))
   Goes (Pulling name turn) old stage new =
       Choice (nat_le MAX_PULL_TURNS turn) ((stage ≡ Pushing name 0) × (new ≡ old))
       ((said : Answer) × (mid : World P) × Asks name act.Vector said old mid
       × (stage ≡ (asked name turn (own_vector said) mid).0)
-      × SendsIf (asked name turn (own_vector said) mid).2 (asked name turn (own_vector said) mid).1 new)
+      × SendsIf (asked name turn (own_vector said) mid).2 (asked name turn (own_vector said) mid).1
+      new)
   Goes (Pulled name turn) old stage new =
       (said : Option (Told (List Op))) × (mid : World P) × Heard pull_answer said old mid
       × ((stage, new) ≡ pulled name turn said mid)
@@ -245,15 +289,18 @@ module _ {P : Type 0} (calls : P → Request → Answer → P → Type 0) (names
       (said : Answer) × (mid : World P) × Asks name (act.Push op) said old mid
       × ((stage, new) ≡ taken name turn gained ops (own_count said) mid)
   Goes (Pushing name turn) old stage new =
-      Choice (nat_le MAX_PUSH_TURNS turn) ((stage ≡ Over) × (new ≡ old)) (Sends (vector_request name) old new
+      Choice (nat_le MAX_PUSH_TURNS turn) ((stage ≡ Over) × (new ≡ old))
+      (Sends (vector_request name) old new
       × (stage ≡ Counting name turn))
   Goes (Counting name turn) old stage new =
       (said : Option (Told (List Counted))) × (mid : World P) × Heard vector_answer said old mid
       × ((stage, new) ≡ told_vector name turn said mid)
   Goes (Lacking name turn seen) old stage new =
-      (said : Answer) × (mid : World P) × Asks name (act.Pull seen MAX_OPS (Some MAX_BATCH)) said old mid
+      (said : Answer) × (mid : World P)
+      × Asks name (act.Pull seen MAX_OPS (Some MAX_BATCH)) said old mid
       × ((stage, new) ≡ lacked name turn (own_ops said) mid)
-  Goes (Giving name turn due []) old stage new = (stage ≡ Hearing name turn due false true) × (new ≡ old)
+  Goes (Giving name turn due []) old stage new = (stage ≡ Hearing name turn due false true)
+      × (new ≡ old)
   Goes (Giving name turn due (op ∷ ops)) old stage new =
       Choice (is_readable old.version (op_in_v1 op)) (Sends (push_request name op) old new
       × (stage ≡ Giving name turn (due + 1) ops))
@@ -270,4 +317,5 @@ module _ {P : Type 0} (calls : P → Request → Answer → P → Type 0) (names
   -- some steps of a round
   pub data Reaches : Stage → World P → Stage → World P → Type 0 where
     here : {stage : Stage} {w : World P} → Reaches stage w stage w
-    on : {first mid last : Stage} {u v w : World P} → Goes first u mid v → Reaches mid v last w → Reaches first u last w
+    on : {first mid last : Stage} {u v w : World P} → Goes first u mid v → Reaches mid v last w
+        → Reaches first u last w

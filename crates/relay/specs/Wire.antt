@@ -1,4 +1,4 @@
--- What goes over a connection to a peer: lines that are written, and lines that are heard.
+-- What goes over a connection to a peer: lines that are written and lines that are heard.
 use Rattle.std.specs.Prelude.{◌≡◌, ◌⊎◌, ℕ, ◌+◌, List, take, Option, None, Some, option_and_then}
 use Rattle.std.specs.Io.KnownBytes.{Appends}
 use Rattle.serde_json.specs.Data.{Data}
@@ -11,10 +11,9 @@ use Rattle.wire_lines.specs.declared.buffer.Found.TheVariants.{Text, TooLong, En
 use Rattle.wire_lines.specs.declared.fault.Fault.{Fault}
 use Rattle.wire_lines.specs.declared.fault.Fault.TheVariants.{ReadFault, WriteFault, PeerReply, Memory}
 
--- the bytes that the peer still sends and those that were written to it, where they are known; the fault that is
--- answered
--- from now on; how many reads and writes have failed; how many reads the reader counts, and how many were made for
--- lines
+-- a connection to a peer: the bytes that the peer will still send and those that were written to it, if they are known;
+-- the fault that is returned from now on; the numbers of failed reads and writes; the number of reads that the reader
+-- counts, and of those made for lines
 pub record Wire : Type 0 where
   pub unread : Option (List ℕ)
   pub written : Option (List ℕ)
@@ -50,9 +49,10 @@ read unread stopped failures reads spent w = record {
 
 -- a text was written
 abbrev pub Writes : List ℕ → Wire → Wire → Type 0
-Writes text old new = Appends old.written new.written text × (new ≡ wrote new.written old.write_failures old)
+Writes text old new = Appends old.written new.written text
+    × (new ≡ wrote new.written old.write_failures old)
 
--- a front of a text was written, and then the writer failed
+-- a prefix of a text was written, and then the writer failed
 abbrev pub WritesPart : List ℕ → Wire → Wire → Type 0
 WritesPart text old new =
     (count : ℕ) × Appends old.written new.written (take count text)
@@ -61,20 +61,22 @@ WritesPart text old new =
 -- the next line of the bytes, or that there is none: they end, or it is too long
 abbrev pub IsNext : Option (List ℕ) → Option (List ℕ) → Option (List ℕ) → Type 0
 IsNext (Some line) before after = Finds Text before line after
-IsNext None before after = (line : List ℕ) × (Finds TooLong before line after ⊎ Finds End before line after)
+IsNext None before after = (line : List ℕ)
+    × (Finds TooLong before line after ⊎ Finds End before line after)
 
 -- as many reads were counted as were made
 abbrev pub AreMade : Wire → Wire → Type 0
-AreMade old new = (count : ℕ) × (new.spent ≡ old.spent + count) × (new.reads ≡ with_more old.reads count)
+AreMade old new = (count : ℕ) × (new.spent ≡ old.spent + count)
+    × (new.reads ≡ with_more old.reads count)
 
--- a line was heard, or that there is none
+-- a line was heard, or there is none
 abbrev pub Hears : Option (List ℕ) → Wire → Wire → Type 0
 Hears heard old new =
     IsNext heard old.unread new.unread × (old.stopped ≡ None → (new.stopped ≡ None)
     × (new.read_failures ≡ old.read_failures) × AreMade old new)
     × (new ≡ read new.unread new.stopped new.read_failures new.reads new.spent old)
 
--- no line was heard: the reader failed or all reads that may be made were made, or it was out of memory
+-- no line was heard: the reader failed, or all reads that may be made were made, or memory ran out
 abbrev pub IsUnheard : Fault → Wire → Wire → Type 0
 IsUnheard ReadFault old new =
     ((new.read_failures ≡ one_more old.read_failures)
@@ -89,14 +91,16 @@ Misses fault old new =
     (old.stopped ≡ None → IsUnheard fault old new) × (new.written ≡ old.written)
     × (new.write_failures ≡ old.write_failures)
 
--- what a line tells, if there is one
+-- the answer in a line, if there is one
 abbrev pub answer : {A : Type 0} → (Data → Option A) → Option (List ℕ) → Option (Told A)
 answer form heard = option_and_then (told form) heard
 
--- an answer was heard, and tells this in a form; None where no line came, or it has another form
+-- an answer in a form was heard; None if no line was heard, or it has another form
 abbrev pub HearsAs : {A : Type 0} → (Data → Option A) → Option (Told A) → Wire → Wire → Type 0
-HearsAs form said old new = (heard : Option (List ℕ)) × Hears heard old new × (said ≡ answer form heard)
+HearsAs form said old new = (heard : Option (List ℕ)) × Hears heard old new
+    × (said ≡ answer form heard)
 
 -- no answer was heard, or there was no memory to read it
 abbrev pub MissesAnswer : Fault → Wire → Wire → Type 0
-MissesAnswer fault old new = Misses fault old new ⊎ ((fault ≡ Memory) × (heard : Option (List ℕ)) × Hears heard old new)
+MissesAnswer fault old new = Misses fault old new
+    ⊎ ((fault ≡ Memory) × (heard : Option (List ℕ)) × Hears heard old new)

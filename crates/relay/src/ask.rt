@@ -1,4 +1,4 @@
-//! What a round asks the pads of its own server.
+//! The requests of a round to its own server's pads.
 ghost use Rattle.std.specs.Prelude.{◌≡◌, Some, IfOk, IfErr};
 ghost use Rattle.pad_core.specs.declared.act.Act.TheVariants as act;
 ghost use Rattle.pad_core.specs.declared.exchange.TheConstants.{MAX_BATCH};
@@ -15,7 +15,7 @@ use std::alloc::Global;
 use wire_lines::Fault;
 use workers::{Pads, delivered_by};
 
-/// This server's vector of a pad. None: it refuses.
+/// This server's vector of a pad; None if it refuses.
 pub fn own_vector<P: Pads>(alloc: Global, pads: &mut P, pad: &Name) -> Result<Option<Seen>, Fault>
     ensures asks { AsksFor P.calls pad.now act.Vector vector_told result pads.old pads.new }
     ensures memory { IfErr result (λ fault. fault ≡ Memory) }
@@ -23,14 +23,15 @@ pub fn own_vector<P: Pads>(alloc: Global, pads: &mut P, pad: &Name) -> Result<Op
     vector_in(ask(alloc, pads, pad, Act::Vector)?)
 }
 
-/// The first operations of a pad that a vector lacks. None: this server refuses.
+/// The first operations of a pad that a vector lacks; None if this server refuses.
 pub fn own_ops<P: Pads>(
     alloc: Global,
     pads: &mut P,
     pad: &Name,
     seen: Seen,
 ) -> Result<Option<Row<Op>>, Fault>
-    ensures asks { AsksFor P.calls pad.now (act.Pull seen MAX_OPS (Some MAX_BATCH)) ops_told result pads.old pads.new }
+    ensures asks { AsksFor P.calls pad.now (act.Pull seen MAX_OPS (Some MAX_BATCH)) ops_told result
+        pads.old pads.new }
     ensures memory { IfErr result (λ fault. fault ≡ Memory) }
 {
     let act = Act::Pull {
@@ -41,7 +42,7 @@ pub fn own_ops<P: Pads>(
     ops_in(ask(alloc, pads, pad, act)?)
 }
 
-/// How many operations this server delivers when it is given one. None: it refuses.
+/// Delivers an operation here, and returns how many operations were delivered; None if this server refuses it.
 pub fn deliver<P: Pads>(
     alloc: Global,
     pads: &mut P,
@@ -55,7 +56,7 @@ pub fn deliver<P: Pads>(
     count_in(&answer)
 }
 
-/// The name of a cell, if it has one and this server tells it.
+/// The name of a cell, if it has one and this server does not refuse to tell it.
 pub fn name_in(answer: Result<Option<Name>, Refusal>) -> Result<Option<Name>, Fault>
     ensures name { result ≡ name_told answer }
     ensures memory { IfErr result (λ fault. fault ≡ Memory) }
@@ -67,14 +68,15 @@ pub fn name_in(answer: Result<Option<Name>, Refusal>) -> Result<Option<Name>, Fa
     }
 }
 
-// Asks a pad, by name. Where there is no memory for the request nothing is asked.
+// Asks a pad, by name. If there is no memory for the request, nothing is asked.
 fn ask<P: Pads>(
     alloc: Global,
     pads: &mut P,
     pad: &Name,
     act: Act,
 ) -> Result<Result<Reply, Refusal>, Fault>
-    ensures asked { IfOk result (λ answer. P.calls pads.old (request.On pad.now act) answer pads.new) }
+    ensures asked { IfOk result (λ answer. P.calls pads.old (request.On pad.now act) answer
+        pads.new) }
     ensures memory { IfErr result (λ fault. (fault ≡ Memory) × (pads.new ≡ pads.old)) }
 {
     let pad = pad.clone()?;

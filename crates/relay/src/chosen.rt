@@ -1,4 +1,4 @@
-//! A visit to the cells in a list.
+//! A visit to the cells of a list.
 ghost use Rattle.std.specs.Prelude.{◌≡◌, IfErr, IfOk};
 ghost use Rattle.relay.specs.Breaks.{Breaks};
 ghost use Rattle.relay.specs.Kept.{ready, Visited};
@@ -14,10 +14,12 @@ use std::alloc::Global;
 use wire_lines::Fault;
 use workers::Pads;
 
-/// Exchanges the operations of the pads of the cells in a list alone, in its order, as `visit_cells` does of all cells. A
-/// cell without a pad is passed, and so is a number that is no cell's. An empty list writes nothing and reads nothing.
+/// Exchanges the operations of only the pads of the listed cells, in the order of the list, as `visit_cells` does for
+/// all cells. It skips cells without a pad, and numbers that are not those of cells. For an empty list, nothing is
+/// written and nothing is read.
 ///
-/// A list of more than 4,294,967,295 numbers, which is more than there can be cells, counts as its first 4,294,967,295.
+/// Of a list of more than 4,294,967,295 numbers, which is more than there can be cells, only the first 4,294,967,295
+/// count.
 pub fn visit_listed<P: Pads, L: Exchange>(
     alloc: Global,
     pads: &mut P,
@@ -25,17 +27,19 @@ pub fn visit_listed<P: Pads, L: Exchange>(
     version: Version,
     cells: &[u32],
 ) -> Result<Relayed, Fault>
-    // The stages are those of a visit whose cells are the places in the list.
+    // The stages are those of a visit whose cells are the positions in the list.
     ensures all { IfOk result (λ relayed. Visited P.calls (by_place cells.now P.names)
-        (ready version (count_of cells.now) pads.old (L.wire link.old)) relayed (L.wire link.new) pads.new) }
+        (ready version (count_of cells.now) pads.old (L.wire link.old)) relayed (L.wire link.new)
+        pads.new) }
     ensures fault { IfErr result (λ fault. Breaks P.calls (by_place cells.now P.names) fault Next
-        (ready version (count_of cells.now) pads.old (L.wire link.old)) pads.new (L.wire link.new)) }
+        (ready version (count_of cells.now) pads.old (L.wire link.old)) pads.new
+        (L.wire link.new)) }
 {
     let mut chosen = Chosen { pads, cells };
     visit_chosen(alloc, &mut chosen, link, version)
 }
 
-// The same of pads that are borrowed, which they stay.
+// The same for pads that are borrowed, and stay so.
 fn visit_chosen<P: Pads, L: Exchange>(
     alloc: Global,
     chosen: &mut Chosen<'_, P>,
@@ -44,14 +48,17 @@ fn visit_chosen<P: Pads, L: Exchange>(
 ) -> Result<Relayed, Fault>
     ensures same_reference { chosen.new.pads.ghost_name ≡ chosen.old.pads.ghost_name }
     ensures all { IfOk result (λ relayed. Visited P.calls (by_place chosen.old.cells.now P.names)
-        (ready version (count_of chosen.old.cells.now) chosen.old.pads.now (L.wire link.old)) relayed (L.wire link.new) chosen.new.pads.now) }
-    ensures fault { IfErr result (λ fault. Breaks P.calls (by_place chosen.old.cells.now P.names) fault Next
-        (ready version (count_of chosen.old.cells.now) chosen.old.pads.now (L.wire link.old)) chosen.new.pads.now (L.wire link.new)) }
+        (ready version (count_of chosen.old.cells.now) chosen.old.pads.now (L.wire link.old))
+        relayed (L.wire link.new) chosen.new.pads.now) }
+    ensures fault { IfErr result (λ fault. Breaks P.calls (by_place chosen.old.cells.now P.names)
+        fault Next
+        (ready version (count_of chosen.old.cells.now) chosen.old.pads.now (L.wire link.old))
+        chosen.new.pads.now (L.wire link.new)) }
 {
     visit_cells(alloc, chosen, link, version)
 }
 
-/// The pads of the cells in a list, in its order: the place of a cell in the list is its number here.
+/// The pads of the listed cells, in the order of the list: here the number of a cell is its position in the list.
 #[derive(Drop)]
 struct Chosen<'a, P> {
     pads: &'a mut P,
@@ -63,7 +70,8 @@ impl<'a, P: Pads> Pads for Chosen<'a, P> {
 
     ghost calls = { λ old request answer new. CallsChosen P.calls old request answer new };
 
-    ghost relays = { λ old number answer new. P.relays old.pads.now number answer new.pads.now × IsSame old new };
+    ghost relays = { λ old number answer new. P.relays old.pads.now number answer new.pads.now
+        × IsSame old new };
 
     ghost ends = { λ old new. P.ends old.pads.now new.pads.now × IsSame old new };
 

@@ -1,4 +1,4 @@
-//! The answers of a peer, as they are heard.
+//! Hears the answers of a peer.
 ghost use Rattle.std.specs.Prelude.{◌≡◌, IfOk, IfErr};
 ghost use Rattle.wire_json.specs.Peers.{peer_answer, vector_answer, pull_answer, push_answer};
 ghost use Rattle.relay.specs.Wire.{HearsAs, MissesAnswer};
@@ -10,12 +10,13 @@ use std::alloc::Global;
 use wire_json::{Told, read_peer_answer, read_pull_answer, read_push_answer, read_vector_answer};
 use wire_lines::Fault;
 
-/// The answer to `peer`; None where there is none of its form.
+/// Hears the answer to `peer`; None if the line is missing or has another form.
 pub fn hear_version<L: Exchange>(
     alloc: Global,
     link: &mut L,
 ) -> Result<Option<Told<Version>>, Fault>
-    ensures heard { IfOk result (λ said. HearsAs peer_answer said (L.wire link.old) (L.wire link.new)) }
+    ensures heard { IfOk result (λ said. HearsAs peer_answer said (L.wire link.old)
+        (L.wire link.new)) }
     ensures fault { IfErr result (λ fault. MissesAnswer fault (L.wire link.old) (L.wire link.new)) }
 {
     if !link.hear()? {
@@ -28,9 +29,10 @@ pub fn hear_version<L: Exchange>(
     }
 }
 
-/// The answer to `vector`.
+/// Hears the answer to `vector`; None if the line is missing or has another form.
 pub fn hear_vector<L: Exchange>(alloc: Global, link: &mut L) -> Result<Option<Told<Seen>>, Fault>
-    ensures heard { IfOk result (λ said. HearsAs vector_answer said (L.wire link.old) (L.wire link.new)) }
+    ensures heard { IfOk result (λ said. HearsAs vector_answer said (L.wire link.old)
+        (L.wire link.new)) }
     ensures fault { IfErr result (λ fault. MissesAnswer fault (L.wire link.old) (L.wire link.new)) }
 {
     if !link.hear()? {
@@ -43,9 +45,10 @@ pub fn hear_vector<L: Exchange>(alloc: Global, link: &mut L) -> Result<Option<To
     }
 }
 
-/// The answer to `pull`.
+/// Hears the answer to `pull`; None if the line is missing or has another form.
 pub fn hear_ops<L: Exchange>(alloc: Global, link: &mut L) -> Result<Option<Told<Row<Op>>>, Fault>
-    ensures heard { IfOk result (λ said. HearsAs pull_answer said (L.wire link.old) (L.wire link.new)) }
+    ensures heard { IfOk result (λ said. HearsAs pull_answer said (L.wire link.old)
+        (L.wire link.new)) }
     ensures fault { IfErr result (λ fault. MissesAnswer fault (L.wire link.old) (L.wire link.new)) }
 {
     if !link.hear()? {
@@ -58,9 +61,10 @@ pub fn hear_ops<L: Exchange>(alloc: Global, link: &mut L) -> Result<Option<Told<
     }
 }
 
-/// The answer to `push`.
+/// Hears the answer to `push`; None if the line is missing or has another form.
 pub fn hear_push<L: Exchange>(alloc: Global, link: &mut L) -> Result<Option<Told<Pushed>>, Fault>
-    ensures heard { IfOk result (λ said. HearsAs push_answer said (L.wire link.old) (L.wire link.new)) }
+    ensures heard { IfOk result (λ said. HearsAs push_answer said (L.wire link.old)
+        (L.wire link.new)) }
     ensures fault { IfErr result (λ fault. MissesAnswer fault (L.wire link.old) (L.wire link.new)) }
 {
     if !link.hear()? {

@@ -3,13 +3,14 @@ ghost use Rattle.relay.specs.Laws.{AllCellsLaw, GreetedLaw, MissedLaw};
 
 use workers::Pads;
 
-/// Over any pads, a greeting that was answered is the first two stages of a round, and one that failed breaks a round off.
+/// Over any pads, a greeting that was answered is the first two stages of a round, and a greeting that failed is a
+/// round that broke off.
 pub fn greeting_law<P: Pads>()
     ensures greeted { GreetedLaw P.calls P.names }
     ensures missed { MissedLaw P.calls P.names }
 {}
 
-/// A round over the list of all cells, in their order, is a round over the pads themselves, and the other way round.
+/// A round over the list of all cells, in order, is a round over the pads themselves, and the other way round.
 pub fn all_cells_law<P: Pads>()
     ensures { AllCellsLaw P.calls P.names }
 {}

@@ -1,7 +1,7 @@
 //! Relay rounds: a server exchanges the operations of its pads with a peer, over one connection.
 //!
-//! It stands on the pads as a session asks them (`workers`), on the lines of bytes, and on the JSON of what peers ask and
-//! answer. It knows neither sockets nor when a round is made.
+//! It depends on the pads as a session asks them (`workers`), on lines of bytes, and on the JSON of requests to peers
+//! and of their answers. It knows nothing of sockets, nor of when a round is made.
 #![tactic(auto)]
 
 mod ask;

@@ -7,30 +7,32 @@ ghost use Rattle.relay.specs.Wire.{Wire, Hears, Misses, Writes, WritesPart};
 use std::alloc::Global;
 use wire_lines::{Fault, Found, LineBuffer, Sink, Source, write_all};
 
-/// Lines that go to a peer, and lines that come from it.
+/// Lines to a peer, and lines from it.
 pub trait Exchange {
-    /// What goes over the connection, and how it has failed.
+    /// What goes over the connection, and how it failed.
     ghost wire: { Self → Wire };
 
     /// The line that was heard last.
     ghost heard: { Self → List ℕ };
 
-    /// Writes a line, its line feed included, and sends it on.
+    /// Writes a line, which includes its line feed, and flushes.
     fn send(&mut self, line: &str) -> Result<(), Fault>
         ensures sent { OnOk result (Writes line.now (wire self.old) (wire self.new)) }
-        ensures fault { IfErr result (λ fault. (fault ≡ WriteFault) × WritesPart line.now (wire self.old) (wire self.new)) };
+        ensures fault { IfErr result (λ fault. (fault ≡ WriteFault)
+            × WritesPart line.now (wire self.old) (wire self.new)) };
 
-    /// Waits for the next line, and whether there is one: there is none at the end, or where it is too long.
+    /// Waits for the next line, and returns whether there is one. There is none at the end, or if it is too long.
     fn hear(&mut self) -> Result<bool, Fault>
-        ensures heard { IfOk result (λ is_line. Hears (if is_line then Some (heard self.new) else None) (wire self.old) (wire self.new)) }
+        ensures heard { IfOk result (λ is_line. Hears
+            (if is_line then Some (heard self.new) else None) (wire self.old) (wire self.new)) }
         ensures fault { IfErr result (λ fault. Misses fault (wire self.old) (wire self.new)) };
 
-    /// The line that was heard last, without its end.
+    /// The line that was heard last, without its line end.
     fn line(&self) -> &[u8]
         ensures { result.now ≡ heard self.now };
 }
 
-/// A connection to a peer by a reader and a writer.
+/// A connection to a peer, by a reader and a writer.
 #[derive(Drop)]
 pub struct Link<R, W> {
     reader: R,
@@ -39,13 +41,19 @@ pub struct Link<R, W> {
 }
 
 impl<R: Source, W: Sink> Link<R, W> {
-    /// Nothing is read or written yet. Where there is no memory both are dropped.
+    /// Creates a link, without reading or writing. If memory runs out, the reader and the writer are dropped.
     pub fn new(alloc: Global, reader: R, writer: W) -> Result<Link<R, W>, Fault>
     where
         R: Drop,
         W: Drop,
         ensures ok { IfOk result (λ link. (link.reader ≡ reader) × (link.writer ≡ writer)
-            × (link.buffer ≡ record { waiting = []; line = []; reads = 0; ended = false; fault = None })) }
+            × (link.buffer ≡ record {
+              waiting = [];
+              line = [];
+              reads = 0;
+              ended = false;
+              fault = None;
+            })) }
         ensures err { IfErr result (λ fault. fault ≡ Memory) }
     {
         let buffer = LineBuffer::new(alloc)?;
@@ -56,7 +64,7 @@ impl<R: Source, W: Sink> Link<R, W> {
         })
     }
 
-    /// The reader and the writer, when it is not used any more. Bytes that were read and not heard are lost.
+    /// Returns the reader and the writer. Bytes that were read but not heard are lost.
     pub fn into_parts(self) -> (R, W)
         ensures { result ≡ (self.reader, self.writer) }
     {

@@ -21,18 +21,19 @@ use wire_json::{Told, pull_line};
 use wire_lines::Fault;
 use workers::Pads;
 
-/// What a turn came to.
+/// The outcome of a turn.
 #[derive(Clone, Copy, Debug, PartialEq, Eq)]
 pub enum Turn {
-    /// An operation was delivered here, so that another turn may follow.
+    /// An operation was delivered here, so another turn may follow.
     Gained,
-    /// None was.
+    /// No operation was delivered.
     Spent,
-    /// The peer or this server refused, or one can't say what the other can read: the pad's part is over.
+    /// The peer or this server refused, or the peer's version cannot express something: the exchange of this pad is
+    /// over.
     Over,
 }
 
-/// Pulls a pad's operations, turn by turn, until one delivers none. Says whether the pad's part goes on.
+/// Pulls a pad's operations, turn by turn, until a turn delivers none. Returns whether the exchange of the pad goes on.
 pub fn pull_pad<P: Pads, L: Exchange>(
     alloc: Global,
     pads: &mut P,
@@ -40,7 +41,8 @@ pub fn pull_pad<P: Pads, L: Exchange>(
     talk: &mut Talk,
     pad: &Name,
 ) -> Result<bool, Fault>
-    ensures goes { IfOk result (λ on. Reaches P.calls P.names (Pulling pad.now 0) (world talk.old pads.old (L.wire link.old))
+    ensures goes { IfOk result (λ on. Reaches P.calls P.names (Pulling pad.now 0)
+        (world talk.old pads.old (L.wire link.old))
         (if on then Pushing pad.now 0 else Over) (world talk.new pads.new (L.wire link.new))) }
     ensures breaks { IfErr result (λ fault. Breaks P.calls P.names fault (Pulling pad.now 0)
         (world talk.old pads.old (L.wire link.old)) pads.new (L.wire link.new)) }
@@ -56,7 +58,7 @@ pub fn pull_pad<P: Pads, L: Exchange>(
     Ok(true)
 }
 
-/// One turn: this server's vector goes to the peer, and the operations that come are delivered here.
+/// One turn: sends this server's vector to the peer, and delivers the operations that it answers with.
 fn pull_turn<P: Pads, L: Exchange>(
     alloc: Global,
     pads: &mut P,
@@ -66,7 +68,8 @@ fn pull_turn<P: Pads, L: Exchange>(
     turn: u64,
 ) -> Result<Turn, Fault>
     requires { turn < MAX_PULL_TURNS }
-    ensures goes { IfOk result (λ came. Reaches P.calls P.names (Pulling pad.now turn) (world talk.old pads.old (L.wire link.old))
+    ensures goes { IfOk result (λ came. Reaches P.calls P.names (Pulling pad.now turn)
+        (world talk.old pads.old (L.wire link.old))
         (after_turn pad.now turn came) (world talk.new pads.new (L.wire link.new))) }
     ensures breaks { IfErr result (λ fault. Breaks P.calls P.names fault (Pulling pad.now turn)
         (world talk.old pads.old (L.wire link.old)) pads.new (L.wire link.new)) }
@@ -78,7 +81,7 @@ fn pull_turn<P: Pads, L: Exchange>(
     take_answer(alloc, pads, link, talk, pad, turn)
 }
 
-/// Sends this server's vector of a pad to the peer. False where the pad's part is over.
+/// Sends this server's vector of a pad to the peer. Returns false if the exchange of the pad is over.
 fn ask_peer<P: Pads, L: Exchange>(
     alloc: Global,
     pads: &mut P,
@@ -86,9 +89,12 @@ fn ask_peer<P: Pads, L: Exchange>(
     talk: &mut Talk,
     pad: &Name,
 ) -> Result<bool, Fault>
-    ensures goes { IfOk result (λ asked. (turn : ℕ) → turn < MAX_PULL_TURNS → Reaches P.calls P.names (Pulling pad.now turn)
-        (world talk.old pads.old (L.wire link.old)) (if asked then Pulled pad.now turn else Over) (world talk.new pads.new (L.wire link.new))) }
-    ensures breaks { IfErr result (λ fault. (turn : ℕ) → turn < MAX_PULL_TURNS → Breaks P.calls P.names fault (Pulling pad.now turn)
+    ensures goes { IfOk result (λ asked. (turn : ℕ) → turn < MAX_PULL_TURNS
+        → Reaches P.calls P.names (Pulling pad.now turn)
+        (world talk.old pads.old (L.wire link.old)) (if asked then Pulled pad.now turn else Over)
+        (world talk.new pads.new (L.wire link.new))) }
+    ensures breaks { IfErr result (λ fault. (turn : ℕ) → turn < MAX_PULL_TURNS
+        → Breaks P.calls P.names fault (Pulling pad.now turn)
         (world talk.old pads.old (L.wire link.old)) pads.new (L.wire link.new)) }
     ensures cell { (talk.new.cell ≡ talk.old.cell) × (talk.new.cells ≡ talk.old.cells) }
 {
@@ -98,7 +104,7 @@ fn ask_peer<P: Pads, L: Exchange>(
     }
 }
 
-/// Asks the peer for what a vector lacks, where it can read the vector.
+/// Asks the peer for what a vector lacks, if it can read the vector.
 fn send_pull<L: Exchange>(
     alloc: Global,
     link: &mut L,
@@ -106,9 +112,12 @@ fn send_pull<L: Exchange>(
     pad: &Name,
     seen: &Seen,
 ) -> Result<bool, Fault>
-    ensures sent { IfOk result (λ sent. SendsPull pad.now seen.now sent talk.old (L.wire link.old) talk.new (L.wire link.new)) }
-    ensures unsent { IfErr result (λ fault. (is_readable talk.old.version (seen_in_v1 seen.now) ≡ true) × (talk.new ≡ talk.old)
-        × IsUnsent fault (line_of (pull_request pad.now seen.now MAX_OPS (Some MAX_BATCH))) (L.wire link.old) (L.wire link.new)) }
+    ensures sent { IfOk result (λ sent. SendsPull pad.now seen.now sent talk.old (L.wire link.old)
+        talk.new (L.wire link.new)) }
+    ensures unsent { IfErr result (λ fault. (is_readable talk.old.version (seen_in_v1 seen.now)
+        ≡ true) × (talk.new ≡ talk.old)
+        × IsUnsent fault (line_of (pull_request pad.now seen.now MAX_OPS (Some MAX_BATCH)))
+        (L.wire link.old) (L.wire link.new)) }
 {
     if !talk.is_readable(seen_in_v1(seen)) {
         talk.relayed = talk.relayed.with_unsaid();
@@ -119,7 +128,7 @@ fn send_pull<L: Exchange>(
     Ok(true)
 }
 
-/// Hears what the peer gives, and delivers it here.
+/// Hears the operations of the peer, and delivers them here.
 fn take_answer<P: Pads, L: Exchange>(
     alloc: Global,
     pads: &mut P,
@@ -128,7 +137,8 @@ fn take_answer<P: Pads, L: Exchange>(
     pad: &Name,
     turn: u64,
 ) -> Result<Turn, Fault>
-    ensures goes { IfOk result (λ came. Reaches P.calls P.names (Pulled pad.now turn) (world talk.old pads.old (L.wire link.old))
+    ensures goes { IfOk result (λ came. Reaches P.calls P.names (Pulled pad.now turn)
+        (world talk.old pads.old (L.wire link.old))
         (after_turn pad.now turn came) (world talk.new pads.new (L.wire link.new))) }
     ensures breaks { IfErr result (λ fault. Breaks P.calls P.names fault (Pulled pad.now turn)
         (world talk.old pads.old (L.wire link.old)) pads.new (L.wire link.new)) }
@@ -147,7 +157,7 @@ fn take_answer<P: Pads, L: Exchange>(
     }
 }
 
-/// Delivers operations here, one after the other. Says whether one was delivered.
+/// Delivers operations here, one after another. Returns whether any was delivered.
 fn take_ops<P: Pads>(
     alloc: Global,
     pads: &mut P,
@@ -155,9 +165,12 @@ fn take_ops<P: Pads>(
     pad: &Name,
     ops: Row<Op>,
 ) -> Result<bool, Fault>
-    ensures goes { IfOk result (λ gained. (turn : ℕ) (wire : Wire) → Reaches P.calls P.names (Taking pad.now turn false ops)
-        (world talk.old pads.old wire) (Taking pad.now turn gained []) (world talk.new pads.new wire)) }
-    ensures lacks { IfErr result (λ fault. (turn : ℕ) (wire : Wire) → Lacks P.calls P.names fault (Taking pad.now turn false ops)
+    ensures goes { IfOk result (λ gained. (turn : ℕ) (wire : Wire)
+        → Reaches P.calls P.names (Taking pad.now turn false ops)
+        (world talk.old pads.old wire) (Taking pad.now turn gained [])
+        (world talk.new pads.new wire)) }
+    ensures lacks { IfErr result (λ fault. (turn : ℕ) (wire : Wire)
+        → Lacks P.calls P.names fault (Taking pad.now turn false ops)
         (world talk.old pads.old wire) pads.new) }
     ensures cell { (talk.new.cell ≡ talk.old.cell) × (talk.new.cells ≡ talk.old.cells) }
 {

@@ -22,7 +22,7 @@ use wire_json::{Told, push_line, vector_line};
 use wire_lines::Fault;
 use workers::Pads;
 
-/// Pushes a pad's operations, turn by turn, until the peer delivers none.
+/// Pushes a pad's operations, turn by turn, until the peer delivers none of a turn.
 pub fn push_pad<P: Pads, L: Exchange>(
     alloc: Global,
     pads: &mut P,
@@ -30,7 +30,8 @@ pub fn push_pad<P: Pads, L: Exchange>(
     talk: &mut Talk,
     pad: &Name,
 ) -> Result<(), Fault>
-    ensures goes { IfOk result (λ _. Reaches P.calls P.names (Pushing pad.now 0) (world talk.old pads.old (L.wire link.old))
+    ensures goes { IfOk result (λ _. Reaches P.calls P.names (Pushing pad.now 0)
+        (world talk.old pads.old (L.wire link.old))
         Over (world talk.new pads.new (L.wire link.new))) }
     ensures breaks { IfErr result (λ fault. Breaks P.calls P.names fault (Pushing pad.now 0)
         (world talk.old pads.old (L.wire link.old)) pads.new (L.wire link.new)) }
@@ -44,7 +45,7 @@ pub fn push_pad<P: Pads, L: Exchange>(
     Ok(())
 }
 
-/// One turn: the peer's vector is asked for, and what it lacks is pushed. Says whether another turn may follow.
+/// One turn: asks for the peer's vector, and pushes what it lacks. Returns whether another turn may follow.
 fn push_turn<P: Pads, L: Exchange>(
     alloc: Global,
     pads: &mut P,
@@ -54,8 +55,10 @@ fn push_turn<P: Pads, L: Exchange>(
     turn: u64,
 ) -> Result<bool, Fault>
     requires { turn < MAX_PUSH_TURNS }
-    ensures goes { IfOk result (λ more. Reaches P.calls P.names (Pushing pad.now turn) (world talk.old pads.old (L.wire link.old))
-        (if more then Pushing pad.now (turn + 1) else Over) (world talk.new pads.new (L.wire link.new))) }
+    ensures goes { IfOk result (λ more. Reaches P.calls P.names (Pushing pad.now turn)
+        (world talk.old pads.old (L.wire link.old))
+        (if more then Pushing pad.now (turn + 1) else Over)
+        (world talk.new pads.new (L.wire link.new))) }
     ensures breaks { IfErr result (λ fault. Breaks P.calls P.names fault (Pushing pad.now turn)
         (world talk.old pads.old (L.wire link.old)) pads.new (L.wire link.new)) }
     ensures cell { (talk.new.cell ≡ talk.old.cell) × (talk.new.cells ≡ talk.old.cells) }
@@ -70,15 +73,17 @@ fn push_turn<P: Pads, L: Exchange>(
 
 /// Asks for the peer's vector of a pad.
 fn send_vector<L: Exchange>(alloc: Global, link: &mut L, pad: &Name) -> Result<(), Fault>
-    ensures sent { OnOk result (Writes (line_of (vector_request pad.now)) (L.wire link.old) (L.wire link.new)) }
-    ensures unsent { IfErr result (λ fault. IsUnsent fault (line_of (vector_request pad.now)) (L.wire link.old) (L.wire link.new)) }
+    ensures sent { OnOk result (Writes (line_of (vector_request pad.now)) (L.wire link.old)
+        (L.wire link.new)) }
+    ensures unsent { IfErr result (λ fault. IsUnsent fault (line_of (vector_request pad.now))
+        (L.wire link.old) (L.wire link.new)) }
 {
     let line = vector_line(alloc, pad)?;
     link.send(line.as_str())
 }
 
-/// Pushes what a vector lacks: the operations are written one after the other, and then their answers are read, which
-/// is one way to the peer and back in the place of one for each. Says whether another turn may follow.
+/// Pushes what a vector lacks. All operations are written before their answers are read, which costs one round trip
+/// instead of one for each. Returns whether another turn may follow.
 fn push_lacking<P: Pads, L: Exchange>(
     alloc: Global,
     pads: &mut P,
@@ -87,9 +92,13 @@ fn push_lacking<P: Pads, L: Exchange>(
     pad: &Name,
     seen: Seen,
 ) -> Result<bool, Fault>
-    ensures goes { IfOk result (λ more. (turn : ℕ) → Reaches P.calls P.names (Lacking pad.now turn seen) (world talk.old pads.old (L.wire link.old))
-        (if more then Pushing pad.now (turn + 1) else Over) (world talk.new pads.new (L.wire link.new))) }
-    ensures breaks { IfErr result (λ fault. (turn : ℕ) → Breaks P.calls P.names fault (Lacking pad.now turn seen)
+    ensures goes { IfOk result (λ more. (turn : ℕ)
+        → Reaches P.calls P.names (Lacking pad.now turn seen)
+        (world talk.old pads.old (L.wire link.old))
+        (if more then Pushing pad.now (turn + 1) else Over)
+        (world talk.new pads.new (L.wire link.new))) }
+    ensures breaks { IfErr result (λ fault. (turn : ℕ)
+        → Breaks P.calls P.names fault (Lacking pad.now turn seen)
         (world talk.old pads.old (L.wire link.old)) pads.new (L.wire link.new)) }
     ensures cell { (talk.new.cell ≡ talk.old.cell) × (talk.new.cells ≡ talk.old.cells) }
 {
@@ -114,18 +123,21 @@ fn push_lacking<P: Pads, L: Exchange>(
     Ok(gained && whole)
 }
 
-/// Gives the peer an operation.
+/// Pushes an operation to the peer.
 fn send_push<L: Exchange>(alloc: Global, link: &mut L, pad: &Name, op: &Op) -> Result<(), Fault>
-    ensures sent { OnOk result (Writes (line_of (push_request pad.now op.now)) (L.wire link.old) (L.wire link.new)) }
-    ensures unsent { IfErr result (λ fault. IsUnsent fault (line_of (push_request pad.now op.now)) (L.wire link.old) (L.wire link.new)) }
+    ensures sent { OnOk result (Writes (line_of (push_request pad.now op.now)) (L.wire link.old)
+        (L.wire link.new)) }
+    ensures unsent { IfErr result (λ fault. IsUnsent fault (line_of (push_request pad.now op.now))
+        (L.wire link.old) (L.wire link.new)) }
 {
     let line = push_line(alloc, pad, op)?;
     link.send(line.as_str())
 }
 
-/// Hears what became of an operation that was pushed, and counts it. Says whether it was delivered.
+/// Hears what became of an operation that was pushed, and counts it. Returns whether it was delivered.
 fn hear_delivered<L: Exchange>(alloc: Global, link: &mut L, talk: &mut Talk) -> Result<bool, Fault>
-    ensures heard { IfOk result (λ delivered. (said : Told Pushed) × HearsAs push_answer (Some said) (L.wire link.old) (L.wire link.new)
+    ensures heard { IfOk result (λ delivered. (said : Told Pushed)
+        × HearsAs push_answer (Some said) (L.wire link.old) (L.wire link.new)
         × (delivered ≡ is_delivered said) × (talk.new ≡ counts (after_push said) talk.old)) }
     ensures fault { IfErr result (λ fault. MissesAnswer fault (L.wire link.old) (L.wire link.new)
         ⊎ ((fault ≡ PeerReply) × HearsAs push_answer None (L.wire link.old) (L.wire link.new))) }

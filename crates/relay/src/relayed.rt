@@ -1,24 +1,24 @@
-//! What a relay round has come to.
+//! The results of a relay round.
 ghost use Rattle.std.specs.Prelude.{◌≡◌};
 ghost use Rattle.relay.specs.Counts.{none_yet, with_pull as one_pull, with_pulled as more_pulled, with_pushed as one_pushed, with_refused as one_refused, with_unsaid as one_unsaid};
 
-/// What a relay round has come to. Each number is counted as far as a `u64` goes.
+/// The results of a relay round. Each number is at most the greatest `u64`.
 #[derive(Clone, Copy, Debug, PartialEq, Eq)]
 pub struct Relayed {
-    /// The pads whose first pull the peer answered with operations, or with none that are lacking.
+    /// The pads whose first pull the peer answered, perhaps with no operations.
     pub pads: u64,
-    /// The operations of the peer that were delivered here, those that they released among them.
+    /// The peer's operations that were delivered here, including those that they released.
     pub pulled: u64,
-    /// The operations of this server that the peer delivered.
+    /// This server's operations that the peer delivered.
     pub pushed: u64,
     /// The operations that were refused, here or there.
     pub refused: u64,
-    /// The pads that were left, in part or whole, because the peer reads the first version of the forms alone.
+    /// The pads that were left out, in part or whole, because the peer reads only version 1.
     pub unsaid: u64,
 }
 
 impl Relayed {
-    /// Nothing yet.
+    /// No results yet.
     pub(crate) fn new() -> Relayed
         ensures { result ≡ none_yet }
     {
@@ -31,7 +31,7 @@ impl Relayed {
         }
     }
 
-    /// With a pull of a pad after so many turns, of which the first one counts.
+    /// Counts a pull of a pad, after this many turns: the first one counts the pad.
     pub(crate) fn with_pull(self, turn: u64) -> Relayed
         ensures { result ≡ one_pull turn self }
     {

@@ -21,11 +21,11 @@ use wire_json::{Told, peer_line};
 use wire_lines::Fault;
 use workers::Pads;
 
-/// Exchanges the operations of all pads with a peer, over a connection that was just made: greets the peer by this
-/// server's number and the token of both, and then pulls and pushes pad by pad. The session, which has to be a peer's
-/// (`Pads::relay`), is ended then, and after a fault: what was delivered stays.
+/// Exchanges the operations of all pads with a peer, over a new connection: greets the peer with this server's number
+/// and the shared token, and then pulls and pushes pad by pad. Afterwards, or after a fault, it ends the session, which
+/// has to be a peer's (`Pads::relay`). What was delivered stays.
 ///
-/// PeerReply: the peer refused the greeting, or a reply of it was none.
+/// `PeerReply`: the peer refused the greeting, or one of its lines was not a reply.
 pub fn relay_round<P: Pads, L: Exchange>(
     alloc: Global,
     pads: &mut P,
@@ -33,13 +33,16 @@ pub fn relay_round<P: Pads, L: Exchange>(
     own: u16,
     token: &str,
 ) -> Result<Relayed, Fault>
-    // At the end all stages of the round were gone through, and what was written and heard are theirs.
+    // On success, all stages of the round were made, and what was written and heard is theirs.
     ensures all { IfOk result (λ relayed. ThenEnds (Made P.calls P.names own token.now
-        (begun (P.width pads.old) pads.old (L.wire link.old)) relayed (L.wire link.new)) P.ends pads.new) }
+        (begun (P.width pads.old) pads.old (L.wire link.old)) relayed (L.wire link.new)) P.ends
+        pads.new) }
 
-    // After a fault some of them, and a front of what they write is written.
-    ensures fault { IfErr result (λ fault. ThenEnds (λ last. Breaks P.calls P.names fault (Greeting own token.now)
-        (begun (P.width pads.old) pads.old (L.wire link.old)) last (L.wire link.new)) P.ends pads.new) }
+    // On a fault, some of them were made, and a prefix of what they write was written.
+    ensures fault { IfErr result (λ fault. ThenEnds
+        (λ last. Breaks P.calls P.names fault (Greeting own token.now)
+        (begun (P.width pads.old) pads.old (L.wire link.old)) last (L.wire link.new)) P.ends
+        pads.new) }
 {
     let relayed = make_round(alloc, pads, link, own, token);
     pads.end(alloc);
@@ -63,10 +66,10 @@ fn make_round<P: Pads, L: Exchange>(
     visit_cells(alloc, pads, link, version)
 }
 
-/// Begins a session at the peer, by this server's number and the token of both, and hears the version of the forms that
-/// the peer reads. A session lasts as long as the link: any number of visits may follow.
+/// Logs in at the peer, with this server's number and the shared token, and returns the version that the peer reads.
+/// The session lasts as long as the link: any number of visits may follow.
 ///
-/// PeerReply: the peer refused the greeting, or its reply was none.
+/// `PeerReply`: the peer refused the greeting, or its line was not a reply.
 pub fn greet<L: Exchange>(
     alloc: Global,
     link: &mut L,
@@ -74,8 +77,10 @@ pub fn greet<L: Exchange>(
     token: &str,
 ) -> Result<Version, Fault>
     // By `greeting_law` these are the first two stages of a round, over any pads.
-    ensures greeted { IfOk result (λ version. Greets own token.now version (L.wire link.old) (L.wire link.new)) }
-    ensures fault { IfErr result (λ fault. MissesGreeting own token.now fault (L.wire link.old) (L.wire link.new)) }
+    ensures greeted { IfOk result (λ version. Greets own token.now version (L.wire link.old)
+        (L.wire link.new)) }
+    ensures fault { IfErr result (λ fault. MissesGreeting own token.now fault (L.wire link.old)
+        (L.wire link.new)) }
 {
     send_greeting(alloc, link, own, token)?;
     match hear_version(alloc, link)? {
@@ -86,21 +91,22 @@ pub fn greet<L: Exchange>(
 }
 
 /// Exchanges the operations of the pads of all cells with a peer that was greeted and reads this version: pulls and
-/// pushes pad by pad. Neither session is ended, so that another visit may follow over the same link; a link at which one
-/// broke off is of no more use. `Chosen` visits the cells of a list alone.
+/// pushes pad by pad. It ends neither session, so another visit may follow over the same link; after a visit that broke
+/// off, the link is of no more use. `visit_listed` visits only the cells of a list.
 ///
-/// PeerReply: a reply of the peer was none.
+/// `PeerReply`: a line of the peer was not a reply.
 pub fn visit_cells<P: Pads, L: Exchange>(
     alloc: Global,
     pads: &mut P,
     link: &mut L,
     version: Version,
 ) -> Result<Relayed, Fault>
-    // At the end all stages from the first cell on were gone through, and what was written and heard are theirs.
+    // On success, all stages from the first cell on were made, and what was written and heard is theirs.
     ensures all { IfOk result (λ relayed. Visited P.calls P.names
-        (ready version (P.width pads.old) pads.old (L.wire link.old)) relayed (L.wire link.new) pads.new) }
+        (ready version (P.width pads.old) pads.old (L.wire link.old)) relayed (L.wire link.new)
+        pads.new) }
 
-    // After a fault some of them, and a front of what they write is written.
+    // On a fault, some of them were made, and a prefix of what they write was written.
     ensures fault { IfErr result (λ fault. Breaks P.calls P.names fault Next
         (ready version (P.width pads.old) pads.old (L.wire link.old)) pads.new (L.wire link.new)) }
 {
@@ -117,15 +123,17 @@ pub fn visit_cells<P: Pads, L: Exchange>(
     Ok(talk.relayed)
 }
 
-/// Begins the session at the peer.
+/// Sends the greeting.
 fn send_greeting<L: Exchange>(
     alloc: Global,
     link: &mut L,
     own: u16,
     token: &str,
 ) -> Result<(), Fault>
-    ensures sent { OnOk result (Writes (line_of (peer_request own token.now)) (L.wire link.old) (L.wire link.new)) }
-    ensures unsent { IfErr result (λ fault. IsUnsent fault (line_of (peer_request own token.now)) (L.wire link.old) (L.wire link.new)) }
+    ensures sent { OnOk result (Writes (line_of (peer_request own token.now)) (L.wire link.old)
+        (L.wire link.new)) }
+    ensures unsent { IfErr result (λ fault. IsUnsent fault (line_of (peer_request own token.now))
+        (L.wire link.old) (L.wire link.new)) }
 {
     let line = peer_line(alloc, own, token)?;
     link.send(line.as_str())
@@ -139,7 +147,8 @@ fn exchange_cell<P: Pads, L: Exchange>(
     talk: &mut Talk,
 ) -> Result<(), Fault>
     requires { talk.old.cell < talk.old.cells }
-    ensures goes { IfOk result (λ _. Reaches P.calls P.names Next (world talk.old pads.old (L.wire link.old))
+    ensures goes { IfOk result (λ _. Reaches P.calls P.names Next
+        (world talk.old pads.old (L.wire link.old))
         Over (world talk.new pads.new (L.wire link.new))) }
     ensures breaks { IfErr result (λ fault. Breaks P.calls P.names fault Next
         (world talk.old pads.old (L.wire link.old)) pads.new (L.wire link.new)) }
@@ -151,7 +160,7 @@ fn exchange_cell<P: Pads, L: Exchange>(
     }
 }
 
-/// Exchanges a pad: first what the peer gives, then what it lacks.
+/// Exchanges a pad: first pulls what the peer has, then pushes what it lacks.
 fn exchange_pad<P: Pads, L: Exchange>(
     alloc: Global,
     pads: &mut P,
@@ -159,7 +168,8 @@ fn exchange_pad<P: Pads, L: Exchange>(
     talk: &mut Talk,
     pad: &Name,
 ) -> Result<(), Fault>
-    ensures goes { IfOk result (λ _. Reaches P.calls P.names (Pulling pad.now 0) (world talk.old pads.old (L.wire link.old))
+    ensures goes { IfOk result (λ _. Reaches P.calls P.names (Pulling pad.now 0)
+        (world talk.old pads.old (L.wire link.old))
         Over (world talk.new pads.new (L.wire link.new))) }
     ensures breaks { IfErr result (λ fault. Breaks P.calls P.names fault (Pulling pad.now 0)
         (world talk.old pads.old (L.wire link.old)) pads.new (L.wire link.new)) }

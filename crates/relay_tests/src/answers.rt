@@ -1,11 +1,11 @@
-//! Answers of a peer that end a round.
+//! Replies of a peer that end a round.
 use crate::stage::{TYPES, Talked, talk, text_of};
 use std::alloc::Global;
 use std::process::Abort;
 use std::test::Fail;
 use wire_lines::Fault;
 
-// A whole talk of a peer that takes the one operation of server 1.
+// All replies of a peer that takes the one operation of server 1.
 const TALK: &str = concat!(
     r#"{"ok":true,"replica":2,"version":2}"#,
     "\n",
@@ -19,7 +19,7 @@ const TALK: &str = concat!(
     "\n",
 );
 
-// How a round ends with a peer that writes these bytes.
+// Returns the fault that ends a round with a peer that writes these bytes, if there is one.
 fn ends(alloc: Global, peer: &[u8]) -> Result<Option<Fault>, Fail> {
     let Talked { ended, .. } = talk(alloc, &[TYPES], peer)?;
     Ok(match ended {
@@ -28,7 +28,7 @@ fn ends(alloc: Global, peer: &[u8]) -> Result<Option<Fault>, Fail> {
     })
 }
 
-// A round with a peer that writes these bytes ends so.
+// Asserts how a round with a peer that writes these bytes ends.
 fn ends_so(rt: &impl Abort, alloc: Global, peer: &[u8], want: Option<Fault>) -> Result<(), Fail> {
     let came = ends(alloc, peer)?;
     assert!(rt;

@@ -1,4 +1,4 @@
-//! Batches of operations, from peers of now and of before and to them.
+//! Batches of operations, from current and older peers and to them.
 use crate::stage::{text_of, typed_on};
 use relay::{Link, Relayed, greet, visit_cells};
 use std::alloc::Global;
@@ -23,7 +23,7 @@ const NOTHING: Relayed = Relayed {
     unsaid: 0,
 };
 
-// Adds a peer's answer with operations of one character each: behind these many, up to these many.
+// Adds a peer's reply with operations of one character each: those after number `from`, up to number `to`.
 fn add_ops(alloc: Global, text: &mut String, from: u32, to: u32) -> Result<(), Fail> {
     text.push_str(r#"{"now":0,"ok":true,"ops":["#)?;
     for number in from..to {
@@ -45,7 +45,7 @@ fn add_ops(alloc: Global, text: &mut String, from: u32, to: u32) -> Result<(), F
     Ok(())
 }
 
-// Adds the peer's vector after so many operations of one server.
+// Adds the peer's version vector after `count` operations of one server.
 fn add_counts(alloc: Global, text: &mut String, replica: u32, count: u32) -> Result<(), Fail> {
     let line = format!(in alloc; r#"{{"now":{count},"ok":true,"seen":[[{replica},{count}]]}}"#)?;
     text.push_str(line.as_str())?;
@@ -53,8 +53,8 @@ fn add_counts(alloc: Global, text: &mut String, replica: u32, count: u32) -> Res
     Ok(())
 }
 
-// A visit to one pad, on which ann typed so many letters. Says which requests were written, one letter for each: `g` for
-// the greeting, `l` for a pull, `v` for a vector and `s` for a push.
+// Visits one pad, on which ann has typed a number of letters. Returns the requests that were written, one letter for
+// each: `g` for the greeting, `l` for a pull, `v` for a vector and `s` for a push.
 fn asked(
     rt: &impl Abort,
     alloc: Global,
@@ -108,7 +108,7 @@ fn a_peer_of_now_gives_256_at_once(rt: HostRuntime) -> Result<(), Fail> {
     Ok(())
 }
 
-// It does not know the field `batch`.
+// An older peer does not know the field `batch`.
 #[test]
 fn a_peer_of_before_gives_four_at_once(rt: HostRuntime) -> Result<(), Fail> {
     let mut peer = String::new(rt.alloc());

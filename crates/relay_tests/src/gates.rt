@@ -1,4 +1,4 @@
-//! What a gate is told before each reply.
+//! The calls to a gate before each reply.
 ghost use Rattle.std.specs.Prelude.{None};
 
 use block_seq::BlockSeq;
@@ -25,7 +25,7 @@ const LINES: &str = concat!(
     "\n",
 );
 
-// Notes of which replies it was told that they tell of a delivered operation.
+// The number of replies announced to the gate, and which of them report a delivered operation.
 #[derive(Drop)]
 struct Heard {
     replies: AtomicU64,
@@ -55,7 +55,7 @@ impl Gate for Heard {
     fn done(&self, _connection: u64) {}
 }
 
-// What is written, and how many of the writes came before the gate was told of their reply.
+// The bytes written, and the number of writes that came before the gate was called for their reply.
 #[derive(Drop)]
 struct Watched<'a> {
     output: Output,
@@ -82,7 +82,7 @@ impl Sink for Watched<'_> {
     }
 }
 
-// What a connection with these lines to a server of one pad comes to.
+// Serves a connection with these lines at a server of one pad.
 fn serve<W: Sink>(
     alloc: Global,
     lines: &str,
@@ -97,7 +97,7 @@ fn serve<W: Sink>(
     Ok(serve_connection(alloc, &mut pads, &mut reader, writer, 1, gate)?)
 }
 
-// The same, where nobody looks at what is written.
+// The same, without checking the writes.
 fn serve_unseen(alloc: Global, lines: &str, gate: &Heard) -> Result<Served, Fail> {
     serve(alloc, lines, &mut Output::new(alloc), gate)
 }
@@ -106,7 +106,7 @@ fn serve_unseen(alloc: Global, lines: &str, gate: &Heard) -> Result<Served, Fail
 fn an_insertion_is_told_as_delivered_and_a_reading_is_not(rt: HostRuntime) -> Result<(), Fail> {
     let gate = Heard::new();
     let served = serve_unseen(rt.alloc(), LINES, &gate)?;
-    // The third line inserts and the sixth one erases; the fifth, an insertion past the end, is refused.
+    // The third line inserts and the sixth erases; the fifth, an insertion past the end, is refused.
     assert_eq!(rt; gate.replies.load(Ordering::SeqCst), 6);
     assert_eq!(rt; gate.delivered.load(Ordering::SeqCst), 0b100100);
     assert_eq!(rt; served.delivered, 2);

@@ -33,7 +33,7 @@ const FOR_A_LETTER: &str = concat!(
     "\n",
 );
 
-// The two for a pad on which neither has typed.
+// The two requests for a pad on which nobody has typed.
 const FOR_NOTHING: &str = concat!(
     r#"{"batch":256,"do":"pull","max":4,"pad":"p3","seen":[]}"#,
     "\n",
@@ -49,14 +49,14 @@ const NOTHING: Relayed = Relayed {
     unsaid: 0,
 };
 
-// What was written after the greeting, of a server with twenty pads and a letter on `p17`, and how each visit ended.
+// What a server with twenty pads and a letter on `p17` wrote after the greeting, and how each visit ended.
 #[derive(Drop)]
 struct Visited {
     output: Output,
     ended: Vec<Result<Relayed, Fault>>,
 }
 
-// Greets a peer that writes these lines, and visits one list after the other.
+// Greets a peer that writes these lines, then visits one list after another.
 fn visit_lists(alloc: Global, lists: &[&[u32]], peer: &[&str]) -> Result<Visited, Fail> {
     let mut text = String::new(alloc);
     text.push_str(MET)?;
@@ -74,7 +74,7 @@ fn visit_lists(alloc: Global, lists: &[&[u32]], peer: &[&str]) -> Result<Visited
     Ok(Visited { output, ended })
 }
 
-// These lines were written, and these numbers counted.
+// Asserts the lines that were written and the counts of each visit.
 fn wrote(rt: &impl Abort, came: &Visited, lines: &str, counted: &[Relayed]) {
     let written = text_of(came.output.bytes());
     assert!(rt; written == lines, "wanted {lines}, came {written}");
@@ -136,7 +136,7 @@ fn a_list_is_visited_in_its_order(rt: HostRuntime) -> Result<(), Fail> {
     Ok(())
 }
 
-// The last number is no cell's.
+// No cell can have the last number.
 #[test]
 fn without_a_cell_nothing_is_asked(rt: HostRuntime) -> Result<(), Fail> {
     let came = visit_lists(rt.alloc(), &[&[], &[20, 4_294_967_295]], &[])?;

@@ -1,4 +1,4 @@
-//! Two servers in one process that are the same after one round over loopback.
+//! Two servers in one process that show the same after one round over loopback.
 use block_seq::BlockSeq;
 use pad_core::Reply;
 use pad_model::Refusal;
@@ -15,7 +15,7 @@ use wire_json::{read_request, reply_line};
 use wire_lines::{Fault, Std};
 use workers::{Names, Pads, Row, Served, Shared, open_row, serve_client, take_seats};
 
-// For how many seconds a server waits for the other one's next bytes. The test fails then.
+// The number of seconds that a server waits for the other's next bytes. After that the test fails.
 const PATIENCE: u64 = 30;
 
 const HELLO: &str = r#"{"do":"hello","name":"ann","token":"t"}"#;
@@ -41,7 +41,8 @@ const READINGS: [&str; 3] = [
     r#"{"do":"comments","pad":"p"}"#,
 ];
 
-// What both show then: of two runs at one place with equal counters that of the greater replica stands first.
+// What both show after the round. Of two runs at one place with equal counters, the one of the greater replica comes
+// first.
 const SHOWN: &str = concat!(
     r#"{"now":3,"ok":true,"rev":3,"text":"twoone"}"#,
     "\n",
@@ -62,7 +63,7 @@ pub fn ask<P: Pads>(alloc: Global, pads: &mut P, line: &str) -> Result<Reply, Re
     }
 }
 
-// Asks lines of which none is to be refused.
+// Makes these requests, and fails with the first refusal.
 pub fn ask_all<P: Pads>(alloc: Global, pads: &mut P, lines: &[&str]) -> Result<(), Refusal> {
     for line in lines {
         let _answered = ask(alloc, pads, line)?;
@@ -70,7 +71,7 @@ pub fn ask_all<P: Pads>(alloc: Global, pads: &mut P, lines: &[&str]) -> Result<(
     Ok(())
 }
 
-// The same, in a session of its own.
+// The same in a session of its own.
 fn prepare<R: Wait>(
     alloc: Global,
     row: &LoopbackRow<'_, R>,
@@ -83,7 +84,7 @@ fn prepare<R: Wait>(
     asked
 }
 
-// Adds the reply line to a request.
+// Appends the reply line to a request.
 fn add_reply<P: Pads>(
     alloc: Global,
     pads: &mut P,
@@ -96,7 +97,7 @@ fn add_reply<P: Pads>(
     Ok(())
 }
 
-// Adds the reply lines to an author who reads.
+// Appends the reply lines to an author who reads.
 pub fn add_readings<P: Pads>(
     alloc: Global,
     pads: &mut P,
@@ -109,7 +110,7 @@ pub fn add_readings<P: Pads>(
     Ok(())
 }
 
-// Adds the reply line to a peer who asks for the vector.
+// Appends the reply line to a peer who asks for the version vector.
 pub fn add_vector<P: Pads>(
     alloc: Global,
     pads: &mut P,
@@ -120,7 +121,7 @@ pub fn add_vector<P: Pads>(
     add_reply(alloc, pads, r#"{"do":"vector","pad":"p"}"#, lines)
 }
 
-// The reply lines to an author who reads, and to a peer who asks for the vector.
+// Returns the reply lines to an author who reads, and to a peer who asks for the version vector.
 fn shown<R: Wait>(alloc: Global, row: &LoopbackRow<'_, R>, peer: u16) -> Result<String, Refusal> {
     let seats = seats_of(row.rt, alloc, row.cells)?;
     let mut pads = Shared::new(row, seats, Session::new(alloc));
@@ -147,7 +148,7 @@ pub fn connect<R: Net<Stream = TcpStream>>(rt: &R, port: u16) -> io::Result<TcpS
     Ok(stream)
 }
 
-// A round of server 1 with the one that listens at this port.
+// Makes a round of server 1 with the server that listens at this port.
 fn exchange<R: Wait + Net<Stream = TcpStream>>(
     alloc: Global,
     row: &LoopbackRow<'_, R>,
@@ -163,7 +164,7 @@ fn exchange<R: Wait + Net<Stream = TcpStream>>(
     relay_round(alloc, &mut pads, &mut link, 1, "secret")
 }
 
-// Serves the first connection that comes.
+// Serves the first connection that arrives.
 fn serve<R: Wait>(
     alloc: Global,
     row: &LoopbackRow<'_, R>,

@@ -1,4 +1,4 @@
-//! Rounds that come to their end.
+//! Rounds that complete.
 use crate::stage::{EDITS, TYPES, Talked, talk, text_of};
 use relay::Relayed;
 use std::alloc::Global;
@@ -36,7 +36,7 @@ const COUNTS: &str = concat!(r#"{"now":1,"ok":true,"seen":[[1,1]]}"#, "\n");
 
 const REFUSAL: &str = concat!(r#"{"code":300,"error":"NoPad","ok":false}"#, "\n");
 
-// What a peer gives: four operations of bob's, of one character each.
+// The reply of a peer with four operations by bob, of one character each.
 const FOUR: &str = concat!(
     r#"{"now":4,"ok":true,"ops":[{"after":null,"author":"bob","first":[1,2],"kind":"insert","name":[2,1],"seen":[],"text":"t"},{"after":[1,2],"author":"bob","first":[2,2],"kind":"insert","name":[2,2],"seen":[],"text":"w"},{"after":[2,2],"author":"bob","first":[3,2],"kind":"insert","name":[2,3],"seen":[],"text":"o"},{"after":[3,2],"author":"bob","first":[4,2],"kind":"insert","name":[2,4],"seen":[],"text":"!"}]}"#,
     "\n"
@@ -48,7 +48,7 @@ const PULL_BEHIND_FOUR: &str = concat!(
     r#"{"batch":256,"do":"pull","max":4,"pad":"p","seen":[[1,1],[2,4]]}"#,
     "\n"
 );
-// The first stamp has another replica than the name, which no server takes.
+// The first stamp has another replica than the name, which every server refuses.
 const FAULTY: &str = concat!(
     r#"{"now":1,"ok":true,"ops":[{"after":null,"author":"bob","first":[1,3],"kind":"insert","name":[2,1],"seen":[],"text":"t"}]}"#,
     "\n"
@@ -62,7 +62,7 @@ const NOTHING: Relayed = Relayed {
     unsaid: 0,
 };
 
-// One text of some lines.
+// Joins lines into one text.
 fn joined(alloc: Global, lines: &[&str]) -> Result<String, Fail> {
     let mut text = String::new(alloc);
     for line in lines {
@@ -71,7 +71,7 @@ fn joined(alloc: Global, lines: &[&str]) -> Result<String, Fail> {
     Ok(text)
 }
 
-// A round wrote just these lines, and counted this.
+// Asserts that a round wrote exactly these lines, and its counts.
 fn wrote(
     rt: &impl Abort,
     alloc: Global,
@@ -166,7 +166,7 @@ fn a_refused_push_is_counted(rt: HostRuntime) -> Result<(), Fail> {
     wrote(&rt, rt.alloc(), &[TYPES], &peer, &lines, relayed)
 }
 
-// An operation of two parts has no form of the first version.
+// An operation of two parts cannot be written in the first version.
 #[test]
 fn an_old_peer_gets_what_it_can_read(rt: HostRuntime) -> Result<(), Fail> {
     let seen = concat!(

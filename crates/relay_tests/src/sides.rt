@@ -1,4 +1,4 @@
-//! What a server under stress has come to, and whether its pad closes with that.
+//! The results of a server under stress, and whether its pad closes with them.
 use block_seq::BlockSeq;
 use pad_core::{Recorded, audit};
 use pad_model::Refusal;
@@ -6,24 +6,25 @@ use shared_pads::{Seat, SharedPad};
 use std::alloc::Global;
 use wire_lines::Fault;
 
-// Stands for an answer of another kind than was asked for. No pad refuses with it.
+// Represents an answer of another kind than was asked for. No pad gives this refusal.
 pub const NO_ANSWER: Refusal = Refusal::Busy;
 
-// What an author was answered, if nothing was refused, and its seats.
+// The answers to an author, unless something was refused, and its seats.
 #[derive(Drop)]
 pub struct Written {
     pub records: Result<Vec<Recorded>, Refusal>,
     pub seats: Vec<Seat>,
 }
 
-// How many operations one side of a round took from the other one, and its seats.
+// The number of operations that one side of a round took from the other, and its seats.
 #[derive(Drop)]
 pub struct Taken {
     pub count: Result<u64, Fault>,
     pub seats: Vec<Seat>,
 }
 
-// What a server has come to: records and number of its own edits, operations from the other one, and all seats.
+// The results of a server: the records and number of its own edits, the number of operations from the other server, and
+// all seats.
 #[derive(Drop)]
 pub struct Side {
     pub records: Vec<Recorded>,
@@ -81,7 +82,7 @@ fn calls_of(seats: &[Seat]) -> u64 {
     calls
 }
 
-// Whether the seats close their pad with what was answered and exchanged, which an audit finds in its log.
+// Whether the seats close their pad with the answers and the exchanged operations, as an audit of its log finds.
 pub fn is_closed(alloc: Global, cells: Vec<SharedPad<BlockSeq>>, side: Side) -> bool {
     let mut cells = cells;
     let Side {

@@ -1,4 +1,4 @@
-//! A server with the pad `p`, or several pads, on which ann has typed, and its side of a round.
+//! A server with the pad `p`, or with several pads, on which ann has typed, and its side of a round.
 use block_seq::BlockSeq;
 use pad_core::Request;
 use pad_model::Refusal;
@@ -14,13 +14,13 @@ use workers::{Alone, Pads};
 const HELLO: &str = r#"{"do":"hello","name":"ann","token":"t"}"#;
 
 const CREATE: &str = r#"{"do":"create","pad":"p"}"#;
-/// What ann types.
+/// The request by which ann types.
 pub const TYPES: &str = r#"{"at":0,"do":"insert","pad":"p","rev":0,"text":"one"}"#;
-/// What she does then, in two parts.
+/// Her next request, an edit of two parts.
 pub const EDITS: &str =
     r#"{"do":"edit","pad":"p","parts":[{"at":0,"len":1},{"at":3,"text":"ly"}],"rev":1}"#;
 
-/// What was written, to be shown.
+/// The bytes that were written, as text.
 pub fn text_of(bytes: &[u8]) -> &str {
     match str::from_utf8(bytes) {
         Ok(text) => text,
@@ -42,7 +42,7 @@ pub fn request(alloc: Global, line: &str) -> Result<Request, Refusal> {
     read_request(alloc, line.as_bytes())
 }
 
-// Server 1 with the pad `p`, after ann has asked these lines.
+// Server 1 with the pad `p`, after ann has made these requests.
 fn typed(alloc: Global, lines: &[&str]) -> Result<Alone<BlockSeq>, Fail> {
     let accounts = Accounts::read(alloc, b"author ann t\npeer 2 p2 host:1\n")?;
     let mut server: Server<BlockSeq> = Server::new(alloc, 1, DEFAULT_PRESENT, 1, accounts)?;
@@ -58,7 +58,7 @@ fn typed(alloc: Global, lines: &[&str]) -> Result<Alone<BlockSeq>, Fail> {
     Ok(pads)
 }
 
-/// A round of such a server with a peer that writes these bytes.
+/// Makes a round of such a server with a peer that writes these bytes.
 pub fn talk(alloc: Global, lines: &[&str], peer: &[u8]) -> Result<Talked, Fail> {
     let mut pads = typed(alloc, lines)?;
     let _session = pads.relay(alloc, 2)?;
@@ -68,7 +68,8 @@ pub fn talk(alloc: Global, lines: &[&str], peer: &[u8]) -> Result<Talked, Fail> 
     Ok(Talked { output, ended })
 }
 
-/// Server 1 with so many pads, `p0`, `p1` and on, in a session of peer 2, after ann has typed a letter so often on one.
+/// Server 1 with the pads `p0`, `p1` and so on, in a session of peer 2, after ann has typed `letters` letters on the
+/// pad with number `typed`.
 pub fn typed_on(alloc: Global, pads: u32, typed: u32, letters: u32) -> Result<TypedPads, Fail> {
     let accounts = Accounts::read(alloc, b"author ann t\npeer 2 p2 host:1\n")?;
     let count = pads.min(64);
@@ -83,7 +84,7 @@ pub fn typed_on(alloc: Global, pads: u32, typed: u32, letters: u32) -> Result<Ty
     Ok(alone)
 }
 
-// So many pads are created, `p0`, `p1` and on.
+// Creates this many pads: `p0`, `p1` and so on.
 fn create_pads(alloc: Global, alone: &mut TypedPads, pads: u32) -> Result<(), Fail> {
     for pad in 0..pads {
         let line = format!(in alloc; r#"{{"do":"create","pad":"p{pad}"}}"#)?;
@@ -92,7 +93,7 @@ fn create_pads(alloc: Global, alone: &mut TypedPads, pads: u32) -> Result<(), Fa
     Ok(())
 }
 
-// A letter is typed so often on one of the pads, each at its front.
+// Types this many letters on one of the pads, each at its start.
 fn type_letters(
     alloc: Global,
     alone: &mut TypedPads,

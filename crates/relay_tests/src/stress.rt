@@ -16,16 +16,16 @@ use std::thread::Threads;
 use wire_lines::{Fault, Std};
 use workers::{Names, Pads, Shared, open_row, serve_client};
 
-// How often the authors write, with a round of the servers beside each time.
+// The number of phases, in each of which the authors write during a round of the servers.
 const PHASES: u64 = 10;
 
-// How many edits each author makes in a phase.
+// The number of edits that each author makes in a phase.
 const EDITS: u64 = 10;
 
 const ACCOUNTS: &[u8] =
     b"author ann t\nauthor a1 t\nauthor a2 t\nauthor a3 t\nauthor a4 t\npeer 1 secret h:1\npeer 2 secret h:2\n";
 
-// What the owner asks on each server before the others come.
+// The owner's requests on each server before the others start.
 const BEGINNING: [&str; 6] = [
     r#"{"do":"hello","name":"ann","token":"t"}"#,
     r#"{"do":"create","pad":"p"}"#,
@@ -44,7 +44,7 @@ const HELLOS: [&str; 4] = [
 
 const JOIN: &str = r#"{"do":"join","pad":"p"}"#;
 
-// What an author is to do, and its seats.
+// The task of an author, and its seats.
 #[derive(Drop)]
 struct Job {
     hello: &'static str,
@@ -56,8 +56,8 @@ fn on_pad(alloc: Global, act: Act) -> Result<Request, Refusal> {
     Ok(Request::On { pad, act })
 }
 
-// The edit with a number at a revision of so many characters: every tenth is a comment, every fifth that is no tenth a
-// deletion, and the others insert.
+// Returns the edit with this number at a revision of `len` characters. Every tenth is a comment, every other fifth a
+// deletion, and the rest are insertions.
 fn edit_act(alloc: Global, number: u64, rev: u64, len: u64) -> Result<Act, Refusal> {
     let Some(at) = number.checked_rem(len) else {
         let text = Text::from_str(alloc, "first")?;
@@ -84,7 +84,7 @@ fn ask<P: Pads>(alloc: Global, pads: &mut P, act: Act) -> Result<Reply, Refusal>
     pads.call(alloc, &request)
 }
 
-// The revision and the text that a reading tells.
+// Returns the revision and the text of a reply to a read.
 fn text_of(reply: Reply) -> Result<(u64, Text), Refusal> {
     match reply {
         Reply::Pad(PadReply::Text { rev, text, .. }) => Ok((rev, text)),
@@ -92,7 +92,7 @@ fn text_of(reply: Reply) -> Result<(u64, Text), Refusal> {
     }
 }
 
-// The edit that a reply tells of.
+// Returns the edit that a reply reports.
 fn edit_of(reply: Reply) -> Result<Recorded, Refusal> {
     match reply {
         Reply::Pad(PadReply::Made { now, name } | PadReply::Changed { now, name, .. }) => {
@@ -102,7 +102,7 @@ fn edit_of(reply: Reply) -> Result<Recorded, Refusal> {
     }
 }
 
-// Reads the text, and answers its revision and length.
+// Reads the text. Returns its revision and its length.
 fn read<P: Pads>(
     alloc: Global,
     pads: &mut P,
@@ -114,7 +114,7 @@ fn read<P: Pads>(
     Ok((rev, len))
 }
 
-// Reads the text, and edits what was read.
+// Reads the text, and edits it at the revision read.
 fn read_and_edit<P: Pads>(
     alloc: Global,
     pads: &mut P,
@@ -148,7 +148,7 @@ fn work<R: Wait>(alloc: Global, row: &LoopbackRow<'_, R>, job: Job) -> Written {
     }
 }
 
-// The four authors of a server write at once.
+// Lets the four authors of a server write at once.
 fn write_all<R: Threads + Wait + Sync>(
     alloc: Global,
     row: &LoopbackRow<'_, R>,
@@ -161,7 +161,7 @@ fn write_all<R: Threads + Wait + Sync>(
     Ok(thread::map_vec(row.rt, jobs, &|job: Job| { work(alloc, row, job) })?)
 }
 
-// A round with the peer that listens at this port.
+// Makes a round with the peer that listens at this port.
 fn exchange<R: Wait + Net<Stream = TcpStream, Listener = TcpListener>>(
     alloc: Global,
     row: &LoopbackRow<'_, R>,
@@ -193,7 +193,7 @@ fn exchange_by<P: Pads, R: Wait + Net<Stream = TcpStream, Listener = TcpListener
     Ok(relayed.pulled)
 }
 
-// Serves the first connection that comes.
+// Serves the first connection that arrives.
 fn serve<R: Wait>(
     alloc: Global,
     row: &LoopbackRow<'_, R>,
@@ -218,7 +218,7 @@ fn serve_by<P: Pads>(alloc: Global, pads: &mut P, listener: TcpListener) -> Resu
     Ok(served.delivered)
 }
 
-// A round that the server of the first row makes with that of the second one; None where it can't begin.
+// Makes a round of the first row's server with that of the second row; None if it cannot begin.
 fn round<R: Threads + Wait + Sync + Net<Stream = TcpStream, Listener = TcpListener>>(
     alloc: Global,
     from: &LoopbackRow<'_, R>,
@@ -235,7 +235,7 @@ fn round<R: Threads + Wait + Sync + Net<Stream = TcpStream, Listener = TcpListen
     ))
 }
 
-// A round, and what it leaves on both sides.
+// Makes a round, and keeps the results of both sides.
 fn round_kept<R: Threads + Wait + Sync + Net<Stream = TcpStream, Listener = TcpListener>>(
     alloc: Global,
     from: &LoopbackRow<'_, R>,
@@ -252,7 +252,7 @@ fn round_kept<R: Threads + Wait + Sync + Net<Stream = TcpStream, Listener = TcpL
 
 type AllWritten = Result<Vec<Written>, Refusal>;
 
-// The authors of both servers write at once.
+// Lets the authors of both servers write at once.
 fn write_both<R: Threads + Wait + Sync>(
     alloc: Global,
     first: &LoopbackRow<'_, R>,
@@ -265,7 +265,7 @@ fn write_both<R: Threads + Wait + Sync>(
     )
 }
 
-// The authors of both servers write, with a round of the first server beside them.
+// Lets the authors of both servers write during a round of the first server.
 fn write_beside_round<R: Threads + Wait + Sync + Net<Stream = TcpStream, Listener = TcpListener>>(
     alloc: Global,
     first: &LoopbackRow<'_, R>,
@@ -287,7 +287,7 @@ fn write_beside_round<R: Threads + Wait + Sync + Net<Stream = TcpStream, Listene
     theirs.add_taken(pushed)
 }
 
-// The owner makes the pad and lets the others write.
+// Creates the pad as the owner, and lets the others write.
 fn begin<R: Wait>(alloc: Global, row: &LoopbackRow<'_, R>, side: &mut Side) -> Result<(), Refusal> {
     let seats = seats_of(row.rt, alloc, row.cells)?;
     let mut owner = Shared::new(row, seats, Session::new(alloc));
@@ -296,7 +296,7 @@ fn begin<R: Wait>(alloc: Global, row: &LoopbackRow<'_, R>, side: &mut Side) -> R
     side.keep(owner.seats())
 }
 
-// The reply lines of text, runs, comments and vector.
+// Returns the reply lines with the text, author runs, comments and version vector.
 fn shown<R: Wait>(
     alloc: Global,
     row: &LoopbackRow<'_, R>,
@@ -313,7 +313,7 @@ fn shown<R: Wait>(
     Ok(lines)
 }
 
-// All phases, and a round of each server at the end.
+// Plays all phases, then one round of each server.
 fn write_and_exchange<R: Threads + Wait + Sync + Net<Stream = TcpStream, Listener = TcpListener>>(
     alloc: Global,
     first: &LoopbackRow<'_, R>,
@@ -330,7 +330,7 @@ fn write_and_exchange<R: Threads + Wait + Sync + Net<Stream = TcpStream, Listene
     round_kept(alloc, second, first, theirs, ours)
 }
 
-// Both servers write and exchange, and then show the same.
+// Lets both servers write and exchange, and returns whether they then show the same.
 fn end_alike<R: Threads + Wait + Sync + Net<Stream = TcpStream, Listener = TcpListener>>(
     alloc: Global,
     first: &LoopbackRow<'_, R>,
@@ -344,8 +344,8 @@ fn end_alike<R: Threads + Wait + Sync + Net<Stream = TcpStream, Listener = TcpLi
     Ok(here.as_str() == there.as_str())
 }
 
-// Whether both servers show the same, how many edits were answered by each, how many it took of the other, and whether it
-// closes with its seats and records.
+// Whether both servers show the same; and for each server, the number of its edits that were answered, the number of
+// operations it took from the other, and whether it closes with its seats and records.
 #[derive(Clone, Copy, Debug)]
 struct Played {
     alike: Result<bool, Refusal>,
@@ -354,7 +354,7 @@ struct Played {
     closed: [bool; 2],
 }
 
-// Plays it on two rows of pads.
+// Plays the test on two rows of pads.
 fn play<R: Threads + Wait + Sync + Net<Stream = TcpStream, Listener = TcpListener>>(
     rt: &R,
     alloc: Global,

@@ -3,3 +3,4 @@ pub mod Kept
 pub mod Marks
 pub mod Next
 pub mod Places
+pub mod Ranges

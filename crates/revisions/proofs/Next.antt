@@ -1,7 +1,7 @@
 -- The next operation that is missing, found origin by origin.
-use Rattle.std.proofs.Common.{◌≡◌, ℕ, zero, suc, ◌+◌, ◌-◌, ◌<◌, Bool, true, false, ◌&&◌, ◌||◌, List, [], ◌∷◌, ◌++◌}
-use Rattle.std.proofs.Common.{length, get_or, take, map, Option, Some, None, option_map, filter, append-nil}
-use Rattle.std.proofs.Common.{append_assoc, refl, sym, ap, ◌∙◌, arith, ltb, leb, le-leb, slice_get}
+use Rattle.std.proofs.Common.{◌≡◌, ℕ, zero, suc, ◌+◌, ◌<◌, Bool, true, false, ◌&&◌, ◌||◌, List, [], ◌∷◌, ◌++◌}
+use Rattle.std.proofs.Common.{length, get_or, take, map, Option, Some, None, option_map, filter}
+use Rattle.std.proofs.Common.{refl, sym, ap, ◌∙◌, arith, ltb, leb, le-leb, slice_get}
 use Rattle.std.specs.List.{AllByRecursion, find, list_any}
 use Rattle.std.proofs.lemmas.Bool.{eqb-true, and_right, lt-leb}
 use Rattle.std.proofs.lemmas.List.{map_more, get_or-map, length-map}
@@ -129,30 +129,6 @@ found_first f from k ops d e =
     let place = pick.place in
     let same : pick.at ≡ k = omega arith in
     pick.first d ∙ ap (λ (at : ℕ). get_or ops at d ∷ picked f (k + 1) 0 ops) same
-
-pub missing_start : (f : Op → Bool) (most : ℕ) (ops : List Op) → [] ++ take (most - 0) (picked f 0 0 ops)
-    ≡ take most (filter f ops)
-missing_start f most ops = let same : most - 0 ≡ most = omega arith in
-    rw (same, picked_all f 0 0 ops (omega arith)) refl
-
-pub missing_end : (f : Op → Bool) (from n : ℕ) (ops answer : List Op) →
-    first_place (λ place op. leb from place && f op) 0 ops ≡ None → answer ++ take n (picked f from 0 ops) ≡ answer
-missing_end f from n ops answer e = rw (picked_none f from 0 ops e, take_nil n, append-nil) refl
-  where
-    take_nil : (n : ℕ) → take n (let ops : List Op = [] in ops) ≡ []
-    take_nil zero = refl
-    take_nil (suc n) = refl
-
-pub missing_more : (f : Op → Bool) (from k most n : ℕ) (ops answer : List Op) (x : Op) → n < most →
-    first_place (λ place op. leb from place && f op) 0 ops ≡ Some k → x ≡ get_or ops k x
-    → (answer ++ x ∷ []) ++ take (most - (n + 1)) (picked f (k + 1) 0 ops) ≡ answer ++ take (most - n)
-    (picked f from 0 ops)
-missing_more f from k most n ops answer x lt found read =
-    let one : most - n ≡ suc (most - (n + 1)) = omega arith in
-    append_assoc answer (x ∷ []) (take (most - (n + 1)) (picked f (k + 1) 0 ops))
-    ∙ ap (λ (y : Op). answer ++ (y ∷ take (most - (n + 1)) (picked f (k + 1) 0 ops))) read
-    ∙ sym (ap (λ (m : ℕ). answer ++ take m (picked f from 0 ops)) one
-    ∙ ap (λ (zs : List Op). answer ++ take (suc (most - (n + 1))) zs) (found_first f from k ops x found))
 
 -- a place that passes where none before it can is the first
 first_here : (f : ℕ → Op → Bool) (start : ℕ) (ops : List Op) (i : ℕ) (op : Op) → slice_get ops i ≡ Some op →

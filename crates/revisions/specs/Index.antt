@@ -41,7 +41,8 @@ HasRoom track = vec_len track.marks < vec_capacity track.marks
 -- the first place whose operation passes a test of both, in a log that begins at a place
 abbrev pub first_place : (ℕ → Op → Bool) → ℕ → List Op → Option ℕ
 first_place test place [] = None
-first_place test place (op ∷ ops) = if test place op then Some place else first_place test (place + 1) ops
+first_place test place (op ∷ ops) = if test place op then Some place
+    else first_place test (place + 1) ops
 
 -- whether there is an operation, and it is above the counts
 abbrev pub is_missing_in : List Counted → Option Op → Bool
@@ -53,3 +54,9 @@ abbrev pub earlier : Option ℕ → Option ℕ → Option ℕ
 earlier None b = b
 earlier (Some a) None = Some a
 earlier (Some a) (Some b) = Some (min a b)
+
+-- the places of the operations that pass a test, in a log that begins at a place
+abbrev pub places_of : (Op → Bool) → ℕ → List Op → List ℕ
+places_of test place [] = []
+places_of test place (op ∷ ops) = if test op then place ∷ places_of test (place + 1) ops
+    else places_of test (place + 1) ops

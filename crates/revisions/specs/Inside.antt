@@ -1,24 +1,30 @@
 -- What a log keeps, and what is shown of it.
-use Rattle.std.specs.Prelude.{◌≡◌, ◌<◌, true, if◌then◌else◌, [], map, vec_len}
+use Rattle.std.specs.Prelude.{◌≡◌, ◌<◌, true, if◌then◌else◌, None, [], map, vec_len}
 use Rattle.std.specs.List.{AllByRecursion}
 use Rattle.std.specs.Vec.{vec_capacity}
-use Rattle.revisions.specs.Log.{Log}
-use Rattle.revisions.specs.Index.{IsIndex, kept, HasRoom}
-use Rattle.revisions.specs.declared.op_log.OpLog.TheInside.{Inside}
+use Rattle.revisions.specs.Log.{Log, is_note, is_unsayable}
+use Rattle.revisions.specs.Index.{IsIndex, kept, HasRoom, places_of}
+use Rattle.revisions.specs.declared.kept_log.KeptLog.TheInside.{Inside}
 
--- the operations, and room for one more where there is some
+-- the operations, and the one that is ready where there is room for it
 abbrev pub shown : Inside → Log
-shown l = record { operations = l.operations.items; spare = if l.has_room then 1 else 0 }
+shown l = record {
+  operations = l.operations.operations;
+  ready = if l.has_room then l.operations.ready else None;
+}
 
--- the next operation fits without memory, whatever its origin
+-- the next operation fits without memory, whatever it is
 pub record IsRoomy (l : Inside) : Type 0 where
-  pub operations : vec_len l.operations < vec_capacity l.operations
   pub tracks : vec_len l.tracks < vec_capacity l.tracks
   pub marks : AllByRecursion HasRoom l.tracks.items
   pub fresh : vec_len l.fresh < vec_capacity l.fresh
+  pub notes : vec_len l.notes < vec_capacity l.notes
+  pub unsayable : vec_len l.unsayable < vec_capacity l.unsayable
 
--- the tracks are the index of the operations, and there is room where it is said
+-- the tracks are the index of the operations, the places are those of some of them, and there is room where it is said
 pub record IsSound (l : Inside) : Type 0 where
-  pub index : IsIndex (map kept l.tracks.items) l.operations.items
+  pub index : IsIndex (map kept l.tracks.items) l.operations.operations
   pub empty : l.fresh.items ≡ []
+  pub notes : l.notes.items ≡ places_of is_note 0 l.operations.operations
+  pub unsayable : l.unsayable.items ≡ places_of is_unsayable 0 l.operations.operations
   pub room : l.has_room ≡ true → IsRoomy l

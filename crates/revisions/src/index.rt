@@ -1,9 +1,9 @@
-ghost use Rattle.std.specs.Prelude.{◌≡◌, ◌<◌, [], ◌∷◌, ◌++◌, List, length, map, vec_len, OnOk};
+ghost use Rattle.std.specs.Prelude.{◌≡◌, ◌<◌, [], ◌∷◌, ◌++◌, List, ◌-◌, Bool, length, map, vec_len, OnOk, count_by, take, drop};
 ghost use Rattle.std.specs.List.{AllByRecursion, position};
 ghost use Rattle.std.specs.Vec.{vec_capacity};
 ghost use Rattle.pad_model.specs.declared.op.Op.{Op};
 ghost use Rattle.revisions.specs.Track.{highest_after, mark_of, marks_of};
-ghost use Rattle.revisions.specs.Index.{IsIndex, HasRoom, kept, has_origin, earlier};
+ghost use Rattle.revisions.specs.Index.{IsIndex, HasRoom, kept, has_origin, earlier, places_of};
 
 use crate::track::{Mark, Track, highest_of};
 use pad_model::OpName;
@@ -19,7 +19,8 @@ fn track_of(tracks: &[Track], origin: u16) -> Option<usize>
 
 /// The marks of an origin.
 pub fn marks_of(tracks: &[Track], origin: u16) -> &[Mark]
-    ensures { (ops : List Op) → IsIndex (map kept tracks.now) ops → result.now ≡ marks_of origin ops }
+    ensures { (ops : List Op) → IsIndex (map kept tracks.now) ops
+        → result.now ≡ marks_of origin ops }
 {
     match track_of(tracks, origin) {
         Some(at) => tracks[at].marks.as_slice(),
@@ -45,7 +46,8 @@ pub fn enter(tracks: &mut Vec<Track>, fresh: &mut Vec<Mark>, place: u64, name: O
     requires fresh { vec_len fresh.old < vec_capacity fresh.old }
     requires empty { fresh.old.items ≡ [] }
     ensures index { (ops : List Op) (op : Op) → op.name ≡ name → length ops ≡ place
-        → IsIndex (map kept tracks.old.items) ops → IsIndex (map kept tracks.new.items) (ops ++ op ∷ []) }
+        → IsIndex (map kept tracks.old.items) ops
+        → IsIndex (map kept tracks.new.items) (ops ++ op ∷ []) }
     ensures empty { fresh.new.items ≡ [] }
 {
     match track_of(tracks, name.origin) {
@@ -67,7 +69,8 @@ pub fn enter(tracks: &mut Vec<Track>, fresh: &mut Vec<Mark>, place: u64, name: O
 
 fn add_mark(marks: &mut Vec<Mark>, place: u64, number: u64)
     requires { vec_len marks.old < vec_capacity marks.old }
-    ensures { marks.new.items ≡ marks.old.items ++ mark_of place number (highest_after 0 marks.old.items) ∷ [] }
+    ensures { marks.new.items ≡ marks.old.items
+        ++ mark_of place number (highest_after 0 marks.old.items) ∷ [] }
 {
     let highest = highest_of(marks).max(number);
     marks.push_reserved(Mark {
@@ -86,4 +89,20 @@ pub fn earlier(a: Option<u64>, b: Option<u64>) -> Option<u64>
         (Some(a), None) => Some(a),
         (None, b) => b,
     }
+}
+
+/// Counts the places from `start` to `end - 1`. If they are those of a log's operations that pass a test, this is how
+/// many operations pass it there.
+pub fn count_between(places: &[u64], start: u64, end: u64) -> u64
+    ensures { (test : Op → Bool) (ops : List Op) → places.now ≡ places_of test 0 ops
+        → result ≡ count_by test (take (end - start) (drop start ops)) }
+{
+    count_before(places, end).saturating_sub(count_before(places, start))
+}
+
+fn count_before(places: &[u64], end: u64) -> u64
+    ensures { (test : Op → Bool) (ops : List Op) → places.now ≡ places_of test 0 ops
+        → result ≡ count_by test (take end ops) }
+{
+    places.partition_point(|place| *place < end) as u64
 }

@@ -1,24 +1,24 @@
-ghost use Rattle.std.specs.Prelude.{◌≡◌, ℕ, ◌+◌, ◌-◌, ◌≤◌, [], ◌∷◌, ◌++◌, length, drop, nat_le, ◌&&◌, option_copied, slice_get, IfOk, IfErr, IsOk, OnOk};
+//! The log of a pad, which takes no memory before its first operation.
+ghost use Rattle.std.specs.Prelude.{◌≡◌, ◌≤◌, [], ◌∷◌, ◌++◌, length, drop, count_by, option_map, Some, None, slice_get, IfOk, IfErr, OnOk};
 ghost use Rattle.std.specs.List.{filter, position};
+ghost use Rattle.pad_model.specs.OldWire.{op_in_v1};
 ghost use Rattle.pad_model.specs.declared.refusal.Refusal.{Refusal};
-ghost use Rattle.revisions.specs.Log.{entries, count_of, has_name, is_missing, missing};
-ghost use Rattle.revisions.specs.Index.{first_place, is_missing_in};
+ghost use Rattle.revisions.specs.Found.{IsNextMissing};
+ghost use Rattle.revisions.specs.Log.{entries, count_of, has_name, is_missing, is_note, missing};
 
-use crate::index::{earlier, enter, marks_of, reserve_marks};
-use crate::track::{Mark, Track, next_above, place_of};
+use crate::kept_log::{Found, KeptLog};
 use pad_model::{Op, OpName, Refusal, Row, Seen};
 use std::alloc::Global;
 use std::marker::Model;
 
-/// The operations of a pad, in the order in which they were delivered.
+/// The operations of a pad, in the order in which they were delivered. They are kept as bytes, and handed out as copies.
+///
+/// A server has a log for each pad that it has room for, named or not, so an empty one is small.
 #[derive(Drop)]
 pub struct OpLog {
-    operations: Vec<Op>,
-    tracks: Vec<Track>,
-    // Empty: the memory of the first mark of a new origin.
-    fresh: Vec<Mark>,
-    // Whether the next operation fits all of these, whatever its origin.
-    has_room: bool,
+    alloc: Global,
+    // None: no operation was prepared yet.
+    kept: Option<Box<KeptLog>>,
 }
 
 impl Model for OpLog {
@@ -26,160 +26,171 @@ impl Model for OpLog {
 
     ghost Value = { Log };
 
-    ghost use Rattle.revisions.specs.Inside.{shown, IsSound};
+    ghost use Rattle.revisions.specs.Log.{log_of};
 
-    ghost view = { shown };
-
-    ghost invariant = { IsSound };
+    ghost view = { λ l. log_of l.kept };
 }
 
 impl OpLog {
     /// A log of no operations. It takes no memory yet.
     pub fn new(alloc: Global) -> OpLog
-        ensures { result ≡ record { operations = []; spare = 0 } }
+        ensures { result ≡ record { operations = []; ready = None } }
     {
-        OpLog {
-            operations: Vec::new(alloc),
-            tracks: Vec::new(alloc),
-            fresh: Vec::new(alloc),
-            has_room: false,
-        }
+        OpLog { alloc, kept: None }
     }
 
-    /// Makes room for one more operation, whatever it is.
-    pub fn reserve(&mut self) -> Result<(), Refusal>
+    /// Takes the memory that the next operation needs, and writes it after the others. It may be prepared again, or
+    /// another in its place.
+    pub fn prepare(&mut self, op: &Op) -> Result<(), Refusal>
         ensures operations { self.new.operations ≡ self.old.operations }
-        ensures ok { OnOk result (1 ≤ self.new.spare) }
-        ensures memory { IfErr result (λ e. (e ≡ Refusal.Memory) × (self.new ≡ self.old)) }
-        ensures room { 1 ≤ self.old.spare → IsOk result }
+        ensures ok { OnOk result (self.new.ready ≡ Some op.now) }
+        ensures memory { IfErr result (λ e. (e ≡ Refusal.Memory) × (self.new.ready ≡ None)) }
     {
-        if !self.has_room {
-            self.operations.reserve(1)?;
-            self.tracks.reserve(1)?;
-            reserve_marks(&mut self.tracks)?;
-            self.fresh.reserve(1)?;
-            self.has_room = true;
-        }
-        Ok(())
+        let Some(kept) = &mut self.kept else {
+            let mut kept = KeptLog::new(self.alloc);
+            kept.prepare(op)?;
+            self.kept = Some(Box::new(self.alloc, kept)?);
+            return Ok(());
+        };
+        kept.prepare(op)
     }
 
-    /// Adds an operation at the end, in room that `reserve` made.
-    pub fn push(&mut self, op: Op)
-        requires { 1 ≤ self.old.spare }
-        ensures operations { self.new.operations ≡ self.old.operations ++ op ∷ [] }
-        ensures spare { self.new.spare + 1 ≡ self.old.spare }
+    /// Adds the operation that is ready at the end.
+    pub fn commit(&mut self, op: &Op)
+        requires { self.old.ready ≡ Some op.now }
+        ensures operations { self.new.operations ≡ self.old.operations ++ op.now ∷ [] }
+        ensures ready { self.new.ready ≡ None }
     {
-        let place = self.len();
-        enter(&mut self.tracks, &mut self.fresh, place, op.name);
-        self.operations.push_reserved(op);
-        self.has_room = false;
+        let Some(kept) = &mut self.kept else {
+            unreachable!()
+        };
+        kept.commit(op);
     }
 
     /// How many operations there are, which is the number of the last revision.
     pub fn len(&self) -> u64
         ensures { result ≡ length self.now.operations }
     {
-        self.operations.len() as u64
+        match &self.kept {
+            None => 0,
+            Some(kept) => kept.len(),
+        }
     }
 
     /// The operation at a place, from 0: the one that makes revision `place + 1`.
-    pub fn get(&self, place: u64) -> Option<&Op>
-        ensures { option_copied result ≡ slice_get self.now.operations place }
+    pub fn get(&self, alloc: Global, place: u64) -> Result<Option<Op>, Refusal>
+        ensures ok { IfOk result (λ op. op ≡ slice_get self.now.operations place) }
+        ensures memory { IfErr result (λ e. e ≡ Refusal.Memory) }
     {
-        self.operations.get(place as usize)
+        match &self.kept {
+            None => Ok(None),
+            Some(kept) => kept.get(alloc, place),
+        }
+    }
+
+    /// The name of the operation at a place. It needs no memory.
+    pub fn name_at(&self, place: u64) -> Option<OpName>
+        ensures { result ≡ option_map (λ op. op.name) (slice_get self.now.operations place) }
+    {
+        match &self.kept {
+            None => None,
+            Some(kept) => kept.name_at(place),
+        }
     }
 
     /// The operations that make the revisions `from` to `from + count - 1`, as far as the log goes.
-    pub fn entries(&self, from: u64, count: u64) -> &[Op]
+    pub fn entries(&self, alloc: Global, from: u64, count: u64) -> Result<Row<Op>, Refusal>
         requires { 1 ≤ from }
-        ensures { result.now ≡ entries self.now.operations from count }
+        ensures ok { IfOk result (λ row. row ≡ entries self.now.operations from count) }
+        ensures memory { IfErr result (λ e. e ≡ Refusal.Memory) }
     {
-        let operations = self.operations.as_slice();
-        let start = operations.len().min((from - 1) as usize);
-        let rest = &operations[start..];
-        &rest[..rest.len().min(count as usize)]
+        match &self.kept {
+            None => Ok(Row::new(alloc)),
+            Some(kept) => kept.entries(alloc, from, count),
+        }
     }
 
     /// The operations that make the revisions after this one.
-    pub fn since(&self, revision: u64) -> &[Op]
-        ensures { result.now ≡ drop revision self.now.operations }
+    pub fn since(&self, alloc: Global, revision: u64) -> Result<Row<Op>, Refusal>
+        ensures ok { IfOk result (λ row. row ≡ drop revision self.now.operations) }
+        ensures memory { IfErr result (λ e. e ≡ Refusal.Memory) }
     {
-        let operations = self.operations.as_slice();
-        &operations[operations.len().min(revision as usize)..]
+        match &self.kept {
+            None => Ok(Row::new(alloc)),
+            Some(kept) => kept.since(alloc, revision),
+        }
     }
 
-    /// Copies of the first `max` operations that `seen` does not cover, in the order of the log. For each of
-    /// them it looks at the operation that follows, and else once at every origin, and at no other operation
-    /// as long as the numbers of an origin rise.
+    /// How many of the operations that make the revisions `from` to `from + count - 1` comment or resolve. It needs no
+    /// memory.
+    pub fn count_notes(&self, from: u64, count: u64) -> u64
+        requires { 1 ≤ from }
+        ensures { result ≡ count_by is_note (entries self.now.operations from count) }
+    {
+        match &self.kept {
+            None => 0,
+            Some(kept) => kept.count_notes(from, count),
+        }
+    }
+
+    /// The first `max` operations that `seen` does not cover, in the order of the log. For each of them it looks at
+    /// the operation that follows, and else once at every origin, and at no other operation as long as the numbers of
+    /// an origin rise.
     pub fn missing(&self, alloc: Global, seen: &Seen, max: u64) -> Result<Row<Op>, Refusal>
         ensures ok { IfOk result (λ row. row ≡ missing self.now.operations seen.now max) }
         ensures memory { IfErr result (λ e. e ≡ Refusal.Memory) }
     {
-        let mut answer = Row::new(alloc);
-        let mut from = 0;
-        for _n in 0..max {
-            let Some(place) = self.next_missing(seen, from) else {
-                return Ok(answer);
-            };
-            answer.push(self.operations[place as usize].clone()?)?;
-            from = place + 1;
+        match &self.kept {
+            None => Ok(Row::new(alloc)),
+            Some(kept) => kept.missing(alloc, seen, max),
         }
-        Ok(answer)
     }
 
-    /// The first operation that `seen` does not cover.
-    pub fn first_missing(&self, seen: &Seen) -> Option<&Op>
-        ensures { option_copied result ≡ slice_get (filter (is_missing seen.now) self.now.operations) 0 }
+    /// Whether the first version of the wire can say the first operation that `seen` does not cover, if there is one. It
+    /// needs no memory.
+    pub fn first_missing_in_v1(&self, seen: &Seen) -> Option<bool>
+        ensures { result ≡ option_map op_in_v1 (slice_get (filter (is_missing seen.now)
+            self.now.operations) 0) }
     {
-        match self.next_missing(seen, 0) {
-            Some(place) => self.get(place),
+        match &self.kept {
             None => None,
+            Some(kept) => kept.first_missing_in_v1(seen),
         }
     }
 
-    /// The place of the first operation from a place on that `seen` does not cover.
-    fn next_missing(&self, seen: &Seen, from: u64) -> Option<u64>
-        ensures { result ≡ first_place (λ place op. nat_le from place && is_missing seen.now op) 0 self.now.operations }
+    /// The first operation from a place on that `seen` does not cover.
+    pub fn next_missing(
+        &self,
+        alloc: Global,
+        seen: &Seen,
+        from: u64,
+    ) -> Result<Option<Found>, Refusal>
+        ensures ok { IfOk result (IsNextMissing seen.now self.now.operations from) }
+        ensures memory { IfErr result (λ e. e ≡ Refusal.Memory) }
     {
-        // A peer mostly lacks what follows on what it lacks.
-        if self.is_missing_at(seen, from) {
-            return Some(from);
+        match &self.kept {
+            None => Ok(None),
+            Some(kept) => kept.next_missing(alloc, seen, from),
         }
-        self.search_missing(seen, from)
-    }
-
-    fn is_missing_at(&self, seen: &Seen, place: u64) -> bool
-        ensures { result ≡ is_missing_in seen.now (slice_get self.now.operations place) }
-    {
-        match self.get(place) {
-            Some(op) => seen.count(op.name.origin) < op.name.number,
-            None => false,
-        }
-    }
-
-    /// The same, by a look at each origin.
-    fn search_missing(&self, seen: &Seen, from: u64) -> Option<u64>
-        ensures { result ≡ first_place (λ place op. nat_le from place && is_missing seen.now op) 0 self.now.operations }
-    {
-        let mut next = None;
-        for track in &self.tracks {
-            let place = next_above(&track.marks, from, seen.count(track.origin));
-            next = earlier(next, place);
-        }
-        next
     }
 
     /// How many operations an origin has.
     pub fn count(&self, origin: u16) -> u64
         ensures { result ≡ count_of self.now.operations origin }
     {
-        marks_of(&self.tracks, origin).len() as u64
+        match &self.kept {
+            None => 0,
+            Some(kept) => kept.count(origin),
+        }
     }
 
     /// The place of the first operation with a name, from 0.
     pub fn find(&self, name: OpName) -> Option<u64>
         ensures { result ≡ position (has_name name) self.now.operations }
     {
-        place_of(marks_of(&self.tracks, name.origin), name.number)
+        match &self.kept {
+            None => None,
+            Some(kept) => kept.find(name),
+        }
     }
 }

@@ -39,7 +39,8 @@ pub fn next_above(marks: &[Mark], from: u64, count: u64) -> Option<u64>
 }
 
 fn first_above(marks: &[Mark], count: u64) -> Option<u64>
-    ensures { result ≡ option_map (λ mark. mark.place) (find (λ mark. nat_lt count mark.number) marks.now) }
+    ensures { result ≡ option_map (λ mark. mark.place)
+        (find (λ mark. nat_lt count mark.number) marks.now) }
 {
     let mark = marks.iter().find(|mark| mark.number > count)?;
     Some(mark.place)
@@ -48,14 +49,16 @@ fn first_above(marks: &[Mark], count: u64) -> Option<u64>
 /// The first place with this number.
 pub fn place_of(marks: &[Mark], number: u64) -> Option<u64>
     requires { IsRising marks.now }
-    ensures { result ≡ option_map (λ mark. mark.place) (find (λ mark. mark.number == number) marks.now) }
+    ensures { result ≡ option_map (λ mark. mark.place)
+        (find (λ mark. mark.number == number) marks.now) }
 {
     let start = marks.partition_point(|mark| mark.highest < number);
     first_numbered(&marks[start..], number)
 }
 
 fn first_numbered(marks: &[Mark], number: u64) -> Option<u64>
-    ensures { result ≡ option_map (λ mark. mark.place) (find (λ mark. mark.number == number) marks.now) }
+    ensures { result ≡ option_map (λ mark. mark.place)
+        (find (λ mark. mark.number == number) marks.now) }
 {
     let mark = marks.iter().find(|mark| mark.number == number)?;
     Some(mark.place)

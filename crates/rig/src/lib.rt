@@ -1,4 +1,4 @@
-//! A server whose sessions are asked lines and answer lines, for tests. Nothing of the server rests on it.
+//! A server whose sessions take request lines and return reply lines, for tests. No part of the server depends on it.
 #![tactic(auto)]
 
 mod replies;

@@ -1,10 +1,10 @@
-//! What stands in a reply line.
+//! Parts of a reply line.
 use pad_model::{Op, Refusal};
 use serde_json::Value;
 use std::alloc::Global;
 use wire_json::read_op;
 
-/// The number behind these characters.
+/// The number after these characters.
 pub fn number_behind(line: &str, key: &str) -> Option<u64> {
     let (_, rest) = line.split_once(key)?;
     let mut number = 0_u64;
@@ -17,7 +17,7 @@ pub fn number_behind(line: &str, key: &str) -> Option<u64> {
     Some(number)
 }
 
-/// How many characters the text of a reply has, in which none is escaped.
+/// The number of characters of a reply's text, in which none may be escaped.
 pub fn text_len(line: &str) -> u64 {
     match line.split_once(r#""text":""#) {
         Some((_, rest)) => rest.chars().count().saturating_sub(3) as u64,
@@ -63,7 +63,7 @@ fn texts_of(alloc: Global, ops: &[Value]) -> Result<Vec<String>, Refusal> {
     Ok(texts)
 }
 
-/// The operation that JSON says.
+/// The operation of a JSON text.
 pub fn op_of(alloc: Global, text: &str) -> Result<Op, Refusal> {
     let value = value_of(alloc, text)?;
     read_op(alloc, &value)

@@ -1,4 +1,4 @@
-//! A server with the pad `p` of ann, and a peer.
+//! A server with ann, her pad `p`, and a peer.
 ghost use Rattle.std.specs.Prelude.{◌≤◌};
 
 use crate::replies::is_refusal;
@@ -18,7 +18,7 @@ pub const PEER: u32 = 1;
 
 const HELLO: &str = r#"{"do":"hello","name":"ann","token":"t"}"#;
 
-/// Stands for a step that was not answered. No reply refuses with it.
+/// The error for a step that was not answered. No reply refuses with it.
 const NO_ANSWER: Refusal = Refusal::Busy;
 
 /// A server and its two sessions.
@@ -39,7 +39,7 @@ fn make_server(alloc: Global, replica: u16) -> Result<Server<BlockSeq>, Refusal>
 }
 
 impl Rig {
-    /// A server with this number, on which ann has created `p`, and a peer has said who it is.
+    /// A server with this number, on which ann has created `p`, and a peer has logged in.
     pub fn new(alloc: Global, replica: u16) -> Result<Rig, Refusal>
         requires { 1 ≤ replica }
     {
@@ -56,7 +56,7 @@ impl Rig {
         self.tell(PEER, r#"{"do":"peer","number":9,"token":"t","version":2}"#)
     }
 
-    /// The reply line of a request, its LF included.
+    /// Makes a request, and returns its reply line, including the LF.
     pub fn say(&mut self, session: u32, line: &str) -> Result<String, Refusal> {
         let reply = match read_request(self.alloc, line.as_bytes()) {
             Ok(request) => self.answer(session, request),
@@ -78,20 +78,20 @@ impl Rig {
         Err(NO_ANSWER)
     }
 
-    /// One more session of ann.
+    /// Opens one more session of ann.
     pub fn open_ann(&mut self) -> Result<u32, Refusal> {
         let session = self.server.open(self.alloc)?;
         self.tell(session, HELLO)?;
         Ok(session)
     }
 
-    /// Makes a request, whatever it is answered.
+    /// Makes a request, whatever the reply is.
     pub fn tell(&mut self, session: u32, line: &str) -> Result<(), Refusal> {
         let _reply = self.say(session, line)?;
         Ok(())
     }
 
-    /// Whether a request is refused.
+    /// Makes a request, and returns whether it is refused.
     pub fn refuses(&mut self, session: u32, line: &str) -> Result<bool, Refusal> {
         let reply = self.say(session, line)?;
         Ok(is_refusal(reply.as_str()))

@@ -1,4 +1,4 @@
--- What the crates above need of names that have rights.
+-- What the crates above need to know about names with rights.
 use Rattle.std.proofs.Common.{◌≡◌, ℕ, Bool, true, false, cond, List, [], ◌∷◌, Option, Some, None, Result, Ok, Err, sym}
 use Rattle.std.proofs.Common.{ap, ◌∙◌, subst}
 use Rattle.std.proofs.lemmas.Bool.{true≢false}
@@ -23,7 +23,7 @@ found_has P (x ∷ grants) name least h e =
     (λ other. found_has P grants name least h.1
     (sym (ap (λ b. covers (cond b (Some x.1) (lookup (bytes_eq name) grants)) least) other) ∙ e))
 
--- what holds of the creator's name and of each granted one, holds of whoever has a right
+-- what holds for the creator's name and for each granted one holds for every name with a right
 pub may_has : (P : List ℕ → Type 0) (book : Rights) (name : List ℕ) (least : Right) → P book.owner →
     AllByRecursion (λ e. P e.0) book.grants → may book name least ≡ true → P name
 may_has P book name least owner grants e =
@@ -72,7 +72,7 @@ grant_case P true full book name given one h = h
 grant_case P false true book name given one h = h
 grant_case P false false book name given one h = (h.0, changed_has P book.grants name given one h.1)
 
--- it holds after a grant to a name of which it holds
+-- it still holds after a grant to a name for which it holds
 pub grant_has : (P : List ℕ → Type 0) (book : Rights) (name : List ℕ) (given : Option Right) → P name → P book.owner
     × AllByRecursion (λ e. P e.0) book.grants →
     P ((grant book name given).1).owner × AllByRecursion (λ e. P e.0) ((grant book name given).1).grants

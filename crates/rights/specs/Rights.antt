@@ -10,12 +10,12 @@ use Rattle.rights.specs.declared.book.TheConstants.{MAX_GRANTS}
 use Rattle.rights.specs.declared.right.Right.{Right}
 use Rattle.rights.specs.declared.right.Right.TheVariants.{Read, Comment, Write, Own}
 
--- the creator, and the grants in the order in which they were first given
+-- the creator, and the grants in the order in which they were first granted
 pub record Rights : Type 0 where
   pub owner : List ℕ
   pub grants : List (List ℕ × Right)
 
--- how many rights a right includes, itself counted
+-- the number of rights that a right includes, counting itself
 abbrev pub rank : Right → ℕ
 rank Read = 1
 rank Comment = 2
@@ -30,30 +30,30 @@ includes held right = nat_le (rank right) (rank held)
 abbrev pub granted : List (List ℕ × Right) → List ℕ → Option Right
 granted grants name = lookup (bytes_eq name) grants
 
--- the right of a name: the creator has Own, another name what it was granted
+-- the right of a name: the creator has Own, and any other name what it was granted
 abbrev pub right_of : Rights → List ℕ → Option Right
 right_of book name = if bytes_eq name book.owner then Some Own else granted book.grants name
 
--- whether a right that is held, if any, includes another
+-- whether the right held, if any, includes another
 abbrev pub covers : Option Right → Right → Bool
 covers None right = false
 covers (Some held) right = includes held right
 
--- whether a name may do what takes a right
+-- whether a name may do what a right allows
 abbrev pub may : Rights → List ℕ → Right → Bool
 may book name right = covers (right_of book name) right
 
--- the grants with one given, changed in its place, or taken away
+-- the grants after one is added, changed in its place, or revoked
 abbrev pub changed : List (List ℕ × Right) → List ℕ → Option Right → List (List ℕ × Right)
 changed grants name None = remove_entry (bytes_eq name) grants
 changed grants name (Some right) = insert_entry bytes_eq grants name right
 
--- whether a grant would be one too many, the creator counted
+-- whether a grant would exceed the limit of names, the creator included
 abbrev pub is_full : List (List ℕ × Right) → List ℕ → Option Right → Bool
 is_full grants name right = is_some right && not (is_some (granted grants name))
     && nat_le MAX_GRANTS (length grants + 1)
 
--- what a grant answers, and the book after it: the creator's right stays, and there are 256 names at most
+-- the result of a grant, and the book after it: the creator's right stays, and there are at most 256 names
 abbrev pub grant : Rights → List ℕ → Option Right → Result (Unit {0}) Refusal × Rights
 grant book name right =
     if bytes_eq name book.owner then (Err OwnerKept, book)
@@ -62,8 +62,9 @@ grant book name right =
 
 -- all names with their rights, the creator first
 abbrev pub listed : Rights → List Grant
-listed book = record { name = book.owner; right = Own } ∷ map (λ e. record { name = e.0; right = e.1 }) book.grants
+listed book = record { name = book.owner; right = Own }
+    ∷ map (λ e. record { name = e.0; right = e.1 }) book.grants
 
--- with the creator there are no more names than the limit
+-- with the creator, there are at most as many names as the limit
 pub record IsBook (owner : List ℕ) (grants : List (List ℕ × Right)) : Type 0 where
   pub few : length grants < MAX_GRANTS

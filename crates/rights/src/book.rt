@@ -9,17 +9,17 @@ use pad_model::{Name, Refusal, Row};
 use std::alloc::Global;
 use std::marker::Model;
 
-/// How many names have a right at most, the creator's counted.
+/// The most names that may have a right, the creator included.
 pub const MAX_GRANTS: u64 = 256;
 
-/// A name and its right.
+/// A name and its right on the pad.
 #[derive(Clone, Debug, PartialEq, Drop)]
 pub struct Grant {
     pub name: Name,
     pub right: Right,
 }
 
-/// The rights of a pad: its creator's, and those that were granted, in the order in which they were first given.
+/// The rights of a pad: its creator's, and those granted, in the order in which they were first granted.
 #[derive(Drop)]
 pub struct RightsBook {
     owner: Name,
@@ -38,7 +38,7 @@ impl Model for RightsBook {
 }
 
 impl RightsBook {
-    /// The book of a pad that this author created. It takes no memory yet.
+    /// The book of a pad that `owner` created. It allocates no memory.
     pub fn new(alloc: Global, owner: Name) -> RightsBook
         ensures { result ≡ record { owner = owner; grants = [] } }
     {
@@ -55,7 +55,7 @@ impl RightsBook {
         self.owner.as_str()
     }
 
-    /// Whether somebody has a right, or one that includes it.
+    /// Whether an author has a right, or one that includes it.
     pub fn may(&self, name: &Name, right: Right) -> bool
         ensures { result ≡ may self.now name.now right }
     {
@@ -65,7 +65,7 @@ impl RightsBook {
         }
     }
 
-    /// The right that somebody has, which includes those before it. Each includes that to read.
+    /// The right of an author, or None. A right includes those before it, so every right includes `Read`.
     pub fn right_of(&self, name: &Name) -> Option<Right>
         ensures { result ≡ right_of self.now name.now }
     {
@@ -75,11 +75,11 @@ impl RightsBook {
         self.grants.get(name).copied()
     }
 
-    /// Gives somebody a right in place of the one before, or takes it away (None).
+    /// Sets the right of an author, in place of an earlier one, or revokes it (None).
     pub fn grant(&mut self, name: &Name, right: Option<Right>) -> Result<(), Refusal>
         ensures answer { Answers self.old (grant self.old name.now right) result self.new }
 
-        // To take a right away needs no memory.
+        // Revoking a right needs no memory.
         ensures taken { right ≡ None → grant self.old name.now right ≡ (result, self.new) }
     {
         if *name == self.owner {
@@ -96,14 +96,15 @@ impl RightsBook {
         Ok(())
     }
 
-    /// Whether the name is new, and one too many.
+    /// Whether the name is new and the book is full.
     fn is_full_for(&self, name: &Name) -> bool
-        ensures { result ≡ (not (is_some (granted self.now.grants name.now)) && nat_le MAX_GRANTS (length self.now.grants + 1)) }
+        ensures { result ≡ (not (is_some (granted self.now.grants name.now))
+            && nat_le MAX_GRANTS (length self.now.grants + 1)) }
     {
         !self.grants.contains_key(name) && self.grants.len() as u64 + 1 >= MAX_GRANTS
     }
 
-    /// All names with their rights: the creator first, then the grants in the order in which they were first given.
+    /// All names with their rights: the creator first, then the grants in the order in which they were first granted.
     pub fn list(&self, alloc: Global) -> Result<Row<Grant>, Refusal>
         ensures { MatchResult result (λ rows. rows ≡ listed self.now) (λ e. e ≡ Refusal.Memory) }
     {

@@ -1,7 +1,7 @@
-//! Who may do what with a pad: its creator everything, others what they were granted.
+//! Who may do what with a pad: its creator may do everything, others what they were granted.
 //!
-//! It stands on `pad_model`, and on `indexmap`, which keeps grants in the order in which they were first given. It
-//! knows no session: who somebody is, is decided above it.
+//! It depends on `pad_model`, and on `indexmap`, which keeps grants in the order in which they were first granted. It
+//! does not know about sessions: the crates above decide who is asking.
 #![tactic(auto)]
 
 mod book;

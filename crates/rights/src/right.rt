@@ -1,7 +1,7 @@
 ghost use Rattle.std.specs.Prelude.{◌≡◌};
 ghost use Rattle.rights.specs.Rights.{includes, rank};
 
-/// What somebody may do with a pad. Each right includes those before it.
+/// What an author may do with a pad. Each right includes those before it.
 #[derive(Clone, Copy, Debug, PartialEq, Eq)]
 pub enum Right {
     /// Join, and read texts, revisions and comments.
@@ -10,12 +10,12 @@ pub enum Right {
     Comment,
     /// Insert and erase.
     Write,
-    /// Give rights and take them away.
+    /// Grant and revoke rights.
     Own,
 }
 
 impl Right {
-    /// Whether who has this right has the other one too.
+    /// Whether an author with this right has the other one too.
     pub fn includes(self, other: Right) -> bool
         ensures { result ≡ includes self other }
     {

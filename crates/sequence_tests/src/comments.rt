@@ -1,4 +1,4 @@
-//! Comments over the plain sequence: they keep their words.
+//! Comments on the plain sequence keep their text.
 ghost use Rattle.std.specs.Prelude.{◌≡◌, ℕ, List, true, IfOk};
 ghost use Rattle.anchors.specs.Comments.{AreHeld, born_by, has_both};
 ghost use Rattle.pad_model.specs.Cell.{Cell};
@@ -38,7 +38,8 @@ fn on(first: Named, last: Named) -> Result<Draft, Refusal> {
 }
 
 fn book_of(alloc: Global, draft: Draft) -> Result<CommentBook, Refusal>
-    ensures { IfOk result (λ book. (cells : List Cell) (rev : ℕ) → has_both cells draft.first draft.last ≡ true → AreHeld cells (born_by rev book)) }
+    ensures { IfOk result (λ book. (cells : List Cell) (rev : ℕ)
+        → has_both cells draft.first draft.last ≡ true → AreHeld cells (born_by rev book)) }
 {
     let author = Author {
         name: Name::from_str(alloc, "ada")?,
@@ -61,7 +62,7 @@ fn book_of(alloc: Global, draft: Draft) -> Result<CommentBook, Refusal>
     Ok(book)
 }
 
-/// Place, length and resolution of a comment, as a list of comments shows it.
+/// The place, length and resolution of a comment, as a list of comments shows them.
 type Seen = (u64, u64, bool);
 
 fn are_seen(comments: &[Shown], want: &[Seen]) -> bool {
@@ -73,7 +74,7 @@ fn are_seen(comments: &[Shown], want: &[Seen]) -> bool {
     comments.len() == want.len()
 }
 
-/// A list of comments at a revision shows these.
+/// Asserts the comments of the list at a revision.
 fn lists(
     rt: &impl Abort,
     alloc: Global,
@@ -95,7 +96,7 @@ fn lists(
     Ok(())
 }
 
-/// The same by the range of its name alone.
+/// Asserts the range of the comment, found by its name.
 fn has_range(
     rt: &impl Abort,
     alloc: Global,
@@ -126,7 +127,7 @@ fn keeping_xy(alloc: Global) -> Result<Site, Refusal> {
     }
 }
 
-/// A comment on `hello` that the fourth revision resolves.
+/// Returns a comment on `hello` that the fourth revision resolves.
 fn on_hello() -> Result<Draft, Refusal> {
     Ok(Draft {
         resolved: Some(4),
@@ -134,7 +135,7 @@ fn on_hello() -> Result<Draft, Refusal> {
     })
 }
 
-/// How the comment is listed at each revision.
+/// The comment as it is listed at each revision.
 const LISTED: &[(u64, &[Seen])] = &[
     (0, &[]),
     (1, &[(0, 5, false)]),

@@ -1,6 +1,6 @@
-//! Three replicas that type at once, and take one another's operations in different orders.
+//! Three replicas that type at once and take one another's operations in different orders.
 //!
-//! Whoever types in a round does so with the same counter, so that each round has ties.
+//! All replicas that type in a round use the same counter, so that each round has ties.
 use crate::site::{Site, stamp_of};
 use dice::Dice;
 use pad_model::{Name, Op, OpName, Part, Refusal, Row, Run, Seen, Sequence, Text};
@@ -10,10 +10,10 @@ use std::test::Fail;
 
 const ROUNDS: u64 = 167;
 
-/// In which order each replica takes the operations of a round, its own first.
+/// The order in which each replica takes the operations of a round, its own first.
 const ORDERS: [[usize; 3]; 3] = [[0, 1, 2], [1, 2, 0], [2, 1, 0]];
 
-/// Types one to three letters at a place of the text, with a counter so far ahead of the clock.
+/// Types one to three letters at a place of the text, with a counter that is `ahead` of the clock.
 pub fn typed(
     alloc: Global,
     site: &Site,
@@ -38,7 +38,7 @@ pub fn typed(
     }))
 }
 
-/// Erases up to four characters from a place of the text on.
+/// Erases up to four characters, from a place of the text on.
 pub fn erased(alloc: Global, site: &Site, dice: &mut Dice) -> Result<Part, Refusal> {
     let (seq, rev) = (site.sequence(), site.rev());
     let len = seq.len_at(rev);
@@ -47,7 +47,7 @@ pub fn erased(alloc: Global, site: &Site, dice: &mut Dice) -> Result<Part, Refus
     Ok(Part::Delete(seq.spans_at(alloc, rev, at, count)?))
 }
 
-/// What a replica does next: half of the time it types, else it erases, or does both at once.
+/// Returns the next operation of a replica: half of the time it types, otherwise it erases, or does both at once.
 pub fn made(alloc: Global, site: &Site, name: OpName, dice: &mut Dice) -> Result<Op, Refusal> {
     let kind = match site.sequence().len_at(site.rev()) {
         0..=9 => 0,
@@ -68,7 +68,7 @@ pub fn made(alloc: Global, site: &Site, name: OpName, dice: &mut Dice) -> Result
     })
 }
 
-/// How many operations type, erase, and were refused, and how many characters they hid.
+/// The number of operations that type, that erase and that were refused, and the number of characters that they hid.
 #[derive(Clone, Copy, Debug, Default)]
 pub struct Shares {
     pub typed: u64,
@@ -101,7 +101,8 @@ impl Shares {
     }
 }
 
-/// Whether two replicas keep the same character at a place: all but the revisions, which each counts for itself.
+/// Whether two replicas have the same character at a place. Revisions are not compared, since each replica counts its
+/// own.
 fn agree(one: &Site, other: &Site, place: u64) -> bool {
     let Some(a) = one.sequence().cell_at(place) else {
         return false;
@@ -116,13 +117,13 @@ fn agree(one: &Site, other: &Site, place: u64) -> bool {
         && a.died.is_some() == b.died.is_some()
 }
 
-/// How many characters are erased.
+/// The number of erased characters.
 fn count_dead(site: &Site) -> u64 {
     let cells = site.sequence().cell_count();
     cells.saturating_sub(site.sequence().len_at(site.rev()))
 }
 
-/// An operation of each replica.
+/// Makes an operation of each replica.
 fn all_made(
     alloc: Global,
     sites: &[Site],
@@ -144,7 +145,7 @@ fn take(alloc: Global, site: &mut Site, ops: &[Op], place: usize, shares: &mut S
     }
 }
 
-/// A replica takes the operations in an order, and the first of them once more.
+/// Lets a replica take the operations in an order, and the first of them once more.
 fn take_all(alloc: Global, site: &mut Site, ops: &[Op], order: [usize; 3], shares: &mut Shares) {
     let [first, second, third] = order;
     for place in [first, second, third, first] {
@@ -160,7 +161,7 @@ fn exchange(alloc: Global, sites: &mut [Site], ops: &[Op], shares: &mut Shares) 
     }
 }
 
-/// Each replica makes an operation, and takes those of all three in its own order, and its own once more.
+/// Lets each replica make an operation, then take those of all three in its own order, and its own once more.
 fn round(
     alloc: Global,
     sites: &mut [Site],
@@ -191,7 +192,7 @@ fn play(alloc: Global, sites: &mut [Site]) -> Result<Shares, Refusal> {
     Ok(shares)
 }
 
-/// Two replicas keep the same characters.
+/// Asserts that two replicas have the same characters.
 fn keep_the_same(rt: &impl Abort, one: &Site, other: &Site) {
     let cells = one.sequence().cell_count();
     let came = other.sequence().cell_count();
@@ -206,7 +207,7 @@ fn keep_the_same(rt: &impl Abort, one: &Site, other: &Site) {
     }
 }
 
-/// All replicas do, and as many characters are erased in each.
+/// Asserts that all replicas have the same characters, and that this many are erased in each.
 fn all_agree(rt: &impl Abort, sites: &[Site], erased: u64) {
     assert!(rt; sites.len() == 3);
     for site in sites {

@@ -1,4 +1,5 @@
-//! Twenty thousand operations of three replicas on the sequence of blocks beside the plain one, in forty texts.
+//! Twenty thousand operations of three replicas, in forty texts, on the sequence of blocks and on the plain one beside
+//! it.
 use crate::compared::{change_the_same, show_the_same};
 use crate::converge::{Shares, made};
 use crate::several::op_of;
@@ -9,12 +10,12 @@ use std::alloc::Global;
 use std::process::Abort;
 use std::test::Fail;
 
-/// How many texts there are, each with dice of its own.
+/// The number of texts, each with dice of its own.
 const TEXTS: u64 = 40;
 
 const OPERATIONS: u64 = 500;
 
-/// The cells of both are compared after each hundredth operation; each of them must be answered alike.
+/// The number of operations between two comparisons of all cells. Each operation must have the same result on both.
 const COMPARED: u64 = 100;
 
 const REVISIONS: [u64; 10] = [1, 10, 50, 100, 200, 300, 400, 450, 490, 500];
@@ -28,7 +29,7 @@ fn next_op(alloc: Global, site: &Site, number: u64, dice: &mut Dice) -> Result<O
     made(alloc, site, OpName { origin, number }, dice)
 }
 
-/// All operations of a text are taken.
+/// Takes all operations of a text.
 fn take_many(
     rt: &impl Abort,
     alloc: Global,
@@ -49,7 +50,7 @@ fn take_many(
     Ok(shares)
 }
 
-/// Both tell the same of a text, now and at older revisions.
+/// Asserts that both report the same for a text, now and at older revisions.
 fn keeps_a_text(rt: &impl Abort, alloc: Global, seed: u64) -> Result<(), Fail> {
     let mut site = Site::compared_every(alloc, COMPARED)?;
     let shares = take_many(rt, alloc, &mut site, seed)?;

@@ -1,5 +1,5 @@
-//! How many labels are written while somebody types at one place: that of each new block, and those of others that change;
-//! and how often others change.
+//! The number of labels that are written while a client types at one place: those of new blocks, and those of other
+//! blocks that change; and the times at which others change.
 use crate::pair::{Pair, author_of};
 use block_seq::BlockSeq;
 use pad_model::{Part, Refusal, Run, Sequence, Stamp, Text};
@@ -25,7 +25,7 @@ fn rise(labels: &[u64]) -> bool {
         .all(|(one, next)| one < next)
 }
 
-/// How many labels are none of those before, where both rise.
+/// The number of labels in `after` that are not in `before`. Both must rise.
 fn count_new(before: &[u64], after: &[u64]) -> u64 {
     let mut new: u64 = 0;
     for label in after {
@@ -36,7 +36,7 @@ fn count_new(before: &[u64], after: &[u64]) -> u64 {
     new
 }
 
-/// Types a text behind a character, or at the start.
+/// Types a text after a character, or at the start.
 fn type_text(
     alloc: Global,
     pair: &mut Pair,
@@ -50,8 +50,8 @@ fn type_text(
     Ok(pair.take(alloc, &part, &author_of(alloc, 1)?))
 }
 
-/// Types that many characters, each behind the one before it or each behind the first, and counts the labels that are
-/// written; none where a character is refused or labels do not rise.
+/// Types `TYPED` characters, each after the one before it, or each after the first, and counts the labels that are
+/// written. None if a character is refused, or the labels do not rise.
 fn count_writes(alloc: Global, backward: bool) -> Result<Option<u64>, Refusal> {
     let mut pair = Pair::new(alloc)?;
     let mut writes: u64 = 0;
@@ -86,8 +86,8 @@ fn typing_backward_writes_few_labels(rt: HostRuntime) -> Result<(), Fail> {
     Ok(())
 }
 
-/// Types "ab" and then a hundred times "x" behind the first character; at which of these a block lost the label that it had.
-/// None where a text is refused.
+/// Types "ab", then "x" a hundred times after the first character. Returns the times at which a block's label changed;
+/// None if a text is refused.
 fn type_behind_the_first(alloc: Global, pair: &mut Pair) -> Result<Option<Vec<u64>>, Refusal> {
     let mut changes = Vec::new(alloc);
     let mut is_taken = type_text(alloc, pair, 1, None, "ab")?;
@@ -102,7 +102,7 @@ fn type_behind_the_first(alloc: Global, pair: &mut Pair) -> Result<Option<Vec<u6
     Ok(if is_taken { Some(changes) } else { None })
 }
 
-/// Whether the text is "a", a hundred times "x" and "b", and all of its characters are found.
+/// Whether the text is "a", a hundred times "x", and "b", and all of its characters are found.
 fn has_hundred(alloc: Global, rows: &BlockSeq, rev: u64) -> Result<bool, Refusal> {
     let text = rows.text_at(alloc, rev)?;
     let typed = text.as_slice().iter().skip(1).take(100);
@@ -119,8 +119,8 @@ fn has_hundred(alloc: Global, rows: &BlockSeq, rev: u64) -> Result<bool, Refusal
     )
 }
 
-// Between the labels 65,536 and 131,072 there is room for 16 halves of the gap. The later times follow from the rule by which a
-// window is chosen: they were worked out apart from the program.
+// Between the labels 65,536 and 131,072 the gap can be halved 16 times. The later times follow from the rule that
+// chooses a window: they were worked out apart from the program.
 #[test]
 fn respacings_are_those_that_the_labels_show(rt: HostRuntime) -> Result<(), Fail> {
     let mut pair = Pair::new(rt.alloc())?;

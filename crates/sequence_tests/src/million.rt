@@ -1,4 +1,4 @@
-//! A million characters in one sequence: a hundred runs of ten thousand, each put at the start.
+//! A million characters in one sequence: a hundred runs of ten thousand, each inserted at the start.
 ghost use Rattle.std.specs.Prelude.{IsTrue};
 ghost use Rattle.pad_model.specs.Checked.{is_run};
 
@@ -11,7 +11,7 @@ use std::test::Fail;
 
 const RUNS: u64 = 100;
 
-/// A sequence of blocks, and how many changes it took.
+/// A sequence of blocks, and the number of changes to it.
 #[derive(Drop)]
 struct Long {
     row: BlockSeq,
@@ -51,8 +51,8 @@ impl Long {
         made
     }
 
-    /// Whether the character at a place of a revision is the one that the order of the runs says: each run stands before
-    /// those that came before it.
+    /// Whether the character at a place of a revision is the one that the order of the runs gives: each run comes
+    /// before the earlier ones.
     fn stands_at(&self, rev: u64, place: u64) -> bool {
         let (before, offset) = (place / MAX_TEXT, place % MAX_TEXT);
         let run = rev.saturating_sub(before).saturating_sub(1);
@@ -66,7 +66,7 @@ impl Long {
     }
 }
 
-/// A run of the greatest length, at the start.
+/// Returns a run of the greatest length, at the start.
 fn run_from(alloc: Global, counter: u64) -> Result<Run, Refusal> {
     let mut text = Vec::new(alloc);
     for _ in 0..MAX_TEXT {
@@ -79,7 +79,7 @@ fn run_from(alloc: Global, counter: u64) -> Result<Run, Refusal> {
     })
 }
 
-/// A sequence with all runs.
+/// Returns a sequence with all runs.
 fn all_typed(alloc: Global) -> Result<Long, Refusal> {
     let mut long = Long::new(alloc)?;
     let author = author_of(alloc, 1)?;

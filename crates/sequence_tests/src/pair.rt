@@ -6,7 +6,9 @@ ghost use Rattle.pad_model.specs.Checked.{fits_clock, is_run, is_span};
 use crate::site::stamp_of;
 use block_seq::{BlockSeq, PlainSeq};
 use dice::Dice;
-use pad_model::{Author, MAX_COUNTER, MAX_TEXT, Name, Part, Refusal, Run, Sequence, Span, Stamp};
+use pad_model::{
+    Author, AuthorRun, MAX_COUNTER, MAX_TEXT, Name, Part, Refusal, Row, Run, Sequence, Span, Stamp,
+};
 use std::alloc::Global;
 use std::marker::Model;
 use std::process::Abort;
@@ -28,7 +30,8 @@ impl Model for Pair {
 
     ghost view = { λ s. s.plain };
 
-    ghost invariant = { λ s. AllByRecursion (IsBy s.rev) s.plain × AllByRecursion (IsBy s.rev) s.rows.cells };
+    ghost invariant = { λ s. AllByRecursion (IsBy s.rev) s.plain
+        × AllByRecursion (IsBy s.rev) s.rows.cells };
 }
 
 impl Pair {
@@ -122,6 +125,33 @@ impl Pair {
         Ok(())
     }
 
+    /// Both have the same author runs at a revision.
+    fn authors_agree(&self, rt: &impl Abort, alloc: Global, rev: u64) -> Result<(), Refusal> {
+        let want = self.plain.authors_at(alloc, rev)?;
+        let came = self.rows.authors_at(alloc, rev)?;
+        assert!(rt;
+            came == want,
+            "revision {rev}: wanted the runs {want:?}, came {came:?}"
+        );
+        Ok(())
+    }
+
+    /// The sequence of blocks tells of a revision, by its blocks, what it told from the runs that it kept then.
+    pub fn runs_stayed(
+        &self,
+        rt: &impl Abort,
+        alloc: Global,
+        rev: u64,
+        told: &Row<AuthorRun>,
+    ) -> Result<(), Refusal> {
+        let came = self.rows.authors_at(alloc, rev)?;
+        assert!(rt;
+            came == *told,
+            "revision {rev}: wanted the runs {told:?}, came {came:?}"
+        );
+        Ok(())
+    }
+
     /// Both tell the same changes from one revision to another.
     fn changes_agree(
         &self,
@@ -176,8 +206,8 @@ impl Pair {
         }
     }
 
-    /// Both say the same now and at an older revision: of counts, texts, a place and a stamp that may be missing, and of what
-    /// changed between two revisions, from either to the other.
+    /// Both say the same now and at an older revision: of counts, texts, author runs, a place and a stamp that may be missing,
+    /// and of what changed between two revisions, from either to the other.
     pub fn agree(&self, rt: &impl Abort, alloc: Global, dice: &mut Dice) -> Result<(), Refusal> {
         let old = dice.roll(self.rev.saturating_add(1));
         let other = dice.roll(self.rev.saturating_add(1));
@@ -190,6 +220,9 @@ impl Pair {
         self.readers_agree(rt, old, place, stamp);
         self.changes_agree(rt, alloc, old, other)?;
         self.changes_agree(rt, alloc, old, self.rev)?;
+        self.authors_agree(rt, alloc, self.rev)?;
+        self.authors_agree(rt, alloc, self.rev.saturating_add(1))?;
+        self.authors_agree(rt, alloc, old)?;
         self.texts_agree(rt, alloc, self.rev)?;
         self.texts_agree(rt, alloc, old)
     }

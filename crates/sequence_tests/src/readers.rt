@@ -1,4 +1,4 @@
-//! What the plain sequence tells of its characters: numbers, stamps, places, runs and spans.
+//! What the plain sequence reports of its characters: numbers, stamps, places, runs and spans.
 use crate::sequences::{HELLO, named, site_of};
 use crate::site::Sketch::Typed;
 use crate::site::{Named, Site, stamp_of};
@@ -7,7 +7,7 @@ use std::alloc::Global;
 use std::process::Abort;
 use std::test::Fail;
 
-/// `heXYllo`, of which replica 2 typed `XY`.
+/// Returns `heXYllo`, of which replica 2 typed `XY`.
 fn of_two(alloc: Global) -> Result<Site, Refusal> {
     site_of(alloc, &[(1, HELLO), (2, Typed((6, 2), Some((2, 1)), "XY"))])
 }
@@ -73,7 +73,7 @@ fn are_runs(runs: &[AuthorRun], want: &[(u16, u64)]) -> bool {
     runs.len() == want.len()
 }
 
-/// Those of a site at a revision are such.
+/// Asserts the author runs of a site at a revision.
 fn has_runs(
     rt: &impl Abort,
     alloc: Global,
@@ -99,7 +99,7 @@ fn are_spans(spans: &[Span], want: &[(Named, u64)]) -> bool {
     spans.len() == want.len()
 }
 
-/// Those of some characters of a site are such.
+/// Asserts the spans of some characters of a site.
 fn has_spans(
     rt: &impl Abort,
     alloc: Global,

@@ -1,4 +1,4 @@
-//! Operations in the plain sequence: where runs go, what deletions hide, what several parts do together.
+//! Operations on the plain sequence: where runs go, what deletions hide, and what several parts do together.
 use crate::site::Sketch::{Erased, Typed};
 use crate::site::{Named, Site, Sketch};
 use pad_model::{Refusal, Sequence, Stamp};
@@ -20,20 +20,20 @@ fn take_all(alloc: Global, site: &mut Site, taken: Taken<'_>) -> Result<(), Refu
     Ok(())
 }
 
-/// A site that took these operations.
+/// Returns a site that took these operations.
 pub fn site_of(alloc: Global, taken: Taken<'_>) -> Result<Site, Refusal> {
     let mut site = Site::new(alloc)?;
     take_all(alloc, &mut site, taken)?;
     Ok(site)
 }
 
-/// What such a site shows.
+/// Returns the text of a site that took these operations.
 fn text_after(alloc: Global, taken: Taken<'_>) -> Result<String, Refusal> {
     let site = site_of(alloc, taken)?;
     site.text(alloc, site.rev())
 }
 
-/// Such a site shows this text.
+/// Asserts the text of a site that took these operations.
 fn shows(rt: &impl Abort, alloc: Global, taken: Taken<'_>, want: &str) -> Result<(), Refusal> {
     let came = text_after(alloc, taken)?;
     assert!(rt;
@@ -47,7 +47,7 @@ pub fn named(stamp: Stamp) -> Named {
     (stamp.counter(), stamp.replica())
 }
 
-/// All characters have these counters and replicas, in their order.
+/// Asserts the counters and replicas of all characters, in their order.
 fn has_stamps(rt: &impl Abort, site: &Site, want: &[Named]) {
     let seq = site.sequence();
     for (want, place) in want.iter().zip(0..) {
@@ -63,7 +63,7 @@ fn has_stamps(rt: &impl Abort, site: &Site, want: &[Named]) {
     has_count(rt, site, want.len());
 }
 
-/// A site has so many characters, the erased ones too.
+/// Asserts the number of characters of a site, including erased ones.
 fn has_count(rt: &impl Abort, site: &Site, want: usize) {
     let came = site.sequence().cell_count();
     assert!(rt;
@@ -116,7 +116,8 @@ fn a_run_between_the_characters_of_another(rt: HostRuntime) -> Result<(), Fail> 
     Ok(has_stamps_after(&rt, rt.alloc(), BETWEEN, STAMPS_BETWEEN)?)
 }
 
-/// What a site of `hello` answers to an operation, and its revision and its characters then, the erased ones too.
+/// The answer of a site of `hello` to an operation; and then its revision and its number of characters, including
+/// erased ones.
 #[derive(Clone, Copy, Debug)]
 struct After {
     answer: Result<u64, Refusal>,
@@ -131,7 +132,7 @@ fn after_hello(alloc: Global, origin: u16, parts: &[Sketch]) -> Result<After, Re
     Ok(After { answer, rev, cells })
 }
 
-/// What such a site shows at a revision, whatever it answered.
+/// Returns the text of a site of `hello` at a revision after an operation, whatever the answer.
 fn text_after_hello(
     alloc: Global,
     origin: u16,
@@ -143,7 +144,7 @@ fn text_after_hello(
     site.text(alloc, rev)
 }
 
-/// Such a site shows this text at a revision.
+/// Asserts the text of a site of `hello` at a revision after an operation.
 fn shows_after_hello(
     rt: &impl Abort,
     alloc: Global,
@@ -233,7 +234,7 @@ fn what_does_not_fit_is_refused(rt: HostRuntime) -> Result<(), Fail> {
     Ok(())
 }
 
-/// The parts of an operation, how many characters they hide, and what a site of `hello` shows then.
+/// The parts of an operation, the number of characters that they hide, and the text of a site of `hello` afterwards.
 type Several = (u16, &'static [Sketch], u64, &'static str);
 
 const SEVERAL: &[Several] = &[
@@ -286,7 +287,7 @@ fn several_parts_are_one_revision(rt: HostRuntime) -> Result<(), Fail> {
     Ok(())
 }
 
-/// The operations hide so many characters each.
+/// Asserts the number of characters that each operation hides.
 fn hide(
     rt: &impl Abort,
     alloc: Global,
@@ -305,19 +306,19 @@ fn hide(
     Ok(())
 }
 
-/// The same at a new site.
+/// Asserts the same at a new site.
 fn hide_so(rt: &impl Abort, alloc: Global, taken: Taken<'_>, want: &[u64]) -> Result<(), Refusal> {
     let mut site = Site::new(alloc)?;
     hide(rt, alloc, &mut site, taken, want)
 }
 
-/// What a site that took the first of some operations shows at a revision.
+/// Returns the text at a revision of a site that took the first `count` of some operations.
 fn text_at(alloc: Global, taken: Taken<'_>, count: usize, rev: u64) -> Result<String, Refusal> {
     let site = site_of(alloc, &taken[..count.min(taken.len())])?;
     site.text(alloc, rev)
 }
 
-/// It shows this text.
+/// Asserts the text of that site.
 fn shows_at(
     rt: &impl Abort,
     alloc: Global,
@@ -345,7 +346,7 @@ const TYPED: (u16, Sketch) = (2, Typed((5, 2), Some((2, 1)), "X"));
 
 const FIRST: (u16, Sketch) = (2, Erased(&[((1, 1), 1)]));
 
-/// Operations, how many characters each hides, and what the second revision shows.
+/// Operations, the number of characters that each hides, and the text of the second revision.
 type Concurrent = (Taken<'static>, &'static [u64], &'static str);
 
 const CONCURRENT: &[Concurrent] = &[
@@ -361,7 +362,7 @@ const CONCURRENT: &[Concurrent] = &[
     ),
 ];
 
-/// What the other revisions show after so many of the operations.
+/// The text of other revisions after the first operations: the count of these, the revision, and the text.
 const REVISIONS: &[(usize, u64, &str)] = &[
     (3, 0, ""),
     (3, 1, "abcd"),
@@ -393,7 +394,7 @@ fn delete_and_insert_concurrently(rt: HostRuntime) -> Result<(), Fail> {
     Ok(())
 }
 
-/// The characters were erased at these revisions, or are not.
+/// Asserts the revision at which each character was erased; None if it was not.
 fn died_at(rt: &impl Abort, site: &Site, want: &[Option<u64>]) {
     let seq = site.sequence();
     for (want, place) in want.iter().zip(0..) {
@@ -427,7 +428,7 @@ const ERASED_AGAIN: Taken<'static> = &[
     (2, Erased(&[((1, 1), 4)])),
 ];
 
-/// What is shown after so many of them, at the last revision.
+/// The text of the last revision after the first operations: the count of these, the revision, and the text.
 const LEFT: &[(usize, u64, &str)] = &[(2, 2, "hlo"), (3, 3, "o"), (4, 4, "o")];
 
 const DEATHS: &[Option<u64>] = &[Some(3), Some(2), Some(2), Some(3), None];

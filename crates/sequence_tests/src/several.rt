@@ -1,5 +1,5 @@
 //! Operations of several parts on the sequence of blocks beside the plain one, and what both tell of older revisions.
-use crate::compared::tell_the_same;
+use crate::compared::{show_the_same, tell_the_same};
 use crate::converge::{Shares, erased, typed};
 use crate::site::Site;
 use dice::Dice;
@@ -44,7 +44,7 @@ pub fn op_of(alloc: Global, site: &Site, number: u64, dice: &mut Dice) -> Result
     })
 }
 
-/// All operations are taken.
+/// All operations are taken, and both sequences show the same after each.
 fn take_many(rt: &impl Abort, alloc: Global, site: &mut Site) -> Result<Shares, Refusal> {
     let mut dice = Dice::new(5);
     let mut shares = Shares::default();
@@ -53,6 +53,10 @@ fn take_many(rt: &impl Abort, alloc: Global, site: &mut Site) -> Result<Shares, 
         shares.count_parts(op.parts.as_slice());
         let came = site.deliver(alloc, &op);
         assert!(rt; came.is_ok(), "operation {number}: came {came:?}");
+        assert!(rt;
+            show_the_same(alloc, site.sequence(), site.plain(), number)?,
+            "after operation {number}"
+        );
     }
     Ok(shares)
 }

@@ -194,7 +194,7 @@ fn play_all(rt: &impl Abort, alloc: Global, pair: &mut Pair) -> Result<Shares, R
     Ok(shares)
 }
 
-/// Makes the parts of a round, by replica. Both sequences agree after each.
+/// Makes the parts of a round, by replica. Both sequences agree after each, also on what the text before it showed.
 fn are_taken(
     rt: &impl Abort,
     alloc: Global,
@@ -205,11 +205,13 @@ fn are_taken(
     let mut origin: u16 = 1;
     for part in parts {
         let author = author_of(alloc, origin)?;
+        let (rev, told) = (pair.rev(), pair.rows().authors_at(alloc, pair.rev())?);
         assert!(rt;
             pair.take(alloc, part, &author),
             "{part:?} of {origin}: answered otherwise"
         );
         pair.agree(rt, alloc, dice)?;
+        pair.runs_stayed(rt, alloc, rev, &told)?;
         origin = origin.saturating_add(1);
     }
     Ok(())

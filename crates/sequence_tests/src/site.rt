@@ -1,6 +1,7 @@
 //! One server's copy of a text: operations go in, and its revisions count up.
 //!
-//! The copy is kept twice, as blocks and plainly: each operation is made on both, and both must answer and keep the same.
+//! The copy is kept twice, as blocks and plainly. Each operation is made on both, and both must give the same answer
+//! and keep the same characters.
 ghost use Rattle.std.specs.Prelude.{◌≡◌, IsTrue, IfOk};
 ghost use Rattle.std.specs.List.{list_all};
 ghost use Rattle.pad_model.specs.Checked.{are_parts, is_edit};
@@ -14,8 +15,8 @@ use std::alloc::Global;
 use std::marker::Model;
 use std::process::Abort;
 
-/// A sequence of blocks and a plain one beside it, how many operations they took, and after how many their cells are
-/// compared.
+/// A sequence of blocks and a plain one beside it, the number of operations that they took, and the number of
+/// operations between two comparisons of their cells.
 #[derive(Drop)]
 pub struct Site {
     sequence: BlockSeq,
@@ -36,16 +37,17 @@ impl Model for Site {
 
     ghost use Rattle.std.specs.Prelude.{◌+◌};
 
-    ghost invariant = { λ s. AllByRecursion (IsBy (s.rev + 1)) s.sequence.cells × AllByRecursion (IsBy (s.rev + 1)) s.plain };
+    ghost invariant = { λ s. AllByRecursion (IsBy (s.rev + 1)) s.sequence.cells
+        × AllByRecursion (IsBy (s.rev + 1)) s.plain };
 }
 
 impl Site {
-    /// Two empty sequences, whose cells are compared after each operation.
+    /// Creates two empty sequences, whose cells are compared after each operation.
     pub fn new(alloc: Global) -> Result<Site, Refusal> {
         Site::compared_every(alloc, 1)
     }
 
-    /// Two empty sequences, whose cells are compared after so many operations each time.
+    /// Creates two empty sequences, whose cells are compared after every `every` operations.
     pub fn compared_every(alloc: Global, every: u64) -> Result<Site, Refusal> {
         Ok(Site {
             sequence: BlockSeq::empty(alloc)?,
@@ -65,7 +67,7 @@ impl Site {
         self.rev
     }
 
-    /// Takes an operation that only edits the text, and answers how many characters it hides.
+    /// Takes an operation that only edits the text. Returns the number of characters that it hides.
     pub fn deliver(&mut self, alloc: Global, op: &Op) -> Result<u64, Refusal> {
         op.check()?;
         if !op.is_edit() {
@@ -79,8 +81,8 @@ impl Site {
         &self.plain
     }
 
-    /// Makes the parts of an operation that fits its limits and only edits the text. `BadStamp`, which no sequence
-    /// answers, tells that the two differ.
+    /// Makes the parts of an operation that is within its limits and only edits the text. `BadStamp`, which no sequence
+    /// returns, means that the two differ.
     fn make(&mut self, alloc: Global, parts: &[Part], author: &Author) -> Result<u64, Refusal>
         requires checked { IsTrue (are_parts author.now.origin parts.now) }
         requires edits { IsTrue (list_all is_edit parts.now) }
@@ -104,20 +106,20 @@ impl Site {
         Ok(hidden)
     }
 
-    /// Takes an operation of these parts by the replica of a number.
+    /// Takes an operation with these parts by the replica with this number.
     pub fn take(&mut self, alloc: Global, origin: u16, parts: &[Sketch]) -> Result<u64, Refusal> {
         let op = op_of(alloc, origin, parts)?;
         self.deliver(alloc, &op)
     }
 
-    /// What a revision shows.
+    /// Returns the text of a revision.
     pub fn text(&self, alloc: Global, rev: u64) -> Result<String, Refusal> {
         let text = self.sequence.text_at(alloc, rev)?;
         Ok(text.to_string(alloc)?)
     }
 }
 
-/// Whether two sequences keep the same cells. They are compared only where the revision is a multiple of `every`.
+/// Whether two sequences have the same cells. They are compared only if the revision is a multiple of `every`.
 fn are_alike(rows: &BlockSeq, plain: &PlainSeq, rev: u64, every: u64) -> bool {
     match rev.checked_rem(every) {
         Some(0) | None => have_same_cells(rows, plain),
@@ -134,15 +136,15 @@ fn author_of(op: &Op) -> Result<Author, Refusal>
     })
 }
 
-/// Counter and replica of a stamp.
+/// The counter and replica of a stamp.
 pub type Named = (u64, u16);
 
 /// A part by its numbers.
 #[derive(Clone, Copy, Debug)]
 pub enum Sketch {
-    /// The first stamp, the character in front, and the text.
+    /// The first stamp, the character before it, and the text.
     Typed(Named, Option<Named>, &'static str),
-    /// First stamps and lengths of spans.
+    /// The first stamps and lengths of spans.
     Erased(&'static [(Named, u64)]),
 }
 
@@ -176,7 +178,7 @@ pub fn part_of(alloc: Global, sketch: &Sketch) -> Result<Part, Refusal> {
     }
 }
 
-/// The first operation of a replica, by its parts.
+/// Returns the first operation of a replica, with these parts.
 pub fn op_of(alloc: Global, origin: u16, sketches: &[Sketch]) -> Result<Op, Refusal> {
     let mut parts = Row::new(alloc);
     for sketch in sketches {

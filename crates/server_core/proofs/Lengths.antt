@@ -1,4 +1,4 @@
--- A step leaves as many cells as there were.
+-- A step keeps the number of cells.
 use Rattle.std.proofs.Common.{◌≡◌, inl, inr, ℕ, ◌+◌, Bool, true, false, List, [], ◌∷◌, length, Option, Some, None}
 use Rattle.std.proofs.Common.{nat_lt, Result, Ok, Err, refl, sym, ap, ◌∙◌, subst}
 use Rattle.std.specs.List.{slice_get, slice_set}
@@ -45,7 +45,7 @@ move-cells (Scanning request cell) a cells =
 move-cells (Listing cell found) a cells = split (nat_lt (cell + 1) (length cells)) (λ e. rw e refl) (λ e. rw e refl)
 move-cells Leaving a cells = leave-cells a a.rooms cells
 
--- a step leaves as many cells
+-- a step keeps the number of cells
 pub step-cells : (replica : ℕ) (accounts : Accounts) (step : Step) (a : Actor) (cells : List Machine) →
     length (actor_step replica accounts step a cells).2 ≡ length cells
 step-cells replica accounts (Ask request) a cells = refl
@@ -82,7 +82,7 @@ none-cells (Look cell) Leaving a cells expected answer new after h = absurd h
 none-cells (Relay number) task a cells expected answer new after h = absurd h
 none-cells End task a cells expected answer new after h = absurd h
 
--- also where it is out of memory
+-- also if it runs out of memory
 pub acted-cells : (replica : ℕ) (accounts : Accounts) (step : Step) (a : Actor) (cells : List Machine) (answer : Moved)
     (new : Actor) (after : List Machine) →
     Acted step cells a (actor_step replica accounts step a cells) answer new after → length after ≡ length cells

@@ -1,4 +1,4 @@
--- New accounts change nothing but who may log in.
+-- New accounts change only who may log in.
 use Rattle.std.proofs.Common.{◌≡◌, ℕ, false, List, Option, None, Some, refl, ap}
 use Rattle.std.specs.List.{slice_get}
 use Rattle.sessions.specs.Accounts.{Accounts}
@@ -31,6 +31,6 @@ by_actor accounts at step s None e h = rw e refl
 by_actor accounts at step s (Some a) e h = rw e
     (ap (with_actor at (with_accounts accounts s)) (same_step s.replica accounts s.accounts step a s.cells h))
 
--- a step that asks for no session is the same under any accounts
+-- a step that does not log in is the same under any accounts
 pub others_go_on : AccountsLaw
 others_go_on accounts at step s h = by_actor accounts at step s (slice_get s.actors at) refl h

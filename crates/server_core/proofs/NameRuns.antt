@@ -37,7 +37,7 @@ use Rattle.server_core.proofs.Own.{step-name}
 abbrev pub StepLeaves : List Machine → Moved × Actor × List Machine → Type 0
 StepLeaves cells done = Grows (names_of cells) (names_of done.2) × ActorStands (names_of done.2) done.1
 
--- where a scan begins, it has passed nothing, or it is at the pad
+-- at its beginning, a scan has passed nothing, or it is at the pad
 first-behind : (names : List (Option (List ℕ))) (name : List ℕ) (rooms : List Room) →
     AllByRecursion (RoomStands names) rooms → IsBehind names name (first_cell name rooms)
 first-behind names name [] h = inl (λ i low. absurd (omega (Rattle.std.proofs.Common.arith, low)))

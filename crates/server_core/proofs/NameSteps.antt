@@ -90,7 +90,7 @@ pub actor-stays : (old new : List (Option (List ℕ))) (a : Actor) → NamesStay
     ActorStands new a
 actor-stays old new a stay h = (rooms-stay old new a.rooms stay h.0, task-stays old new a.task stay h.1)
 
--- a cell that keeps its name leaves the row
+-- a cell that keeps its name leaves the names of the row unchanged
 pub same_names : (cells : List Machine) (cell : ℕ) (m new : Machine) → slice_get cells cell ≡ Some m → name_of new.owned
     ≡ name_of m.owned → names_of (slice_set cells cell new) ≡ names_of cells
 same_names cells cell m new e same =
@@ -142,7 +142,7 @@ kept-rooms cells name cell m answer rooms new e own h (inr (inr less)) =
     subst (λ r. AllByRecursion (RoomStands (names_of cells)) r) (sym less)
     (each-filter (RoomStands (names_of cells)) (λ room. Rattle.std.specs.Prelude.not (is_of name room)) rooms h)
 
--- an act leaves the names
+-- an act leaves the names unchanged
 act-leaves : (cells : List Machine) (who : Who) (name : List ℕ) (a : Act) (cell : ℕ) (rooms : List Room) (m : Machine) →
     slice_get cells cell ≡ Some m →
     AllByRecursion (RoomStands (names_of cells)) rooms →
@@ -156,7 +156,7 @@ act-leaves cells who name a cell rooms m e h = (
       (rooms-kept name cell a (step name who (visit_on name rooms) a m).0 rooms),
 )
 
--- a cell put back leaves the names and the rooms
+-- a cell put back leaves the names and the rooms unchanged
 back-leaves : (cells : List Machine) (r : Request) (cell : ℕ) (rooms : List Room) (m : Machine)
     (answer : Result (Option Reply) Refusal) → slice_get cells cell ≡ Some m →
     AllByRecursion (RoomStands (names_of cells)) rooms → (goes_on answer cell (length (slice_set cells cell m)) ≡ true →
@@ -169,7 +169,7 @@ back-leaves cells r cell rooms m answer e h passes =
       λ goes. subst (λ names. RequestStands names r (cell + 1)) (sym same) (passes goes),
     )
 
--- whoever does not create, goes on with nothing to know
+-- a request that creates nothing needs to know nothing to go on
 on-leaves : (cells : List Machine) (who : Who) (name : List ℕ) (a : Act) (cell : ℕ) (rooms : List Room) (m : Machine) →
     slice_get cells cell ≡ Some m →
     AllByRecursion (RoomStands (names_of cells)) rooms →
@@ -263,7 +263,7 @@ named-leaves cells name cell visit rooms m new e none named h behind =
           (length (slice_set cells cell new)) goes),
     )
 
--- a creation names the cell that it comes to, or goes on past another name
+-- a creation names the cell that it visits, or goes on past another name
 create-leaves : (cells : List Machine) (owner name : List ℕ) (cell : ℕ) (rooms : List Room) (m : Machine)
     (o : Option Owned) → slice_get cells cell ≡ Some m → m.owned ≡ o →
     AllByRecursion (RoomStands (names_of cells)) rooms → IsBehind (names_of cells) name cell →

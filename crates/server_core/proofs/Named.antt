@@ -1,4 +1,4 @@
--- Rows of names: a row grows by one name behind others, or stays.
+-- Rows of names: a row grows by one name after the others, or stays.
 use Rattle.std.proofs.Common.{◌≡◌, ◌⊎◌, inl, inr, ℕ, zero, suc, ◌+◌, ◌<◌, ◌≤◌, eqb, List, [], ◌∷◌, ◌++◌, length, Option}
 use Rattle.std.proofs.Common.{Some, None, refl, sym, ap, ◌∙◌, subst, arith, eqb-true}
 use Rattle.std.specs.List.{AllByRecursion, slice_get, slice_set, repeat}
@@ -23,18 +23,18 @@ get-set_other (y ∷ ys) zero (suc j) x other = refl
 get-set_other (y ∷ ys) (suc i) zero x other = refl
 get-set_other (y ∷ ys) (suc i) (suc j) x other = get-set_other ys i j x (λ e. other (ap suc e))
 
--- the cells before one have other names than this
+-- the cells before one have other names than it
 abbrev pub ArePassed : List (Option (List ℕ)) → List ℕ → ℕ → Type 0
 ArePassed names pad cell = (i : ℕ) → i < cell → (name : List ℕ) × (slice_get names i ≡ Some (Some name))
     × (name ≡ pad → ⊥)
 
--- a row that stays, or that has one more name behind other ones
+-- a row that stays, or that has one more name after the others
 abbrev pub Grows : List (Option (List ℕ)) → List (Option (List ℕ)) → Type 0
 Grows old new =
     (new ≡ old) ⊎ ((cell : ℕ) × (pad : List ℕ) × (slice_get old cell ≡ Some None) × ArePassed old pad cell
     × (new ≡ slice_set old cell (Some pad)))
 
--- a cell with a name is none without
+-- a cell with a name is not one without
 not_unnamed : (names : List (Option (List ℕ))) (cell : ℕ) (name : List ℕ) → slice_get names cell ≡ Some None →
     slice_get names cell ≡ Some (Some name) → ⊥
 not_unnamed names cell name e f = absurd (cc)

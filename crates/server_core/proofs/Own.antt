@@ -1,4 +1,4 @@
--- A pad keeps its name, and answers a visit only where the name is its own.
+-- A pad keeps its name, and answers a visit only if the name is its own.
 use Rattle.std.proofs.Common.{◌≡◌, ◌⊎◌, inl, inr, ℕ, Bool, true, false, not, cond, List, [], ◌∷◌, ◌++◌, Option, Some}
 use Rattle.std.proofs.Common.{None, Result, Ok, Err, refl, sym, ap, ◌∙◌, subst}
 use Rattle.std.specs.Prelude.{bytes_eq, filter, unwrap_or}
@@ -21,7 +21,7 @@ use Rattle.pad_core.specs.declared.reply.PadReply.{PadReply}
 use Rattle.pad_core.specs.declared.reply.PadReply.TheVariants as pad
 use Rattle.server_core.specs.AtCell.{rooms_after}
 
--- whatever an act comes to, the pad keeps its name
+-- whatever the result of an act, the pad keeps its name
 outcome-name : (o : Option Owned) (outcome : Outcome) (m : Machine) → name_of m.owned ≡ name_of o →
     name_of (applied o outcome m).1.owned ≡ name_of o
 outcome-name o (reads answer) m h = h
@@ -78,7 +78,7 @@ pub step-own : (name : List ℕ) (who : Who) (visit : Option ℕ) (a : Act) (m :
     IsOwn name m (step name who visit a m).0
 step-own name who visit a m = own_by name who visit a m m.owned refl
 
--- the rooms after an act are as before, or one more where the session has joined, or without some
+-- the rooms after an act are unchanged, or one more if the session has joined, or some fewer
 abbrev pub Kept : List ℕ → ℕ → Result PadReply Refusal → List Room → List Room → Type 0
 Kept name cell answer rooms new =
     (new ≡ rooms)

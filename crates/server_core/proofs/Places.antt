@@ -1,4 +1,4 @@
--- What stands at a place of the row, and past it.
+-- What is at an index of the row, and past it.
 use Rattle.std.proofs.Common.{◌≡◌, ℕ, ◌<◌, ◌≤◌, List, length, Some, None, refl, ap, ◌∙◌}
 use Rattle.std.specs.List.{slice_get, slice_set, slice_index_or}
 use Rattle.std.proofs.lemmas.Option.{slice_get-get_or, slice_get_past}

@@ -1,4 +1,4 @@
--- A row of cells, and what a request does at one place of it.
+-- A row of cells, and what a request does at one of them.
 use Rattle.std.proofs.Common.{◌≡◌, ◌⊎◌, inl, inr, ℕ, zero, suc, ◌+◌, ◌<◌, List, [], ◌∷◌, ◌++◌, Option, Some, None}
 use Rattle.std.proofs.Common.{Result, Err, length, refl, ap, ◌∙◌}
 use native.Mathlib.Numerals.{unary_clauses}
@@ -18,11 +18,11 @@ repeat-suc : {A : Type 0} (n : ℕ) (x : A) → repeat n (x ∷ []) ++ x ∷ [] 
 repeat-suc zero x = refl
 repeat-suc (suc n) x = ap (λ r. x ∷ r) (repeat-suc n x)
 
--- one more of the same at the end is one more in front
+-- adding one more of the same at the end is adding it in front
 pub repeat-more : {A : Type 0} (n : ℕ) (x : A) → repeat n (x ∷ []) ++ x ∷ [] ≡ repeat (n + 1) (x ∷ [])
 repeat-more n x = simp unary_clauses (repeat-suc n x)
 
--- as many as were asked for
+-- there are as many as were asked for
 pub length-repeat : {A : Type 0} (n : ℕ) (x : A) → length (repeat n (x ∷ [])) ≡ n
 length-repeat zero x = refl
 length-repeat (suc n) x = ap suc (length-repeat n x)

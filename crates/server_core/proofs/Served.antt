@@ -37,11 +37,7 @@ served old s at step a d row answer actor cells view low is_a is_row v =
     by_case (inl v) = inl (rw (slice_get-get_or s.actors at d low) (ap (λ done. with_actor at s done) v))
     by_case (inr n) = inr (rw (slice_get-get_or s.actors at d low) (actor, cells, n, refl))
 
--- an actor that was not opened does nothing
-pub not_opened : (s : Server) (at : ℕ) (step : Step) → length s.actors ≤ at → Served s at step Idle s
-not_opened s at step past = inl (rw (slice_get_past s.actors at past) refl)
-
--- a run goes on by one event
+-- a run advances by one event
 pub Ran-push : (s now next : Server) (events : List Event) (answers : List Moved) (more : Event) (answer : Moved) →
     Ran s events answers now → GoesThrough now more answer next → Ran s (events ++ more ∷ []) (answers ++ answer ∷ []) next
 Ran-push s now next [] [] more answer r a = (next, subst (λ k. GoesThrough k more answer next) r a, refl)
@@ -67,7 +63,7 @@ none_told (Look cell) Leaving a cells expected answer new after h = absurd h
 none_told (Relay number) task a cells expected answer new after h = absurd h
 none_told End task a cells expected answer new after h = absurd h
 
--- a step that was out of memory says so
+-- a step that ran out of memory says so
 pub told_memory : (s next : Server) (at : ℕ) (step : Step) (o : Option Actor) (answer : Moved) →
     StepFoundNone s at step o answer next → answer ≡ Refused Memory
 told_memory s next at step None answer n = absurd n
@@ -85,7 +81,7 @@ went : (s next : Server) (e : Event) (answer : Moved) → GoesThrough s e answer
 went s next (event.Step at step) answer h no_memory = found s next at step answer h no_memory
 went s next (event.Accounts accounts) answer h no_memory = rw (h.0, h.1) refl
 
--- a run that was never out of memory is the machine's
+-- a run that never ran out of memory is the machine's
 pub Ran-machine : (s new : Server) (events : List Event) (answers : List Moved) → Ran s events answers new →
     FoundMemory answers → run events s ≡ (answers, new)
 Ran-machine s new [] [] r f = ap (λ k. ([], k)) (sym r)
@@ -96,11 +92,11 @@ Ran-machine s new (e ∷ events) (x ∷ answers) r f =
     let rest = Ran-machine r.0 new events answers r.2 f.1 in
     ap (λ k. (k.0 ∷ (run events k.1).0, (run events k.1).1)) one ∙ ap (λ k. (x ∷ k.0, k.1)) rest
 
--- a server went through some events, and others are to come: together they are these
+-- a server handled some events, and others are to come; together they are these
 abbrev pub RanSome : Server → List Event → List Event → List Moved → Server → Type 0
 RanSome s events rest answers now = (past : List Event) × (past ++ rest ≡ events) × Ran s past answers now
 
--- it goes through the next one
+-- it handles the next one
 pub RanSome-push : (s now next : Server) (events rest left : List Event) (answers : List Moved) (more : Event)
     (answer : Moved) →
     RanSome s events rest answers now → rest ≡ more ∷ left → GoesThrough now more answer next →
@@ -117,6 +113,6 @@ pub RanSome-ends : (s now : Server) (events rest : List Event) (answers : List M
 RanSome-ends s now events [] answers r none = subst (λ l. Ran s l answers now) (sym (append-nil r.0) ∙ r.1) r.2
 RanSome-ends s now events (e ∷ rest) answers r none = absurd (cc)
 
--- what holds of each holds of one of them
+-- what holds for each holds for one of them
 pub each_has : {X : Type 0} (P : X → Type 0) (xs : List X) (x : X) → AllByRecursion P xs → Contains xs x → P x
 each_has P xs x each there = All-contains P xs x (All-from_recursion P xs each) there

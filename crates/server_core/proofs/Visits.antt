@@ -1,4 +1,4 @@
--- What a request that was out of memory leaves at a cell, and in a scan.
+-- What a request that ran out of memory leaves at a cell, and in a scan.
 use Rattle.std.proofs.Common.{◌≡◌, inl, inr, ℕ, false, List, Option, Some, Result, Ok, Err, IsOk}
 use Rattle.std.proofs.Common.{length, refl, sym, ap, ap₂, ◌∙◌, subst}
 use Rattle.pad_model.specs.declared.refusal.Refusal.{Refusal}

@@ -8,18 +8,19 @@ use Rattle.server_core.specs.declared.step.Moved.{Moved}
 use Rattle.server_core.specs.declared.step.Step.{Step}
 use Rattle.server_core.specs.declared.step.Step.TheVariants.{Ask}
 
--- whether a request asks for a session
+-- whether a request logs in
 abbrev pub is_log_in : Request → Bool
 is_log_in (Hello name token) = true
 is_log_in (Peer number token version) = true
 is_log_in other = false
 
--- whether a step asks for a session
+-- whether a step logs in
 abbrev pub logs_in : Step → Bool
 logs_in (Ask request) = is_log_in request
 logs_in other = false
 
--- whoever may log in, a step that asks for no session is told the same, and leaves the same server but for its accounts
+-- whatever the accounts are, a step that does not log in has the same result and leaves the same server except for its
+-- accounts
 abbrev pub AccountsLaw : Type 0
 AccountsLaw =
     (accounts : Accounts) → (at : ℕ) → (step : Step) → (s : Server) → logs_in step ≡ false →

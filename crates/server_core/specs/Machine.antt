@@ -1,4 +1,4 @@
--- The server machine: any list of steps of any actors, and of new accounts.
+-- The server machine, over any list of steps of any actors and new accounts.
 use Rattle.std.specs.Prelude.{ℕ, ◌≤◌, nat_le, if◌then◌else◌, List, [], ◌∷◌, ◌++◌, length, slice_get, slice_set, Option}
 use Rattle.std.specs.Prelude.{Some, None, Result, Ok, Err}
 use Rattle.std.specs.List.{repeat}
@@ -15,23 +15,33 @@ use Rattle.server_core.specs.declared.step.Moved.{Moved}
 use Rattle.server_core.specs.declared.step.Moved.TheVariants.{Idle}
 use Rattle.server_core.specs.declared.step.Step.{Step}
 
--- a server: its replica number, who may log in, its row of cells, and who asks
+-- a server: its replica number, the accounts that may log in, its row of cells, and its actors
 pub record Server : Type 0 where
   pub replica : ℕ
   pub accounts : Accounts
   pub cells : List Machine
   pub actors : List Actor
 
--- a cell without a name, on the server with a replica number, where so many visits may be present at once
+-- a cell without a name, on the server with a replica number, with a limit of visits that may be present at once
 abbrev pub unnamed : ℕ → ℕ → Machine
-unnamed replica present = record { owned = None; replica = replica; log = []; held = []; presence = nobody_present present }
+unnamed replica present = record {
+  owned = None;
+  replica = replica;
+  log = [];
+  held = [];
+  presence = nobody_present present;
+}
 
--- a row of cells without names, and nobody who asks
+-- a server with a row of cells without names, and without actors
 abbrev pub new_server : ℕ → ℕ → ℕ → Accounts → Server
-new_server replica present cells accounts = record
-    { replica = replica; accounts = accounts; cells = repeat cells (unnamed replica present ∷ []); actors = [] }
+new_server replica present cells accounts = record {
+  replica = replica;
+  accounts = accounts;
+  cells = repeat cells (unnamed replica present ∷ []);
+  actors = [];
+}
 
--- a row is no longer than it may be
+-- a row has at most as many cells as it may
 abbrev pub IsRow : List Machine → Type 0
 IsRow cells = length cells ≤ MAX_CELLS
 
@@ -41,11 +51,11 @@ with_newcomer s =
     if nat_le MAX_ACTORS (length s.actors) then (Err ActorsFull, s)
     else (Ok (length s.actors), record s { actors = s.actors ++ nobody ∷ [] })
 
--- the server after an actor's step
+-- the result of an actor's step, and the server after it
 abbrev pub with_actor : ℕ → Server → Moved × Actor × List Machine → Moved × Server
 with_actor at s done = (done.0, record s { actors = slice_set s.actors at done.1; cells = done.2 })
 
--- one step of the server machine, by an actor that was opened
+-- one step of the server machine, by an actor that must have been opened
 abbrev pub server_step : ℕ → Step → Server → Moved × Server
 server_step at step s = by_actor (slice_get s.actors at)
   where
@@ -53,16 +63,16 @@ server_step at step s = by_actor (slice_get s.actors at)
     by_actor None = (Idle, s)
     by_actor (Some a) = with_actor at s (actor_step s.replica s.accounts step a s.cells)
 
--- other accounts in the place of those that a server had: its sessions go on
+-- the server with other accounts; its sessions go on
 abbrev pub with_accounts : Accounts → Server → Server
 with_accounts accounts s = record s { accounts = accounts }
 
--- one event: an actor's step, or new accounts, of which nobody is told
+-- one event: an actor's step, or new accounts, whose result is Idle
 abbrev pub server_event : Event → Server → Moved × Server
 server_event (event.Step at step) s = server_step at step s
 server_event (event.Accounts accounts) s = (Idle, with_accounts accounts s)
 
--- what the actors are told at a list of events, and the server after them
+-- the results of a list of events, and the server after them
 abbrev pub run : List Event → Server → List Moved × Server
 run [] s = ([], s)
 run (first ∷ events) s =

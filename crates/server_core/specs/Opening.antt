@@ -1,4 +1,4 @@
--- How a session becomes an author's or a peer's, and what a request takes of its session.
+-- How a session becomes an author's or a peer's, and what a request requires of its session.
 use Rattle.std.specs.Prelude.{ℕ, Bool, true, false, not, ◌&&◌, nat_lt, if◌then◌else◌, List, Option, Some, None, Result}
 use Rattle.std.specs.Prelude.{Ok, Err}
 use Rattle.pad_model.specs.Checked.{is_name, is_within}
@@ -25,41 +25,43 @@ abbrev pub is_of_author : Who → Bool
 is_of_author (who.Author name) = true
 is_of_author other = false
 
--- an author logs in: with a name that an author can have, and its token
+-- a log-in of an author, who needs a name that an author can have and its token
 abbrev pub hello : ℕ → Accounts → List ℕ → List ℕ → Who → Result Reply Refusal × Who
 hello replica accounts name token old =
     if not (is_nobody old) then (Err HaveSession, old)
     else if not (is_name name && is_author name token accounts) then (Err BadToken, old)
     else (Ok (reply.Hello (record { name = name; origin = replica })), who.Author name)
 
--- whether a peer of this version cannot be told of a server with this number
+-- whether this version of the wire cannot express a server's number
 abbrev pub is_unsayable : ℕ → Version → Bool
 is_unsayable replica One = nat_lt OLD_REPLICA replica
 is_unsayable replica Two = false
 
--- a peer logs in: with a number that a replica can have, and its token
+-- a log-in of a peer, which needs a number that a replica can have and its token
 abbrev pub peer : ℕ → Accounts → ℕ → List ℕ → Version → Who → Result Reply Refusal × Who
 peer replica accounts number token version old =
     if not (is_nobody old) then (Err HaveSession, old)
-    else if not (is_within number MAX_REPLICA && is_peer number token accounts) then (Err BadToken, old)
+    else if not (is_within number MAX_REPLICA && is_peer number token accounts)
+    then (Err BadToken, old)
     else if is_unsayable replica version then (Err OldPeer, old)
     else (Ok (reply.Peer replica version), who.Peer number version)
 
--- a session becomes a peer's by itself, without a token, as for exchange with that peer
+-- a session becomes a peer's without a token, to exchange operations with that peer
 abbrev pub relay : ℕ → ℕ → Who → Result Reply Refusal × Who
 relay replica number old = if not (is_nobody old) then (Err HaveSession, old)
     else (Ok (reply.Peer replica Two), who.Peer number Two)
 
--- why a creation is refused before it comes to a cell, if so
+-- the reason to refuse a creation before any cell is visited, if there is one
 abbrev pub create_refusal : Who → List ℕ → Option Refusal
-create_refusal who pad = if not (is_of_author who) then Some NoSession else if not (is_name pad) then Some BadName
+create_refusal who pad = if not (is_of_author who) then Some NoSession else if not (is_name pad)
+    then Some BadName
     else None
 
--- why a list of pads is refused, if so
+-- the reason to refuse a list of pads, if there is one
 abbrev pub pads_refusal : Who → Option Refusal
 pads_refusal who = if is_of_author who then None else Some NoSession
 
--- why an act is refused before it comes to a cell, if so: by its session, or by the name of the pad
+-- the reason to refuse an act before any cell is visited, if there is one: its session, or the name of the pad
 abbrev pub act_refusal : Who → List ℕ → Act → Option Refusal
 act_refusal who pad act = or_by_name (session_refusal who act)
   where

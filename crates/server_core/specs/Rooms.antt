@@ -1,4 +1,4 @@
--- What a visit to a cell takes.
+-- What a request needs at a cell.
 use Rattle.std.specs.Prelude.{◌≡◌, ℕ, ◌≤◌, List, Option, Some, IsTrue}
 use Rattle.pad_model.specs.Checked.{is_name}
 use Rattle.pad_core.specs.declared.act.Act.{Act}
@@ -18,7 +18,7 @@ abbrev pub IsAsked : Request → Type 0
 IsAsked (Create pad) = IsTrue (is_name pad)
 IsAsked other = Unit {0}
 
--- a request that is under way was asked so
+-- a request that is under way creates only a pad whose name is well formed
 abbrev pub IsSoundTask : Task → Type 0
 IsSoundTask (Scanning request cell) = IsAsked request
 IsSoundTask other = Unit {0}

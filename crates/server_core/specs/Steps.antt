@@ -1,4 +1,4 @@
--- The server machine: one actor's step goes in, what it is told and the next state come out.
+-- The server machine: one actor's step goes in, its result and the next state come out.
 use Rattle.std.specs.Prelude.{ℕ, ◌+◌, Bool, false, nat_lt, if◌then◌else◌, List, [], ◌∷◌, length, slice_get, slice_set}
 use Rattle.std.specs.Prelude.{Option, Some, None, Result, Ok, Err}
 use Rattle.pad_model.specs.declared.refusal.Refusal.{Refusal}
@@ -24,42 +24,46 @@ use Rattle.server_core.specs.declared.step.Step.TheVariants as step
 use Rattle.server_core.specs.declared.task.Task.{Task}
 use Rattle.server_core.specs.declared.task.Task.TheVariants.{Resting, Scanning, Listing, Leaving}
 
--- an answer as an actor is told it
+-- an answer as a result of a step
 abbrev pub told : Result Reply Refusal → Moved
 told (Ok answer) = moved.Done answer
 told (Err refusal) = moved.Refused refusal
 
--- a session's own request is answered at once
+-- a request on the session itself is answered at once
 abbrev pub opened : Actor → Result Reply Refusal × Who → Moved × Actor
 opened a done = (told done.0, record a { who = done.1 })
 
--- a scan begins where nothing speaks against the request
+-- a scan begins unless there is a reason to refuse the request
 abbrev pub begun : Request → ℕ → Actor → Option Refusal → Moved × Actor
 begun request cell a (Some refusal) = (moved.Refused refusal, a)
 begun request cell a None = (moved.Scanning, record a { task = Scanning request cell })
 
--- a list of pads begins at the first cell where nothing speaks against it
+-- a list of pads begins at the first cell, unless there is a reason to refuse it
 abbrev pub list_begun : Actor → Option Refusal → Moved × Actor
 list_begun a (Some refusal) = (moved.Refused refusal, a)
 list_begun a None = (moved.Scanning, record a { task = Listing 0 [] })
 
--- a request is asked
+-- the result of asking a request, and the actor after it
 abbrev pub ask : ℕ → Accounts → Request → Actor → Moved × Actor
-ask replica accounts (request.Hello name token) a = opened a (hello replica accounts name token a.who)
-ask replica accounts (request.Peer number token version) a = opened a (peer replica accounts number token version a.who)
-ask replica accounts (request.Create name) a = begun (request.Create name) (first_cell name a.rooms) a
+ask replica accounts (request.Hello name token) a = opened a
+    (hello replica accounts name token a.who)
+ask replica accounts (request.Peer number token version) a = opened a
+    (peer replica accounts number token version a.who)
+ask replica accounts (request.Create name) a = begun (request.Create name) (first_cell name a.rooms)
+    a
     (create_refusal a.who name)
 ask replica accounts request.Pads a = list_begun a (pads_refusal a.who)
-ask replica accounts (request.On name act) a = begun (request.On name act) (first_cell name a.rooms) a
+ask replica accounts (request.On name act) a = begun (request.On name act) (first_cell name a.rooms)
+    a
     (act_refusal a.who name act)
 
--- whether a scan goes on: the cell had another name, and there is one behind it
+-- whether a scan goes on: the cell had another name, and another cell follows it
 abbrev pub goes_on : Result (Option Reply) Refusal → ℕ → ℕ → Bool
 goes_on (Ok None) cell count = nat_lt (cell + 1) count
 goes_on (Ok (Some answer)) cell count = false
 goes_on (Err refusal) cell count = false
 
--- how a scan ends: with the answer of the cell, or past the row
+-- the result of a scan: the answer of its cell, or that of a request that found none
 abbrev pub concluded : Request → Result (Option Reply) Refusal → Moved
 concluded request (Ok None) = moved.Refused (past_row request)
 concluded request (Ok (Some answer)) = moved.Done answer
@@ -72,7 +76,7 @@ scanned request cell a done =
     then (moved.Scanning, record a { rooms = done.1; task = Scanning request (cell + 1) }, done.2)
     else (concluded request done.0, record a { rooms = done.1; task = Resting }, done.2)
 
--- a scan makes one cell's step
+-- a scan advances by one cell
 abbrev pub scan : Request → ℕ → Actor → List Machine → Moved × Actor × List Machine
 scan request cell a cells = scanned request cell a (row_answer a.who request cell a.rooms cells)
 
@@ -84,24 +88,25 @@ left_room who room cells = at_cell (slice_get cells room.cell)
     at_cell None = cells
     at_cell (Some m) = slice_set cells room.cell (step room.pad who (Some room.visit) act.Leave m).1
 
--- the end of a session that has left these rooms but some
+-- the end of a session that has these rooms left to leave
 abbrev pub ended : Actor → List Room → Moved × Actor
 ended a [] = (moved.Done Ended, record { who = Nobody; rooms = []; task = Resting })
 ended a (room ∷ rooms) = (moved.Scanning, record a { rooms = room ∷ rooms; task = Leaving })
 
--- an end leaves the room that was joined first
+-- an end advances by leaving the room that was joined first
 abbrev pub leave_first : Actor → List Room → List Machine → Moved × Actor × List Machine
 leave_first a [] cells = let next = ended a [] in (next.0, next.1, cells)
-leave_first a (room ∷ rooms) cells = let next = ended a rooms in (next.0, next.1, left_room a.who room cells)
+leave_first a (room ∷ rooms) cells = let next = ended a rooms
+    in (next.0, next.1, left_room a.who room cells)
 
--- one cell's step of what is under way
+-- what is under way advances by one cell
 abbrev pub move : Task → Actor → List Machine → Moved × Actor × List Machine
 move Resting a cells = (moved.Idle, a, cells)
 move (Scanning request cell) a cells = scan request cell a cells
 move (Listing cell found) a cells = list_on cell found a cells
 move Leaving a cells = leave_first a a.rooms cells
 
--- the end of a session begins: a scan is dropped, an end that is under way goes on
+-- the end of a session begins: a scan is dropped, an end that is under way continues
 abbrev pub end : Task → Actor → Moved × Actor
 end Leaving a = (moved.Scanning, a)
 end other a = ended a a.rooms
@@ -114,19 +119,21 @@ name_at cell cells = at_cell (slice_get cells cell)
     at_cell None = None
     at_cell (Some m) = name_of m.owned
 
--- what changes the actor alone
+-- a step that changes only the actor
 abbrev pub alone : List Machine → Moved × Actor → Moved × Actor × List Machine
 alone cells done = (done.0, done.1, cells)
 
--- what is refused while something is under way
+-- a step that is refused while something is under way
 abbrev pub unless_busy : Actor → Moved × Actor → Moved × Actor
 unless_busy a done = if is_busy a.task then (moved.Refused Busy, a) else done
 
--- one step of an actor: what it is told, the actor then, and the cells
+-- one step of an actor: its result, and the actor and the cells after it
 abbrev pub actor_step : ℕ → Accounts → Step → Actor → List Machine → Moved × Actor × List Machine
-actor_step replica accounts (step.Ask request) a cells = alone cells (unless_busy a (ask replica accounts request a))
+actor_step replica accounts (step.Ask request) a cells = alone cells
+    (unless_busy a (ask replica accounts request a))
 actor_step replica accounts step.Move a cells = move a.task a cells
-actor_step replica accounts (step.Look cell) a cells = alone cells (unless_busy a (moved.Named (name_at cell cells), a))
+actor_step replica accounts (step.Look cell) a cells = alone cells
+    (unless_busy a (moved.Named (name_at cell cells), a))
 actor_step replica accounts (step.Relay number) a cells =
     alone cells (unless_busy a (opened a (relay replica number a.who)))
 actor_step replica accounts step.End a cells = alone cells (end a.task a)

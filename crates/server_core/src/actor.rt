@@ -42,7 +42,7 @@ impl Model for Actor {
 }
 
 impl Actor {
-    /// Nobody, who does nothing. It takes no memory yet.
+    /// An unauthenticated actor, which does nothing. It allocates no memory.
     pub fn new(alloc: Global) -> Actor
         ensures { result ≡ nobody }
     {
@@ -52,7 +52,7 @@ impl Actor {
         }
     }
 
-    /// Asks a request, which touches no cell yet.
+    /// Asks a request. No cell is visited yet.
     pub fn ask(
         &mut self,
         alloc: Global,
@@ -60,7 +60,9 @@ impl Actor {
         accounts: &Accounts,
         request: &Request,
     ) -> Moved
-        ensures { (cells : List Machine) → Acted (Step.Ask request.now) cells self.old (stepped replica accounts.now (Step.Ask request.now) self.old cells) result self.new cells }
+        ensures { (cells : List Machine) → Acted (Step.Ask request.now) cells self.old
+            (stepped replica accounts.now (Step.Ask request.now) self.old cells) result self.new
+            cells }
     {
         let busy = is_busy(&self.task);
         if busy {
@@ -70,7 +72,7 @@ impl Actor {
         ask(alloc, replica, accounts, session, task, request)
     }
 
-    /// Makes one step, on a row of cells.
+    /// Makes one step on a row of cells.
     pub fn step<S: Sequence>(
         &mut self,
         alloc: Global,
@@ -80,7 +82,8 @@ impl Actor {
         step: &Step,
     ) -> Moved
         requires { length cells.old ≤ MAX_CELLS }
-        ensures acted { Acted step.now cells.old self.old (stepped replica accounts.now step.now self.old cells.old) result self.new cells.new }
+        ensures acted { Acted step.now cells.old self.old
+            (stepped replica accounts.now step.now self.old cells.old) result self.new cells.new }
         ensures formed { (cell : _) → step.now ≡ Step.Look cell → IsFormed result }
     {
         match step {
@@ -103,16 +106,17 @@ impl Actor {
     }
 }
 
-/// Whether a scan or an end is under way.
+/// Whether a scan, a list or an end is under way.
 fn is_busy(task: &Task) -> bool
     ensures { result ≡ busy task.now }
 {
     !matches!(task, Task::Resting)
 }
 
-/// The name of a cell.
+/// Returns the name of a cell.
 fn look<S: Sequence>(alloc: Global, cells: &[Pad<S>], cell: u32) -> Moved
-    ensures told { (moved.Named (name_at cell cells.now) ≡ result) ⊎ (result ≡ moved.Refused refusal.Memory) }
+    ensures told { (moved.Named (name_at cell cells.now) ≡ result)
+        ⊎ (result ≡ moved.Refused refusal.Memory) }
     ensures formed { IsFormed result }
 {
     match name_in(cells, cell) {

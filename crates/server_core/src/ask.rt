@@ -1,4 +1,4 @@
-//! What is asked: a session's own request is answered at once, one on a pad begins a scan.
+//! How a request is asked: one on the session itself is answered at once, one on a pad begins a scan.
 ghost use Rattle.std.specs.Prelude.{◌≡◌, ◌⊎◌, []};
 ghost use Rattle.pad_model.specs.declared.refusal.Refusal.TheVariants as refusal;
 ghost use Rattle.server_core.specs.Actor.{actor_of, first_cell as first_cell_of};
@@ -26,7 +26,9 @@ pub fn ask(
     request: &Request,
 ) -> Moved
     requires { task.old ≡ doing.Resting }
-    ensures tried { Tried (actor_of session.old task.old) (asked replica accounts.now request.now (actor_of session.old task.old)) result (actor_of session.new task.new) }
+    ensures tried { Tried (actor_of session.old task.old)
+        (asked replica accounts.now request.now (actor_of session.old task.old)) result
+        (actor_of session.new task.new) }
     ensures sound { IsSoundTask task.new }
 {
     match request {
@@ -56,7 +58,9 @@ pub fn ask(
 /// Begins a scan with a copy of the request.
 fn begin(session: &Session, task: &mut Task, pad: &Name, request: &Request) -> Moved
     requires { IsAsked request.now }
-    ensures begun { ((result ≡ moved.Refused refusal.Memory) × (task.new ≡ task.old)) ⊎ ((result ≡ moved.Scanning) × (task.new ≡ doing.Scanning request.now (first_cell_of pad.now session.now.rooms))) }
+    ensures begun { ((result ≡ moved.Refused refusal.Memory) × (task.new ≡ task.old))
+        ⊎ ((result ≡ moved.Scanning) × (task.new
+        ≡ doing.Scanning request.now (first_cell_of pad.now session.now.rooms))) }
 {
     match request.clone() {
         Ok(request) => {
@@ -68,7 +72,7 @@ fn begin(session: &Session, task: &mut Task, pad: &Name, request: &Request) -> M
     }
 }
 
-/// Begins a list of pads, which takes no memory yet.
+/// Begins a list of pads. It allocates no memory.
 fn begin_list(alloc: Global, task: &mut Task) -> Moved
     ensures told { result ≡ moved.Scanning }
     ensures task { task.new ≡ doing.Listing 0 [] }
@@ -78,7 +82,7 @@ fn begin_list(alloc: Global, task: &mut Task) -> Moved
     Moved::Scanning
 }
 
-/// Where the scan for a pad begins: at its cell where the session has joined it.
+/// Where the scan for a pad begins: at the pad's cell if the session has joined it, and otherwise at the first cell.
 pub fn first_cell(session: &Session, pad: &Name) -> u32
     ensures { result ≡ first_cell_of pad.now session.now.rooms }
 {
@@ -88,7 +92,7 @@ pub fn first_cell(session: &Session, pad: &Name) -> u32
     }
 }
 
-/// An answer as an actor is told it.
+/// An answer as a result of a step.
 pub fn tell(answer: Result<Reply, Refusal>) -> Moved
     ensures { result ≡ told answer }
 {

@@ -1,4 +1,4 @@
-//! What a request does at one cell. Memory for a room is taken before the pad is asked.
+//! What a request does at one cell. Memory for a room is allocated before the pad is asked.
 ghost use Rattle.std.specs.Prelude.{◌≡◌, ◌≤◌, IsTrue, IfErr, IfOk};
 ghost use Rattle.pad_model.specs.Checked.{is_name};
 ghost use Rattle.pad_core.specs.declared.act.Act.TheVariants as Act;
@@ -13,7 +13,7 @@ use pad_model::{Name, Refusal, Sequence, Who};
 use sessions::{Room, Session};
 use std::alloc::Global;
 
-/// A request at the cell with this place in the row. None: the pad there has another name.
+/// Makes a request at the cell with this index in the row. None: the pad there has another name.
 pub fn request_at<S: Sequence>(
     alloc: Global,
     cell: &mut Pad<S>,
@@ -23,7 +23,9 @@ pub fn request_at<S: Sequence>(
 ) -> Result<Option<Reply>, Refusal>
     requires { IsAsked request.now }
     ensures who { session.new.who ≡ session.old.who }
-    ensures visited { Visited session.old.who request.now session.old.rooms cell.old (requested_at session.old.who request.now place session.old.rooms cell.old) result session.new.rooms cell.new }
+    ensures visited { Visited session.old.who request.now session.old.rooms cell.old
+        (requested_at session.old.who request.now place session.old.rooms cell.old) result
+        session.new.rooms cell.new }
 {
     match request {
         Request::Create { pad } => create_at(alloc, cell, place, session, pad),
@@ -41,7 +43,9 @@ fn act_at<S: Sequence>(
     act: &Act,
 ) -> Result<Option<Reply>, Refusal>
     ensures who { session.new.who ≡ session.old.who }
-    ensures visited { Visited session.old.who (request.On pad.now act.now) session.old.rooms cell.old (acted_at session.old.who pad.now act.now place session.old.rooms cell.old) result session.new.rooms cell.new }
+    ensures visited { Visited session.old.who (request.On pad.now act.now) session.old.rooms
+        cell.old (acted_at session.old.who pad.now act.now place session.old.rooms cell.old) result
+        session.new.rooms cell.new }
 {
     let name = make_room(alloc, session, pad, act)?;
     let event = PadEvent {
@@ -65,7 +69,7 @@ pub fn visit_on(session: &Session, pad: &Name) -> Option<u64>
     }
 }
 
-/// Takes the memory for the room that a join may make: its name, and its place in the session.
+/// Allocates the memory for the room that a join may make: its name, and its place in the session.
 fn make_room(
     alloc: Global,
     session: &mut Session,
@@ -86,7 +90,7 @@ fn make_room(
     }
 }
 
-/// Keeps the rooms as an answer says: one more behind a join, one less behind a leave.
+/// Updates the rooms by an answer: one more after a join, one less after a leave.
 fn keep_rooms(
     session: &mut Session,
     place: u32,
@@ -97,7 +101,8 @@ fn keep_rooms(
 )
     requires { HasRoom act.now pad.now name session.old.spare }
     ensures who { session.new.who ≡ session.old.who }
-    ensures rooms { session.new.rooms ≡ rooms_then pad.now place act.now answer.now session.old.rooms }
+    ensures rooms { session.new.rooms ≡ rooms_then pad.now place act.now answer.now
+        session.old.rooms }
 {
     match (act, answer) {
         (Act::Join, Ok(PadReply::Joined { visit, .. })) => {
@@ -114,7 +119,7 @@ fn keep_rooms(
     }
 }
 
-/// A pad's answer as the server's.
+/// Turns a pad's answer into the server's.
 fn pass_on(answer: Result<PadReply, Refusal>) -> Result<Option<Reply>, Refusal>
     ensures { result ≡ passed answer }
 {
@@ -133,7 +138,9 @@ fn create_at<S: Sequence>(
 ) -> Result<Option<Reply>, Refusal>
     requires { IsTrue (is_name pad.now) }
     ensures who { session.new.who ≡ session.old.who }
-    ensures visited { Visited session.old.who (request.Create pad.now) session.old.rooms cell.old (created_at session.old.who pad.now place session.old.rooms cell.old) result session.new.rooms cell.new }
+    ensures visited { Visited session.old.who (request.Create pad.now) session.old.rooms cell.old
+        (created_at session.old.who pad.now place session.old.rooms cell.old) result
+        session.new.rooms cell.new }
 {
     let name = pad.clone()?;
     session.reserve()?;

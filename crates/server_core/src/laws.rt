@@ -2,14 +2,14 @@
 ghost use Rattle.server_core.specs.LogIns.{AccountsLaw};
 ghost use Rattle.server_core.specs.Names.{NamesLaw};
 
-/// The cells with a name are the first of the row, no two have the same, and a name once given stays, after any steps of any
-/// actors and any new accounts. So a pad is found by a scan that stops at the first cell without a name.
+/// After any steps of any actors and any new accounts, the cells with a name are the first of the row, no two have the
+/// same name, and a name once given stays. So a scan for a pad can stop at the first cell without a name.
 pub fn names_law()
     ensures { NamesLaw }
 {}
 
-/// Only who logs in learns of new accounts: every other step is told the same under any accounts, and leaves the same actors
-/// and pads. So sessions go on, whoever is taken off the accounts.
+/// New accounts affect only log-ins: every other step has the same result under any accounts, and leaves the same
+/// actors and pads. So sessions go on, even those of accounts that were removed.
 pub fn accounts_law()
     ensures { AccountsLaw }
 {}

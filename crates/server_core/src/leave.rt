@@ -10,9 +10,10 @@ use pad_core::{Pad, Reply};
 use pad_model::{Sequence, Who};
 use sessions::{Room, Session};
 
-/// Begins the end of a session. A scan is dropped; an end that is under way stays so.
+/// Begins the end of a session. A scan is dropped; an end that is under way continues.
 pub fn end(session: &mut Session, task: &mut Task) -> Moved
-    ensures ended { end_begun task.old (actor_of session.old task.old) ≡ (result, actor_of session.new task.new) }
+    ensures ended { end_begun task.old (actor_of session.old task.old)
+        ≡ (result, actor_of session.new task.new) }
     ensures sound { IsSoundTask task.new }
 {
     match task {
@@ -21,13 +22,14 @@ pub fn end(session: &mut Session, task: &mut Task) -> Moved
     }
 }
 
-/// Leaves the pad that was joined first, and ends with the last.
+/// Leaves the pad that was joined first. The session ends with the last.
 pub fn leave_first<S: Sequence>(
     cells: &mut [Pad<S>],
     session: &mut Session,
     task: &mut Task,
 ) -> Moved
-    ensures left { first_left (actor_of session.old task.old) session.old.rooms cells.old ≡ (result, actor_of session.new task.new, cells.new) }
+    ensures left { first_left (actor_of session.old task.old) session.old.rooms cells.old
+        ≡ (result, actor_of session.new task.new, cells.new) }
     ensures sound { IsSoundTask task.new }
 {
     if let Some(room) = session.take_first() {
@@ -36,7 +38,7 @@ pub fn leave_first<S: Sequence>(
     finish(session, task)
 }
 
-/// Ends the visit that a room is.
+/// Ends the visit of a room.
 fn leave_room<S: Sequence>(cells: &mut [Pad<S>], who: &Who, room: &Room)
     ensures { cells.new ≡ left_room who.now room.now cells.old }
 {
@@ -46,9 +48,10 @@ fn leave_room<S: Sequence>(cells: &mut [Pad<S>], who: &Who, room: &Room)
     }
 }
 
-/// The session is unauthenticated again once it has left its pads.
+/// Makes the session unauthenticated once it has left its pads.
 fn finish(session: &mut Session, task: &mut Task) -> Moved
-    ensures ended { ended (actor_of session.old task.old) session.old.rooms ≡ (result, actor_of session.new task.new) }
+    ensures ended { ended (actor_of session.old task.old) session.old.rooms
+        ≡ (result, actor_of session.new task.new) }
     ensures sound { IsSoundTask task.new }
 {
     if session.has_rooms() {

@@ -1,6 +1,6 @@
 //! The server machine: a row of cells, each with a pad or without a name, and actors that ask for pads by name.
 //!
-//! An actor's step goes in, what the actor is told comes out. It is one thread's: no step waits.
+//! An actor's step goes in, and its result comes out. All of it runs in one thread: no step waits.
 #![tactic(auto)]
 
 mod actor;

@@ -1,10 +1,10 @@
-//! How many there can be.
+//! The limits of a server.
 
-/// Cells of a server.
+/// The most cells of a server.
 pub const MAX_CELLS: u32 = 4_096;
 
-/// Cells of a server that is not told how many.
+/// The default number of cells of a server.
 pub const DEFAULT_CELLS: u32 = 64;
 
-/// Actors of a server, over its life.
+/// The most actors that a server opens, over its lifetime.
 pub const MAX_ACTORS: u32 = 1_024;

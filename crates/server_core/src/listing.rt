@@ -1,4 +1,4 @@
-//! A list of pads: what one cell after the other tells the session.
+//! A list of pads, collected cell by cell.
 ghost use Rattle.std.specs.Prelude.{◌≡◌, ◌≢◌, ◌++◌, [], IfErr, OnOk};
 ghost use Rattle.pad_model.specs.declared.refusal.Refusal.TheVariants as refusal;
 ghost use Rattle.server_core.specs.Listing.{listed_at};
@@ -7,7 +7,7 @@ use pad_core::{Listed, Pad};
 use pad_model::{Refusal, Row, Sequence, Who};
 use std::alloc::Global;
 
-/// Adds what the cell at a place of the row tells somebody: its pad, if they may read it.
+/// Adds the pad of the cell with this index in the row, if `who` may read it.
 pub fn list_cell<S: Sequence>(
     alloc: Global,
     cells: &[Pad<S>],
@@ -16,7 +16,8 @@ pub fn list_cell<S: Sequence>(
     found: &mut Row<Listed>,
 ) -> Result<(), Refusal>
     ensures listed { OnOk result (found.new ≡ found.old ++ listed_at who.now place cells.now) }
-    ensures memory { IfErr result (λ e. (e ≡ refusal.Memory) × (listed_at who.now place cells.now ≢ [])) }
+    ensures memory { IfErr result (λ e. (e ≡ refusal.Memory)
+        × (listed_at who.now place cells.now ≢ [])) }
 {
     let index = place as usize;
     if index >= cells.len() {

@@ -1,4 +1,4 @@
-//! How a session becomes an author's or a peer's, and what a request takes of its session.
+//! How a session becomes an author's or a peer's, and what a request requires of its session.
 ghost use Rattle.std.specs.Prelude.{◌≡◌};
 ghost use Rattle.pad_model.specs.Answers.{Answers};
 ghost use Rattle.server_core.specs.Opening.{hello as author_opened, peer as peer_opened, relay as relay_opened, is_nobody, is_of_author, is_unsayable, create_refusal as create_refused, pads_refusal as pads_refused, act_refusal as act_refused};
@@ -8,7 +8,7 @@ use pad_model::{Author, Name, OLD_REPLICA, Refusal, Version, Who};
 use sessions::{Accounts, Session, Word};
 use std::alloc::Global;
 
-/// An author logs in.
+/// Logs in an author.
 pub fn hello(
     alloc: Global,
     replica: u16,
@@ -17,7 +17,9 @@ pub fn hello(
     token: &Word,
     session: &mut Session,
 ) -> Result<Reply, Refusal>
-    ensures who { Answers session.old.who (author_opened replica accounts.now name.now token.now session.old.who) result session.new.who }
+    ensures who { Answers session.old.who
+        (author_opened replica accounts.now name.now token.now session.old.who) result
+        session.new.who }
     ensures rooms { session.new.rooms ≡ session.old.rooms }
 {
     if !is_nobody(session.who()) {
@@ -34,7 +36,7 @@ pub fn hello(
     Ok(Reply::Hello { author })
 }
 
-/// A peer logs in. A number that no replica can have is no peer's.
+/// Logs in a peer. No peer has a number that is not a replica's.
 pub fn peer(
     replica: u16,
     accounts: &Accounts,
@@ -43,7 +45,8 @@ pub fn peer(
     version: Version,
     session: &mut Session,
 ) -> Result<Reply, Refusal>
-    ensures who { peer_opened replica accounts.now number token.now version session.old.who ≡ (result, session.new.who) }
+    ensures who { peer_opened replica accounts.now number token.now version session.old.who
+        ≡ (result, session.new.who) }
     ensures rooms { session.new.rooms ≡ session.old.rooms }
 {
     if !is_nobody(session.who()) {
@@ -79,7 +82,7 @@ pub fn relay(replica: u16, number: u16, session: &mut Session) -> Result<Reply, 
     Ok(Reply::Peer { replica, version })
 }
 
-/// Why a creation is refused before it comes to a cell, if so.
+/// The reason to refuse a creation before any cell is visited, if there is one.
 pub fn create_refusal(who: &Who, pad: &Name) -> Option<Refusal>
     ensures { result ≡ create_refused who.now pad.now }
 {
@@ -92,7 +95,7 @@ pub fn create_refusal(who: &Who, pad: &Name) -> Option<Refusal>
     None
 }
 
-/// Why a list of pads is refused, if so.
+/// The reason to refuse a list of pads, if there is one.
 pub fn pads_refusal(who: &Who) -> Option<Refusal>
     ensures { result ≡ pads_refused who.now }
 {
@@ -103,7 +106,7 @@ pub fn pads_refusal(who: &Who) -> Option<Refusal>
     }
 }
 
-/// Why an act is refused before it comes to a cell, if so.
+/// The reason to refuse an act before any cell is visited, if there is one.
 pub fn act_refusal(who: &Who, pad: &Name, act: &Act) -> Option<Refusal>
     ensures { result ≡ act_refused who.now pad.now act.now }
 {
@@ -127,7 +130,7 @@ fn is_of_author(who: &Who) -> bool
     matches!(who, Who::Author(_))
 }
 
-/// Whether a peer of this version cannot be told of a server with this number.
+/// Whether this version of the wire cannot express a server's number.
 fn is_unsayable(replica: u16, version: Version) -> bool
     ensures { result ≡ is_unsayable replica version }
 {

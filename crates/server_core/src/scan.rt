@@ -20,7 +20,7 @@ use sessions::Session;
 use std::alloc::Global;
 use std::mem;
 
-/// Goes on with what is under way, by one cell.
+/// Advances what is under way by one cell.
 pub fn go_on<S: Sequence>(
     alloc: Global,
     cells: &mut [Pad<S>],
@@ -29,7 +29,9 @@ pub fn go_on<S: Sequence>(
 ) -> Moved
     requires row { length cells.old ≤ MAX_CELLS }
     requires sound { IsSoundTask task.old }
-    ensures acted { Acted step.Move cells.old (actor_of session.old task.old) (moved_on task.old (actor_of session.old task.old) cells.old) result (actor_of session.new task.new) cells.new }
+    ensures acted { Acted step.Move cells.old (actor_of session.old task.old)
+        (moved_on task.old (actor_of session.old task.old) cells.old) result
+        (actor_of session.new task.new) cells.new }
     ensures sound { IsSoundTask task.new }
 {
     match task {
@@ -63,7 +65,7 @@ pub fn go_on<S: Sequence>(
     }
 }
 
-/// A request at a place of the row. None: the pad there has another name.
+/// Makes a request at an index of the row. None: the pad there has another name.
 fn answer_at<S: Sequence>(
     alloc: Global,
     cells: &mut [Pad<S>],
@@ -73,7 +75,9 @@ fn answer_at<S: Sequence>(
 ) -> Result<Option<Reply>, Refusal>
     requires { IsAsked request.now }
     ensures who { session.new.who ≡ session.old.who }
-    ensures visited { RowVisited session.old.who request.now place session.old.rooms cells.old (row_answered session.old.who request.now place session.old.rooms cells.old) result session.new.rooms cells.new }
+    ensures visited { RowVisited session.old.who request.now place session.old.rooms cells.old
+        (row_answered session.old.who request.now place session.old.rooms cells.old) result
+        session.new.rooms cells.new }
 {
     let index = place as usize;
     if index >= cells.len() {
@@ -82,7 +86,7 @@ fn answer_at<S: Sequence>(
     request_at(alloc, &mut cells[index], place, session, request)
 }
 
-/// Whether the cell had another name, and there is one behind it.
+/// Whether the cell had another name and another cell follows it.
 fn goes_on(answer: &Result<Option<Reply>, Refusal>, place: u32, count: usize) -> bool
     ensures { result ≡ going_on answer.now place count }
 {
@@ -92,7 +96,7 @@ fn goes_on(answer: &Result<Option<Reply>, Refusal>, place: u32, count: usize) ->
     }
 }
 
-/// How a scan ends: with the answer of its cell, or past the row.
+/// The result of a scan: the answer of its cell, or that of a request that found none.
 fn conclude(answer: Result<Option<Reply>, Refusal>, request: &Request) -> Moved
     ensures { result ≡ concluded request.now answer }
 {
@@ -103,7 +107,7 @@ fn conclude(answer: Result<Option<Reply>, Refusal>, request: &Request) -> Moved
     }
 }
 
-/// How a request ends that finds no cell.
+/// The refusal of a request that finds no cell.
 pub fn past_row(request: &Request) -> Refusal
     ensures { result ≡ row_passed request.now }
 {

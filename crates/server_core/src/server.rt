@@ -21,7 +21,7 @@ use sessions::Accounts;
 use std::alloc::Global;
 use std::marker::Model;
 
-/// A row of cells, who may log in, and the actors that ask.
+/// A server: its row of cells, the accounts that may log in, and its actors.
 #[derive(Drop)]
 pub struct Server<S: Sequence> {
     replica: u16,
@@ -35,14 +35,19 @@ impl<S: Sequence> Model for Server<S> {
 
     ghost Value = { Server };
 
-    ghost view = { λ s. record { replica = s.replica; accounts = s.accounts; cells = s.cells.items; actors = s.actors.items } };
+    ghost view = { λ s. record {
+      replica = s.replica;
+      accounts = s.accounts;
+      cells = s.cells.items;
+      actors = s.actors.items;
+    } };
 
     ghost invariant = { λ s. IsRow s.cells.items };
 }
 
 impl<S: Sequence> Server<S> {
-    /// A server with this replica number, with a row of cells without names, on each of which this many visits may be present at
-    /// once, and no actors.
+    /// Creates a server with this replica number, with this many cells, all without names, and without actors. On each
+    /// pad, `present` visits may be present at once.
     pub fn new(
         alloc: Global,
         replica: u16,
@@ -52,7 +57,8 @@ impl<S: Sequence> Server<S> {
     ) -> Result<Server<S>, Refusal>
         requires replica { 1 ≤ replica }
         requires cells { cells ≤ MAX_CELLS }
-        ensures { MatchResult result (λ server. server ≡ new_server replica present cells accounts) (λ e. e ≡ Refusal.Memory) }
+        ensures { MatchResult result (λ server. server ≡ new_server replica present cells accounts)
+            (λ e. e ≡ Refusal.Memory) }
     {
         Ok(Server {
             replica,
@@ -62,14 +68,14 @@ impl<S: Sequence> Server<S> {
         })
     }
 
-    /// How many cells there are.
+    /// The number of cells.
     pub fn cells(&self) -> u32
         ensures { result ≡ length self.now.cells }
     {
         self.cells.len() as u32
     }
 
-    /// One more actor, by its number, from 0. It is nobody until it logs in.
+    /// Opens one more actor, and returns its number, from 0. It is unauthenticated until it logs in.
     pub fn open(&mut self, alloc: Global) -> Result<u32, Refusal>
         ensures { Answers self.old (with_newcomer self.old) result self.new }
     {
@@ -81,7 +87,7 @@ impl<S: Sequence> Server<S> {
         Ok(count as u32)
     }
 
-    /// Asks a request as the step `Ask` does, by an actor that was opened.
+    /// Asks a request, like the step `Ask`. The actor must have been opened.
     pub fn ask(&mut self, alloc: Global, actor: u32, request: &Request) -> Moved
         ensures { Served self.old actor (Step.Ask request.now) result self.new }
     {
@@ -92,7 +98,7 @@ impl<S: Sequence> Server<S> {
         self.actors[index].ask(alloc, self.replica, &self.accounts, request)
     }
 
-    /// Makes one step of an actor that was opened.
+    /// Makes one step of an actor, which must have been opened.
     pub fn step(&mut self, alloc: Global, actor: u32, step: &Step) -> Moved
         ensures served { Served self.old actor step.now result self.new }
         ensures formed { (cell : _) → step.now ≡ Step.Look cell → IsFormed result }
@@ -105,15 +111,15 @@ impl<S: Sequence> Server<S> {
         self.actors[index].step(alloc, self.replica, &self.accounts, cells, step)
     }
 
-    /// Takes other accounts in the place of those that it had. Sessions go on, also those of authors who are in them no more;
-    /// who logs in from now on needs one of these.
+    /// Replaces the accounts. Sessions go on, even those of accounts that were removed; log-ins need one of the new
+    /// accounts from now on.
     pub fn replace_accounts(&mut self, accounts: Accounts)
         ensures { self.new ≡ with_accounts accounts self.old }
     {
         self.accounts = accounts;
     }
 
-    /// Goes through one event. Nobody is told of new accounts: the answer is Idle.
+    /// Handles one event. The result of new accounts is `Idle`.
     fn go_through(&mut self, alloc: Global, event: Event) -> Moved
         ensures { GoesThrough self.old event result self.new }
     {
@@ -126,18 +132,21 @@ impl<S: Sequence> Server<S> {
         }
     }
 
-    /// Goes through a list of events, one after the other.
+    /// Handles a list of events, one after another, and returns their results.
     ///
-    /// The room for what the actors are told is taken first; without it nothing is done.
+    /// The memory for the results is allocated first; without it, nothing is done.
     pub fn run(&mut self, alloc: Global, events: Vec<Event>) -> Result<Vec<Moved>, Refusal>
-        ensures ran { MatchResult result (λ answers. Ran self.old events.items answers.items self.new) (λ e. (e ≡ Refusal.Memory) × (self.new ≡ self.old)) }
+        ensures ran { MatchResult result (λ answers. Ran self.old events.items answers.items
+            self.new) (λ e. (e ≡ Refusal.Memory) × (self.new ≡ self.old)) }
 
-        // What the actors are told and the server are the machine's, where no step was out of memory.
-        ensures machine { IfOk result (λ answers. FoundMemory answers.items → machine_run events.items self.old ≡ (answers.items, self.new)) }
+        // If no step ran out of memory, the results and the server are the machine's.
+        ensures machine { IfOk result (λ answers. FoundMemory answers.items
+            → machine_run events.items self.old ≡ (answers.items, self.new)) }
 
-        // What a reader of a pad's present text, authors or comments is answered then depends on the set of its operations alone:
-        // any other log of a pad with the same ones answers the same.
-        ensures alike { OnOk result ((m : Machine) → Contains self.new.cells m → (other : List Op) → IsDelivered other → HaveSame m.log other → ReadAlike m.log other) }
+        // The present text, authors and comments of a pad then depend only on the set of its operations: any other log
+        // with the same operations reads the same.
+        ensures alike { OnOk result ((m : Machine) → Contains self.new.cells m → (other : List Op)
+            → IsDelivered other → HaveSame m.log other → ReadAlike m.log other) }
     {
         let mut answers = match Vec::with_capacity(alloc, events.len()) {
             Ok(answers) => answers,
@@ -152,7 +161,7 @@ impl<S: Sequence> Server<S> {
     }
 }
 
-/// Nothing; it tells contracts that the log of each cell is one of delivered operations.
+/// Does nothing at run time. Its contract gives a proof that the log of each cell is one of delivered operations.
 fn know_delivered<S: Sequence>(cells: &[Pad<S>])
     ensures { AllByRecursion (λ m. IsDelivered m.log) cells.now }
 {
@@ -161,7 +170,7 @@ fn know_delivered<S: Sequence>(cells: &[Pad<S>])
     }
 }
 
-/// Cells without names.
+/// Makes a row of cells without names.
 fn make_row<S: Sequence>(
     alloc: Global,
     replica: u16,
@@ -169,7 +178,8 @@ fn make_row<S: Sequence>(
     count: u32,
 ) -> Result<Vec<Pad<S>>, Refusal>
     requires { 1 ≤ replica }
-    ensures { MatchResult result (λ cells. cells.items ≡ repeat count (unnamed replica present ∷ [])) (λ e. e ≡ Refusal.Memory) }
+    ensures { MatchResult result (λ cells. cells.items
+        ≡ repeat count (unnamed replica present ∷ [])) (λ e. e ≡ Refusal.Memory) }
 {
     let mut cells = Vec::new(alloc);
     for _ in 0..count {

@@ -1,4 +1,4 @@
-//! What an actor is doing between its steps.
+//! What an actor is doing between two steps.
 ghost use Rattle.std.specs.Prelude.{◌≡◌};
 
 use pad_core::{Listed, Request};
@@ -9,16 +9,16 @@ use pad_model::Row;
 pub enum Task {
     /// Nothing.
     Resting,
-    /// A request goes from cell to cell, and is at this one.
+    /// A request goes from cell to cell; this one is next.
     Scanning { request: Request, cell: u32 },
-    /// A list of pads goes from cell to cell, is at this one, and has found these.
+    /// A list of pads goes from cell to cell; this one is next, and these pads were found so far.
     Listing { cell: u32, found: Row<Listed> },
-    /// The session leaves its pads.
+    /// The session is leaving its pads.
     Leaving,
 }
 
 impl Task {
-    /// Does something else from now on.
+    /// Replaces what is under way.
     pub fn turn(&mut self, next: Task)
         ensures { self.new ≡ next }
     {

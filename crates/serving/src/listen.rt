@@ -24,9 +24,13 @@ use std::time::Clock;
 use web_wire::{Page, Site};
 use workers::Row;
 
-/// Serves connections at an address, and browsers at another one if the settings say so, until as many have ended as they
-/// say. Each address is printed with its real port. The path is that of the accounts file. With a store, the pads come from
-/// it, each reply waits until everything that it reveals is synced, and the server stops if the store fails.
+/// Threads that help to sync the files of many pads. They wait for the disk, so there are more of them than processors.
+const SYNCERS: u32 = 12;
+
+/// Serves connections at an address, and browsers at another one if the settings say so, until as many connections have
+/// ended as the settings say. Each address is printed with its real port. The path is that of the accounts file. With a
+/// store, the pads come from it, each reply waits until everything that it reveals is synced, and the server stops if
+/// the store fails.
 pub fn serve_clients<'a, R>(
     rt: &R,
     files: HostRuntime,
@@ -132,15 +136,23 @@ fn origins_of(alloc: Global, asked: Settings<'_>) -> Result<Vec<String>, AllocEr
     Ok(origins)
 }
 
-/// What the threads have that serve no connection: those that exchange with peers, and the one that watches the accounts file.
+/// What the threads that serve no connection have: those that exchange with peers, and the one that watches the
+/// accounts file.
 #[derive(Drop)]
 struct Others<'a, R> {
     exchange: &'a Exchange,
     groups: Vec<Group<'a, R>>,
     guard: Guard<'a>,
     watch: Watch<'a>,
-    /// It is rung when the server ends.
+    /// Rung when the server ends.
     end: &'a Bell,
+}
+
+/// Ends the threads that help to sync files.
+fn end_help(guard: Guard<'_>) {
+    if let Some(keeper) = guard.keeper {
+        keeper.end_help();
+    }
 }
 
 /// Accepts connections in one thread, and serves them in the workers' threads. Others exchange with the peers, and once more after
@@ -172,6 +184,11 @@ where
     thread::scope(thread::scope_env(), rt, |scope| {
         let mut threads = 0u64;
         let mut is_whole = true;
+        if let Some(keeper) = guard.keeper {
+            for _ in 0..SYNCERS {
+                let _helps = scope.spawn(move || keeper.help(rt));
+            }
+        }
         for group in groups {
             match scope.spawn(move || exchange_all(row, exchange, group, guard)) {
                 Ok(_) => threads = threads.saturating_add(1),
@@ -185,11 +202,13 @@ where
             hub.stop();
             guard.end(rt);
             exchange.ring(rt);
+            end_help(guard);
             return Err(ServingError::NoThread);
         }
         serve_all(service, workers.as_mut_slice());
         end.ring_last(rt);
         exchange.finish(rt, threads, guard);
+        end_help(guard);
         Ok(())
     })
 }

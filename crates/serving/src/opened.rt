@@ -19,7 +19,7 @@ use std::sync::Wait;
 use std::thread::Threads;
 use workers::{Names, open_row};
 
-/// The pads of a server, their revisions, who keeps them and who may use them.
+/// The pads of a server, their revisions, their keeper and the accounts that may use them.
 #[derive(Drop)]
 pub struct Opened {
     pub cells: Vec<SharedPad<BlockSeq>>,
@@ -27,10 +27,10 @@ pub struct Opened {
     pub revisions: Vec<u64>,
     pub keeper: Option<Keeper>,
     pub accounts: Accounts,
-    /// What the threads that exchange with peers share, and how they are stopped.
+    /// What the threads that exchange with peers share, and the means to stop them.
     pub exchange: Exchange,
     pub stop: Stop,
-    /// It is rung when the server ends.
+    /// Rung when the server ends.
     pub end: Bell,
 }
 

@@ -9,8 +9,8 @@ use std::alloc::Global;
 use std::sync::Wait;
 use workers::Gate;
 
-/// Wakes the threads that exchange with peers before each reply that tells of a delivered operation. What was answered at a pad
-/// is noted in the store, and that the pad has moved is told to the workers and to those threads, under the pad's lock.
+/// Wakes the threads that exchange with peers before each reply that reports a delivered operation. Under the pad's
+/// lock, each answer is noted in the store, and the workers and those threads are notified that the pad has moved.
 #[derive(Drop)]
 pub struct PadGate<'a, R> {
     rt: &'a R,
@@ -41,8 +41,8 @@ impl<R: Wait> Gate for PadGate<'_, R> {
         if let Some(keeper) = self.keeper {
             keeper.note(self.rt, alloc, told);
         }
-        if !told.more.is_empty() {
-            self.hub.publish(told.cell, told.more.len() as u64);
+        if told.made > 0 {
+            self.hub.publish(told.cell, told.made);
             self.exchange.note(told.cell);
         }
         // A peer may have the pad already.
@@ -50,6 +50,10 @@ impl<R: Wait> Gate for PadGate<'_, R> {
             self.exchange.note(told.cell);
             self.exchange.ring(self.rt);
         }
+    }
+
+    fn reads_operations(&self) -> bool {
+        self.keeper.is_some()
     }
 
     fn keeps(&self, alloc: Global, request: &Request) -> Result<(), Refusal> {

@@ -1,4 +1,4 @@
-//! For how many clients the limit of open files leaves room.
+//! The number of clients for which the limit of open files leaves room.
 use crate::settings::Settings;
 use journal::Journal;
 use libc::types::rlimit;
@@ -6,15 +6,15 @@ use libc::{RLIMIT_NOFILE, getrlimit};
 use log::warn;
 use std::time::Clock;
 
-/// The files that a server has open beside its clients' sockets: the standard streams, the listeners, the store's lock, folder,
-/// reserve and spare files, and the acceptor's poll and waker.
+/// The files that a server has open besides its clients' sockets: the standard streams, the listeners, the store's
+/// lock, folder, reserve and spare files, and the acceptor's poll and waker.
 const OTHERS: u64 = 24;
 
 /// The handles of the socket to a peer: to read, to write, and to break the exchange off.
 const HANDLES: u64 = 3;
 
-/// Warns, if the limit of open files leaves room for fewer clients than may be connected. Each of so many threads has two
-/// files, and so has each pad of a store; each of so many peers has a socket.
+/// Warns if the limit of open files leaves room for fewer clients than may be connected. Each thread has two files, and
+/// so does each pad of a store; each peer has a socket.
 pub fn warn_of_room<R: Clock + Eprint>(rt: &R, asked: Settings<'_>, threads: usize, peers: usize) {
     let Some(limit) = most_files() else {
         return;
@@ -36,7 +36,7 @@ pub fn warn_of_room<R: Clock + Eprint>(rt: &R, asked: Settings<'_>, threads: usi
     }
 }
 
-// How many files the process may have open, if the system tells.
+// The number of files that the process may have open, if the system reports it.
 fn most_files() -> Option<u64> {
     let mut limit = rlimit {
         rlim_cur: 0,

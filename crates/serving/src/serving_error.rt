@@ -9,10 +9,10 @@ use thiserror::Error;
 /// Why a server over TCP does not start, or ends early.
 #[derive(Clone, Copy, Debug, Error)]
 pub enum ServingError<'a> {
-    /// The accounts file is not taken.
+    /// The accounts file is refused.
     #[error("{0}")]
     Accounts(AccountsFileError<'a>),
-    /// The store is not taken.
+    /// The store is refused.
     #[error("{0}")]
     Store(StoreError<'a>),
     /// The address has no port number.
@@ -27,13 +27,13 @@ pub enum ServingError<'a> {
     /// The system gives no sockets or events for the workers.
     #[error("the threads that serve connections cannot be set up: {0}")]
     NotSetUp(io::Error),
-    /// The system makes fewer threads than are needed.
+    /// The system cannot make as many threads as are needed.
     #[error("the system makes no thread")]
     NoThread,
-    /// The store has failed while the server ran.
+    /// The store failed while the server ran.
     #[error("the store {folder} failed")]
     StoreFailed { folder: &'a str },
-    /// A worker or the acceptor has failed while the server ran.
+    /// A worker or the acceptor failed while the server ran.
     #[error("a thread that serves connections failed")]
     WorkerFailed,
     /// The pads are refused: they have no room for the seats of all threads, or there is no memory.

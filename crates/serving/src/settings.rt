@@ -1,21 +1,21 @@
-//! What a server over TCP is asked for.
+//! The settings of a server over TCP.
 
-/// What a server over TCP is asked for.
+/// The settings of a server over TCP.
 #[derive(Clone, Copy)]
 pub struct Settings<'a> {
     /// The replica number of this server, at least 1.
     pub replica: u16,
-    /// How many pads the server has room for, at most 4,096.
+    /// The number of pads for which the server has room, at most 4,096.
     pub cells: u32,
-    /// How many visits may be present on a pad at once.
+    /// The most visits that may be present on a pad at once.
     pub present: u64,
-    /// How many threads serve connections, 1 to 63. None: one for each processor.
+    /// The number of threads that serve connections, 1 to 63. None: one for each processor.
     pub workers: Option<u32>,
-    /// After how many connections the server ends. None: it does not.
+    /// The number of connections after which the server ends. None: it does not.
     pub connections: Option<u32>,
-    /// How many clients may be connected at once, at least 1.
+    /// The most clients that may be connected at once, at least 1.
     pub clients: u32,
-    /// After how many seconds of silence a connection is closed. None: never.
+    /// The seconds of silence after which a connection is closed. None: never.
     pub idle: Option<u32>,
     /// The directory where pads are kept. None: they are lost when the server ends.
     pub store: Option<&'a str>,
@@ -23,6 +23,6 @@ pub struct Settings<'a> {
     pub new_replica: bool,
     /// The address where the page for browsers is served.
     pub web: Option<&'a str>,
-    /// Whose pages may connect beside the server's own: origins, separated by commas.
+    /// The origins whose pages may connect besides the server's own, separated by commas.
     pub web_origins: Option<&'a str>,
 }

@@ -1,10 +1,10 @@
-//! What the replies of the workers wait for.
+//! What the workers' replies wait for.
 use event_loop::Settle;
 use pad_files::Keeper;
 use std::io;
 use std::sync::Wait;
 
-/// What the replies of the workers wait for: the sync of the store, if there is one.
+/// What the workers' replies wait for: the sync of the store, if there is one.
 #[derive(Drop)]
 pub struct Settling<'a, R> {
     rt: &'a R,

@@ -1,4 +1,4 @@
-//! How many threads a server has, and their seats at the pads.
+//! The number of a server's threads, and their seats at the pads.
 ghost use Rattle.std.specs.Prelude.{◌≤◌};
 ghost use Rattle.serving.specs.declared.threads.TheConstants.{MAX_WORKERS};
 
@@ -20,7 +20,7 @@ use workers::{take_all_seats, take_seats};
 /// The most workers. Each has a seat at each pad, and so has each of up to 16 threads that exchange with other servers.
 pub const MAX_WORKERS: u32 = 63;
 
-/// The number of workers where none is asked for and the system does not tell how many processors there are.
+/// The number of workers if none is asked for and the system does not report the number of processors.
 const DEFAULT_WORKERS: u32 = 16;
 
 /// The threads that serve connections, with a seat for each at each pad. It warns if they can't serve as many clients as may
@@ -71,14 +71,14 @@ where
     Ok(groups)
 }
 
-/// How many threads have a seat at each pad, on a server with so many peers: those that serve connections, and those that exchange
-/// with peers.
+/// The number of threads with a seat at each pad, on a server with this many peers: those that serve connections, and
+/// those that exchange with peers.
 pub fn seats_for<R: Threads>(rt: &R, asked: Settings<'_>, peers: usize) -> u32 {
     threads_for(rt, asked).saturating_add(peers.min(MAX_THREADS) as u32)
 }
 
-/// How many threads serve connections: as many as the command line asks for, or as there are processors, and one for long
-/// lines.
+/// The number of threads that serve connections: as many as the command line asks for, or as there are processors, and
+/// one for long lines.
 pub fn threads_for<R: Threads>(rt: &R, asked: Settings<'_>) -> u32
     ensures { (2 ≤ result) × (result ≤ MAX_WORKERS) }
 {
@@ -89,7 +89,7 @@ pub fn threads_for<R: Threads>(rt: &R, asked: Settings<'_>) -> u32
     workers.clamp(1, MAX_WORKERS - 1) + 1
 }
 
-/// How many processors there are, as far as the system tells.
+/// The number of processors, as far as the system reports it.
 pub fn processors<R: Threads>(rt: &R) -> u32 {
     match thread::available_parallelism(rt) {
         Ok(count) => u32::try_from(count.get()).unwrap_or(MAX_WORKERS),

@@ -10,22 +10,22 @@ use std::sync::Wait;
 use std::time::Clock;
 use std::{fs, io};
 
-/// Seconds from one look at the file to the next.
+/// The seconds between two checks of the file.
 const LOOK: u64 = 5;
 
-/// An accounts file, and what it had when it was looked at last.
+/// An accounts file, and what it contained when it was last checked.
 #[derive(Drop)]
 pub struct Watch<'a> {
-    /// By which the file is read.
+    /// Reads the file.
     files: HostRuntime,
     path: &'a str,
     bytes: Vec<u8>,
-    /// Whether it could not be read then.
+    /// Whether it could not be read at the last check.
     is_unread: bool,
 }
 
 impl<'a> Watch<'a> {
-    /// Of a file that was read, and had these bytes.
+    /// The state of a file that was read and had these bytes.
     pub fn new(files: HostRuntime, path: &'a str, bytes: Vec<u8>) -> Watch<'a> {
         Watch {
             files,
@@ -35,7 +35,7 @@ impl<'a> Watch<'a> {
         }
     }
 
-    // Looks at the file. Where it has changed and has no fault, the workers are given its accounts.
+    // Checks the file. If it has changed and is valid, the workers get its accounts.
     fn look<R>(&mut self, rt: &R, hub: &Hub)
     where
         R: AllocGlobal + Clock + Wait + Eprint,
@@ -77,7 +77,8 @@ impl<'a> Watch<'a> {
     }
 }
 
-/// Looks at an accounts file every five seconds, until the bell rings. A file with a fault changes nothing, and is logged once.
+/// Checks an accounts file every five seconds, until the bell rings. An invalid file changes nothing, and is logged
+/// once.
 pub fn watch_accounts<R>(rt: &R, hub: &Hub, mut watch: Watch<'_>, end: &Bell)
 where
     R: AllocGlobal + Clock + Wait + Eprint,
@@ -91,7 +92,7 @@ where
     }
 }
 
-// The accounts that a file's bytes have, as often as there are workers.
+// The accounts in a file's bytes, once for each worker.
 fn copies_of(alloc: Global, bytes: &[u8], workers: usize) -> Result<Vec<Accounts>, AccountsError> {
     let mut copies = Vec::new(alloc);
     for _ in 0..workers {

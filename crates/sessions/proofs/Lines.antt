@@ -44,7 +44,7 @@ line_before p x (y ∷ ys) = split (p y) (λ t. rw t refl) (λ f. rw f (first (s
     first [] = refl
     first (part ∷ parts) = refl
 
--- the last part is a line where it is not empty
+-- the last part is a line if it is not empty
 pub last_line : (x : List ℕ) → 0 < length x → lines_of_parts (x ∷ []) ≡ x ∷ []
 last_line x lt = cond-false _ _ _ (ne_eqb (length x) 0 (λ e. omega (arith, e)))
 
@@ -80,7 +80,7 @@ name_is_word w h =
     by_other false b h t = refl
     by_other true b h t = absurd (true≢false (sym t ∙ h))
 
--- what holds of a word and any words behind it holds of the words of any text
+-- what holds for a word followed by any words holds for the words of any text
 of_words : (P : List (List ℕ) → Type 0) → ((word : List ℕ) (rest : List (List ℕ)) → P (word ∷ rest)) → (text : List ℕ)
     → P (words text)
 of_words P each [] = each [] []
@@ -90,12 +90,12 @@ of_words P each (y ∷ ys) = split (eqb y 32) (λ t. rw t (each [] (words ys))) 
     onto [] = each (y ∷ []) []
     onto (part ∷ parts) = each (y ∷ part) parts
 
--- and of the words behind a word that is not the last
+-- and for the words after a word that is not the last
 pub of_more_words : (P : List (List ℕ) → Type 0) → ((word : List ℕ) (rest : List (List ℕ)) → P (word ∷ rest))
     → (rest : Option (Bor (List ℕ))) → is_some rest ≡ true → P (words_behind rest)
 of_more_words P each None some = absurd (true≢false (sym some))
 of_more_words P each (Some text) some = of_words P each text.now
 
--- the words behind a place, if there are some
+-- the words after a place, if there are any
 pub words_at : (rest : Option (Bor (List ℕ))) (text : Bor (List ℕ)) → rest ≡ Some text → words_behind rest ≡ words text.now
 words_at rest text is = ap words_behind is

@@ -1,4 +1,4 @@
--- Texts that differ at no place.
+-- Texts that do not differ at any place.
 use Rattle.std.proofs.Common.{◌≡◌, ℕ, zero, suc, ◌+◌, ◌<◌, Bool, true, false, ◌&&◌, List, [], ◌∷◌, length, cond}
 use Rattle.std.proofs.Common.{take, get_or, ◌≢◌, refl, ap, ◌∙◌, arith, eqb, bytes_eq}
 use Rattle.std.proofs.lemmas.Bool.{and_right, ne_eqb}
@@ -14,7 +14,7 @@ differences_more (x ∷ a) (y ∷ b) (suc i) la lb =
     let e : suc i + 1 ≡ suc (i + 1) = omega arith in
     rw e (omega (arith, differences_more a b i (omega arith) (omega arith)))
 
--- texts of one length are equal just if they differ at no place
+-- texts of the same length are equal exactly if they differ at no place
 pub none_differs : (a b : List ℕ) → length a ≡ length b → eqb (differences a b) 0 ≡ bytes_eq a b
 none_differs [] [] e = refl
 none_differs [] (y ∷ b) e = absurd (omega (arith, e))

@@ -16,7 +16,7 @@ use Rattle.sessions.specs.Presence.{Presence, joined, spent_refusal, OnVisit, Ar
 use Rattle.sessions.specs.Presence.{is_joined_by}
 use Rattle.sessions.specs.Inside.{visit_of, visits_of}
 
--- a visit is present where its entry is found
+-- a visit is present if its entry is found
 pub present_where_found : (n : ℕ) (es : List (ℕ × Visitor)) → list_any (has_number n) (visits_of es)
     ≡ is_some (lookup (nat_eq n) es)
 present_where_found n [] = refl
@@ -140,7 +140,7 @@ nobody_where_absent author n (e ∷ es) at =
     (λ t. let hit = sym (cond-true _ _ _ t) ∙ at in cc)
     (λ f. rw f (nobody_where_absent author n es (sym (cond-false _ _ _ f) ∙ at)))
 
--- what was asked of a visit that is present, and of one that is not
+-- a change of a visit that is present, and of one that is not
 pub done : (n limit given : ℕ) (vs new : List Visit) (change : ℕ → List Visit → List Visit) (old : Presence) →
     record { limit = limit; given = given; present = vs } ≡ old
     → list_any (has_number n) vs ≡ true → new ≡ change n vs

@@ -21,11 +21,11 @@ pub record Accounts : Type 0 where
 abbrev pub no_accounts : Accounts
 no_accounts = record { authors = []; peers = [] }
 
--- whether an account is of an author
+-- whether an account has a name
 abbrev pub has_name : List ℕ → AuthorAccount → Bool
 has_name name a = bytes_eq a.name name
 
--- whether an account is of a peer
+-- whether a peer has a number
 abbrev pub has_number : ℕ → Peer → Bool
 has_number number p = p.number == number
 
@@ -33,7 +33,7 @@ has_number number p = p.number == number
 abbrev pub is_full : Accounts → Bool
 is_full a = nat_le MAX_ACCOUNTS (length a.authors + length a.peers)
 
--- the accounts with one more line, or what is wrong with it: an account has to be new, and not one too many
+-- the accounts with those of one more line, or what is wrong with it: an account has to be new, and within the limit
 abbrev pub with_line : Accounts → Result Said Mistake → Result Accounts Mistake
 with_line a (Ok nothing) = Ok a
 with_line a (Ok (an_author name token)) =
@@ -43,39 +43,45 @@ with_line a (Ok (an_author name token)) =
 with_line a (Ok (a_peer number token address)) =
     if is_full a then Err TooManyAccounts
     else if list_any (has_number number) a.peers then Err NumberTwice
-    else Ok (record a { peers = a.peers ++ record { number = number; token = token; address = address } ∷ [] })
+    else Ok (record a {
+      peers = a.peers
+          ++ record { number = number; token = token; address = address } ∷ [];
+    })
 with_line a (Err mistake) = Err mistake
 
--- what follows the accounts with a line, or the error of this line's number
+-- the outcome of the lines after one, or the error of that line with its number
 abbrev pub after_line : ℕ → (Accounts → Result Accounts AccountsError) → Result Accounts Mistake →
     Result Accounts AccountsError
 after_line number rest (Ok accounts) = rest accounts
 after_line number rest (Err mistake) = Err (BadLine number mistake)
 
--- the accounts with the lines from one on, or the first line that is at fault, by its number and its mistake
+-- the accounts with those of further lines, or the number and the mistake of the first invalid line; the first of them
+-- has this number
 abbrev pub with_lines : Accounts → ℕ → List (List ℕ) → Result Accounts AccountsError
 with_lines a number [] = Ok a
 with_lines a number (line ∷ rest) =
     after_line number (λ more. with_lines more (number + 1) rest) (with_line a (meaning line))
 
--- the accounts of a file, or the first line that is at fault; lines are counted from 1
+-- the accounts of a file, or the first invalid line; lines are counted from 1
 abbrev pub accounts_of : List ℕ → Result Accounts AccountsError
 accounts_of bytes = with_lines no_accounts 1 (lines bytes)
 
--- an error says that there was no memory, or which line is the first at fault and what is wrong with it
+-- an error reports that memory ran out, or which line is the first invalid one and what is wrong with it
 abbrev pub Tells : List ℕ → AccountsError → Type 0
 Tells bytes (BadLine line mistake) = accounts_of bytes ≡ Err (BadLine line mistake)
 Tells bytes Memory = Unit {0}
 
--- what comes of a line: the new accounts, or its mistake
+-- the outcome of a line: the new accounts, or its mistake
 abbrev pub outcome : Option Mistake → Accounts → Result Accounts Mistake
 outcome None accounts = Ok accounts
 outcome (Some mistake) accounts = Err mistake
 
 -- whether an author has this token
 abbrev pub is_author : List ℕ → List ℕ → Accounts → Bool
-is_author name token a = list_any (λ account. has_name name account && bytes_eq account.token token) a.authors
+is_author name token a = list_any (λ account. has_name name account && bytes_eq account.token token)
+    a.authors
 
 -- whether a peer has this token
 abbrev pub is_peer : ℕ → List ℕ → Accounts → Bool
-is_peer number token a = list_any (λ peer. has_number number peer && bytes_eq peer.token token) a.peers
+is_peer number token a = list_any (λ peer. has_number number peer && bytes_eq peer.token token)
+    a.peers

@@ -22,7 +22,7 @@ words line = slice_split (λ b. b == 32) line
 abbrev pub is_shown : ℕ → Bool
 is_shown b = nat_le 33 b && nat_le b 126
 
--- whether a word has 1 to most of these
+-- whether a word has 1 to most such bytes
 abbrev pub is_word : ℕ → List ℕ → Bool
 is_word most word = is_within (length word) most && list_all is_shown word
 
@@ -34,37 +34,38 @@ is_address word = is_word MAX_ADDRESS word && list_any (λ b. b == 58) word
 abbrev pub are_digits : List ℕ → Bool
 are_digits word = list_all (λ b. nat_le 48 b && nat_le b 57) word
 
--- the number that digits are
+-- the number that digits represent
 abbrev pub decimal : List ℕ → ℕ
 decimal digits = fold (λ n digit. n * 10 + (digit - 48)) 0 digits
 
--- whether a word is a replica's number in digits, without a zero in front
+-- whether a word is a replica's number in digits, without a leading zero
 abbrev pub is_number : List ℕ → Bool
-is_number word = are_digits word && not (slice_index word 0 == 48) && is_within (decimal word) MAX_REPLICA
+is_number word = are_digits word && not (slice_index word 0 == 48)
+    && is_within (decimal word) MAX_REPLICA
 
--- why a word is no name
+-- why a word is not a name
 abbrev pub name_mistake : List ℕ → Mistake
 name_mistake word = if nat_le (length word) MAX_NAME then mistake.NameByte else mistake.LongName
 
--- why a word is no replica's number
+-- why a word is not a replica's number
 abbrev pub number_mistake : List ℕ → Mistake
 number_mistake word =
     if not (are_digits word) then mistake.NotDigits
     else if slice_index word 0 == 48 then mistake.LeadingZero
     else mistake.LargeNumber
 
--- why a word is no token
+-- why a word is not a token
 abbrev pub token_mistake : List ℕ → Mistake
 token_mistake word = if nat_le (length word) MAX_TOKEN then mistake.TokenByte else mistake.LongToken
 
--- why a word is no address
+-- why a word is not an address
 abbrev pub address_mistake : List ℕ → Mistake
 address_mistake word =
     if not (nat_le (length word) MAX_ADDRESS) then mistake.LongAddress
     else if list_all is_shown word then mistake.NoColon
     else mistake.AddressByte
 
--- what the words behind `author` say
+-- what the words after `author` say
 abbrev pub author_said : List (List ℕ) → Result Said Mistake
 author_said [] = Err mistake.NoName
 author_said (name ∷ []) = Err mistake.NoToken
@@ -74,7 +75,7 @@ author_said (name ∷ token ∷ []) =
     else Ok (an_author name token)
 author_said more = Err mistake.ExtraWord
 
--- what the words behind `peer` say
+-- what the words after `peer` say
 abbrev pub peer_said : List (List ℕ) → Result Said Mistake
 peer_said [] = Err mistake.NoNumber
 peer_said (number ∷ []) = Err mistake.NoToken
@@ -86,7 +87,7 @@ peer_said (number ∷ token ∷ address ∷ []) =
     else Ok (a_peer (decimal number) token address)
 peer_said more = Err mistake.ExtraWord
 
--- what the words of a line say: the first names the form of the others
+-- what the words of a line say: the first tells the form of the others
 abbrev pub said_by : List (List ℕ) → Result Said Mistake
 said_by [] = Err mistake.UnknownWord
 said_by (kind ∷ rest) =
@@ -94,11 +95,11 @@ said_by (kind ∷ rest) =
     else if bytes_eq kind (codes "peer") then peer_said rest
     else Err mistake.UnknownWord
 
--- whether a word is empty: a space is too many
+-- whether a word is empty, as before or after an extra space
 abbrev pub is_empty : List ℕ → Bool
 is_empty word = length word == 0
 
--- what a line says: nothing where it is empty or begins with #
+-- what a line says: nothing if it is empty or begins with #
 abbrev pub meaning : List ℕ → Result Said Mistake
 meaning [] = Ok nothing
 meaning (b ∷ bs) =

@@ -8,32 +8,38 @@ use Rattle.pad_model.specs.declared.refusal.Refusal.TheVariants.{Crowded, Visits
 use Rattle.sessions.specs.declared.presence.TheConstants.{MAX_VISITS}
 use Rattle.sessions.specs.declared.presence.Visit.{Visit}
 
--- how many may be present at once, how many visit numbers were given, and the visits that are present in order of joining
+-- how many may be present at once, how many visit numbers were given out, and the visits that are present, in order of
+-- joining
 pub record Presence : Type 0 where
   pub limit : ℕ
   pub given : ℕ
   pub present : List Visit
 
--- numbers rise along the visits from 1 on, and none is above a last one
+-- the numbers of the visits are at least 1, rise, and are at most the last one
 abbrev pub AreNumbered : ℕ → List Visit → Type 0
 AreNumbered last [] = Unit {0}
 AreNumbered last (visit ∷ visits) =
-    (1 ≤ visit.number) × (visit.number ≤ last) × AllByRecursion (λ later. visit.number < later.number) visits
+    (1 ≤ visit.number) × (visit.number ≤ last)
+    × AllByRecursion (λ later. visit.number < later.number) visits
     × AreNumbered last visits
 
--- why no further number is given, if so
+-- why no further number is given out, if so
 abbrev pub spent_refusal : Presence → Option Refusal
 spent_refusal p = if nat_le MAX_VISITS p.given then Some VisitsSpent else None
 
--- why nobody can join, memory aside
+-- why nobody can join, apart from memory
 abbrev pub join_refusal : Presence → Option Refusal
 join_refusal p = if nat_le p.limit (length p.present) then Some Crowded else spent_refusal p
 
--- the next number is given to an author, who is present behind the others, without a caret
+-- the next number is given to an author, who is present after the others, without a caret
 abbrev pub joined : List ℕ → Presence → Presence
 joined author p =
     let number = p.given + 1 in
-    record p { given = number; present = p.present ++ record { number = number; author = author; caret = None } ∷ [] }
+    record p {
+      given = number;
+      present = p.present
+          ++ record { number = number; author = author; caret = None } ∷ [];
+    }
 
 -- whether a visit has a number
 abbrev pub has_number : ℕ → Visit → Bool
@@ -45,15 +51,18 @@ left number present = filter (λ visit. not (has_number number visit)) present
 
 -- the visits with another caret of this one
 abbrev pub with_caret : Option Stamp → ℕ → List Visit → List Visit
-with_caret caret number present = map (λ visit. if has_number number visit then record visit { caret = caret }
+with_caret caret number present = map
+    (λ visit. if has_number number visit then record visit { caret = caret }
     else visit) present
 
--- whether a visit is present, and the author's
+-- whether a visit is present and belongs to the author
 abbrev pub is_joined_by : ℕ → List ℕ → List Visit → Bool
-is_joined_by number author present = list_any (λ visit. has_number number visit && bytes_eq visit.author author) present
+is_joined_by number author present = list_any
+    (λ visit. has_number number visit && bytes_eq visit.author author) present
 
--- what was asked of a visit is done just where it is present, else it is not joined and all is as before
-abbrev pub OnVisit : ℕ → Presence → Presence → Result Unit Refusal → (ℕ → List Visit → List Visit) → Type 0
+-- a change of a visit is made if the visit is present; otherwise it is refused as not joined and nothing changes
+abbrev pub OnVisit : ℕ → Presence → Presence → Result Unit Refusal → (ℕ → List Visit → List Visit)
+    → Type 0
 OnVisit number old new result change =
     MatchResult result
     (λ _. (list_any (has_number number) old.present ≡ true)

@@ -1,4 +1,4 @@
--- What was read of a line.
+-- The result of reading a line.
 use Rattle.std.specs.Prelude.{List, ℕ, [], Option, Some, None, Result, Ok, Err}
 use Rattle.std.specs.Borrow.{Bor}
 use Rattle.sessions.specs.AccountsFile.{Said, nothing, an_author, a_peer, words}
@@ -6,18 +6,18 @@ use Rattle.sessions.specs.declared.line.Line as line
 use Rattle.sessions.specs.declared.line.Line.TheVariants.{Skip, Author, Peer}
 use Rattle.sessions.specs.declared.mistake.Mistake.{Mistake}
 
--- what a line that was read says
+-- the meaning of a line that was read
 abbrev pub said : line.Line → Said
 said Skip = nothing
 said (Author name token) = an_author name.now token.now
 said (Peer number token address) = a_peer number token.now address.now
 
--- what was read of a line, or what is wrong with it
+-- the meaning of a line that was read, or what is wrong with it
 abbrev pub said_or_mistake : Result line.Line Mistake → Result Said Mistake
 said_or_mistake (Ok line) = Ok (said line)
 said_or_mistake (Err mistake) = Err mistake
 
--- the words behind the first, if any
+-- the words after the first, if any
 abbrev pub words_behind : Option (Bor (List ℕ)) → List (List ℕ)
 words_behind None = []
 words_behind (Some rest) = words rest.now

@@ -1,11 +1,11 @@
--- Whose a session is, and the pads that it has joined.
+-- Who a session belongs to, and the pads that it has joined.
 use Rattle.std.specs.Prelude.{◌≡◌, ℕ, Bool, true, List, bytes_eq}
 use Rattle.pad_model.specs.Checked.{is_name}
 use Rattle.pad_model.specs.declared.who.Who.{Who}
 use Rattle.pad_model.specs.declared.who.Who.TheVariants.{Nobody, Author, Peer}
 use Rattle.sessions.specs.declared.session.Room.{Room}
 
--- whose it is, its rooms in order of joining, and how many more can be entered without memory
+-- who the session belongs to, its rooms in order of joining, and how many more can be entered without memory
 pub record Session : Type 0 where
   pub who : Who
   pub rooms : List Room

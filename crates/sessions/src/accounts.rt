@@ -13,16 +13,16 @@ use pad_model::Name;
 use std::alloc::{AllocError, AllocFailed, Global};
 use std::marker::Model;
 
-/// How many accounts there can be, authors and peers together.
+/// The most accounts that there can be, authors and peers together.
 pub const MAX_ACCOUNTS: u64 = 1_000;
 
 /// Why an accounts file could not be read.
 #[derive(Clone, Copy, Debug, PartialEq, Eq)]
 pub enum AccountsError {
-    /// 500: the first line, counted from 1, that has none of the forms, or whose account is there already
-    /// or is one too many; and what is wrong with it.
+    /// 500: a line is invalid. `line` is the number of the first such line, from 1, and `mistake` is what is wrong with
+    /// it.
     BadLine { line: u64, mistake: Mistake },
-    /// 900: there was no memory.
+    /// 900: out of memory.
     Memory,
 }
 
@@ -41,7 +41,7 @@ pub struct AuthorAccount {
     token: Word,
 }
 
-/// A peer: its replica number, its token for both directions, and where it listens.
+/// A peer: its replica number, its token for both directions, and the address at which it listens.
 #[derive(Debug, Drop)]
 pub struct Peer {
     pub number: u16,
@@ -65,7 +65,7 @@ impl Model for Accounts {
 }
 
 impl Accounts {
-    /// Reads an accounts file whole.
+    /// Reads a whole accounts file.
     pub fn read(alloc: Global, bytes: &[u8]) -> Result<Accounts, AccountsError>
         ensures ok { IfOk result (λ accounts. accounts_of bytes.now ≡ Ok accounts) }
         ensures refused { IfErr result (Tells bytes.now) }
@@ -100,7 +100,7 @@ impl Accounts {
             .any(|account| account.name.is(name) && account.token.is(token))
     }
 
-    /// Whether the peer with this number has this token. No number above those of replicas is a peer's.
+    /// Whether the peer with this number has this token. No peer has a number above `MAX_REPLICA`.
     pub fn peer(&self, number: u64, token: &str) -> bool
         ensures { result ≡ is_peer number token.now self.now }
     {
@@ -116,7 +116,8 @@ impl Accounts {
 
     /// Adds a line's account, or returns why it cannot be added.
     fn add(&mut self, alloc: Global, line: Line<'_>) -> Result<Option<Mistake>, AllocError>
-        ensures { IfOk result (λ refused. with_line self.old (Ok (said line.entry)) ≡ outcome refused self.new) }
+        ensures { IfOk result (λ refused. with_line self.old (Ok (said line.entry))
+            ≡ outcome refused self.new) }
     {
         match line {
             Line::Skip => Ok(None),
@@ -135,7 +136,8 @@ impl Accounts {
         name: &str,
         token: &str,
     ) -> Result<Option<Mistake>, AllocError>
-        ensures { IfOk result (λ refused. with_line self.old (Ok (an_author name.now token.now)) ≡ outcome refused self.new) }
+        ensures { IfOk result (λ refused. with_line self.old (Ok (an_author name.now token.now))
+            ≡ outcome refused self.new) }
     {
         if self.is_full() {
             return Ok(Some(Mistake::TooManyAccounts));
@@ -158,7 +160,8 @@ impl Accounts {
         token: &str,
         address: &str,
     ) -> Result<Option<Mistake>, AllocError>
-        ensures { IfOk result (λ refused. with_line self.old (Ok (a_peer number token.now address.now)) ≡ outcome refused self.new) }
+        ensures { IfOk result (λ refused. with_line self.old
+            (Ok (a_peer number token.now address.now)) ≡ outcome refused self.new) }
     {
         if self.is_full() {
             return Ok(Some(Mistake::TooManyAccounts));

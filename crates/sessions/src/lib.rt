@@ -1,7 +1,7 @@
-//! Who may log in, whose a session is and which pads it has joined, and who is present on a pad.
+//! Who may log in, who a session belongs to and which pads it has joined, and who is present on a pad.
 //!
-//! It depends on `pad_model` and `indexmap`. Whether a session may join a pad, and which cell a pad has, is decided in the
-//! crates above.
+//! It depends on `pad_model` and `indexmap`. The crates above decide whether a session may join a pad, and which cell a
+//! pad has.
 #![tactic(auto)]
 
 mod accounts;

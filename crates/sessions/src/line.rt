@@ -12,10 +12,10 @@ ghost use Rattle.sessions.specs.declared.line.TheConstants.{MAX_TOKEN};
 use crate::mistake::Mistake;
 use pad_model::{MAX_NAME, MAX_REPLICA, is_well_formed_name};
 
-/// Bytes of a token.
+/// The most bytes of a token.
 pub const MAX_TOKEN: u64 = 64;
 
-/// Bytes of an address.
+/// The most bytes of an address.
 pub const MAX_ADDRESS: u64 = 255;
 
 /// What a line says.
@@ -32,7 +32,7 @@ pub enum Line<'a> {
     },
 }
 
-/// The first line, without its end, and the bytes after it.
+/// The first line, without its line end, and the bytes after it.
 pub fn cut_line(bytes: &[u8]) -> (&[u8], &[u8])
     requires { 0 < length bytes.now }
     ensures lines { lines bytes.now ≡ result.0.now ∷ lines result.1.now }
@@ -44,7 +44,7 @@ pub fn cut_line(bytes: &[u8]) -> (&[u8], &[u8])
     }
 }
 
-/// The place of the first byte like this one.
+/// The index of the first byte with this value.
 fn place_of(byte: u8, bytes: &[u8]) -> Option<usize>
     ensures { result ≡ position (λ b. b == byte) bytes.now }
 {
@@ -77,7 +77,7 @@ pub fn read_line(line: &[u8]) -> Result<Line<'_>, Mistake>
     }
 }
 
-/// Whether there is a space at the start, at the end or after another space.
+/// Whether the line has a space at its start, at its end or after another space.
 fn has_empty_word(line: &[u8]) -> bool
     ensures { result ≡ list_any is_empty (words line.now) }
 {
@@ -92,7 +92,7 @@ fn has_empty_word(line: &[u8]) -> bool
     false
 }
 
-/// What the words of a line say: the first one names the form of the others.
+/// What the words of a line say: the first one tells the form of the others.
 fn read_words(line: &[u8]) -> Result<Line<'_>, Mistake>
     ensures { said_or_mistake result ≡ said_by (words line.now) }
 {
@@ -106,7 +106,7 @@ fn read_words(line: &[u8]) -> Result<Line<'_>, Mistake>
     }
 }
 
-/// The first word, and what comes after the space at its end, if there is one.
+/// The first word, and what follows the space after it, if there is one.
 fn cut_word(text: &[u8]) -> (&[u8], Option<&[u8]>)
     ensures { words text.now ≡ result.0.now ∷ words_behind result.1 }
 {
@@ -116,7 +116,7 @@ fn cut_word(text: &[u8]) -> (&[u8], Option<&[u8]>)
     }
 }
 
-/// `author NAME TOKEN`, by what stands behind its first word.
+/// Reads `author NAME TOKEN`, from what follows its first word.
 fn author_line(rest: Option<&[u8]>) -> Result<Line<'_>, Mistake>
     ensures { said_or_mistake result ≡ author_said (words_behind rest.entry) }
 {
@@ -131,7 +131,7 @@ fn author_line(rest: Option<&[u8]>) -> Result<Line<'_>, Mistake>
     })
 }
 
-/// `peer NUMBER TOKEN HOST:PORT`, by what stands behind its first word.
+/// Reads `peer NUMBER TOKEN HOST:PORT`, from what follows its first word.
 fn peer_line(rest: Option<&[u8]>) -> Result<Line<'_>, Mistake>
     ensures { said_or_mistake result ≡ peer_said (words_behind rest.entry) }
 {
@@ -149,7 +149,8 @@ fn peer_line(rest: Option<&[u8]>) -> Result<Line<'_>, Mistake>
 }
 
 fn name_text(word: &[u8]) -> Result<&str, Mistake>
-    ensures { MatchResult result (λ name. (name.now ≡ word.now) × (is_name word.now ≡ true)) (λ mistake. (is_name word.now ≡ false) × (mistake ≡ name_mistake word.now)) }
+    ensures { MatchResult result (λ name. (name.now ≡ word.now) × (is_name word.now ≡ true))
+        (λ mistake. (is_name word.now ≡ false) × (mistake ≡ name_mistake word.now)) }
 {
     match word_text(word, MAX_NAME) {
         Some(name) if is_well_formed_name(name) => Ok(name),
@@ -159,7 +160,9 @@ fn name_text(word: &[u8]) -> Result<&str, Mistake>
 }
 
 fn token_text(word: &[u8]) -> Result<&str, Mistake>
-    ensures { MatchResult result (λ token. (token.now ≡ word.now) × (is_word MAX_TOKEN word.now ≡ true)) (λ mistake. (is_word MAX_TOKEN word.now ≡ false) × (mistake ≡ token_mistake word.now)) }
+    ensures { MatchResult result (λ token. (token.now ≡ word.now)
+        × (is_word MAX_TOKEN word.now ≡ true))
+        (λ mistake. (is_word MAX_TOKEN word.now ≡ false) × (mistake ≡ token_mistake word.now)) }
 {
     match word_text(word, MAX_TOKEN) {
         Some(token) => Ok(token),
@@ -169,7 +172,8 @@ fn token_text(word: &[u8]) -> Result<&str, Mistake>
 }
 
 fn address_text(word: &[u8]) -> Result<&str, Mistake>
-    ensures { MatchResult result (λ text. (text.now ≡ word.now) × (is_address word.now ≡ true)) (λ mistake. (is_address word.now ≡ false) × (mistake ≡ address_mistake word.now)) }
+    ensures { MatchResult result (λ text. (text.now ≡ word.now) × (is_address word.now ≡ true))
+        (λ mistake. (is_address word.now ≡ false) × (mistake ≡ address_mistake word.now)) }
 {
     match word_text(word, MAX_ADDRESS) {
         Some(text) if has_colon(word) => Ok(text),
@@ -186,7 +190,8 @@ fn has_colon(word: &[u8]) -> bool
 }
 
 fn word_text(word: &[u8], most: u64) -> Option<&str>
-    ensures { MatchOption result (is_word most word.now ≡ false) (λ text. (text.now ≡ word.now) × (is_word most word.now ≡ true)) }
+    ensures { MatchOption result (is_word most word.now ≡ false)
+        (λ text. (text.now ≡ word.now) × (is_word most word.now ≡ true)) }
 {
     if !is_word(most, word) {
         return None;
@@ -210,7 +215,9 @@ fn are_shown(word: &[u8]) -> bool
 }
 
 fn number_of(word: &[u8]) -> Result<u16, Mistake>
-    ensures { MatchResult result (λ number. (number ≡ decimal word.now) × (is_number word.now ≡ true)) (λ mistake. (is_number word.now ≡ false) × (mistake ≡ number_mistake word.now)) }
+    ensures { MatchResult result (λ number. (number ≡ decimal word.now)
+        × (is_number word.now ≡ true)) (λ mistake. (is_number word.now ≡ false)
+        × (mistake ≡ number_mistake word.now)) }
 {
     if !are_digits(word) {
         return Err(Mistake::NotDigits);

@@ -1,7 +1,6 @@
 //! What can be wrong with a line of an accounts file.
 
-/// The first thing that is wrong with a line. An author's line is `author NAME TOKEN`, a peer's is
-/// `peer NUMBER TOKEN HOST:PORT`.
+/// The first mistake in a line. An author's line is `author NAME TOKEN`, a peer's is `peer NUMBER TOKEN HOST:PORT`.
 #[derive(Clone, Copy, Debug, PartialEq, Eq)]
 pub enum Mistake {
     /// The line has a tab.
@@ -22,9 +21,9 @@ pub enum Mistake {
     ExtraWord,
     /// The name has more than 32 bytes.
     LongName,
-    /// The name has a byte that is none of `a-z`, `0-9` and `-`.
+    /// The name has a byte other than `a-z`, `0-9` and `-`.
     NameByte,
-    /// The number has a byte that is no digit.
+    /// The number has a byte that is not a digit.
     NotDigits,
     /// The number begins with 0.
     LeadingZero,
@@ -32,18 +31,18 @@ pub enum Mistake {
     LargeNumber,
     /// The token has more than 64 bytes.
     LongToken,
-    /// The token has a byte that is not 0x21 to 0x7E.
+    /// The token has a byte outside 0x21 to 0x7E.
     TokenByte,
     /// The address has more than 255 bytes.
     LongAddress,
-    /// The address has a byte that is not 0x21 to 0x7E.
+    /// The address has a byte outside 0x21 to 0x7E.
     AddressByte,
     /// The address has no colon.
     NoColon,
-    /// An earlier line has the name.
+    /// An earlier line has the same name.
     NameTwice,
-    /// An earlier line has the number.
+    /// An earlier line has the same number.
     NumberTwice,
-    /// There are 1,000 accounts before it.
+    /// 1,000 accounts come before it.
     TooManyAccounts,
 }

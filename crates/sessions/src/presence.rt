@@ -9,13 +9,13 @@ use pad_model::{Name, Refusal, Row, Stamp};
 use std::alloc::{AllocError, Global};
 use std::marker::Model;
 
-/// The most visits that a server may let be present on a pad at once.
+/// The greatest limit of visits on a pad at once that a server can set.
 pub const MAX_PRESENT: u64 = 1_024;
 
-/// How many visits may be present on a pad at once, unless the server is told otherwise.
+/// The default limit of visits on a pad at once.
 pub const DEFAULT_PRESENT: u64 = 64;
 
-/// The most visit numbers that a pad gives.
+/// The most visit numbers that a pad gives out.
 pub const MAX_VISITS: u64 = 1_000_000;
 
 /// A visit: its number, its author, and the character before its caret.
@@ -23,11 +23,11 @@ pub const MAX_VISITS: u64 = 1_000_000;
 pub struct Visit {
     pub number: u64,
     pub author: Name,
-    /// None: at the start.
+    /// None is the start of the text.
     pub caret: Option<Stamp>,
 }
 
-/// What is kept of a visit besides its number.
+/// What is kept of a visit beside its number.
 #[derive(Drop)]
 pub struct Visitor {
     author: Name,
@@ -55,7 +55,7 @@ impl Model for PresenceBook {
 }
 
 impl PresenceBook {
-    /// Nobody is present, and no number has been given. This many may be present at once. It allocates no memory yet.
+    /// A book without visits, in which up to `limit` may be present at once. It allocates no memory.
     pub fn new(alloc: Global, limit: u64) -> PresenceBook
         ensures { result ≡ record { limit = limit; given = 0; present = [] } }
     {
@@ -66,10 +66,13 @@ impl PresenceBook {
         }
     }
 
-    /// Gives the next number to an author, who is then present, with no caret, unless as many are present as may be.
+    /// Gives the next number to an author, who is then present, with the caret at the start. Refuses if the limit is
+    /// reached.
     pub fn join(&mut self, alloc: Global, author: &str) -> Result<u64, Refusal>
-        ensures ok { IfOk result (λ visit. (join_refusal self.old ≡ None) × (visit ≡ self.old.given + 1) × (self.new ≡ joined author.now self.old)) }
-        ensures refused { IfErr result (λ e. (e ≡ unwrap_or (join_refusal self.old) Refusal.Memory) × (self.new ≡ self.old)) }
+        ensures ok { IfOk result (λ visit. (join_refusal self.old ≡ None)
+            × (visit ≡ self.old.given + 1) × (self.new ≡ joined author.now self.old)) }
+        ensures refused { IfErr result (λ e. (e ≡ unwrap_or (join_refusal self.old) Refusal.Memory)
+            × (self.new ≡ self.old)) }
     {
         if self.visitors.len() as u64 >= self.limit {
             return Err(Refusal::Crowded);
@@ -77,11 +80,13 @@ impl PresenceBook {
         self.enter(alloc, author)
     }
 
-    /// Gives the next number to an author, who is then present, with no caret. The limit is not checked: the creator of a pad
-    /// is present whatever it is.
+    /// Gives the next number to an author, who is then present, with the caret at the start. It does not check the
+    /// limit, so the creator of a pad is always present.
     pub fn enter(&mut self, alloc: Global, author: &str) -> Result<u64, Refusal>
-        ensures ok { IfOk result (λ visit. (spent_refusal self.old ≡ None) × (visit ≡ self.old.given + 1) × (self.new ≡ joined author.now self.old)) }
-        ensures refused { IfErr result (λ e. (e ≡ unwrap_or (spent_refusal self.old) Refusal.Memory) × (self.new ≡ self.old)) }
+        ensures ok { IfOk result (λ visit. (spent_refusal self.old ≡ None)
+            × (visit ≡ self.old.given + 1) × (self.new ≡ joined author.now self.old)) }
+        ensures refused { IfErr result (λ e. (e ≡ unwrap_or (spent_refusal self.old) Refusal.Memory)
+            × (self.new ≡ self.old)) }
     {
         if self.given >= MAX_VISITS {
             return Err(Refusal::VisitsSpent);
@@ -129,7 +134,8 @@ impl PresenceBook {
 
     /// The visits that are present, in order of joining.
     pub fn who(&self, alloc: Global) -> Result<Row<Visit>, Refusal>
-        ensures ok { IfOk result (λ row. (row ≡ self.now.present) × AreNumbered self.now.given row) }
+        ensures ok { IfOk result (λ row. (row ≡ self.now.present)
+            × AreNumbered self.now.given row) }
         ensures memory { IfErr result (λ e. e ≡ Refusal.Memory) }
     {
         let mut visits = Row::new(alloc);

@@ -1,4 +1,4 @@
-//! A session: whose it is, and the pads that it has joined.
+//! A session: who it belongs to, and the pads that it has joined.
 ghost use Rattle.std.specs.Prelude.{◌≡◌, ◌≢◌, ◌↔◌, IsTrue, ◌+◌, ◌≤◌, [], ◌∷◌, ◌++◌, not, drop, filter, slice_get, option_copied, IfErr, IsOk, OnOk};
 ghost use Rattle.std.specs.List.{find};
 ghost use Rattle.pad_model.specs.declared.refusal.Refusal.{Refusal};
@@ -17,7 +17,7 @@ pub struct Room {
     pub visit: u64,
 }
 
-/// A session: whose it is, and its rooms in order of joining.
+/// A session: who it belongs to, and its rooms in order of joining.
 #[derive(Drop)]
 pub struct Session {
     who: Who,
@@ -37,7 +37,7 @@ impl Model for Session {
 }
 
 impl Session {
-    /// An unauthenticated session, which has joined no pad. It allocates no memory yet.
+    /// An unauthenticated session that has joined no pad. It allocates no memory.
     pub fn new(alloc: Global) -> Session
         ensures { result ≡ record { who = Who.Nobody; rooms = []; spare = 0 } }
     {
@@ -54,7 +54,7 @@ impl Session {
         &self.who
     }
 
-    /// Sets whose session it is. Its rooms stay.
+    /// Sets who the session belongs to. Its rooms stay.
     pub fn set(&mut self, who: Who)
         requires { IsNamed who }
         ensures { self.new ≡ record self.old { who = who } }
@@ -69,7 +69,7 @@ impl Session {
         self.rooms.iter().find(|room| room.pad.is(pad))
     }
 
-    /// Whether it has joined a pad that it has not left.
+    /// Whether it is in a room.
     pub fn has_rooms(&self) -> bool
         ensures { IsTrue result ↔ (self.now.rooms ≢ []) }
     {

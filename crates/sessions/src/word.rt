@@ -43,9 +43,9 @@ impl Word {
         self.text.as_str()
     }
 
-    /// Whether this is the token with exactly this text. If the lengths are equal, it counts the bytes that differ, so it
-    /// looks at every byte, and its steps do not reveal where a guess first differs. They do reveal whether the length is
-    /// right, and nothing is promised about the time of a step.
+    /// Whether this is the token with exactly this text. If the lengths are equal, it counts the bytes that differ. So
+    /// it looks at every byte, and its steps do not reveal where a guess first differs. They do reveal whether the
+    /// length is right, and nothing is promised about the time of a step.
     pub fn is(&self, text: &str) -> bool
         ensures { result ≡ bytes_eq self.now text.now }
     {
@@ -59,7 +59,7 @@ fn are_same(a: &[u8], b: &[u8]) -> bool
     a.len() == b.len() && count_differences(a, b) == 0
 }
 
-/// At how many places two texts differ.
+/// The number of places at which two texts differ.
 fn count_differences(a: &[u8], b: &[u8]) -> usize
     requires { length a.now ≡ length b.now }
     ensures { result ≡ differences a.now b.now }

@@ -1,4 +1,4 @@
--- What a request at a cell does to the log of its pad: it grows by the operations that the answer tells of, and by no
+-- What a request at a cell does to the log of its pad: it grows by the operations that the answer reports, and by no
 -- others.
 use Rattle.std.proofs.Common.{◌≡◌, ◌⊎◌, inl, inr, ℕ, zero, suc, ◌+◌, Bool, true, false, not, cond, List, [], ◌∷◌, ◌++◌}
 use Rattle.std.proofs.Common.{length, Option, Some, None, Result, Ok, Err, slice_get, bytes_eq, nat_le, ◌||◌, unwrap_or}
@@ -53,7 +53,7 @@ use Rattle.shared_pads.specs.Seats.{Answer, Stands, Tells, TellsOf, edit_by, edi
 use Rattle.shared_pads.specs.declared.seat.Effect.{Effect}
 use Rattle.shared_pads.specs.declared.seat.Effect.TheVariants.{Makes, Takes, Keeps}
 
--- a log has grown by what an answer tells of
+-- a log has grown by what an answer reports
 abbrev pub GrownBy : Effect → Answer → List Op → List Op → Type 0
 GrownBy effect answer old new = (more : List Op) × (new ≡ old ++ more) × TellsOf effect answer (length more)
     × Stands new (edit_by effect answer)
@@ -87,7 +87,7 @@ last_there : (log : List Op) (op : Op) → slice_get (log ++ op ∷ []) (length 
 last_there [] op = refl
 last_there (x ∷ log) op = last_there log op
 
--- the operation behind a log makes the next revision
+-- the operation after a log makes the next revision
 pub stands_last : (log : List Op) (op : Op) (rev : ℕ) → rev ≡ suc (length log) → stands_at op.name rev (log ++ op ∷ [])
     ≡ true
 stands_last log op rev is = subst (λ n. stands_at op.name n (log ++ op ∷ []) ≡ true) (sym is)
@@ -161,7 +161,7 @@ note : (r : Option Refusal) (own : ℕ) (author : List ℕ) (parts : List Part) 
 note (Some e) own author parts log = inl (e, refl)
 note None own author parts log = inr (op_of own author parts log, length log + 1, omega arith, inl refl)
 
--- a release adds what it tells of
+-- a release adds what it reports
 abbrev Released : List Op → ℕ → Delivery → Type 0
 Released log count d = (more : List Op) × (d.log ≡ log ++ more) × (d.released ≡ count + length more)
 
@@ -344,7 +344,7 @@ cut : (name : List ℕ) (op : Op) (old new more : List Op) → new ≡ old ++ mo
     (Err Memory) old new
 cut name op old new more grown = (more, grown, (λ other. absurd (other refl)), tt)
 
--- what was answered at a cell, the log tells of
+-- the log has what was answered at a cell
 pub visited_grows : (w : Who) (request : Request) (cell : ℕ) (rooms : List Room) (m : Machine) (answer : Answer)
     (new : List Room) (after : Machine) →
     Visited w request rooms m (request_at w request cell rooms m) answer new after →

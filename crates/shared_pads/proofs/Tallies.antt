@@ -18,7 +18,7 @@ use Rattle.shared_pads.specs.declared.seat.Seat.{Seat}
 use Rattle.shared_pads.specs.declared.seat.Tally.{Tally}
 use Rattle.shared_pads.specs.declared.sums.Sums.{Sums}
 
--- what stands in a list stands there after more was put behind
+-- what is in a list stays there when more is added at its end
 there : (log more : List Op) (i : ℕ) (op : Op) → slice_get log i ≡ Some op → slice_get (log ++ more) i ≡ Some op
 there [] more i op e = absurd (none_some op e)
   where
@@ -41,7 +41,7 @@ standing_at name (suc i) log more e = at (slice_get log i) refl
     at (Some op) is = ap (λ o. option_map_or (λ (op : Op). same_name op.name name) o false) (there log more i op is)
         ∙ sym (ap (λ o. option_map_or (λ (op : Op). same_name op.name name) o false) is) ∙ e
 
--- a last edit stands in a longer log
+-- a last edit is in a longer log
 pub stands_on : (log more : List Op) (edit : Option LastEdit) → Stands log edit → Stands (log ++ more) edit
 stands_on log more None h = tt
 stands_on log more (Some edit) h = standing_at edit.name edit.rev log more h
@@ -136,7 +136,7 @@ one_cell : (cell : ℕ) (k : Kept) (seats : List Seat) → AllByRecursion (IsOf 
 one_cell cell k [] h = tt
 one_cell cell k (seat ∷ seats) h = (h.0.2, one_cell cell k seats h.1)
 
--- the last edit of each seat that a lock knows stands in the log
+-- the last edit of each seat that a lock knows is in the log
 pub seats_stand : (cell : ℕ) (k : Kept) (seats : List Seat) → AllByRecursion (λ t. Stands k.pad.log t.last) k.tallies →
     AllByRecursion (IsOf cell k) seats → AllByRecursion (λ seat. Stands k.pad.log seat.tally.last) seats
 seats_stand cell k [] stand h = tt

@@ -1,4 +1,4 @@
--- What is counted of the calls of a seat, and what their answers tell of the log.
+-- What is counted of the calls of a seat, and what their answers say of the log.
 use Rattle.std.specs.Prelude.{◌≡◌, ℕ, ◌+◌, ◌==◌, ◌&&◌, not, Bool, true, List, [], ◌∷◌, Option, None, Some, Result, Ok}
 use Rattle.std.specs.Prelude.{Err}
 use Rattle.std.specs.List.{list_any}
@@ -21,7 +21,7 @@ use Rattle.shared_pads.specs.declared.seat.LastEdit.{LastEdit}
 use Rattle.shared_pads.specs.declared.seat.Seat.{Seat}
 use Rattle.shared_pads.specs.declared.seat.Tally.{Tally}
 
--- what a cell answers, or nothing where its pad has another name
+-- what a cell answers, or nothing if its pad has another name
 abbrev pub Answer : Type 0
 Answer = Result (Option Reply) Refusal
 
@@ -35,19 +35,20 @@ effect_of (act.Resolve resolved) = Makes
 effect_of (act.Push op) = Takes
 effect_of other = Keeps
 
--- the edit that an answer tells of
+-- the edit that an answer reports
 abbrev pub edit_told : Answer → Option LastEdit
 edit_told (Ok (Some (reply.Pad (pad.Made now name)))) = Some (record { name = name; rev = now })
-edit_told (Ok (Some (reply.Pad (pad.Changed now name hidden)))) = Some (record { name = name; rev = now })
+edit_told (Ok (Some (reply.Pad (pad.Changed now name hidden)))) = Some
+    (record { name = name; rev = now })
 edit_told other = None
 
--- the same of the answer to an act
+-- the edit that the answer to an act reports
 abbrev pub edit_by : Effect → Answer → Option LastEdit
 edit_by Makes answer = edit_told answer
 edit_by Takes answer = None
 edit_by Keeps answer = None
 
--- and to a request
+-- the edit that the answer to a request reports
 abbrev pub edit_of : Request → Answer → Option LastEdit
 edit_of (request.On name act) answer = edit_by (effect_of act) answer
 edit_of other answer = None
@@ -61,36 +62,41 @@ last_after (Some edit) before = Some edit
 abbrev pub uncounted : Tally
 uncounted = record { calls = 0; operations = 0; last = None }
 
--- a tally with one more call, which delivered so many operations and may have been an edit
+-- a tally with one more call, which delivered this many operations and may have been an edit
 abbrev pub counted : ℕ → Option LastEdit → Tally → Tally
-counted more edit t = record { calls = t.calls + 1; operations = t.operations + more; last = last_after edit t.last }
+counted more edit t = record {
+  calls = t.calls + 1;
+  operations = t.operations + more;
+  last = last_after edit t.last;
+}
 
--- the operation of a last edit stands in the log at its revision
+-- the operation of a last edit is in the log at its revision
 abbrev pub Stands : List Op → Option LastEdit → Type 0
 Stands log None = Unit {0}
 Stands log (Some edit) = stands_at edit.name edit.rev log ≡ true
 
--- one operation where an edit was made, and else none
+-- one operation if an edit was made, and otherwise none
 abbrev pub made_in : Answer → ℕ
 made_in (Ok (Some answer)) = 1
 made_in other = 0
 
--- one operation where a pushed one was delivered, and else none
+-- one operation if a pushed one was delivered, and otherwise none
 abbrev pub taken_as : Pushed → ℕ
 taken_as pushed.Delivered = 1
 taken_as pushed.Held = 0
 taken_as pushed.Repeat = 0
 
--- an answer tells that a pad has so many more operations: an edit's own, and a push's and those that it released. A
--- push that was out of memory does not tell
+-- an answer says that a pad has this many more operations: an edit's own, and a push's and those that it released. A
+-- push that was out of memory does not say
 abbrev pub TellsOf : Effect → Answer → ℕ → Type 0
 TellsOf Makes answer more = more ≡ made_in answer
-TellsOf Takes (Ok (Some (reply.Pad (pad.Pushed now state released dropped)))) more = more ≡ released + taken_as state
+TellsOf Takes (Ok (Some (reply.Pad (pad.Pushed now state released dropped)))) more = more
+    ≡ released + taken_as state
 TellsOf Takes (Ok other) more = more ≡ 0
 TellsOf Takes (Err refusal) more = (refusal ≡ Memory → ⊥) → more ≡ 0
 TellsOf Keeps answer more = more ≡ 0
 
--- the same of a request
+-- the answer to a request says that a pad has this many more operations
 abbrev pub Tells : Request → Answer → ℕ → Type 0
 Tells (request.On name act) answer more = TellsOf (effect_of act) answer more
 Tells other answer more = more ≡ 0
@@ -98,4 +104,5 @@ Tells other answer more = more ≡ 0
 -- whether no two seats have one number
 abbrev pub are_apart : List Seat → Bool
 are_apart [] = true
-are_apart (first ∷ rest) = not (list_any (λ seat. seat.number == first.number) rest) && are_apart rest
+are_apart (first ∷ rest) = not (list_any (λ seat. seat.number == first.number) rest)
+    && are_apart rest

@@ -1,8 +1,8 @@
-//! Where a server may be held up, for tests and for wake-ups, and what is told to whoever keeps the pads.
+//! Callbacks from a server to whoever keeps its pads: around a request, before a reply and at the end of a connection.
 ghost use Rattle.std.specs.Prelude.{◌≡◌, ◌⊎◌, IfErr};
 
 use pad_core::{Reply, Request};
-use pad_model::{Op, Refusal, Who};
+use pad_model::{Op, Refusal, Row, Who};
 use std::alloc::Global;
 
 /// A request that was answered at a cell.
@@ -12,17 +12,26 @@ pub struct Answered<'a> {
     pub who: &'a Who,
     pub request: &'a Request,
     pub answer: &'a Result<Option<Reply>, Refusal>,
-    /// The operations that it delivered, in their order.
-    pub more: &'a [Op],
+    /// The number of operations that it delivered.
+    pub made: u64,
+    /// These operations, in their order, or an error if memory ran out while they were read. A gate that reads
+    /// none gets none.
+    pub more: &'a Result<Row<Op>, Refusal>,
 }
 
-/// What is told of the course of connections.
+/// Callbacks on the course of connections.
 pub trait Gate {
-    /// A request was answered at a cell, whose lock is still held: what is told of a cell comes in the order of its steps.
+    /// A request was answered at a cell, whose lock is still held, so the calls for a cell come in the order of its
+    /// steps.
     fn answered(&self, _alloc: Global, _told: &Answered<'_>) {}
 
-    /// Whether what a request leaves can be kept. Where it can't, one that may leave something is refused before its step:
-    /// as 901, or as 900 where it is memory that is missing.
+    /// Whether it reads the operations that a request delivered. Otherwise it gets only their number.
+    fn reads_operations(&self) -> bool {
+        false
+    }
+
+    /// Whether what a request leaves can be kept. If not, a request that may leave something is refused before its
+    /// step: with 901, or with 900 if memory is missing.
     fn keeps(&self, _alloc: Global, _request: &Request) -> Result<(), Refusal>
         ensures { IfErr result (λ e. (e ≡ Refusal.StoreFull) ⊎ (e ≡ Refusal.Memory)) }
     {
@@ -35,7 +44,7 @@ pub trait Gate {
     /// A step was made at a cell, whose lock is still held.
     fn inside(&self, cell: u32);
 
-    /// A reply is about to be written; whether it tells of a delivered operation.
+    /// A reply is about to be written; whether it reports a delivered operation.
     fn before_reply(&self, connection: u64, delivered: bool);
 
     /// A connection has ended.

@@ -1,4 +1,4 @@
-//! What lies under the lock of a shared pad.
+//! What the lock of a shared pad protects.
 ghost use Rattle.std.specs.Prelude.{◌≡◌, ◌⊎◌, ◌↔◌, ◌≤◌, drop, length, IsTrue, is_some, IsSome, IfOk, IfErr, IfSome, MatchResult, OnOk, OnErr, Err, None};
 ghost use Rattle.std.specs.List.{AllByRecursion};
 ghost use Rattle.server_core.specs.Rooms.{IsAsked};
@@ -11,7 +11,7 @@ ghost use Rattle.shared_pads.specs.Seats.{Stands};
 use crate::seat::{MAX_SEATS, Seat, Tally, edit_of};
 use crate::sums::{Sums, are_apart, sums_of};
 use pad_core::{Listed, Pad, Reply, Request};
-use pad_model::{Name, Op, Refusal, Sequence, Who};
+use pad_model::{Name, Op, Refusal, Row, Sequence, Who};
 use server_core::request_at;
 use sessions::{Room, Session};
 use std::alloc::Global;
@@ -25,7 +25,7 @@ pub struct Kept<S: Sequence> {
     base: u64,
     tallies: Vec<Tally>,
     calls: u64,
-    /// Seats that it makes at most.
+    /// The most seats that it makes.
     seats: u32,
 }
 
@@ -35,14 +35,21 @@ impl<S: Sequence> Model for Kept<S> {
 
     ghost Value = { Kept };
 
-    ghost view = { λ k. record { pad = k.pad; base = k.base; tallies = k.tallies.items; calls = k.calls; seats = k.seats } };
+    ghost view = { λ k. record {
+      pad = k.pad;
+      base = k.base;
+      tallies = k.tallies.items;
+      calls = k.calls;
+      seats = k.seats;
+    } };
 
-    ghost invariant = { λ k. IsKept k.pad.log k.base k.tallies.items k.calls k.seats (vec_capacity k.tallies) };
+    ghost invariant = { λ k. IsKept k.pad.log k.base k.tallies.items k.calls k.seats
+        (vec_capacity k.tallies) };
 }
 
 impl<S: Sequence> Kept<S> {
-    /// A pad that no seat was made for, with room for so many, and for 96 at most. Without memory for their tallies it is
-    /// handed back.
+    /// A pad without seats, with room for this many, at most 96. If there is no memory for their tallies, it is handed
+    /// back.
     pub fn new(alloc: Global, pad: Pad<S>, seats: u32) -> Result<Kept<S>, Pad<S>>
         ensures { MatchResult result (λ kept. kept ≡ unseated seats pad) (λ back. back ≡ pad) }
     {
@@ -62,9 +69,10 @@ impl<S: Sequence> Kept<S> {
         }
     }
 
-    /// A seat with a number of its own, at this cell. It takes no memory.
+    /// Makes a seat with a number of its own, at this cell. It takes no memory.
     pub fn seat(&mut self, cell: u32) -> Result<Seat, Refusal>
-        ensures gone { (result ≡ Err Refusal.SeatsGone) ↔ (self.old.seats ≤ length self.old.tallies) }
+        ensures gone { (result ≡ Err Refusal.SeatsGone) ↔
+            (self.old.seats ≤ length self.old.tallies) }
         ensures refusal { IfErr result (λ e. e ≡ Refusal.SeatsGone) }
         ensures refused { OnErr result (self.new ≡ self.old) }
         ensures seat { IfOk result (λ seat. seat ≡ next_seat cell self.old) }
@@ -83,12 +91,16 @@ impl<S: Sequence> Kept<S> {
         })
     }
 
-    /// The leave of a session that ends: it ends a visit where it is present and the session's. It takes no memory.
+    /// Makes a session that ends leave: ends a visit if it is present and the session's. It takes no memory.
     pub fn depart(&mut self, seat: &mut Seat, who: &Who, room: &Room)
         ensures departs { Departs seat.old who.now room.now seat.new }
         ensures seat { (seat.new ≡ seat.old) ⊎ (seat.new ≡ seat_after 0 None seat.old) }
-        ensures known { IsKnown self.old seat.old → (seat.new ≡ seat_after 0 None seat.old) × (self.new ≡ kept_after (left who.now room.now self.old.pad) 0 None seat.old self.old) }
-        ensures unknown { ¬ IsKnown self.old seat.old → (seat.new ≡ seat.old) × (self.new ≡ self.old) }
+        ensures known { IsKnown self.old seat.old
+            → (seat.new ≡ seat_after 0 None seat.old)
+            × (self.new ≡ kept_after (left who.now room.now self.old.pad) 0 None seat.old
+            self.old) }
+        ensures unknown { ¬ IsKnown self.old seat.old
+            → (seat.new ≡ seat.old) × (self.new ≡ self.old) }
     {
         if !self.knows(seat) {
             return;
@@ -118,19 +130,21 @@ impl<S: Sequence> Kept<S> {
         }
     }
 
-    /// What the pad tells somebody in a list of pads, if it is to be listed for them.
+    /// The pad as somebody sees it in a list of pads, if it is listed for them.
     pub fn listing(&self, alloc: Global, who: &Who) -> Result<Option<Listed>, Refusal>
-        ensures exact { MatchResult result (λ told. told ≡ listing who.now self.now.pad) (λ e. (e ≡ Refusal.Memory) × IsTrue (is_some (listing who.now self.now.pad))) }
+        ensures exact { MatchResult result (λ told. told ≡ listing who.now self.now.pad)
+            (λ e. (e ≡ Refusal.Memory) × IsTrue (is_some (listing who.now self.now.pad))) }
         ensures some { IfOk result (IsListing who.now) }
     {
         let _revision = self.pad.revision();
         self.pad.listing(alloc, who)
     }
 
-    /// What all seats have done, where these are the seats that were made, at this cell.
+    /// What all seats have done, if these are the seats that were made, at this cell.
     pub fn sum(&self, cell: u32, seats: &[Seat]) -> Option<Sums>
         ensures sums { IfSome result (λ sums. IsClosed cell self.now seats.now sums) }
-        ensures standing { IfSome result (λ _. AllByRecursion (λ seat. Stands self.now.pad.log seat.tally.last) seats.now) }
+        ensures standing { IfSome result (λ _. AllByRecursion
+            (λ seat. Stands self.now.pad.log seat.tally.last) seats.now) }
         ensures all { IsSome result ↔ AreAll cell self.now seats.now }
     {
         let revision = self.pad.revision();
@@ -146,7 +160,7 @@ impl<S: Sequence> Kept<S> {
         Some(sums)
     }
 
-    /// Whether each seat is just as it is known here, and of this cell.
+    /// Whether each seat is exactly as it is known here, and of this cell.
     fn has_all(&self, cell: u32, seats: &[Seat]) -> bool
         ensures { IsTrue result ↔ AllByRecursion (IsOf cell self.now) seats.now }
     {
@@ -184,10 +198,11 @@ impl<S: Sequence> Kept<S> {
     }
 
     /// The operations that made the revisions after this one.
-    pub fn since(&self, revision: u64) -> &[Op]
-        ensures { result.now ≡ drop revision self.now.pad.log }
+    pub fn since(&self, alloc: Global, revision: u64) -> Result<Row<Op>, Refusal>
+        ensures { MatchResult result (λ row. row ≡ drop revision self.now.pad.log)
+            (λ e. e ≡ Refusal.Memory) }
     {
-        self.pad.since(revision)
+        self.pad.since(alloc, revision)
     }
 
     /// Whether a seat is the one that is known here, and one more call can be counted.
@@ -213,9 +228,14 @@ impl<S: Sequence> Kept<S> {
     ) -> Result<Option<Reply>, Refusal>
         requires { IsAsked request.now }
         ensures who { session.new.who ≡ session.old.who }
-        ensures called { Called seat.old session.old.who request.now session.old.rooms result seat.new session.new.rooms }
-        ensures known { IsKnown self.old seat.old → Counts self.old seat.old session.old.who request.now session.old.rooms result seat.new session.new.rooms self.new }
-        ensures unknown { ¬ IsKnown self.old seat.old → (result ≡ Err Refusal.SeatsOut) × (seat.new ≡ seat.old) × (session.new.rooms ≡ session.old.rooms) × (self.new ≡ self.old) }
+        ensures called { Called seat.old session.old.who request.now session.old.rooms result
+            seat.new session.new.rooms }
+        ensures known { IsKnown self.old seat.old
+            → Counts self.old seat.old session.old.who request.now session.old.rooms result seat.new
+            session.new.rooms self.new }
+        ensures unknown { ¬ IsKnown self.old seat.old
+            → (result ≡ Err Refusal.SeatsOut) × (seat.new ≡ seat.old)
+            × (session.new.rooms ≡ session.old.rooms) × (self.new ≡ self.old) }
     {
         if !self.knows(seat) {
             return Err(Refusal::SeatsOut);
@@ -234,8 +254,10 @@ impl<S: Sequence> Kept<S> {
         requires asked { IsAsked request.now }
         requires known { IsKnown self.old seat.old }
         ensures who { session.new.who ≡ session.old.who }
-        ensures counts { Counts self.old seat.old session.old.who request.now session.old.rooms result seat.new session.new.rooms self.new }
-        ensures called { Called seat.old session.old.who request.now session.old.rooms result seat.new session.new.rooms }
+        ensures counts { Counts self.old seat.old session.old.who request.now session.old.rooms
+            result seat.new session.new.rooms self.new }
+        ensures called { Called seat.old session.old.who request.now session.old.rooms result
+            seat.new session.new.rooms }
     {
         let before = self.pad.revision();
         let answer = request_at(alloc, &mut self.pad, seat.cell, session, request);

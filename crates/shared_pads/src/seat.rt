@@ -5,7 +5,7 @@ ghost use Rattle.shared_pads.specs.Seats.{counted, uncounted, edit_of as edit_to
 use pad_core::{Act, PadReply, Reply, Request};
 use pad_model::{OpName, Refusal};
 
-/// Seats that a pad makes at most while it is shared.
+/// The most seats that a pad makes while it is shared.
 pub const MAX_SEATS: u32 = 96;
 
 /// An edit that was answered: its operation has this name, and made this revision.
@@ -38,14 +38,14 @@ impl Tally {
         }
     }
 
-    /// Whether it is just the other.
+    /// Whether it equals the other.
     pub fn is_same(self, other: Tally) -> bool
         ensures { IsTrue result ↔ (self ≡ other) }
     {
         self == other
     }
 
-    /// With one more call, which delivered so many operations and may have been an edit.
+    /// The tally with one more call, which delivered this many operations and may have been an edit.
     pub fn with_call(self, operations: u64, edit: Option<LastEdit>) -> Tally
         requires calls { self.calls < u64.MAX }
         requires operations { self.operations + operations ≤ u64.MAX }
@@ -58,7 +58,7 @@ impl Tally {
         }
     }
 
-    /// With one more call, by which a session left.
+    /// The tally with one more call, by which a session left.
     pub fn with_departure(self) -> Tally
         requires { self.calls < u64.MAX }
         ensures { result ≡ counted 0 None self }
@@ -129,7 +129,7 @@ fn effect_of(act: &Act) -> Effect
     }
 }
 
-/// The edit that the answer to a request tells of, if it does.
+/// The edit that the answer to a request reports, if any.
 pub fn edit_of(request: &Request, answer: &Result<Option<Reply>, Refusal>) -> Option<LastEdit>
     ensures { result ≡ edit_told_of request.now answer.now }
 {

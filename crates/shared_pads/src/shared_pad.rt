@@ -9,17 +9,17 @@ use crate::gate::{Answered, Gate};
 use crate::kept::Kept;
 use crate::seat::Seat;
 use pad_core::{Listed, Pad, Reply, Request};
-use pad_model::{Name, Refusal, Sequence, Who};
+use pad_model::{Name, Refusal, Row, Sequence, Who};
 use sessions::{Room, Session};
 use std::alloc::Global;
 use std::sync::{Mutex, MutexGuard, Wait};
 use std::thread::yield_now;
 
-/// How often a thread looks whether a lock is free, and lets others run, before it sleeps until it is. A step takes some
+/// How many times a thread tries a lock and yields before it sleeps until the lock is free. A step takes a few
 /// microseconds, less than putting a thread to sleep and waking it.
 const LOOKS: u32 = 64;
 
-/// A pad behind its lock, which stands in a cell of a row.
+/// A pad behind its lock, in a cell of a row.
 ///
 /// Whenever the lock is free the pad is in a state of the machine after its own log, and its revision is that of `new`
 /// with the operations of all seats.
@@ -30,8 +30,8 @@ pub struct SharedPad<S: Sequence> {
 }
 
 impl<S: Sequence> SharedPad<S> {
-    /// Puts a pad behind a lock, with room for what is counted of so many seats, and of 96 at most. Without memory for it
-    /// the pad is handed back.
+    /// Puts a pad behind a lock, with room for the tallies of this many seats, at most 96. If there is no memory for
+    /// it, the pad is handed back.
     pub fn new(alloc: Global, pad: Pad<S>, cell: u32, seats: u32) -> Result<SharedPad<S>, Pad<S>>
         ensures { MatchResult result (λ shared. shared.cell ≡ cell) (λ back. back ≡ pad) }
     {
@@ -58,9 +58,10 @@ impl<S: Sequence> SharedPad<S> {
         seat.cell() == self.cell
     }
 
-    /// One more seat. 317 where as many were made as there is room for. It takes no memory.
+    /// Makes one more seat. It is refused with 317 if as many were made as there is room for. It takes no memory.
     pub fn seat<R: Wait>(&self, rt: &R) -> Result<Seat, Refusal>
-        ensures seat { IfOk result (λ seat. (seat.cell ≡ self.now.cell) × (seat.tally ≡ uncounted)) }
+        ensures seat { IfOk result (λ seat. (seat.cell ≡ self.now.cell)
+            × (seat.tally ≡ uncounted)) }
         ensures refusal { IfErr result (λ e. e ≡ Refusal.SeatsGone) }
     {
         self.kept.lock(rt).seat(self.cell)
@@ -90,24 +91,31 @@ impl<S: Sequence> SharedPad<S> {
         requires owned { seat.old.cell ≡ self.now.cell }
         requires asked { IsAsked request.now }
         ensures who { session.new.who ≡ session.old.who }
-        ensures called { Called seat.old session.old.who request.now session.old.rooms result seat.new session.new.rooms }
+        ensures called { Called seat.old session.old.who request.now session.old.rooms result
+            seat.new session.new.rooms }
     {
         let mut kept = self.lock(rt);
         let before = kept.revision();
         let answer = kept.call(alloc, seat, session, request);
+        let more = if gate.reads_operations() {
+            kept.since(alloc, before)
+        } else {
+            Ok(Row::new(alloc))
+        };
         let told = Answered {
             cell: self.cell,
             who: session.who(),
             request,
             answer: &answer,
-            more: kept.since(before),
+            made: kept.revision().saturating_sub(before),
+            more: &more,
         };
         gate.answered(alloc, &told);
         gate.inside(self.cell);
         answer
     }
 
-    /// Ends a visit where it is present and the session's; else it does nothing. It takes no memory.
+    /// Ends a visit if it is present and the session's; otherwise it does nothing. It takes no memory.
     pub fn depart<R: Wait, G: Gate>(
         &self,
         rt: &R,
@@ -134,7 +142,7 @@ impl<S: Sequence> SharedPad<S> {
         self.kept.lock(rt).name(alloc)
     }
 
-    /// What the pad tells somebody in a list of pads, if it is to be listed for them. It needs no seat and tells no gate.
+    /// The pad as somebody sees it in a list of pads, if it is listed for them. It needs no seat and calls no gate.
     pub fn listing<R: Wait>(
         &self,
         rt: &R,
@@ -146,10 +154,11 @@ impl<S: Sequence> SharedPad<S> {
         self.kept.lock(rt).listing(alloc, who)
     }
 
-    /// Ends the sharing, where these are the seats that were made, each once, with their tallies; else all is handed back
-    /// (318). A seat of another cell is none of them.
+    /// Ends the sharing, if these are the seats that were made, each once, with their tallies; otherwise everything is
+    /// handed back (318). A seat of another cell is not one of them.
     pub fn close(self, seats: Vec<Seat>) -> Result<Closed<S>, (SharedPad<S>, Vec<Seat>)>
-        ensures closed { IfOk result (λ closed. HasClosed closed.pad self.cell seats.items closed.operations closed.calls) }
+        ensures closed { IfOk result (λ closed. HasClosed closed.pad self.cell seats.items
+            closed.operations closed.calls) }
         ensures back { IfErr result (λ back. (back.0.cell ≡ self.cell) × (back.1 ≡ seats)) }
     {
         let SharedPad { kept, cell } = self;
@@ -171,7 +180,7 @@ impl<S: Sequence> SharedPad<S> {
     }
 }
 
-/// A pad that is not shared any more, and what all its seats have done.
+/// A pad that is no longer shared, and what all its seats have done.
 #[derive(Drop)]
 pub struct Closed<S: Sequence> {
     pub pad: Pad<S>,

@@ -12,10 +12,13 @@ pub struct Sums {
     pub calls: u64,
 }
 
-/// What seats have done together, where it can be counted.
+/// What seats have done together, if it can be counted.
 pub fn sums_of(seats: &[Seat]) -> Option<Sums>
-    ensures sums { IfSome result (λ sums. (sums.operations ≡ sum_by (λ seat. seat.tally.operations) seats.now) × (sums.calls ≡ sum_by (λ seat. seat.tally.calls) seats.now)) }
-    ensures passes { IfNone result ((u64.MAX < sum_by (λ seat. seat.tally.operations) seats.now) ⊎ (u64.MAX < sum_by (λ seat. seat.tally.calls) seats.now)) }
+    ensures sums { IfSome result (λ sums. (sums.operations
+        ≡ sum_by (λ seat. seat.tally.operations) seats.now)
+        × (sums.calls ≡ sum_by (λ seat. seat.tally.calls) seats.now)) }
+    ensures passes { IfNone result ((u64.MAX < sum_by (λ seat. seat.tally.operations) seats.now)
+        ⊎ (u64.MAX < sum_by (λ seat. seat.tally.calls) seats.now)) }
 {
     match seats.split_first() {
         None => Some(Sums {

@@ -1,4 +1,4 @@
--- What a slide does to the character at a place, and to how many there are.
+-- The effect of a slide on the character at a place, and on the number of characters.
 use Rattle.std.proofs.Common.{◌≡◌, ℕ, zero, suc, ◌+◌, ◌-◌, ◌≤◌, ◌<◌, true, false, cond, List, [], ◌∷◌, ◌++◌, length}
 use Rattle.std.proofs.Common.{Some, slice_get, refl, sym, ap, ◌∙◌, arith, length-append}
 use Rattle.pad_model.specs.Character.{next}
@@ -8,7 +8,7 @@ use Rattle.pad_model.specs.declared.limits.TheConstants.{MAX_CHARACTERS}
 use Rattle.slides.specs.declared.slide.Slide.{Slide}
 use Rattle.slides.specs.Slides.{Moves}
 
--- the stamp so many places behind a first one
+-- the stamp this many places after a first one
 abbrev pub so_far_behind : Stamp → ℕ → Stamp
 so_far_behind first i = record first { counter = first.counter + i }
 
@@ -49,7 +49,7 @@ module _ (s : Slide) (old new : List Stamp) (moves : Moves s old new) where
   hidden_after : s.shows ≡ false → new ≡ moves.front ++ moves.back
   hidden_after e = moves.after ∙ ap (λ b. moves.front ++ cond b (stamps_from s.first s.len ++ moves.back) moves.back) e
 
-  -- how many there are without the stretch, and with it
+  -- the number of characters without the stretch, and with it
   without : (xs : List Stamp) → xs ≡ moves.front ++ moves.back → length xs ≡ s.at + length moves.back
   without xs e =
       let place = moves.place in
@@ -89,7 +89,7 @@ module _ (s : Slide) (old new : List Stamp) (moves : Moves s old new) where
       ∙ sym (get_front moves.front (cond s.shows moves.back (stamps_from s.first s.len ++ moves.back)) i (omega arith))
       ∙ sym (ap (λ l. slice_get l i) moves.before)
 
-  -- a character behind the stretch, without the stretch and with it
+  -- a character after the stretch, without the stretch and with it
   behind : (i : ℕ) → s.at ≤ i → slice_get (moves.front ++ (stamps_from s.first s.len ++ moves.back)) (i + s.len)
       ≡ slice_get (moves.front ++ moves.back) i
   behind i h =
@@ -99,12 +99,12 @@ module _ (s : Slide) (old new : List Stamp) (moves : Moves s old new) where
       ∙ get_back (stamps_from s.first s.len) moves.back (i - s.at + s.len) (i - s.at) (omega arith)
       ∙ sym (get_back moves.front moves.back i (i - s.at) (omega arith))
 
-  -- a shown stretch moves what stands behind it
+  -- a shown stretch moves what follows it
   pub moved_on : s.shows ≡ true → (i : ℕ) → s.at ≤ i → slice_get new (i + s.len) ≡ slice_get old i
   moved_on e i h = ap (λ l. slice_get l (i + s.len)) (shown_after e) ∙ behind i h
       ∙ sym (ap (λ l. slice_get l i) (shown_before e))
 
-  -- a hidden one too
+  -- a hidden stretch moves what follows it
   pub moved_back : s.shows ≡ false → (i : ℕ) → s.at + s.len ≤ i → slice_get new (i - s.len) ≡ slice_get old i
   moved_back e i h =
       ap (λ l. slice_get l (i - s.len)) (hidden_after e) ∙ sym (behind (i - s.len) (omega arith))

@@ -1,4 +1,4 @@
-//! From an old revision to the present.
+//! Carries places of an old revision to the present.
 ghost use Rattle.std.specs.Prelude.{◌≡◌, ℕ, ◌<◌, List, length, nat_le};
 ghost use Rattle.pad_model.specs.Stamp.{Stamp as StampValue};
 ghost use Rattle.slides.specs.Slides.{since as slides_since, IsCarried, IsSorted, LeadTo, Leads};
@@ -6,16 +6,16 @@ ghost use Rattle.slides.specs.Slides.{since as slides_since, IsCarried, IsSorted
 use crate::slide::Slide;
 use pad_model::Stamp;
 
-/// What became of a visible character of an old revision.
+/// The present state of a character that was visible in an old revision.
 #[derive(Clone, Copy, Debug)]
 pub enum Carried {
-    /// It is visible, with so many before it.
+    /// It is visible, with this many characters before it.
     At(u64),
-    /// It was hidden; this is its stamp.
+    /// It is hidden, and has this stamp.
     Hidden(Stamp),
 }
 
-/// The slides after a revision, found by bisection.
+/// Returns the slides after a revision, found by bisection.
 pub fn since(slides: &[Slide], rev: u64) -> &[Slide]
     requires { IsSorted 0 slides.now }
     ensures { result.now ≡ slides_since rev slides.now }
@@ -28,10 +28,11 @@ pub fn since(slides: &[Slide], rev: u64) -> &[Slide]
     &slides[seen..]
 }
 
-/// How many characters were visible before the slides, of which so many are left visible by them.
+/// Returns the number of visible characters before the slides, given that `many` are visible after them.
 pub fn count_before(slides: &[Slide], many: u64) -> u64
     requires { LeadTo slides.now many }
-    ensures { (old new : List StampValue) → Leads slides.now old new → length new ≡ many → result ≡ length old }
+    ensures { (old new : List StampValue) → Leads slides.now old new → length new ≡ many
+        → result ≡ length old }
 {
     let mut count = many;
     for i in (0..slides.len()).rev() {
@@ -45,10 +46,11 @@ pub fn count_before(slides: &[Slide], many: u64) -> u64
     count
 }
 
-/// Where the visible character at a place, from 0, was carried by the slides.
+/// Returns where the slides carried the visible character at `place`, counted from 0.
 pub fn carry(slides: &[Slide], place: u64) -> Carried
     requires { (old new : List StampValue) × Leads slides.now old new × (place < length old) }
-    ensures { (old new : List StampValue) → Leads slides.now old new → IsCarried result old place new }
+    ensures { (old new : List StampValue) → Leads slides.now old new
+        → IsCarried result old place new }
 {
     let mut at = place;
     for slide in slides {

@@ -1,4 +1,4 @@
-//! A stretch that came or went.
+//! A change to the visible text.
 use pad_model::Stamp;
 
 /// A stretch of characters that one revision showed or hid.
@@ -6,12 +6,12 @@ use pad_model::Stamp;
 pub struct Slide {
     /// The revision that did it.
     pub rev: u64,
-    /// How many visible characters stand before the stretch.
+    /// The number of visible characters before the stretch.
     pub at: u64,
-    /// The stamp of its first character; the others follow on it.
+    /// The stamp of its first character; those of the others follow.
     pub first: Stamp,
-    /// How many characters it has.
+    /// The number of its characters.
     pub len: u64,
-    /// Whether they were shown, by an insertion, or hidden, by a deletion.
+    /// Whether they were shown by an insertion, or else hidden by a deletion.
     pub shows: bool,
 }

@@ -34,7 +34,7 @@ front_length zero bytes = omega arith
 front_length (suc n) [] = omega arith
 front_length (suc n) (b ∷ bytes) = let h = front_length n bytes in omega (arith, h)
 
--- the first texts say the first of it
+-- the first texts have the meaning of the first entries
 say_front : (n : ℕ) (says : List Entry) (texts : List (List ℕ)) → Say says texts → Say (take n says) (take n texts)
 say_front zero says texts h = tt
 say_front (suc n) [] [] h = tt
@@ -69,11 +69,11 @@ refused_stays (x ∷ records) e = refused_stays records e
 err_is_no_ok : (e : Refusal) (m : Machine) → (let r : Result Machine Refusal = Err e in r) ≡ Ok m → ⊥
 err_is_no_ok e m h = cc
 
--- what was read has this pad, and so many bytes
+-- what was read has this pad, and this many bytes
 abbrev Leads : Result Read Damage → Machine → ℕ → Type 0
 Leads result m whole = (read : Read) × (read.pad ≡ m) × (read.whole ≡ whole) × (result ≡ Ok read)
 
--- nothing more is read of lines that are no further ones
+-- nothing more is read of lines that are not further ones
 torn_stays : (number : ℕ) (name : List ℕ) (before : Read) (rest : List (List ℕ)) → IsTorn before.sum rest →
     read_lines number name before rest ≡ Ok before
 torn_stays number name before [] h = refl
@@ -82,7 +82,7 @@ torn_stays number name before (line ∷ lines) (unlinked, none) =
     (text_read number name (behind_line before line text) text))) unlinked
     ∙ cond-false (list_any begins_batch (line ∷ lines)) (Err (Unlinked number)) (Ok before) none
 
--- one more line is read, which says this
+-- one more line with this meaning is read
 line_leads : (number : ℕ) (name : List ℕ) (before : Read) (text : List ℕ) (said : Entry) (lines : List (List ℕ)) →
     entry_said text ≡ Some said → read_lines number name before (line_text before.sum text ∷ lines)
     ≡ read_on (λ next. read_lines (suc number) name next lines)
@@ -111,7 +111,7 @@ first_one line lines = at (length-append line (10 ∷ bytes_of lines))
         + length (bytes_of lines) ≡ length (line ++ 10 ∷ bytes_of lines)
     at h = omega (arith, h)
 
--- lines that say headers of this pad and records lead where the records lead
+-- lines with headers of this pad and records lead where the records lead
 entries_read : (number : ℕ) (name : List ℕ) (says : List Entry) (texts rest : List (List ℕ)) (before : Read)
     (m : Machine) → Say says texts → AreOf name says → replay_all (records_in says) before.pad ≡ Ok m →
     IsTorn (last_sum before.sum texts) rest →
@@ -165,7 +165,7 @@ entries_read number name (entry.Record kept ∷ more) (text ∷ texts) rest befo
     at (Ok done, pad) ok on = on pad ok
     at (Err e, pad) ok on = absurd (err_is_no_ok e m (sym (refused_stays (records_in more) e) ∙ ok))
 
--- the whole lines of a file with bytes behind its lines
+-- the whole lines of a file with bytes after its lines
 pub with_tail : (before : List ℕ) (texts : List (List ℕ)) (tail : List ℕ) → AllByRecursion IsLine texts →
     whole_lines (bytes_of (lines_behind before texts) ++ tail) ≡ lines_behind before texts ++ whole_lines tail
 with_tail before [] tail h = refl
@@ -180,7 +180,7 @@ front_plain zero texts h = tt
 front_plain (suc n) [] h = tt
 front_plain (suc n) (text ∷ texts) (plain, h) = (plain, front_plain n texts h)
 
--- the lines that a crash left, and what stands behind them
+-- the lines that a crash left, and what follows them
 abbrev LeftLines : Disk → List (List ℕ) → List ℕ → Type 0
 LeftLines disk texts bytes =
     (lines : ℕ) × (rest : List (List ℕ)) × (1 ≤ lines) × HasSynced disk texts lines
@@ -221,7 +221,7 @@ left_lines texts disk bytes some plain written (cut left synced is first) = at (
         reach : (n : ℕ) → n ≤ disk.synced → disk.synced ≤ left → n ≤ left
         reach n a b = omega arith
 
--- the first line is a header, and what stands behind it is read
+-- the first line is a header, and what follows it is read
 file_again : (number most : ℕ) (name : List ℕ) (header : Header) (says : List Entry) (text : List ℕ)
     (texts rest : List (List ℕ)) (m : Machine) →
     entry_said text ≡ Some (entry.Header header) → header.pad ≡ name → AreOf name says → Say says texts →
@@ -249,7 +249,7 @@ file_again number most name header says text texts rest m is called are says_so 
     first : Read
     first = record { pad = unnamed number most; header = header; sum = sum_after [] text; whole = suc (length line) }
 
--- what was read of lines is what the file's bytes lead to, if the pad has the name
+-- the file's bytes lead to what was read of its lines, if the pad has the name
 pub named_read : (replica present : ℕ) (name bytes : List ℕ) (read : Read) → file_read replica present name (whole_lines bytes)
     ≡ Ok read → pad_read replica present name bytes ≡ if_named name read
 named_read replica present name bytes read is = at (whole_lines bytes) is
@@ -272,7 +272,7 @@ Again number most name bytes says texts had =
     × (records_in says ≡ [] → pad_read number most name bytes ≡ Err Empty)
     × Life number most (records_in says) read.pad × IsFile name says
 
--- and in which state the pad was then
+-- and the state in which the pad was then
 abbrev AllAgain : ℕ → ℕ → List ℕ → List Entry → Machine → List (List ℕ) → Disk → List ℕ → Type 0
 AllAgain replica present name says m texts disk bytes =
     (lines : ℕ) × HasSynced disk texts lines

@@ -1,4 +1,4 @@
--- The whole lines of a file are found feed by feed, and one more line is read.
+-- The whole lines of a file are found by their line feeds, and one more line is read.
 use Rattle.std.proofs.Common.{◌≡◌, ◌⊎◌, inl, inr, ℕ, suc, ◌+◌, ◌-◌, ◌≤◌, ◌<◌, nat_le, nat_lt, Bool, true, false, List}
 use Rattle.std.proofs.Common.{[], ◌∷◌, length, take, drop, Option, Some, None, Result, Ok, Err, refl, sym, ap, ◌∙◌}
 use Rattle.std.proofs.Common.{subst, arith, cond, option_map, ◌||◌}
@@ -15,7 +15,7 @@ use Rattle.store.specs.declared.reader.Damage.{Damage}
 use Rattle.store.specs.declared.reader.Damage.TheVariants.{Memory}
 use Rattle.store.specs.declared.reader.Tail.{Tail}
 
--- where the first line feed is, by cases
+-- the index of the first line feed, by cases
 counted_on : (p n : ℕ) → cond (nat_lt (1 + p) (suc n)) (Some (1 + p)) None
     ≡ option_map suc (cond (nat_lt p n) (Some p) None)
 counted_on p n = at (leb_tells (suc p) n)
@@ -44,7 +44,7 @@ none_is_some k e = cc
 same_some : (j k : ℕ) → Some j ≡ Some k → j ≡ k
 same_some j k e = cc
 
--- the first whole line, and the lines behind it
+-- the first whole line, and the lines after it
 abbrev Whole : List ℕ → ℕ → Type 0
 Whole bytes end = whole_lines bytes ≡ take end bytes ∷ whole_lines (drop (suc end) bytes)
 
@@ -93,7 +93,7 @@ feed_low (byte ∷ bytes) end is = at (is_feed byte) refl (feed_low bytes)
             (same_some (suc k) end (sym (position_on byte bytes h ∙ ap (option_map suc) e) ∙ is))
             (omega (arith, more k e))
 
--- the same with another sum and count, which are those of one more line with this text
+-- the same with the sum and the count after one more line with this text
 pub line_there : (before : Read) (bytes : List ℕ) (end w : ℕ) (text sum : List ℕ) → Some end ≡ position is_feed bytes →
     sum ≡ sum_after before.sum text → w ≡ before.whole + end + 1 →
     record before { sum = sum; whole = w } ≡ behind_line before (take end bytes) text
@@ -108,7 +108,7 @@ line_there before bytes end w text sum is linked long =
     at : length (take end bytes) ≡ end → w ≡ before.whole + suc (length (take end bytes))
     at h = omega (arith, h, long)
 
--- what the lines lead to, of which the first one leads so far
+-- what lines lead to, from what the first one leads to
 one_more : (number : ℕ) (name : List ℕ) (before : Read) (bytes text : List ℕ) (end : ℕ) (found : Result Read Damage) →
     Some end ≡ position is_feed bytes → text_behind before.sum (take end bytes) ≡ Some text →
     text_read number name (behind_line before (take end bytes) text) text ≡ found →
@@ -121,7 +121,7 @@ one_more number name before bytes text end found is linked leads =
     (text_read number name (behind_line before (take end bytes) t) t))) linked
     ∙ ap (read_on (λ next. read_lines (suc number) name next (whole_lines (drop (suc end) bytes)))) leads
 
--- what lines lead to, of which the first is not linked
+-- what lines lead to whose first one is not linked
 torn_lines : (number : ℕ) (name : List ℕ) (before : Read) (bytes : List ℕ) (end : ℕ) →
     Some end ≡ position is_feed bytes → text_behind before.sum (take end bytes) ≡ None →
     read_lines number name before (whole_lines bytes) ≡ torn_at number before (whole_lines bytes)
@@ -132,13 +132,13 @@ torn_lines number name before bytes end is unlinked =
     (text_read number name (behind_line before (take end bytes) t) t))) unlinked
     ∙ ap (torn_at number before) (sym (first_whole bytes end (sym is))))
 
--- what a loop over the lines keeps: where they lead, how many bytes there are, and how many lines there may be
+-- the invariant of a loop over the lines: what they lead to, how many bytes there are, and how many lines there may be
 abbrev pub Kept : ℕ → List ℕ → Read → List ℕ → Result Read Damage → ℕ → ℕ → Type 0
 Kept number name before bytes all total limit =
     (read_lines (suc number) name before (whole_lines bytes) ≡ all) × (before.whole + length bytes ≡ total)
     × (number + length bytes ≤ limit)
 
--- it is kept by one more line
+-- one more line keeps it
 pub goes_on : (number count : ℕ) (name : List ℕ) (before next : Read) (bytes rest text sum : List ℕ) (end k w : ℕ)
     (all : Result Read Damage) (total limit : ℕ) → count ≡ suc number → k ≡ suc end → w ≡ before.whole + end + 1 →
     take (length bytes - k) (drop k bytes) ≡ rest → Some end ≡ position is_feed bytes →
@@ -165,7 +165,7 @@ goes_on number count name before next bytes rest text sum end k w all total limi
         + length (drop (suc end) bytes) ≤ limit
     fewer b low = omega (arith, few)
 
--- the damage of the next line is that of all
+-- damage of the next line is the result of all
 pub fails : (number count : ℕ) (name : List ℕ) (before : Read) (bytes text sum : List ℕ) (end w : ℕ) (damage : Damage)
     (all : Result Read Damage) → count ≡ suc number → w ≡ before.whole + end + 1 → Some end ≡ position is_feed bytes →
     text_behind before.sum (take end bytes) ≡ Some text → sum ≡ sum_after before.sum text →
@@ -177,7 +177,7 @@ fails number count name before bytes text sum end w damage all next long is link
     (ap (λ (r : Read). text_read (suc number) name r text) (sym (line_there before bytes end w text sum is summed long))
     ∙ subst (λ n. text_read n name (record before { sum = sum; whole = w }) text ≡ Err damage) next wrong))
 
--- what stands instead of a line that is not linked decides
+-- if a line is not linked, the alternative is the result
 pub torn_ends : (number count : ℕ) (name : List ℕ) (before : Read) (bytes : List ℕ) (end : ℕ)
     (all found : Result Read Damage) → count ≡ suc number → Some end ≡ position is_feed bytes →
     text_behind before.sum (take end bytes) ≡ None → torn_at count before (whole_lines bytes) ≡ found →
@@ -195,7 +195,7 @@ torn_fails number count name before bytes end damage all next is unlinked (inl m
 torn_fails number count name before bytes end damage all next is unlinked (inr wrong) so =
     inr (torn_ends number count name before bytes end all (Err damage) next is unlinked (wrong before) so)
 
--- no line is left: this is what all lead to
+-- no line is left, so this is what all lead to
 pub ends : (number : ℕ) (name : List ℕ) (before : Read) (bytes : List ℕ) (all : Result Read Damage) →
     None ≡ position is_feed bytes → read_lines (suc number) name before (whole_lines bytes) ≡ all → all ≡ Ok before
 ends number name before bytes all is so =
@@ -207,14 +207,14 @@ pub unread : (replica present : ℕ) (name bytes : List ℕ) (damage : Damage) �
 unread replica present name bytes damage is so = ap (lines_read replica present name bytes) (none_whole bytes (sym is))
     ∙ ap Err (sym so)
 
--- a file with whole lines is read, if its pad has the name
+-- the lines of a file with whole lines are read, if its pad has the name
 pub lines_there : (replica present : ℕ) (name bytes : List ℕ) (end : ℕ) → Some end ≡ position is_feed bytes →
     pad_read replica present name bytes ≡ read_on (if_named name) (file_read replica present name (whole_lines bytes))
 lines_there replica present name bytes end is =
     subst (λ lines. lines_read replica present name bytes lines ≡ read_on (if_named name) (file_read replica present name lines))
     (sym (first_whole bytes end (sym is))) refl
 
--- what the file leads to, of which the first line leads so far
+-- what the file leads to, from what the first line leads to
 begins_so : (replica present : ℕ) (name bytes : List ℕ) (end : ℕ) (found : Result Read Damage) →
     Some end ≡ position is_feed bytes → first_read replica present name (take end bytes) (whole_lines bytes) ≡ found →
     file_read replica present name (whole_lines bytes)
@@ -224,7 +224,7 @@ begins_so replica present name bytes end found is leads =
     ∙ ap (read_on (λ before. read_lines 2 name before (whole_lines (drop (suc end) bytes))))
     (ap (first_read replica present name (take end bytes)) (sym (first_whole bytes end (sym is))) ∙ leads)
 
--- the damage of the first line is that of the file
+-- damage of the first line is the result of the file
 pub begin_fails : (replica present : ℕ) (name bytes : List ℕ) (end : ℕ) (damage : Damage) → Some end ≡ position is_feed bytes →
     (damage ≡ Memory)
     ⊎ ((number most : ℕ) → first_read number most name (take end bytes) (whole_lines bytes) ≡ Err damage) →
@@ -233,7 +233,7 @@ begin_fails replica present name bytes end damage is (inl memory) = inl memory
 begin_fails replica present name bytes end damage is (inr wrong) =
     inr (begins_so replica present name bytes end (Err damage) is (wrong replica present))
 
--- behind the first line
+-- after the first line
 pub begins : (replica present : ℕ) (name bytes rest : List ℕ) (end k : ℕ) (first : Tail) → k ≡ suc end →
     take (length bytes - k) (drop k bytes) ≡ rest → Some end ≡ position is_feed bytes →
     ((number most : ℕ) → first_read number most name (take end bytes) (whole_lines bytes)
@@ -245,13 +245,13 @@ begins replica present name bytes rest end k first behind left is leads =
     (whole_lines bs)) (ap (λ i. drop i bytes) (sym behind) ∙ (sym (take_rest bytes k) ∙ left))
     (begins_so replica present name bytes end (Ok (so_far (unnamed replica present) first)) is (leads replica present))
 
--- what one result is told of holds of the other one
+-- what holds for one result holds for an equal one
 pub moved : (damage : Damage) (from to : Result Read Damage) → to ≡ from → (damage ≡ Memory) ⊎ (from ≡ Err damage) →
     (damage ≡ Memory) ⊎ (to ≡ Err damage)
 moved damage from to same (inl memory) = inl memory
 moved damage from to same (inr wrong) = inr (same ∙ wrong)
 
--- whether a line begins a batch is decided by the first line or by those behind it
+-- whether a line begins a batch is decided by the first line or by those after it
 pub begins_here : (bytes : List ℕ) (end : ℕ) → Some end ≡ position is_feed bytes → begins_batch (take end bytes) ≡ true →
     list_any begins_batch (whole_lines bytes) ≡ true
 begins_here bytes end is begins =
@@ -268,7 +268,7 @@ begins_behind bytes rest end k all behind left is begins so =
     (sym (ap (list_any begins_batch) (first_whole bytes end (sym is))
     ∙ ap (λ b. b || list_any begins_batch (whole_lines (drop (suc end) bytes))) begins) ∙ so)
 
--- what is left behind some bytes is no longer
+-- what is left after some bytes is no longer than before
 pub rest_short : (bytes : List ℕ) (k limit : ℕ) → length bytes ≤ limit →
     length (take (length bytes - k) (drop k bytes)) ≤ limit
 rest_short bytes k limit low = at (ap length (take_rest bytes k)) (length-drop k bytes)

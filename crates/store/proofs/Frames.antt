@@ -1,4 +1,4 @@
--- The text within a line that has the form of one.
+-- The text within a line with the form of one.
 use Rattle.std.proofs.Common.{◌≡◌, ℕ, ◌-◌, ◌≤◌, ◌&&◌, true, false, List, length, take, drop, bytes_eq, Some, None, sym, ap}
 use Rattle.std.proofs.Common.{◌∙◌, nat_lt}
 use Rattle.std.specs.List.{list_all}

@@ -1,4 +1,4 @@
--- The whole lines of a front of a file are those of its first texts.
+-- The whole lines of a prefix of a file are those of its first texts.
 use Rattle.std.proofs.Common.{◌≡◌, ◌⊎◌, inl, inr, ℕ, zero, suc, ◌+◌, ◌-◌, ◌*◌, ◌/◌, ◌%◌, ◌≤◌, ◌<◌, ◌≢◌, nat_le, eqb}
 use Rattle.std.proofs.Common.{eq-eqb, not, ◌&&◌, Bool, true, false, true≢false, List, [], ◌∷◌, ◌++◌, length, take, drop}
 use Rattle.std.proofs.Common.{codes, slice_index, bytes_eq, Some, refl, sym, ap, ◌∙◌, arith, append_assoc}
@@ -24,13 +24,13 @@ pub whole_first : (line rest : List ℕ) → IsLine line → whole_lines (line +
 whole_first [] rest h = refl
 whole_first (b ∷ line) rest (ne, h) = rw (ne_eqb b 10 ne) (ap (with_byte b) (whole_first line rest h))
 
--- a part of a line is none
+-- a part of a line is not a whole line
 none_whole : (line : List ℕ) (n : ℕ) → IsLine line → whole_lines (take n line) ≡ []
 none_whole [] n h = ap whole_lines (take-nil n)
 none_whole (b ∷ line) zero h = refl
 none_whole (b ∷ line) (suc n) (ne, h) = rw (ne_eqb b 10 ne) (ap (with_byte b) (none_whole line n h))
 
--- lines that some counts of texts stand for
+-- the lines that some counts of texts give
 abbrev Fronted : List ℕ → List (List ℕ) → ℕ → Type 0
 Fronted before texts left =
     (count : ℕ) × (whole_lines (take left (bytes_of (lines_behind before texts)))
@@ -152,7 +152,7 @@ pub sum_length : (before text : List ℕ) → length (sum_after before text) ≡
 unfolding sha256
 sum_length before text = length-encode_with lower_digits (sha256 (before ++ text)) ∙ ap (λ n. 2 * n) (digest_length _ 8)
 
--- a line with its text in one piece
+-- a line with its text undivided
 line_parts : (before text : List ℕ) → line_text before text ≡ 91
     ∷ (text ++ (codes ",\"" ++ (sum_after before text ++ codes "\"]")))
 line_parts before text =

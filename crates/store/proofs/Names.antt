@@ -33,7 +33,7 @@ either P false x y p q = q
 abbrev owning : Option Owned → Machine → Machine
 owning o m = record m { owned = o }
 
--- one more record leaves the name as it is
+-- one more record keeps the name
 one_stays : (kept : Record) (owned : Owned) (m : Machine) →
     name_of (replay kept (owning (Some owned) m)).1.owned ≡ Some owned.name
 one_stays (Named name owner) owned m = refl
@@ -66,7 +66,7 @@ named_stays (kept ∷ records) m after n named leads =
     at (Ok done, next) is ok on = on next is ok
     at (Err e, next) is ok on = absurd (err_is_no_ok e after (sym (refused_stays records e) ∙ ok))
 
--- what records lead to, of which the first names the pad, has this name
+-- records lead to a pad with this name, if the first names it so
 named_first : (number most : ℕ) (name owner : List ℕ) (more : List Record) (after : Machine) →
     rebuilt number most (Named name owner ∷ more) ≡ Ok after → name_of after.owned ≡ Some name
 named_first number most name owner more after leads = at (is_name name && is_name owner) refl
@@ -99,7 +99,7 @@ is_taken number most name owner records more read leads is =
     (sym (ap (rebuilt number most) is) ∙ leads))
     ∙ cond-true (bytes_eq name name) (Ok read) (Err OtherPad) ((bytes_eq-Decides name name).1 refl)
 
--- and one without a record is that of no pad
+-- and a file without a record is that of no pad
 pub is_empty : (number most : ℕ) (name : List ℕ) (records : List Record) (read : Read) → rebuilt number most records
     ≡ Ok read.pad → records ≡ [] → if_named name read ≡ Err Empty
 is_empty number most name records read leads is =

@@ -1,4 +1,4 @@
--- What is written of a header and of a record says it, and is one line.
+-- The written text of a header or a record has its meaning, and is one line.
 use Rattle.std.proofs.Common.{◌≡◌, ℕ, ◌≤◌, ◌≢◌, List, [], ◌∷◌, Bool, true, false, true≢false, Option, Some, None}
 use Rattle.std.proofs.Common.{option_map, option_and_then, Result, Ok, Err, IfOk, refl, sym, ap, ◌∙◌, subst, arith}
 use Rattle.std.proofs.Common.{lit≤}
@@ -76,7 +76,7 @@ granted_again at false author (Some right.Comment) = refl
 granted_again at false author (Some right.Write) = refl
 granted_again at false author (Some right.Own) = refl
 
--- what a record is written as is read as the record
+-- the written form of a record is read as the record
 pub record_again : (at : ℕ) (together : Bool) (kept : Record) → IsSayableRecord kept →
     entry_in (record_data at together kept) ≡ Some (entry.Record kept)
 record_again at true (Named name owner) h = refl
@@ -119,7 +119,7 @@ valued bytes_of (Err e) v d utf8 same low back = tt
 valued bytes_of (Ok text) v d utf8 same low back =
     value_of_text (bytes_of text) v (utf8 text) (back (subst (λ x. depth x ≤ max_depth) (sym same) low)) ∙ ap Some same
 
--- and where nothing is asked of the entry
+-- the same without conditions on the entry
 pub told_always : {A E : Type 0} (bytes_of : A → List ℕ) (r : Result A E) (said : Entry) →
     IfOk r (λ text. Unit {0} → Tells said (bytes_of text)) → IfOk r (λ text. Tells said (bytes_of text))
 told_always bytes_of (Ok text) said h = h tt

@@ -1,4 +1,4 @@
--- What the bytes of a pad's file lead to: a pad, or the first damage that is found.
+-- The pad that the bytes of its file lead to, or the first damage.
 use Rattle.std.specs.Prelude.{ℕ, suc, ◌+◌, List, [], ◌∷◌, length, codes, bytes_eq, ◌==◌, ◌||◌, if◌then◌else◌}
 use Rattle.std.specs.Prelude.{string_bytes, Option, Some, None, Result, Ok, Err}
 use Rattle.std.specs.List.{list_any, starts_with}
@@ -15,34 +15,39 @@ use Rattle.store.specs.declared.reader.Damage.{Damage}
 use Rattle.store.specs.declared.reader.Tail.{Tail}
 use Rattle.store.specs.declared.reader.Damage.TheVariants.{Empty, OtherPad, Refused, Unknown, Unlinked}
 
--- what follows, unless there is damage before
+-- what follows, unless there was damage before
 abbrev pub read_on : {A B : Type 0} → (A → Result B Damage) → Result A Damage → Result B Damage
 read_on next (Ok found) = next found
 read_on next (Err damage) = Err damage
 
--- what follows by the text of a line, or what stands instead where it has none
+-- what follows from the text of a line, or something else if it has none
 abbrev pub by_text : {A : Type 0} → A → (List ℕ → A) → Option (List ℕ) → A
 by_text instead next None = instead
 by_text instead next (Some text) = next text
 
--- what a line with this number says, if it says anything
+-- the meaning of the line with this number; without one it is damaged
 abbrev pub said_at : ℕ → Option Entry → Result Entry Damage
 said_at number None = Err (Unknown number)
 said_at number (Some said) = Ok said
 
--- a file as far as it was read: the pad, whose file it is by the last header, the sum of the last line, and how many
--- bytes the lines have
+-- a file as far as it was read: the pad, the last header, the sum of the last line, and the number of bytes of the
+-- lines
 pub record Read : Type 0 where
   pub pad : Machine
   pub header : Header
   pub sum : List ℕ
   pub whole : ℕ
 
--- the pad, with the last header, the last sum, and the bytes of the lines
+-- what was read so far, from the pad and the tail of the lines
 abbrev pub so_far : Machine → Tail → Read
-so_far m tail = record { pad = m; header = tail.header; sum = string_bytes tail.sum; whole = tail.whole }
+so_far m tail = record {
+  pad = m;
+  header = tail.header;
+  sum = string_bytes tail.sum;
+  whole = tail.whole;
+}
 
--- the same with one more line, which has this text
+-- what was read, with one more line that has this text
 abbrev pub behind_line : Read → List ℕ → List ℕ → Read
 behind_line before line text = record before {
   sum = sum_after before.sum text;
@@ -50,27 +55,31 @@ behind_line before line text = record before {
       + suc (length line);
 }
 
--- what the record of a line with this number leads to
+-- what was read after the record of the line with this number
 abbrev pub unless_refused : ℕ → Read → Result (Unit {0}) Refusal × Machine → Result Read Damage
 unless_refused number before (Ok done, m) = Ok (record before { pad = m })
 unless_refused number before (Err refusal, m) = Err (Refused number refusal)
 
--- what the line with this number does: a header names the same pad, and a record is replayed
+-- what was read after the line with this number: a header has to name the same pad, and a record is replayed
 abbrev pub entered : ℕ → List ℕ → Read → Entry → Result Read Damage
-entered number name before (entry.Header header) = if bytes_eq header.pad name then Ok (record before { header = header })
+entered number name before (entry.Header header) = if bytes_eq header.pad name
+    then Ok (record before { header = header })
     else Err OtherPad
-entered number name before (entry.Record kept) = unless_refused number before (replay kept before.pad)
+entered number name before (entry.Record kept) = unless_refused number before
+    (replay kept before.pad)
 
--- what the text of the line with this number leads to
+-- what was read after the text of the line with this number
 abbrev pub text_read : ℕ → List ℕ → Read → List ℕ → Result Read Damage
-text_read number name before text = read_on (entered number name before) (said_at number (entry_said text))
+text_read number name before text = read_on (entered number name before)
+    (said_at number (entry_said text))
 
--- a file whose next line, with this number, is not linked: what follows was never synced, or else something is damaged.
--- It was synced if one of the lines that follow was written when all before it was synced
+-- what was read of a file whose next line, with this number, is not linked: this is damage if one of the lines from it
+-- on begins a batch, since all before that was synced; otherwise these lines were never synced
 abbrev pub torn_at : ℕ → Read → List (List ℕ) → Result Read Damage
-torn_at number before lines = if list_any begins_batch lines then Err (Unlinked number) else Ok before
+torn_at number before lines = if list_any begins_batch lines then Err (Unlinked number)
+    else Ok before
 
--- after some more lines, of which the first has this number
+-- what was read after some more lines, the first of which has this number
 abbrev pub read_lines : ℕ → List ℕ → Read → List (List ℕ) → Result Read Damage
 read_lines number name before [] = Ok before
 read_lines number name before (line ∷ lines) =
@@ -79,38 +88,45 @@ read_lines number name before (line ∷ lines) =
     (text_read number name (behind_line before line text) text))
     (text_behind before.sum line)
 
--- what the first line says: a header
+-- what was read after the first line, which is a header
 abbrev pub begun : ℕ → ℕ → List ℕ → List ℕ → List ℕ → Entry → Result Read Damage
 begun replica present name line sum (entry.Header header) = if bytes_eq header.pad name
-    then Ok (record { pad = unnamed replica present; header = header; sum = sum; whole = suc (length line) }) else Err OtherPad
+    then Ok (record {
+      pad = unnamed replica present;
+      header = header;
+      sum = sum;
+      whole = suc (length line);
+    }) else Err OtherPad
 begun replica present name line sum (entry.Record kept) = Err (Unknown 1)
 
--- what the file of each pad begins with
+-- the first bytes of every pad's file
 abbrev pub beginning : List ℕ
 beginning = codes "[{\"format\":"
 
--- the damage of a file that begins with no whole line of a pad's: its first write was lost, or it was never a pad's
+-- the damage of a file that does not begin with a whole line of a pad: its first write was lost, or it was never a
+-- pad's
 abbrev pub unbegun : List ℕ → Damage
-unbegun bytes = if starts_with (λ a b. a == b) bytes beginning || starts_with (λ a b. a == b) beginning bytes
+unbegun bytes = if starts_with (λ a b. a == b) bytes beginning
+    || starts_with (λ a b. a == b) beginning bytes
     || starts_with (λ a b. a == b) bytes (0 ∷ []) then Empty else Unlinked 1
 
 -- the damage of a file whose first line is not linked
 abbrev pub torn_front : List ℕ → List (List ℕ) → Damage
 torn_front line lines = if list_any begins_batch lines then Unlinked 1 else unbegun line
 
--- after the first of some lines
+-- what was read after the first of some lines
 abbrev pub first_read : ℕ → ℕ → List ℕ → List ℕ → List (List ℕ) → Result Read Damage
 first_read replica present name line lines = by_text (Err (torn_front line lines))
-    (λ text. read_on (begun replica present name line (sum_after [] text)) (said_at 1 (entry_said text))) (text_behind [] line)
+    (λ text. read_on (begun replica present name line (sum_after [] text))
+    (said_at 1 (entry_said text))) (text_behind [] line)
 
--- what the lines of the file of a pad lead to, on the server with this replica number, where so many visits may be present
--- at once
+-- what the lines of a pad's file lead to, on the server with this replica number and this limit of visits
 abbrev pub file_read : ℕ → ℕ → List ℕ → List (List ℕ) → Result Read Damage
 file_read replica present name [] = Err Empty
 file_read replica present name (first ∷ lines) = read_on (λ before. read_lines 2 name before lines)
     (first_read replica present name first (first ∷ lines))
 
--- a file that was read, if its pad has this name
+-- what was read, if its pad has this name
 abbrev pub if_called : List ℕ → Read → Option (List ℕ) → Result Read Damage
 if_called name read None = Err Empty
 if_called name read (Some own) = if bytes_eq own name then Ok read else Err OtherPad
@@ -119,12 +135,13 @@ if_called name read (Some own) = if bytes_eq own name then Ok read else Err Othe
 abbrev pub if_named : List ℕ → Read → Result Read Damage
 if_named name read = if_called name read (name_of read.pad.owned)
 
--- the lines of a file with these bytes are read, if there are any
+-- what the lines of a file with these bytes lead to; without any it is damaged
 abbrev pub lines_read : ℕ → ℕ → List ℕ → List ℕ → List (List ℕ) → Result Read Damage
 lines_read replica present name bytes [] = Err (unbegun bytes)
-lines_read replica present name bytes (first ∷ lines) = read_on (if_named name) (file_read replica present name (first ∷ lines))
+lines_read replica present name bytes (first ∷ lines) = read_on (if_named name)
+    (file_read replica present name (first ∷ lines))
 
--- what the bytes of a pad's file lead to on the server with these numbers: its whole lines are read, as far as they were
--- synced, and its pad has this name
+-- what the bytes of a pad's file lead to, on the server with these numbers: its whole lines are read, as far as they
+-- were synced, and its pad must have this name
 abbrev pub pad_read : ℕ → ℕ → List ℕ → List ℕ → Result Read Damage
 pad_read replica present name bytes = lines_read replica present name bytes (whole_lines bytes)

@@ -1,4 +1,4 @@
--- What a record is written as, and read as. The time of day stands beside it, and is not read.
+-- How records are written and read. The time is written beside them, and is not read.
 use Rattle.std.specs.Prelude.{IsTrue, ℕ, List, [], ◌∷◌, ◌++◌, codes, bytes_eq, if◌then◌else◌, Bool, true, false, Option}
 use Rattle.std.specs.Prelude.{Some, None, option_map, option_and_then}
 use Rattle.serde_json.specs.Data.{Data, boolean, string}
@@ -14,12 +14,12 @@ use Rattle.wire_json.specs.Reading.{field, of_two}
 use Rattle.wire_json.specs.Requests.{op_in}
 use Rattle.wire_json.specs.Words.{granted_by, right_word}
 
--- the word for a right that is given, or for none
+-- the word for a right that is granted, or for none
 abbrev pub given_word : Option Right → List ℕ
 given_word None = codes "none"
 given_word (Some right) = right_word right
 
--- the fields of a record beside its time
+-- the fields of a record, except its time
 abbrev pub record_fields : Record → List Field
 record_fields (Named name owner) = (codes "kind", string (codes "named")) ∷ (codes "name", string name)
     ∷ (codes "owner", string owner) ∷ []
@@ -28,29 +28,28 @@ record_fields (Granted author right) = (codes "author", string author) ∷ (code
 record_fields Visited = (codes "kind", string (codes "visited")) ∷ []
 record_fields (Delivered op) = (codes "kind", string (codes "delivered")) ∷ (codes "op", op_data op) ∷ []
 
--- the field of a record that is written when a line before it is not synced yet
+-- the field of a record that is written together with an earlier line that is not yet synced
 abbrev pub together_fields : Bool → List Field
 together_fields true = (codes "together", boolean true) ∷ []
 together_fields false = []
 
--- a record with the time of day, in seconds since the year 1970, and whether it is written together with a line before
--- it
+-- a record with the time, in seconds since 1970, and whether it is written together with an earlier line
 abbrev pub record_data : ℕ → Bool → Record → Data
 record_data at together kept = fields_data ((codes "at", number_data at) ∷ together_fields together
     ++ record_fields kept)
 
--- the operation of a record has values of its types, and is in the limits
+-- the operation of a record has values of its types, and is within the limits
 abbrev pub IsSayableRecord : Record → Type 0
 IsSayableRecord (Named name owner) = Unit {0}
 IsSayableRecord (Granted author right) = Unit {0}
 IsSayableRecord Visited = Unit {0}
 IsSayableRecord (Delivered op) = IsTrue (is_checked op) × IsSayable op
 
--- a text of an object
+-- a text field of an object
 abbrev pub text_in : List ℕ → Data → Option (List ℕ)
 text_in key d = field as_str key d
 
--- what a record of a kind says
+-- the record of a kind, from its fields
 abbrev pub record_of : List ℕ → Data → Option Record
 record_of kind d =
     if bytes_eq kind (codes "named") then of_two Named (text_in (codes "name") d) (text_in (codes "owner") d)
@@ -60,6 +59,6 @@ record_of kind d =
     else if bytes_eq kind (codes "delivered") then option_map Delivered (field op_in (codes "op") d)
     else None
 
--- what a value says as a record
+-- the meaning of a value as a record
 abbrev pub record_in : Data → Option Record
 record_in d = option_and_then (λ kind. record_of kind d) (text_in (codes "kind") d)

@@ -12,15 +12,15 @@ use records::Record;
 use serde_json::Value;
 use std::alloc::{AllocError, Global};
 
-/// What a line says: whose file it is, or what was done on its pad.
+/// What a line says: which pad and server the file belongs to, or what was done on the pad.
 #[derive(Debug, Drop)]
 pub enum Entry {
-    /// The first line, and one from which on another server wrote.
+    /// The first line, and each line from which on another server wrote.
     Header(Header),
     Record(Record),
 }
 
-/// What a value says as a line; 102 where it says nothing.
+/// Reads a value as a line; 102 if it is none.
 pub fn read_entry(alloc: Global, value: &Value) -> Result<Entry, Refusal>
     ensures { IsRead (entry_in (view value.now)) result }
 {
@@ -30,7 +30,7 @@ pub fn read_entry(alloc: Global, value: &Value) -> Result<Entry, Refusal>
     }
 }
 
-/// The value of a text, if it is one of JSON.
+/// The value of a text, if it is JSON.
 pub fn value_of(alloc: Global, text: &[u8]) -> Result<Option<Value>, AllocError>
     ensures { IfOk result (λ found. value_in text.now ≡ option_map view found) }
 {

@@ -14,8 +14,8 @@ use serde_json::{Map, Value, put};
 use std::alloc::{AllocError, Global};
 use wire_json::{granted_by, name_field, name_value, op_value, read_op, right_word, str_field};
 
-/// A record as a JSON value, with the time of day in seconds since 1970, and whether it is written together with a line
-/// before it that is not synced yet.
+/// A record as a JSON value. `at` is the time in seconds since 1970, and `together` tells whether it is written
+/// together with an earlier line that is not yet synced.
 pub fn record_value(
     alloc: Global,
     at: u64,
@@ -38,7 +38,8 @@ fn put_record(
     fields: &mut Map<String, Value>,
     kept: &Record,
 ) -> Result<(), AllocError>
-    ensures { OnOk result (members_view fields.new.entries ≡ with_fields (record_fields kept.now) (members_view fields.old.entries)) }
+    ensures { OnOk result (members_view fields.new.entries
+        ≡ with_fields (record_fields kept.now) (members_view fields.old.entries)) }
 {
     match kept {
         Record::Named { name, owner } => {
@@ -72,7 +73,8 @@ fn put_record(
 }
 
 fn put_delivered(alloc: Global, fields: &mut Map<String, Value>, op: &Op) -> Result<(), AllocError>
-    ensures { OnOk result (members_view fields.new.entries ≡ with_fields (record_fields (Delivered op.now)) (members_view fields.old.entries)) }
+    ensures { OnOk result (members_view fields.new.entries
+        ≡ with_fields (record_fields (Delivered op.now)) (members_view fields.old.entries)) }
 {
     put(
         fields,
@@ -101,7 +103,7 @@ fn given_word(right: Option<Right>) -> &'static str
     }
 }
 
-/// The record that a value says; 102 where it says none.
+/// Reads a value as a record; 102 if it is none.
 pub fn read_record(alloc: Global, value: &Value) -> Result<Record, Refusal>
     ensures { IsRead (record_in (view value.now)) result }
 {

@@ -1,4 +1,4 @@
-//! The first line of a pad's file, and each from which on another server wrote.
+//! The first line of a pad's file, and each line from which on another server wrote.
 ghost use Rattle.std.specs.Prelude.{◌≡◌, IfOk, string_bytes};
 ghost use Rattle.serde_json.specs.View.{view};
 ghost use Rattle.wire_json.specs.Reading.{IsRead};
@@ -11,19 +11,20 @@ use serde_json::{Map, Value, put};
 use std::alloc::{AllocError, Global};
 use wire_json::{name_field, name_value, number_field};
 
-/// The form of the file.
+/// The version of the file's format.
 pub const FORMAT: u64 = 1;
 
-/// Whose file it is: the pad's name, and the replica number of the server that wrote it.
+/// A header: the pad's name, and the replica number of the server that wrote the following lines.
 #[derive(Debug, Drop)]
 pub struct Header {
     pub pad: Name,
     pub replica: u64,
 }
 
-/// The text of such a line.
+/// The text of a header's line.
 pub fn header_text(alloc: Global, pad: &Name, replica: u16) -> Result<String, AllocError>
-    ensures { IfOk result (λ text. Tells (Entry.Header (record { pad = pad.now; replica = replica })) (string_bytes text)) }
+    ensures { IfOk result (λ text. Tells
+        (Entry.Header (record { pad = pad.now; replica = replica })) (string_bytes text)) }
 {
     let value = header_value(alloc, pad, replica)?;
     value.to_string(alloc)
@@ -44,7 +45,7 @@ fn header_value(alloc: Global, pad: &Name, replica: u16) -> Result<Value, AllocE
     Ok(Value::Object(fields))
 }
 
-/// What a value says as a header; 102 where it is none, or of another form.
+/// Reads a value as a header; 102 if it is none, or of another format.
 pub fn read_header(alloc: Global, value: &Value) -> Result<Header, Refusal>
     ensures { IsRead (header_in (view value.now)) result }
 {

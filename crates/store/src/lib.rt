@@ -1,4 +1,4 @@
-//! The file of a pad: lines that a person can read, each with a sum over all before it.
+//! The file of a pad: lines that a person can read, each with a checksum over all lines up to it.
 #![tactic(auto)]
 
 mod batch;

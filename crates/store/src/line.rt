@@ -1,4 +1,4 @@
-//! A line: a text, and the sum of all texts up to it.
+//! A line: a text, and a checksum of all texts up to it.
 ghost use Rattle.std.specs.Prelude.{◌≡◌, ◌&&◌, ◌∷◌, [], ◌++◌, bytes_eq, codes, IfOk, IfSome, option_map, string_bytes};
 ghost use Rattle.std.specs.List.{list_all, position};
 ghost use Rattle.store.specs.Lines.{framed, is_digit as is_sum_digit, is_feed, line_text, sum_after as sum_behind, text_behind, text_within};
@@ -6,22 +6,23 @@ ghost use Rattle.store.specs.Lines.{framed, is_digit as is_sum_digit, is_feed, l
 use sha2::{Digest, Sha256};
 use std::alloc::{AllocError, Global};
 
-/// How many bytes a line has beside its text: the brackets, the comma, the quotes and the 64 digits of the sum.
+/// The number of bytes of a line beside its text: the brackets, the comma, the quotes and the 64 digits of the sum.
 const AROUND: usize = 69;
 
-/// How many bytes of them end the line: the sum, its quote and the bracket.
+/// The number of those bytes that end the line: the sum, its closing quote and the bracket.
 const SUM_AND_END: usize = 66;
 
-/// A line, and the sum that the next one is linked by.
+/// A line, and its sum, to which the next line is linked.
 #[derive(Debug, Drop)]
 pub struct Linked {
     pub line: String,
     pub sum: String,
 }
 
-/// The line of a text behind the line with this sum; the first one stands behind no sum.
+/// The line of a text after the line with this sum. The sum before the first line is empty.
 pub fn link(alloc: Global, before: &str, text: &str) -> Result<Linked, AllocError>
-    ensures line { IfOk result (λ made. string_bytes made.line ≡ line_text before.now text.now ++ 10 ∷ []) }
+    ensures line { IfOk result (λ made. string_bytes made.line
+        ≡ line_text before.now text.now ++ 10 ∷ []) }
     ensures sum { IfOk result (λ made. string_bytes made.sum ≡ sum_behind before.now text.now) }
 {
     let sum = sum_after(alloc, before.as_bytes(), text.as_bytes())?;
@@ -29,15 +30,18 @@ pub fn link(alloc: Global, before: &str, text: &str) -> Result<Linked, AllocErro
     Ok(Linked { line, sum })
 }
 
-/// The text of a line behind this sum, and its own sum. None: it is no such line.
+/// The text and the sum of a line, if it is linked to the sum before it; otherwise None.
 pub fn text_of<'a>(
     alloc: Global,
     before: &str,
     line: &'a [u8],
 ) -> Result<Option<(&'a [u8], String)>, AllocError>
-    ensures text { IfOk result (λ found. text_behind before.now line.now ≡ option_map (λ pair. pair.0.now) found) }
-    ensures line { IfOk result (λ found. IfSome found (λ pair. line.now ≡ line_text before.now pair.0.now)) }
-    ensures sum { IfOk result (λ found. IfSome found (λ pair. string_bytes pair.1 ≡ sum_behind before.now pair.0.now)) }
+    ensures text { IfOk result (λ found. text_behind before.now line.now
+        ≡ option_map (λ pair. pair.0.now) found) }
+    ensures line { IfOk result (λ found. IfSome found
+        (λ pair. line.now ≡ line_text before.now pair.0.now)) }
+    ensures sum { IfOk result (λ found. IfSome found
+        (λ pair. string_bytes pair.1 ≡ sum_behind before.now pair.0.now)) }
 {
     if line.len() < AROUND {
         return Ok(None);
@@ -52,7 +56,7 @@ pub fn text_of<'a>(
     }
 }
 
-/// The text of a line that has the form of one, whatever line it stands behind. None: it has another form.
+/// The text of a line with the form of one, whatever line it is linked to; None if it has another form.
 pub fn text_within_line<'a>(alloc: Global, line: &'a [u8]) -> Result<Option<&'a [u8]>, AllocError>
     ensures { IfOk result (λ found. text_within line.now ≡ option_map (λ text. text.now) found) }
 {
@@ -69,21 +73,21 @@ pub fn text_within_line<'a>(alloc: Global, line: &'a [u8]) -> Result<Option<&'a 
     }
 }
 
-/// Whether a line is this one, and its sum has digits alone.
+/// Whether a line is this one, and its sum consists of digits.
 fn is_framed(line: &[u8], framed: &[u8], sum: &[u8]) -> bool
     ensures { result ≡ (bytes_eq line.now framed.now && list_all is_sum_digit sum.now) }
 {
     line == framed && has_digits(sum)
 }
 
-/// Whether a sum has digits alone.
+/// Whether a sum consists of digits.
 fn has_digits(sum: &[u8]) -> bool
     ensures { result ≡ list_all is_sum_digit sum.now }
 {
     sum.iter().all(|byte| is_digit(*byte))
 }
 
-/// Whether a byte is a digit of a sum.
+/// Whether a byte is a digit of a sum: 0-9 or a-f.
 fn is_digit(byte: u8) -> bool
     ensures { result ≡ is_sum_digit byte }
 {
@@ -103,7 +107,7 @@ fn line_bytes(alloc: Global, text: &[u8], sum: &[u8]) -> Result<Vec<u8>, AllocEr
     Ok(bytes)
 }
 
-/// The sum of a text behind another one.
+/// The sum of a text after an earlier sum.
 fn sum_after(alloc: Global, before: &[u8], text: &[u8]) -> Result<String, AllocError>
     ensures { IfOk result (λ sum. string_bytes sum ≡ sum_behind before.now text.now) }
 {
@@ -113,7 +117,7 @@ fn sum_after(alloc: Global, before: &[u8], text: &[u8]) -> Result<String, AllocE
     hex::encode(alloc, hasher.finalize())
 }
 
-/// The place of the first line feed.
+/// The index of the first line feed.
 pub fn find_feed(bytes: &[u8]) -> Option<usize>
     ensures { result ≡ position is_feed bytes.now }
 {

@@ -1,4 +1,4 @@
-//! From the bytes of a file to a pad.
+//! Loads a pad from the bytes of its file.
 ghost use Rattle.std.specs.Prelude.{◌≡◌, ◌⊎◌, ◌≤◌, ◌<◌, ◌+◌, ℕ, [], length, true, false, bytes_eq, string_bytes, IfOk, MatchResult, Some, None, Ok, Err};
 ghost use Rattle.std.specs.List.{position};
 ghost use Rattle.pad_model.specs.declared.refusal.Refusal.{Refusal};
@@ -23,7 +23,7 @@ use records::{Record, replay};
 use std::alloc::{AllocError, Global};
 use thiserror::Error;
 
-/// Why a file is not loaded.
+/// Why a file cannot be loaded.
 #[derive(Clone, Copy, Debug, PartialEq, Eq, Error)]
 pub enum Damage {
     #[error("out of memory")]
@@ -40,24 +40,24 @@ pub enum Damage {
     OtherPad,
 }
 
-/// What the file of each pad begins with.
+/// The first bytes of every pad's file.
 const BEGINNING: &[u8] = b"[{\"format\":";
 
 /// A pad that was loaded from its file.
 #[derive(Drop)]
 pub struct Loaded<S: Sequence> {
     pub pad: Pad<S>,
-    /// Whose file it is by its last header.
+    /// The last header of the file.
     pub header: Header,
     /// The sum of the last line that was read.
     pub sum: String,
-    /// How many bytes the lines have that were read.
+    /// The number of bytes of the lines that were read.
     pub whole: u64,
-    /// How many bytes stand behind them: a part of a line, or what a crash left of lines that were never synced.
+    /// The number of bytes after those lines: a part of a line, or what a crash left of lines that were never synced.
     pub cut: u64,
 }
 
-// Where the next line is linked: the last header, the sum of the last line, and how many bytes the lines have.
+// What the next line follows: the last header, the sum of the last line, and the number of bytes of the lines.
 #[derive(Drop)]
 struct Tail {
     header: Header,
@@ -65,23 +65,25 @@ struct Tail {
     whole: usize,
 }
 
-/// The text of a record's line, at this time of day, and whether it is written together with a line before it that is not
-/// synced yet. An operation in the limits is read again as it is.
+/// The text of a record's line. `at` is the time in seconds since 1970, and `together` tells whether it is written
+/// together with an earlier line that is not yet synced. An operation within the limits will be read as it was written.
 pub fn record_text(
     alloc: Global,
     at: u64,
     together: bool,
     kept: &Record,
 ) -> Result<String, AllocError>
-    ensures value { IfOk result (λ text. value_in (string_bytes text) ≡ Some (record_data at together kept.now)) }
-    ensures tells { IfOk result (λ text. IsSayableRecord kept.now → Tells (Entry.Record kept.now) (string_bytes text)) }
+    ensures value { IfOk result (λ text. value_in (string_bytes text)
+        ≡ Some (record_data at together kept.now)) }
+    ensures tells { IfOk result (λ text. IsSayableRecord kept.now
+        → Tells (Entry.Record kept.now) (string_bytes text)) }
 {
     let value = record_value(alloc, at, together, kept)?;
     value.to_string(alloc)
 }
 
-/// The pad with this name of the bytes of its file, on the server with this replica number, where this many visits may be
-/// present at once. What a crash left at the file's end is left aside.
+/// Loads the pad with this name from the bytes of its file, for the server with this replica number, with `present` as
+/// the limit of visits. What a crash left at the end of the file is ignored.
 pub fn load<S: Sequence>(
     alloc: Global,
     replica: u16,
@@ -90,7 +92,14 @@ pub fn load<S: Sequence>(
     bytes: &[u8],
 ) -> Result<Loaded<S>, Damage>
     requires { 1 ≤ replica }
-    ensures read { MatchResult result (λ loaded. pad_read replica present name.now bytes.now ≡ Ok (record { pad = loaded.pad; header = loaded.header; sum = string_bytes loaded.sum; whole = loaded.whole })) (λ e. (e ≡ Damage.Memory) ⊎ (pad_read replica present name.now bytes.now ≡ Err e)) }
+    ensures read { MatchResult result (λ loaded. pad_read replica present name.now bytes.now
+        ≡ Ok (record {
+          pad = loaded.pad;
+          header = loaded.header;
+          sum = string_bytes loaded.sum;
+          whole = loaded.whole;
+        })) (λ e. (e ≡ Damage.Memory)
+        ⊎ (pad_read replica present name.now bytes.now ≡ Err e)) }
     ensures cut { IfOk result (λ loaded. loaded.whole + loaded.cut ≡ length bytes.now) }
 {
     let Some(end) = find_feed(bytes) else {
@@ -107,7 +116,8 @@ pub fn load<S: Sequence>(
     })
 }
 
-// The pad with this name of the lines of a file, of which the first ends here, with the last line.
+// Loads the pad with this name from the lines of a file, whose first line ends at `end`. Also returns the tail of its
+// lines.
 fn load_named<S: Sequence>(
     alloc: Global,
     replica: u16,
@@ -118,7 +128,10 @@ fn load_named<S: Sequence>(
 ) -> Result<(Pad<S>, Tail), Damage>
     requires numbered { 1 ≤ replica }
     requires feed { Some end ≡ position is_feed bytes.now }
-    ensures read { MatchResult result (λ done. read_on (if_named name.now) (file_read replica present name.now (whole_lines bytes.now)) ≡ Ok (so_far done.0 done.1)) (λ e. (e ≡ Damage.Memory) ⊎ (read_on (if_named name.now) (file_read replica present name.now (whole_lines bytes.now)) ≡ Err e)) }
+    ensures read { MatchResult result (λ done. read_on (if_named name.now)
+        (file_read replica present name.now (whole_lines bytes.now)) ≡ Ok (so_far done.0 done.1))
+        (λ e. (e ≡ Damage.Memory) ⊎ (read_on (if_named name.now)
+        (file_read replica present name.now (whole_lines bytes.now)) ≡ Err e)) }
     ensures within { IfOk result (λ done. done.1.whole ≤ length bytes.now) }
 {
     let done: (Pad<S>, Tail) = load_lines(alloc, replica, present, name, bytes, end)?;
@@ -128,7 +141,9 @@ fn load_named<S: Sequence>(
 
 // Whether a pad has this name.
 fn check_name<S: Sequence>(pad: &Pad<S>, name: &str) -> Result<(), Damage>
-    ensures { MatchResult result (λ _. (read : Read) → if_called name.now read (name_of pad.now.owned) ≡ Ok read) (λ e. (read : Read) → if_called name.now read (name_of pad.now.owned) ≡ Err e) }
+    ensures { MatchResult result (λ _. (read : Read)
+        → if_called name.now read (name_of pad.now.owned) ≡ Ok read)
+        (λ e. (read : Read) → if_called name.now read (name_of pad.now.owned) ≡ Err e) }
 {
     match pad.name() {
         None => Err(Damage::Empty),
@@ -137,7 +152,7 @@ fn check_name<S: Sequence>(pad: &Pad<S>, name: &str) -> Result<(), Damage>
     }
 }
 
-// The pad of the lines of a file, of which the first ends here, with the last line.
+// Loads the pad from the lines of a file, whose first line ends at `end`. Also returns the tail of its lines.
 fn load_lines<S: Sequence>(
     alloc: Global,
     replica: u16,
@@ -148,14 +163,17 @@ fn load_lines<S: Sequence>(
 ) -> Result<(Pad<S>, Tail), Damage>
     requires numbered { 1 ≤ replica }
     requires feed { Some end ≡ position is_feed bytes.now }
-    ensures read { MatchResult result (λ done. file_read replica present name.now (whole_lines bytes.now) ≡ Ok (so_far done.0 done.1)) (λ e. (e ≡ Damage.Memory) ⊎ (file_read replica present name.now (whole_lines bytes.now) ≡ Err e)) }
+    ensures read { MatchResult result (λ done. file_read replica present name.now
+        (whole_lines bytes.now) ≡ Ok (so_far done.0 done.1))
+        (λ e. (e ≡ Damage.Memory) ⊎ (file_read replica present name.now (whole_lines bytes.now)
+        ≡ Err e)) }
     ensures within { IfOk result (λ done. done.1.whole ≤ length bytes.now) }
 {
     let first = first_line(alloc, name, &bytes[..end], bytes)?;
     load_behind(alloc, replica, present, name, first, &bytes[end + 1..])
 }
 
-// The pad of a file whose first line was read, of the bytes behind that.
+// Loads the pad of a file whose first line was read, from the bytes after it.
 fn load_behind<S: Sequence>(
     alloc: Global,
     replica: u16,
@@ -166,7 +184,11 @@ fn load_behind<S: Sequence>(
 ) -> Result<(Pad<S>, Tail), Damage>
     requires numbered { 1 ≤ replica }
     requires room { first.whole + length bytes.now ≤ 18446744073709551615 }
-    ensures read { MatchResult result (λ done. read_lines 2 name.now (so_far (unnamed replica present) first) (whole_lines bytes.now) ≡ Ok (so_far done.0 done.1)) (λ e. (e ≡ Damage.Memory) ⊎ (read_lines 2 name.now (so_far (unnamed replica present) first) (whole_lines bytes.now) ≡ Err e)) }
+    ensures read { MatchResult result (λ done. read_lines 2 name.now
+        (so_far (unnamed replica present) first) (whole_lines bytes.now)
+        ≡ Ok (so_far done.0 done.1)) (λ e. (e ≡ Damage.Memory)
+        ⊎ (read_lines 2 name.now (so_far (unnamed replica present) first) (whole_lines bytes.now)
+        ≡ Err e)) }
     ensures within { IfOk result (λ done. done.1.whole ≤ first.whole + length bytes.now) }
 {
     let mut pad = match Pad::new(alloc, replica, present) {
@@ -177,7 +199,8 @@ fn load_behind<S: Sequence>(
     Ok((pad, last))
 }
 
-// Replays the lines behind the first one, up to the first that is not linked, and answers the last one.
+// Replays the lines after the first one, up to the first that is not linked, and returns the tail of those that were
+// replayed.
 fn replay_lines<S: Sequence>(
     alloc: Global,
     pad: &mut Pad<S>,
@@ -186,7 +209,10 @@ fn replay_lines<S: Sequence>(
     bytes: &[u8],
 ) -> Result<Tail, Damage>
     requires { first.whole + length bytes.now ≤ 18446744073709551615 }
-    ensures read { MatchResult result (λ last. read_lines 2 name.now (so_far pad.old first) (whole_lines bytes.now) ≡ Ok (so_far pad.new last)) (λ e. (e ≡ Damage.Memory) ⊎ (read_lines 2 name.now (so_far pad.old first) (whole_lines bytes.now) ≡ Err e)) }
+    ensures read { MatchResult result (λ last. read_lines 2 name.now (so_far pad.old first)
+        (whole_lines bytes.now) ≡ Ok (so_far pad.new last))
+        (λ e. (e ≡ Damage.Memory) ⊎ (read_lines 2 name.now (so_far pad.old first)
+        (whole_lines bytes.now) ≡ Err e)) }
     ensures within { IfOk result (λ last. last.whole ≤ first.whole + length bytes.now) }
 {
     let mut last = first;
@@ -209,9 +235,13 @@ fn replay_lines<S: Sequence>(
     Ok(last)
 }
 
-// Whether bytes behind a line are what a crash left of lines that were never synced: the line with this number is none.
+// Checks that the bytes after a line are what a crash left of lines that were never synced. The line with this number
+// is the first that is not linked.
 fn check_torn(alloc: Global, bytes: &[u8], number: u64) -> Result<(), Damage>
-    ensures { MatchResult result (λ _. (before : Read) → torn_at number before (whole_lines bytes.now) ≡ Ok before) (λ e. (e ≡ Damage.Memory) ⊎ ((before : Read) → torn_at number before (whole_lines bytes.now) ≡ Err e)) }
+    ensures { MatchResult result (λ _. (before : Read)
+        → torn_at number before (whole_lines bytes.now) ≡ Ok before)
+        (λ e. (e ≡ Damage.Memory) ⊎ ((before : Read)
+        → torn_at number before (whole_lines bytes.now) ≡ Err e)) }
 {
     if has_beginning(alloc, bytes)? {
         Err(Damage::Unlinked { line: number })
@@ -220,7 +250,7 @@ fn check_torn(alloc: Global, bytes: &[u8], number: u64) -> Result<(), Damage>
     }
 }
 
-// Does what the text of one more line says.
+// Applies what the text of one more line says.
 fn enter<S: Sequence>(
     alloc: Global,
     pad: &mut Pad<S>,
@@ -229,7 +259,10 @@ fn enter<S: Sequence>(
     text: &[u8],
     number: u64,
 ) -> Result<Tail, Damage>
-    ensures read { MatchResult result (λ next. text_read number name.now (so_far pad.old behind) text.now ≡ Ok (so_far pad.new next)) (λ e. (e ≡ Damage.Memory) ⊎ (text_read number name.now (so_far pad.old behind) text.now ≡ Err e)) }
+    ensures read { MatchResult result (λ next. text_read number name.now (so_far pad.old behind)
+        text.now ≡ Ok (so_far pad.new next))
+        (λ e. (e ≡ Damage.Memory) ⊎ (text_read number name.now (so_far pad.old behind) text.now
+        ≡ Err e)) }
     ensures within { IfOk result (λ next. next.whole ≡ behind.whole) }
 {
     match entry_of(alloc, text, number)? {
@@ -245,7 +278,8 @@ fn enter<S: Sequence>(
     }
 }
 
-// A file that begins with no whole line of a pad's: its first write was lost, or it was never a pad's.
+// The damage of a file that does not begin with a whole line of a pad: its first write was lost, or it was never a
+// pad's.
 fn damage_of_front(bytes: &[u8]) -> Damage
     ensures { result ≡ unbegun bytes.now }
 {
@@ -267,9 +301,10 @@ fn damage_of_first(alloc: Global, line: &[u8], bytes: &[u8]) -> Damage
     }
 }
 
-// A header, if it is that of the pad with this name.
+// Returns a header, if it is that of the pad with this name.
 fn checked(header: Header, name: &str) -> Result<Header, Damage>
-    ensures { MatchResult result (λ same. (same ≡ header) × (bytes_eq header.pad name.now ≡ true)) (λ e. (e ≡ Damage.OtherPad) × (bytes_eq header.pad name.now ≡ false)) }
+    ensures { MatchResult result (λ same. (same ≡ header) × (bytes_eq header.pad name.now ≡ true))
+        (λ e. (e ≡ Damage.OtherPad) × (bytes_eq header.pad name.now ≡ false)) }
 {
     if header.pad.as_str() == name {
         Ok(header)
@@ -278,10 +313,14 @@ fn checked(header: Header, name: &str) -> Result<Header, Damage>
     }
 }
 
-// The first of the lines of these bytes, which is a header.
+// Reads the first line of these bytes, which is a header.
 fn first_line(alloc: Global, name: &str, line: &[u8], bytes: &[u8]) -> Result<Tail, Damage>
     requires { length line.now < length bytes.now }
-    ensures read { MatchResult result (λ first. (replica present : ℕ) → first_read replica present name.now line.now (whole_lines bytes.now) ≡ Ok (so_far (unnamed replica present) first)) (λ e. (e ≡ Damage.Memory) ⊎ ((replica present : ℕ) → first_read replica present name.now line.now (whole_lines bytes.now) ≡ Err e)) }
+    ensures read { MatchResult result (λ first. (replica present : ℕ)
+        → first_read replica present name.now line.now (whole_lines bytes.now)
+        ≡ Ok (so_far (unnamed replica present) first))
+        (λ e. (e ≡ Damage.Memory) ⊎ ((replica present : ℕ)
+        → first_read replica present name.now line.now (whole_lines bytes.now) ≡ Err e)) }
     ensures within { IfOk result (λ first. first.whole ≡ length line.now + 1) }
 {
     let Some((text, sum)) = text_of(alloc, "", line)? else {
@@ -297,9 +336,10 @@ fn first_line(alloc: Global, name: &str, line: &[u8], bytes: &[u8]) -> Result<Ta
     }
 }
 
-// What the text of a line says.
+// Reads the text of the line with this number.
 fn entry_of(alloc: Global, text: &[u8], number: u64) -> Result<Entry, Damage>
-    ensures { MatchResult result (λ entry. said_at number (entry_said text.now) ≡ Ok entry) (λ e. (e ≡ Damage.Memory) ⊎ (said_at number (entry_said text.now) ≡ Err e)) }
+    ensures { MatchResult result (λ entry. said_at number (entry_said text.now) ≡ Ok entry)
+        (λ e. (e ≡ Damage.Memory) ⊎ (said_at number (entry_said text.now) ≡ Err e)) }
 {
     let Some(value) = value_of(alloc, text)? else {
         return Err(Damage::Unknown { line: number });
@@ -317,7 +357,9 @@ fn replay_record<S: Sequence>(
     kept: Record,
     number: u64,
 ) -> Result<(), Damage>
-    ensures { MatchResult result (λ _. replayed kept pad.old ≡ (Ok tt, pad.new)) (λ e. (e ≡ Damage.Memory) ⊎ ((refusal : Refusal) × (e ≡ Damage.Refused number refusal) × (replayed kept pad.old ≡ (Err refusal, pad.new)))) }
+    ensures { MatchResult result (λ _. replayed kept pad.old ≡ (Ok tt, pad.new))
+        (λ e. (e ≡ Damage.Memory) ⊎ ((refusal : Refusal) × (e ≡ Damage.Refused number refusal)
+        × (replayed kept pad.old ≡ (Err refusal, pad.new)))) }
 {
     match replay(alloc, pad, kept) {
         Ok(()) => Ok(()),

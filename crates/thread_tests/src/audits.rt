@@ -6,10 +6,10 @@ use pad_model::{OpName, Refusal, Text};
 use std::alloc::Global;
 use std::test::Fail;
 
-// Stands for an audit without a fault.
+// Represents an audit without a fault.
 const NONE: usize = usize::MAX;
 
-// Stands for one that was out of memory.
+// Represents an audit that ran out of memory.
 const NO_MEMORY: usize = usize::MAX - 1;
 
 fn read(alloc: Global, rev: u64, text: &str) -> Result<Recorded, Refusal> {
@@ -37,7 +37,7 @@ fn fault_of(alloc: Global, pad: &Pad<BlockSeq>, records: &[Recorded]) -> usize {
     }
 }
 
-// The empty text of revision 0, a text of revision 1, and the first edit at these revisions.
+// Records of the empty text of revision 0, a text of revision 1, and the first edit at these revisions.
 fn records(alloc: Global, text: &str, revs: &[u64]) -> Result<Vec<Recorded>, Refusal> {
     let mut records = Vec::new(alloc);
     records.push(read(alloc, 0, "")?)?;
@@ -48,14 +48,14 @@ fn records(alloc: Global, text: &str, revs: &[u64]) -> Result<Vec<Recorded>, Ref
     Ok(records)
 }
 
-// The place of the first record that does not agree with the log, where ann has inserted `hello`.
+// Returns the index of the first record that does not agree with the log of a pad into which ann has inserted `hello`.
 fn first_fault(alloc: Global, text: &str, revs: &[u64]) -> Result<usize, Refusal> {
     let pad = typed(alloc)?;
     let records = records(alloc, text, revs)?;
     Ok(fault_of(alloc, &pad, records.as_slice()))
 }
 
-// The text that was read, the revisions of the edit, and the place of the first fault.
+// The text that was read, the revisions of the edit, and the index of the first fault.
 const AUDITS: &[(&str, &[u64], usize)] = &[
     ("hello", &[1], NONE),
     ("hellO", &[1], 1),

@@ -1,4 +1,5 @@
-//! Conversations: cut at each byte, moved to another thread in the middle of a line, and side by side at the seats of one.
+//! Conversations that are cut at each byte, moved to another thread in the middle of a line, or served side by side at
+//! the seats of one thread.
 ghost use Rattle.std.specs.Prelude.{◌≡◌, [], OnOk};
 ghost use Rattle.workers.specs.Talk.{unwritten};
 
@@ -26,7 +27,7 @@ const STORY: &str = concat!(
     "\n",
 );
 
-// The bytes of its first two lines, after which there is a pad.
+// The number of bytes of its first two lines, after which there is a pad.
 const CREATED: usize = 68;
 
 const REPLIES: &str = concat!(
@@ -42,7 +43,7 @@ const REPLIES: &str = concat!(
     "\n",
 );
 
-/// One client, with the replies that were written to it.
+/// A client, with the replies that were written to it.
 #[derive(Drop)]
 struct Client {
     session: Session,
@@ -59,7 +60,7 @@ impl Client {
         }
     }
 
-    // Hears bytes, and has all whole lines answered and the replies written.
+    // Receives bytes, answers all whole lines and writes the replies.
     fn hear<R: Wait>(
         &mut self,
         alloc: Global,
@@ -80,7 +81,7 @@ impl Client {
         Ok(())
     }
 
-    // Has what waits answered as the last line.
+    // Answers the remaining bytes as the last line.
     fn end<R: Wait>(
         &mut self,
         alloc: Global,
@@ -142,7 +143,7 @@ impl Stage {
     }
 }
 
-// Seats at each cell of a row.
+// Makes seats at each cell of a row.
 fn seats<R: Wait>(alloc: Global, row: &Row<'_, BlockSeq, R, Open>) -> Result<Vec<Seat>, Refusal> {
     let mut seats = Vec::new(alloc);
     take_seats(row.rt, row.cells, &mut seats)?;

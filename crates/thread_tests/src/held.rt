@@ -1,4 +1,4 @@
-//! Gates that hold a thread until another one has got on: a pad's lock and a connection hold up no others.
+//! Gates that hold a thread until another has made progress: neither a pad's lock nor a connection blocks the others.
 use crate::stage::{accounts, ask_all};
 use block_seq::BlockSeq;
 use pad_model::Refusal;
@@ -15,10 +15,10 @@ use workers::{
     Connection, Names, Pads, Row, Served, Shared, open_row, pool, serve_client, take_all_seats,
 };
 
-// Turns after which a thread that waits gives up: each is a look and a sleep of a millisecond.
+// The number of turns after which a waiting thread gives up. Each is a look and a sleep of a millisecond.
 const TURNS: u32 = 30_000;
 
-// What one thread waits for, and another brings about.
+// An event that one thread waits for and another causes.
 #[derive(Drop)]
 struct Event {
     has_come: AtomicBool,
@@ -41,7 +41,7 @@ impl Event {
         self.has_come.load(Ordering::SeqCst)
     }
 
-    // Waits until it comes, or gives up.
+    // Waits for the event, or gives up.
     fn wait<R: Clock>(&self, rt: &R) {
         for _ in 0..TURNS {
             if self.has_come() {
@@ -52,13 +52,13 @@ impl Event {
         self.was_missed.store(true, Ordering::SeqCst);
     }
 
-    // Whether it came, and nobody gave up.
+    // Whether the event came and nobody gave up.
     fn was_met(&self) -> bool {
         self.has_come() && !self.was_missed.load(Ordering::SeqCst)
     }
 }
 
-// Holds a call at the first cell, under its lock, until one at the second cell was answered.
+// Holds a call at the first cell, under its lock, until a call at the second cell was answered.
 #[derive(Drop)]
 struct FirstCellHeld<'a, R: Clock> {
     rt: &'a R,
@@ -93,7 +93,7 @@ const SECOND: [&str; 2] = [
 
 type HeldRow<'a, R> = Row<'a, BlockSeq, R, FirstCellHeld<'a, R>>;
 
-// Makes the first pad, and reads it once the second one is made.
+// Creates the first pad, and reads it once the second exists.
 fn read_first<R: Wait + Clock>(
     alloc: Global,
     row: &HeldRow<'_, R>,
@@ -106,7 +106,7 @@ fn read_first<R: Wait + Clock>(
     ask_all(alloc, &mut pads, &[r#"{"do":"text","pad":"one"}"#])
 }
 
-// Makes the second pad, and reads it while the other thread has the first one's lock.
+// Creates the second pad, and reads it while the other thread holds the first one's lock.
 fn read_second<R: Wait + Clock>(
     alloc: Global,
     row: &HeldRow<'_, R>,
@@ -219,7 +219,7 @@ impl Connection for Greeter {
     }
 }
 
-// Whether two threads' seats close their pad.
+// Whether the seats of two threads close their pad.
 fn is_closed(
     alloc: Global,
     cells: Vec<SharedPad<BlockSeq>>,

@@ -1,4 +1,4 @@
-//! A gate by which nothing can be kept, as where the disk of a store is full.
+//! A gate that can keep nothing, as when the disk of a store is full.
 use crate::stage::{accounts, ask, ask_all, tells};
 use block_seq::BlockSeq;
 use pad_core::Request;
@@ -11,7 +11,7 @@ use std::sync::atomic::{AtomicBool, Ordering};
 use std::test::Fail;
 use workers::{Names, Pads, Row, Shared, open_row, take_seats};
 
-// Keeps what is answered, or nothing.
+// A disk that keeps what is answered, or nothing.
 #[derive(Drop)]
 struct Disk {
     has_room: AtomicBool,
@@ -60,7 +60,7 @@ const ANSWERED: [&str; 7] = [
     r#"{"do":"rights","pad":"p"}"#,
 ];
 
-// Each of these lines is refused as 901.
+// Asserts that each of these lines is refused with 901.
 fn are_refused<P: Pads>(rt: &impl Abort, alloc: Global, pads: &mut P, lines: &[&str]) {
     for line in lines {
         let came = ask(alloc, pads, line);

@@ -1,5 +1,5 @@
-//! Tests of threads at shared pads: four that write, cells and connections that do not hold one another up, conversations in
-//! pieces, seats, names, audits, and what is refused while nothing can be kept.
+//! Tests of threads at shared pads: four that write, cells and connections that do not block one another, conversations
+//! in pieces, seats, names, audits, and the refusals while nothing can be kept.
 #![tactic(auto)]
 
 #[cfg(test)]

@@ -1,4 +1,4 @@
-//! Requests that find their pads by the names of the row, without a walk.
+//! Requests that find their pads by the names of the row, without a scan.
 use crate::stage::{accounts, ask, ask_all};
 use block_seq::BlockSeq;
 use pad_core::Reply;
@@ -19,7 +19,7 @@ const FIRST: &str = r#"{"do":"hello","name":"a1","token":"t"}"#;
 
 const SECOND: &str = r#"{"do":"hello","name":"a2","token":"t"}"#;
 
-// Counts the steps that are made at cells.
+// Counts the steps at cells.
 #[derive(Drop)]
 struct Steps {
     made: AtomicU64,
@@ -32,7 +32,7 @@ impl Steps {
         }
     }
 
-    // How many were made since the last look.
+    // Returns the number of steps since the last call.
     fn take(&self) -> u64 {
         self.made.swap(0, Ordering::SeqCst)
     }
@@ -59,7 +59,7 @@ struct Stage {
 type StageRow<'a, R> = Row<'a, BlockSeq, R, Steps>;
 
 impl Stage {
-    // So many cells, each with room for so many seats.
+    // Creates this many cells, each with room for this many seats.
     fn new(alloc: Global, cells: u32, seats: u32) -> Result<Stage, Refusal> {
         Ok(Stage {
             accounts: accounts(alloc)?,
@@ -68,7 +68,7 @@ impl Stage {
         })
     }
 
-    // The names that its pads have now.
+    // The current names of its pads.
     fn names<R: Wait>(&self, rt: &R, alloc: Global) -> Result<Names, Refusal> {
         Names::fill(rt, alloc, self.cells.as_slice())
     }
@@ -85,7 +85,7 @@ impl Stage {
     }
 }
 
-// A thread with seats of its own, whose session is that of an author.
+// Creates a thread with seats of its own, in a session of an author.
 fn thread_of<'a, R: Wait>(
     alloc: Global,
     row: &'a StageRow<'a, R>,
@@ -98,7 +98,7 @@ fn thread_of<'a, R: Wait>(
     Ok(pads)
 }
 
-// What a request on the pad of a number is answered.
+// Returns the answer to a request on the pad with a number.
 fn asked<P: Pads>(
     alloc: Global,
     pads: &mut P,
@@ -117,7 +117,7 @@ fn is_refused(answer: Result<Reply, Refusal>, wanted: Refusal) -> bool {
     }
 }
 
-// Whether there is a pad of this number, which one step tells.
+// Whether there is a pad with this number, found in one step.
 fn is_found<P: Pads>(alloc: Global, pads: &mut P, gate: &Steps, number: u32) -> bool {
     gate.take();
     let answer = asked(alloc, pads, "join", number);
@@ -125,7 +125,7 @@ fn is_found<P: Pads>(alloc: Global, pads: &mut P, gate: &Steps, number: u32) -> 
     answer.is_ok() && steps == 1 && asked(alloc, pads, "leave", number).is_ok()
 }
 
-// Whether there is none, which no step tells.
+// Whether there is no pad with this number, found out without a step.
 fn is_missing<P: Pads>(alloc: Global, pads: &mut P, gate: &Steps, number: u32) -> bool {
     gate.take();
     let answer = asked(alloc, pads, "join", number);
@@ -174,7 +174,7 @@ fn a_name_is_found_without_a_walk(rt: HostRuntime) -> Result<(), Fail> {
     Ok(())
 }
 
-// Creates the pad of a number, and whether it could.
+// Creates the pad with a number, and returns the outcome.
 fn creates<R: Wait>(alloc: Global, row: &StageRow<'_, R>, hello: &str, number: u32) -> Created {
     match thread_of(alloc, row, hello) {
         Ok(mut pads) => match asked(alloc, &mut pads, "create", number) {
@@ -186,7 +186,7 @@ fn creates<R: Wait>(alloc: Global, row: &StageRow<'_, R>, hello: &str, number: u
     }
 }
 
-// What became of a creation.
+// The outcome of a creation.
 #[derive(Clone, Copy, Debug, PartialEq, Eq)]
 enum Created {
     Made,
@@ -194,7 +194,7 @@ enum Created {
     Other,
 }
 
-// Two threads create the pads of these numbers at once.
+// Lets two threads create the pads with these numbers at once.
 fn both_create<R: Threads + Wait + Sync>(
     rt: &R,
     alloc: Global,
@@ -205,7 +205,7 @@ fn both_create<R: Threads + Wait + Sync>(
     both_create_on(rt, alloc, &stage, &names, numbers)
 }
 
-// The same, of a stage without pads.
+// The same on a stage without pads.
 fn both_create_on<R: Threads + Wait + Sync>(
     rt: &R,
     alloc: Global,
@@ -257,7 +257,7 @@ fn one_name_is_created_once(rt: HostRuntime) -> Result<(), Fail> {
     Ok(())
 }
 
-// Looks for a pad until another thread has created it, or gives up.
+// Looks for a pad until another thread has created it, or gives up. Returns whether it was found.
 fn finds_in_time<R: Wait>(alloc: Global, row: &StageRow<'_, R>, number: u32) -> bool {
     let Ok(mut pads) = thread_of(alloc, row, SECOND) else {
         return false;
@@ -265,7 +265,7 @@ fn finds_in_time<R: Wait>(alloc: Global, row: &StageRow<'_, R>, number: u32) -> 
     for _turn in 0..1_000_000u32 {
         match asked(alloc, &mut pads, "join", number) {
             Err(Refusal::NoPad) => thread::yield_now(),
-            // The pad is another author's, who has not shared it.
+            // The pad belongs to another author, who has not shared it.
             Err(Refusal::Denied) => return true,
             _ => return false,
         }
@@ -291,7 +291,7 @@ fn a_name_is_created_meanwhile(rt: HostRuntime) -> Result<(), Fail> {
 
 const MANY: u32 = 4096;
 
-// All pads are found, each in one step, and no other is.
+// Asserts that all pads are found, each in one step, and no other is.
 fn all_are_found<R: Wait + Abort>(
     rt: &R,
     alloc: Global,
@@ -338,13 +338,13 @@ fn each_of_4096_pads_is_found(rt: HostRuntime) -> Result<(), Fail> {
         "a pad too many is created"
     );
     all_are_found(&rt, alloc, &stage, &names)?;
-    // The names of the pads that are there, as after a start from a store.
+    // The names of the existing pads, as after a start from a store.
     let again = stage.names(&rt, alloc)?;
     all_are_found(&rt, alloc, &stage, &again)?;
     Ok(())
 }
 
-// What a row answers to a line of a session.
+// Returns a row's answer to a line of a session.
 fn row_asked<R: Wait>(
     alloc: Global,
     row: &StageRow<'_, R>,

@@ -1,4 +1,4 @@
-//! A row of two pads: each cell has a pad of its own, and all have the numbers of their server.
+//! A row of two pads. Each cell has a pad of its own, and all have the numbers of their server.
 use crate::stage::{accounts, ask_all, tells};
 use block_seq::BlockSeq;
 use pad_model::Refusal;
@@ -9,7 +9,7 @@ use std::process::Abort;
 use std::test::Fail;
 use workers::{Names, Pads, Row, Shared, open_row, take_seats};
 
-// A number that takes more than a byte.
+// A number that needs more than one byte.
 const REPLICA: u16 = 300;
 
 const HELLO: &str = r#"{"do":"hello","name":"a1","token":"t"}"#;
@@ -20,7 +20,7 @@ const BEGINNING: [&str; 3] = [
     r#"{"do":"create","pad":"two"}"#,
 ];
 
-// Whether a cell has this name, or none.
+// Whether a cell has this name, or no name.
 fn is_named<P: Pads>(
     alloc: Global,
     pads: &mut P,
@@ -34,7 +34,7 @@ fn is_named<P: Pads>(
     })
 }
 
-// The first cells have these names, and the next one none.
+// Asserts that the first cells have these names, and the next cell has none.
 fn have_names<P: Pads>(
     rt: &impl Abort,
     alloc: Global,
@@ -82,7 +82,7 @@ const JOIN: &str = r#"{"do":"join","pad":"two"}"#;
 
 const CROWDED: &str = concat!(r#"{"code":313,"error":"Crowded","ok":false}"#, "\n");
 
-// Two sessions, where one visit may be present on a pad: its creator's, until that leaves.
+// Two sessions, on pads where one visit may be present: the creator's, until it leaves.
 #[test]
 fn each_pad_has_room_for_as_many_as_the_row_was_told(rt: HostRuntime) -> Result<(), Fail> {
     let alloc = rt.alloc();

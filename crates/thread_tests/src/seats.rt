@@ -1,4 +1,4 @@
-//! A pad behind its lock, and its seats.
+//! A pad under its lock, and its seats.
 use crate::stage::typed;
 use block_seq::BlockSeq;
 use pad_core::{Act, PadReply, Present, Reply, Request};
@@ -36,7 +36,7 @@ fn ask<R: Wait>(
     shared.call(rt, alloc, seat, session, &request, &Open)
 }
 
-// A pad that is shared in the first cell, with room for so many seats.
+// Shares a pad in the first cell, with room for this many seats.
 fn shared_pad(alloc: Global, seats: u32) -> Result<SharedPad<BlockSeq>, Refusal> {
     match SharedPad::new(alloc, typed(alloc)?, 0, seats) {
         Ok(shared) => Ok(shared),
@@ -44,7 +44,7 @@ fn shared_pad(alloc: Global, seats: u32) -> Result<SharedPad<BlockSeq>, Refusal>
     }
 }
 
-// The visit that a join is answered with; 0 where it is not.
+// Joins, and returns the visit; 0 if the join is refused.
 fn join<R: Wait>(
     rt: &R,
     alloc: Global,
@@ -104,7 +104,7 @@ fn is_named<R: Wait>(rt: &R, alloc: Global, shared: &SharedPad<BlockSeq>, name: 
     }
 }
 
-// The calls that a pad is closed with by one seat. None: it is not.
+// Closes a pad with one seat, and returns its calls; None if it does not close.
 fn closed_calls(
     alloc: Global,
     shared: SharedPad<BlockSeq>,
@@ -115,7 +115,7 @@ fn closed_calls(
     Ok(shared.close(seats).ok().map(|closed| closed.calls))
 }
 
-// The pad again, which is not closed without its seat. None: it is.
+// Tries to close a pad without its seat, and returns the pad; None if it closes.
 fn without_seat(alloc: Global, shared: SharedPad<BlockSeq>) -> Option<SharedPad<BlockSeq>> {
     match shared.close(Vec::new(alloc)) {
         Ok(_) => None,
@@ -123,8 +123,8 @@ fn without_seat(alloc: Global, shared: SharedPad<BlockSeq>) -> Option<SharedPad<
     }
 }
 
-// What comes of a join, a departure and a join: their visits, whether there was a departure, and whether the first and the
-// third visit are present then.
+// The outcome of a join, a departure and a join: the visit of the first join, whether there was a departure, the visit
+// of the second join, and whether exactly the visits 1 and 3 are present at the end.
 type Comes = (u64, bool, u64, bool);
 
 // Joins, departs, and joins again.
@@ -164,7 +164,7 @@ fn one_seat(rt: HostRuntime) -> Result<(), Fail> {
     Ok(())
 }
 
-// How many seats a pad makes, before one is refused as 317.
+// Returns the number of seats that a pad makes before it refuses one with 317.
 fn count_seats<R: Wait>(rt: &R, shared: &SharedPad<BlockSeq>) -> u64 {
     for count in 0..100 {
         match shared.seat(rt) {

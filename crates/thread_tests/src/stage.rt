@@ -17,7 +17,7 @@ pub fn accounts(alloc: Global) -> Result<Accounts, Refusal> {
     }
 }
 
-/// What a line is answered.
+/// Returns the answer to a line.
 pub fn ask<P: Pads>(alloc: Global, pads: &mut P, line: &str) -> Result<Reply, Refusal> {
     match read_request(alloc, line.as_bytes()) {
         Ok(request) => pads.call(alloc, &request),
@@ -25,7 +25,7 @@ pub fn ask<P: Pads>(alloc: Global, pads: &mut P, line: &str) -> Result<Reply, Re
     }
 }
 
-/// Asks lines of which none is to be refused.
+/// Makes these requests, and fails with the first refusal.
 pub fn ask_all<P: Pads>(alloc: Global, pads: &mut P, lines: &[&str]) -> Result<(), Refusal> {
     for line in lines {
         let _answered = ask(alloc, pads, line)?;
@@ -33,7 +33,7 @@ pub fn ask_all<P: Pads>(alloc: Global, pads: &mut P, lines: &[&str]) -> Result<(
     Ok(())
 }
 
-/// A line is answered by just this one.
+/// Asserts that a line has exactly this reply.
 pub fn tells<P: Pads>(
     rt: &impl Abort,
     alloc: Global,
@@ -47,7 +47,7 @@ pub fn tells<P: Pads>(
     Ok(())
 }
 
-// The pad `p` of ann, on the server with number 1.
+// Creates ann's pad `p`, on the server with number 1.
 fn claimed(alloc: Global) -> Result<Pad<BlockSeq>, Refusal> {
     let mut pad = Pad::new(alloc, 1, DEFAULT_PRESENT)?;
     match pad.claim(alloc, "p", "ann")? {
@@ -64,7 +64,7 @@ fn hello(alloc: Global) -> Result<Act, Refusal> {
     })
 }
 
-/// The pad `p` of ann, after she has inserted `hello`.
+/// Creates ann's pad `p`, after she has inserted `hello`.
 pub fn typed(alloc: Global) -> Result<Pad<BlockSeq>, Refusal> {
     let mut pad = claimed(alloc)?;
     let who = Who::Author(Name::from_str(alloc, "ann")?);

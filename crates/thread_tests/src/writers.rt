@@ -1,4 +1,4 @@
-//! Four threads that write into one pad and read it, each with a session and a seat of its own.
+//! Four threads that write to one pad and read it, each with its own session and seat.
 use crate::stage::{accounts, ask, ask_all};
 use block_seq::BlockSeq;
 use pad_core::{PadReply, Recorded, Reply, audit};
@@ -12,7 +12,7 @@ use std::thread;
 use std::thread::Threads;
 use workers::{Names, Pads, Row, Shared, open_row, take_seats};
 
-// How often each author writes its letter.
+// The number of times that each author writes its letter.
 const ROUNDS: u64 = 250;
 
 const JOIN: &str = r#"{"do":"join","pad":"p"}"#;
@@ -21,7 +21,7 @@ const TEXT: &str = r#"{"do":"text","pad":"p"}"#;
 
 const RUNS: &str = r#"{"do":"runs","pad":"p"}"#;
 
-// What the owner asks before the others come.
+// The owner's requests before the others start.
 const BEGINNING: [&str; 6] = [
     r#"{"do":"hello","name":"a5","token":"t"}"#,
     r#"{"do":"create","pad":"p"}"#,
@@ -55,10 +55,10 @@ const AUTHORS: [(&str, &str, char); 4] = [
     ),
 ];
 
-// Stands for an answer of another kind than was asked for. No pad refuses with it.
+// Represents an answer of another kind than was asked for. No pad gives this refusal.
 const NO_ANSWER: Refusal = Refusal::Busy;
 
-// What a thread is to do, and its seats.
+// The task of a thread, and its seats.
 #[derive(Drop)]
 struct Job {
     hello: &'static str,
@@ -67,7 +67,7 @@ struct Job {
     seats: Vec<Seat>,
 }
 
-// What it was answered, if nothing was refused, and its seats.
+// The answers to a thread, unless something was refused, and its seats.
 #[derive(Drop)]
 struct Written {
     records: Result<Vec<Recorded>, Refusal>,
@@ -91,7 +91,7 @@ fn edit<P: Pads>(alloc: Global, pads: &mut P, insert: &str) -> Result<Recorded, 
     }
 }
 
-// The text, in which an author's letter stands so often at least.
+// Reads the text, which has an author's letter at least this many times.
 fn read<P: Pads>(
     alloc: Global,
     pads: &mut P,
@@ -128,7 +128,7 @@ fn work<R: Wait>(alloc: Global, row: &Row<'_, BlockSeq, R, Open>, mut job: Job) 
     }
 }
 
-// The four jobs, with seats for each.
+// Makes the four jobs, with seats for each.
 fn jobs<R: Wait>(
     rt: &R,
     alloc: Global,
@@ -158,7 +158,7 @@ fn letter_of(run: &AuthorRun) -> Option<char> {
     }
 }
 
-// Whether each run's characters are its author's letter, and there are no others.
+// Whether the characters of each run are its author's letter, and there are no others.
 fn are_own(text: &Text, runs: &[AuthorRun]) -> bool {
     let mut characters = text.as_slice().iter();
     for run in runs {
@@ -185,7 +185,7 @@ fn runs_of<P: Pads>(alloc: Global, pads: &mut P) -> Result<pad_model::Row<Author
     }
 }
 
-// Whether the text has each author's letter as often as it was written, and is told as each author's own.
+// Whether the text has each author's letter as often as it was written, and reports each as its author's own.
 fn is_whole<P: Pads>(alloc: Global, pads: &mut P) -> Result<bool, Refusal> {
     let text = text_of(alloc, pads)?;
     let runs = runs_of(alloc, pads)?;
@@ -196,7 +196,7 @@ fn is_whole<P: Pads>(alloc: Global, pads: &mut P) -> Result<bool, Refusal> {
     Ok(whole)
 }
 
-// All records and all seats, one after the other.
+// Collects all records and all seats, one thread after another.
 fn gather(
     all: Vec<Written>,
     records: &mut Vec<Recorded>,
@@ -225,7 +225,7 @@ fn calls_of(seats: &[Seat]) -> u64 {
     calls
 }
 
-// Whether the seats close their pad with what was answered, which an audit finds in its log.
+// Whether the seats close their pad with the answers, as an audit of its log finds.
 fn is_closed(
     alloc: Global,
     cells: Vec<SharedPad<BlockSeq>>,
@@ -246,7 +246,7 @@ fn is_closed(
     }
 }
 
-// The owner, who makes the pad.
+// Creates the pad as its owner.
 fn begin<'a, R: Wait>(
     alloc: Global,
     row: &'a Row<'a, BlockSeq, R, Open>,
@@ -258,7 +258,8 @@ fn begin<'a, R: Wait>(
     Ok(owner)
 }
 
-// All that was answered to the four authors, and the seats of all; an error where the text is not whole.
+// Lets the four authors write, and returns all answers to them and the seats of all threads; an error if the text is
+// not whole.
 fn write_all<R: Threads + Wait + Sync>(
     alloc: Global,
     row: &Row<'_, BlockSeq, R, Open>,

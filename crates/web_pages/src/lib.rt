@@ -1,4 +1,4 @@
-//! The files of the page, as they are in web/.
+//! The files of the page, with the texts of web/.
 //!
 //! It depends on `web_wire`, which serves them.
 #![tactic(auto)]

@@ -1,11 +1,11 @@
-//! What messages come to, however their bytes are cut.
+//! What messages lead to, whatever pieces their bytes arrive in.
 use crate::sent::frames;
 use std::alloc::{AllocError, Global};
 use std::process::Abort;
 use std::test::Fail;
 use web_wire::{Frames, Turn, put_message};
 
-// Feeds the bytes in pieces, and takes the lines and what is sent. A line `!` says that the socket is to be closed.
+// Feeds the bytes in pieces, and returns the lines and what is sent. A line `!` means that the socket is to be closed.
 fn talk(alloc: Global, bytes: &[u8], piece: usize) -> Result<(Vec<u8>, Vec<u8>), AllocError> {
     let mut socket = Frames::new(alloc, Vec::new(alloc));
     let mut lines = Vec::new(alloc);
@@ -18,7 +18,7 @@ fn talk(alloc: Global, bytes: &[u8], piece: usize) -> Result<(Vec<u8>, Vec<u8>),
     Ok((lines, output))
 }
 
-// Takes lines until more bytes have to come. A socket that is closed says so again, which counts once.
+// Takes lines until more bytes are needed. A closed socket reports this again, which counts once.
 fn take(socket: &mut Frames, lines: &mut Vec<u8>, output: &mut Vec<u8>) -> Result<(), AllocError> {
     for _ in 0..100 {
         match socket.next_line(lines, output)? {
@@ -35,7 +35,7 @@ fn take(socket: &mut Frames, lines: &mut Vec<u8>, output: &mut Vec<u8>) -> Resul
     Ok(())
 }
 
-// Sees that frames come to these lines and these sent bytes, whole and in pieces of each length.
+// Asserts that frames lead to these lines and these sent bytes, whole and in pieces of each length.
 fn comes_to(
     rt: &impl Abort,
     alloc: Global,

@@ -4,14 +4,14 @@ use std::alloc::{AllocError, Global};
 use std::test::Fail;
 use web_wire::{Frames, LONGEST_MESSAGE, Turn};
 
-// So many bytes of text.
+// A text of this many bytes.
 fn text(alloc: Global, length: usize) -> Result<Vec<u8>, AllocError> {
     let mut bytes = Vec::new(alloc);
     bytes.resize(length, b'a')?;
     Ok(bytes)
 }
 
-// What a message in parts of these lengths comes to: the turn, the length of its line, and what is sent.
+// What a message in fragments of these lengths leads to: the turn, the length of its line, and what is sent.
 fn parts(alloc: Global, lengths: &[usize]) -> Result<(Turn, usize, Vec<u8>), AllocError> {
     let mut socket = Frames::new(alloc, Vec::new(alloc));
     let mut line = Vec::new(alloc);

@@ -30,7 +30,7 @@ fn put_length(length: usize, bytes: &mut Vec<u8>) -> Result<(), AllocError> {
     Ok(())
 }
 
-/// The frames of a list, one after the other.
+/// The frames of a list, joined.
 pub fn frames(alloc: Global, list: &[(u8, &[u8])]) -> Result<Vec<u8>, AllocError> {
     let mut bytes = Vec::new(alloc);
     for (first, payload) in list {

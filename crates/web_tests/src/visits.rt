@@ -45,7 +45,7 @@ fn ask(
     Ok((next, sent))
 }
 
-// Whether one text lies in the other.
+// Whether one text contains the other.
 fn has(bytes: &[u8], part: &str) -> bool {
     match str::from_utf8(bytes) {
         Ok(text) => text.contains(part),
@@ -53,7 +53,7 @@ fn has(bytes: &[u8], part: &str) -> bool {
     }
 }
 
-// Sees that a request, whole and in pieces of each length, is answered so, and that the response has these parts.
+// Asserts that a request, whole and in pieces of each length, is answered so, and that the response has these parts.
 fn answers(
     rt: &impl Abort,
     alloc: Global,
@@ -193,7 +193,7 @@ fn a_head_request_has_no_text(rt: HostRuntime) -> Result<(), Fail> {
     Ok(())
 }
 
-// The fields of a handshake, but for its origin, with the key of RFC 6455's example.
+// The fields of a handshake except its origin, with the key of the example in RFC 6455.
 const HANDSHAKE: &str =
     "GET /socket HTTP/1.1\r\nHost: pads.lan:80\r\nUpgrade: websocket\r\nConnection: keep-alive, Upgrade\r\nSec-WebSocket-Key: dGhlIHNhbXBsZSBub25jZQ==\r\nSec-WebSocket-Version: 13\r\n";
 
@@ -238,7 +238,7 @@ fn origins_are_checked(rt: HostRuntime) -> Result<(), Fail> {
     Ok(())
 }
 
-// Handshakes that are none, and their status.
+// Faulty handshakes, and their status.
 const FAULTY: &[(&str, u16)] = &[
     ("GET /socket HTTP/1.1\r\nHost: a\r\n\r\n", 426),
     (
@@ -282,7 +282,7 @@ fn a_full_server_says_so(rt: HostRuntime) -> Result<(), Fail> {
     Ok(())
 }
 
-// A head with a target and a field of so many bytes.
+// A head with a target and a field of these lengths.
 fn long_head(alloc: Global, target: usize, field: usize) -> Result<Vec<u8>, AllocError> {
     let mut head = Vec::new(alloc);
     head.extend_from_slice(b"GET /")?;
@@ -324,7 +324,7 @@ fn fields_are_limited(rt: HostRuntime) -> Result<(), Fail> {
     Ok(())
 }
 
-// What came behind a handshake is left for the socket.
+// What follows a handshake is left for the socket.
 #[test]
 fn frames_behind_a_handshake(rt: HostRuntime) -> Result<(), Fail> {
     let site = Site {

@@ -1,4 +1,4 @@
--- What comes of bytes is what comes of their first frame, and then of the rest, whatever follows.
+-- Bytes lead to what their first frame leads to, followed by what the rest leads to, whatever follows.
 use Rattle.std.proofs.Common.{◌≡◌, ℕ, zero, suc, ◌<◌, List, ◌++◌, length, drop, Result, Ok, Err, refl, ap, ◌∙◌, arith, append_assoc, length-drop}
 use Rattle.std.proofs.lemmas.List.{drop-append-le}
 use Rattle.websocket.specs.Connection.{Connection, Effect, read_step, failed_connection}
@@ -9,13 +9,13 @@ use Rattle.websocket.proofs.StreamLemmas.{read_step-append, TookFrame_from_read}
 use Rattle.web_wire.specs.Messages.{heard_of}
 use Rattle.web_wire.specs.Course.{Course, waits, closes, before, farewell, close_code, takes, course_after, course_times, course_of}
 
--- what comes before lines that come before others
+-- lines before lines that come before a rest
 pub before-before : (lines next : List (List ℕ)) (sent put : List ℕ) (rest : Course)
     → before lines sent (before next put rest) ≡ before (lines ++ next) (sent ++ put) rest
 before-before lines next sent put rest =
     rw (append_assoc lines next rest.lines, append_assoc sent put rest.sent) refl
 
--- two ways to go on that agree on fewer bytes agree after a read
+-- two continuations that agree on fewer bytes agree after a read
 after_same : (f g : Connection → List ℕ → Course) (conn : Connection) (bytes : List ℕ)
     (read : Result (FrameStatus (ℕ × Effect)) Error) → read_step conn bytes ≡ read
     → ((next : Connection) (rest : List ℕ) → length rest < length bytes → f next rest ≡ g next rest)
@@ -37,7 +37,7 @@ times_enough (suc n) (suc m) conn bytes hn hm =
     after_same (course_times n) (course_times m) conn bytes _ refl
     (λ next rest h. times_enough n m next rest (omega arith) (omega arith))
 
--- what comes of bytes, by their first read
+-- what bytes lead to, by their first read
 first_read : (conn : Connection) (bytes : List ℕ)
     → course_of conn bytes ≡ course_after course_of conn bytes (read_step conn bytes)
 unfolding course_times
@@ -62,12 +62,12 @@ failed_first conn bytes error is more =
     first_read conn (bytes ++ more)
     ∙ ap (course_after course_of conn (bytes ++ more)) (read_step-append conn bytes more (λ k. cc (is, k.1)) ∙ is)
 
--- no whole frame is there
+-- there is no complete frame
 pub none_first : (conn : Connection) (bytes : List ℕ) (needed : ℕ) → read_step conn bytes ≡ Ok (Partial needed)
     → course_of conn bytes ≡ waits
 none_first conn bytes needed is = first_read conn bytes ∙ ap (course_after course_of conn bytes) is
 
--- a read takes bytes
+-- a read takes at least one byte
 pub frame_shorter : (conn : Connection) (bytes : List ℕ) (p : ℕ × Effect) → read_step conn bytes ≡ Ok (Complete p)
     → length (drop p.0 bytes) < length bytes
 frame_shorter conn bytes p is =

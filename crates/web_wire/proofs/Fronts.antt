@@ -1,4 +1,4 @@
--- What a read of websocket's returns is the frame at the front of the bytes.
+-- A read of websocket returns the frame at the front of the bytes.
 use Rattle.std.proofs.Common.{◌≡◌, ℕ, List, ◌++◌, Result, Ok, Err, refl, sym, ap, ◌∙◌}
 use Rattle.std.specs.Prelude.{◌≢◌, true, option_map}
 use Rattle.websocket.specs.declared.error.Error.{Error}
@@ -15,7 +15,7 @@ use Rattle.web_wire.specs.declared.heard.Heard.{Heard}
 use Rattle.web_wire.specs.declared.heard.Heard.TheVariants.{Line}
 use Rattle.web_wire.proofs.Roles.{read_keeps_role, sent_unmasked}
 
--- a read that succeeds leaves the role
+-- a read that succeeds keeps the role
 pub role_left : (before after : Connection) (bytes old new : List ℕ) (read : Result (FrameStatus (ℕ × Effect)) Error)
     → read_step before bytes ≡ read → ReadLeaves read before after old new → before.role ≡ Server → after.role ≡ Server
 role_left before after bytes old new (Err error) is leaves role = absurd leaves

@@ -1,11 +1,11 @@
--- What a socket gives out is the first of what its bytes come to, in whatever pieces they come.
+-- What a socket gives out is a prefix of what its bytes lead to, whatever pieces they arrive in.
 use Rattle.std.proofs.Common.{◌≡◌, ℕ, List, [], ◌++◌, refl, ap, ◌∙◌, sym, cond, append_assoc}
 use Rattle.web_wire.specs.Course.{closes, before, course_of}
 use Rattle.web_wire.specs.Socket.{Socket, fed, course}
 use Rattle.web_wire.specs.Laws.{begun, received, gone_on, PiecesLaw}
 use Rattle.web_wire.proofs.Courses.{before-before}
 
--- bytes that came are the first of those that still come
+-- bytes that arrived are the first of those that were to arrive
 fed_first : (old : Socket) (bytes more : List ℕ) → course (fed old bytes) more ≡ course old (bytes ++ more)
 fed_first old bytes more =
     ap (λ all. cond old.ended (closes []) (course_of old.conn all)) (append_assoc old.waiting bytes more)

@@ -1,4 +1,4 @@
--- A frame that is read leaves each side its role, so a server's frames have no mask.
+-- Reading a frame keeps the role of each side, so a server's frames have no mask.
 use Rattle.std.proofs.Common.{◌≡◌, ℕ, Bool, true, false, List, ◌++◌, length, Option, None, Some, Result, Ok, Err, refl, sym, ap, subst, ◌∙◌, append-nil, arith}
 use Rattle.websocket.specs.declared.error.Error.{Error}
 use Rattle.std.specs.Prelude.{[], is_some}
@@ -23,7 +23,7 @@ use Rattle.websocket.proofs.StreamLemmas.{after_check_passed, TookFrame_from_rea
 use Rattle.web_wire.specs.Messages.{frame_bytes}
 use Rattle.web_wire.specs.Course.{farewell, sent_by}
 
--- the effect leaves the role
+-- the effect keeps the role
 abbrev Keeps : Connection → Result Effect Error → Type 0
 Keeps conn result = (effect : Effect) → result ≡ Ok effect → effect.next.role ≡ conn.role
 
@@ -107,14 +107,14 @@ sent_unmasked role (Some frame) old new is sends = unmasked sends.0 (rw is at se
     unmasked None none put = put
     unmasked (Some key) none put = absurd (cc none)
 
--- a step that sends a close frame leaves the role
+-- a step that sends a close frame keeps the role
 closing_keeps : (conn : Connection) (frame : Option (CloseCode × List ℕ)) (state : Option WebSocketState)
     → Keeps conn (close_to conn frame state)
 closing_keeps conn frame None effect is = rw (ok_is is) refl
 closing_keeps conn frame (Some state) effect is =
     checked conn (check_close frame) _ (λ e done. same_role done refl) effect is
 
--- what a close sends is the close frame
+-- a close sends the close frame
 pub farewell_sent : (conn new : Connection) (code : CloseCode) (old put : List ℕ) → conn.role ≡ Server
     → Leaves (close_step conn (Some (code, []))) new old put → put ≡ old ++ farewell conn code
 farewell_sent conn new code old put is ok =

@@ -1,4 +1,4 @@
--- What a socket comes to, by what the frame at the front of its bytes is.
+-- What a socket leads to, by the frame at the front of its bytes.
 use Rattle.std.proofs.Common.{◌≡◌, ℕ, ◌+◌, ◌<◌, true, false, List, [], ◌∷◌, ◌++◌, length, drop, Result, Ok, Err, refl, sym, ap, subst, ◌∙◌, inl, inr, cond, append_assoc, drop-drop}
 use Rattle.std.proofs.lemmas.List.{append-nil}
 use Rattle.std.specs.Prelude.{◌≢◌, OnErr}
@@ -14,15 +14,15 @@ use Rattle.web_wire.specs.declared.heard.Heard.{Heard}
 use Rattle.web_wire.specs.declared.heard.Heard.TheVariants.{Nothing, Line, Closed, Refused}
 use Rattle.web_wire.proofs.Courses.{frame_first, failed_first, none_first, frame_shorter}
 
--- a socket with what is given out so far
+-- a socket with what was given out so far
 abbrev pub desk : Socket → List ℕ → List ℕ → Desk
 desk socket line output = record { conn = socket.conn; bytes = socket.waiting; line = line; output = output }
 
--- a socket that is not closed comes to what its bytes come to
+-- a socket that is not closed leads to what its bytes lead to
 open_course : (old : Socket) (more : List ℕ) → old.ended ≡ false → course old more ≡ course_of old.conn (old.waiting ++ more)
 open_course old more is = ap (λ ended. cond ended (closes []) (course_of old.conn (old.waiting ++ more))) is
 
--- behind the last frame a socket is closed
+-- after the last frame a socket is closed
 last_sent : (new : Socket) (sent more : List ℕ) → new.ended ≡ true → closes sent ≡ before [] sent (course new more)
 last_sent new sent more is =
     sym (ap (λ ended. before [] sent (cond ended (closes []) (course_of new.conn (new.waiting ++ more)))) is
@@ -38,7 +38,7 @@ whole_first old count heard line output after is whole more =
     ∙ ap (λ c. takes heard whole.effect (course_of c (drop count old.waiting ++ more))) (sym whole.next)
     ∙ ap (λ b. takes heard whole.effect (course_of after.conn (b ++ more))) (sym whole.rest)
 
--- the socket behind a frame
+-- the socket after a frame
 abbrev behind : Socket → Connection → ℕ → List ℕ → Socket
 behind old conn from items = record { conn = conn; waiting = drop from items; ended = old.ended }
 
@@ -139,7 +139,7 @@ goes_cut old given output room after is same cut =
       open_course old [] is ∙ ap (course_of old.conn) (append-nil old.waiting) ∙ none_first old.conn old.waiting cut.0.0 cut.0.1,
     )
 
--- calls that go on, one after the other
+-- two successive calls that go on
 pub goes_on_both : (lines : List (List ℕ)) (first second third : Socket) (one two three : List ℕ)
     → GoesOn [] first one second two → GoesOn lines second two third three → GoesOn lines first one third three
 goes_on_both lines first second third one two three a b = (
@@ -151,12 +151,7 @@ goes_on_both lines first second third one two three a b = (
       (sym (append_assoc a.0 b.0 (course third more).sent)),
 )
 
-pub gives_both : (first second third : Socket) (given gives one two three : List ℕ)
-    → GoesOn [] first one second two → GivesLine second given two third gives three → GivesLine first given one third gives three
-gives_both first second third given gives one two three a b =
-    (b.0, b.1, b.2, goes_on_both (b.0 ∷ []) first second third one two three a b.3)
-
--- what holds of both holds of an error
+-- what holds for both holds for an error
 pub on_error : {A E : Type 0} (result : Result A E) (P : Type 0) → P → OnErr result P
 on_error (Ok done) P holds = tt
 on_error (Err error) P holds = holds

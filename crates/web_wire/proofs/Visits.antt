@@ -1,4 +1,4 @@
--- What a visit responds, and that a socket and a page stand on the request that was read.
+-- The response of a visit: a socket or a page answers the request that was read.
 use Rattle.std.proofs.Common.{◌≡◌, ◌≤◌, refl, inl, inr, ℕ, Bool, true, List, [], ◌++◌, length, take, drop, Result, Ok, Err, ap, sym, ◌∙◌, append_assoc, arith}
 use Rattle.std.proofs.lemmas.List.{append-nil, take-append-le, take_all}
 use Rattle.std.specs.Prelude.{◌⊎◌, IfOk, OnOk, OnErr, codes}
@@ -21,17 +21,17 @@ use Rattle.web_wire.specs.declared.visit.TheConstants.{MOST_FIELDS}
 use Rattle.web_wire.specs.declared.visit.Next.{Next}
 use Rattle.web_wire.specs.declared.visit.Next.TheVariants.{Close, Read, Socket}
 
--- a head and a text behind it
+-- a head followed by a text
 pub head_then_text : (old between new lead text : List ℕ) → between ≡ old ++ lead → new ≡ between ++ text
     → new ≡ old ++ (lead ++ text)
 head_then_text old between new lead text first second =
     second ∙ ap (λ o. o ++ text) first ∙ append_assoc old lead text
 
--- a head alone
+-- only a head
 pub head_alone : (old new lead : List ℕ) → new ≡ old ++ lead → new ≡ old ++ (lead ++ [])
 head_alone old new lead first = first ∙ ap (λ l. old ++ l) (sym (append-nil lead))
 
--- what was appended is taken back
+-- what was appended is removed
 pub taken_back : (old new : List ℕ) → Grows old new → take (length old) new ≡ old
 taken_back old new grows =
     ap (take (length old)) grows.1 ∙ take-append-le (length old) old grows.0 (omega arith) ∙ take_all (length old) old (omega arith)
@@ -87,7 +87,7 @@ socket_opens plan result old between new pages origins room body server next spa
       },
     )
 
--- the response refuses only for a plan that refuses, or because a page could not be sent
+-- the response is a refusal only for a plan that refuses, or because a page could not be sent
 refusal_planned : (plan : Plan) (old between : Exchange) (status : ℕ) (pages : List Page) (origins : List (List ℕ))
     (room body : Bool) (method target : List ℕ) (minor : ℕ) (found : List (List ℕ × List ℕ))
     → IsPlanned pages origins room body method target minor found plan → Responds plan old (Ok (Close status)) between
@@ -128,7 +128,7 @@ refusal_reason plan (Ok (Close status)) old between new pages origins room next 
       }))
     ]
 
--- bytes that can become no request are a reason
+-- bytes that cannot become a request are a reason
 pub unread_reason : (result : Result Next AllocError) (old new : Exchange) (pages : List Page) (origins : List (List ℕ))
     (room : Bool) → HasNoHead request_limits old.input MOST_FIELDS → IfRefused result (HasReason pages origins room old new)
 unread_reason (Err error) old new pages origins room none = tt

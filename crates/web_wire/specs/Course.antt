@@ -1,5 +1,5 @@
--- What a socket comes to by the bytes that come: its lines, what is sent in answer to its frames, and whether it is
--- closed. It reads frame by frame, by websocket's `read_step`.
+-- What the bytes of a socket lead to: its lines, what is sent in answer to its frames, and whether it is closed. Bytes
+-- are read frame by frame, by websocket's `read_step`.
 use Rattle.std.specs.Prelude.{ℕ, zero, suc, Bool, true, false, List, [], ◌∷◌, ◌++◌, length, drop, Some, Result, Ok, Err}
 use Rattle.websocket.specs.Connection.{Connection, Effect, read_step, close_step, failed_connection}
 use Rattle.websocket.specs.declared.error.Error.{Error}
@@ -18,15 +18,15 @@ pub record Course : Type 0 where
   pub sent : List ℕ
   pub closed : Bool
 
--- nothing comes of the bytes yet
+-- the bytes lead to nothing yet
 abbrev pub waits : Course
 waits = record { lines = []; sent = []; closed = false }
 
--- the socket is closed, and this is sent before
+-- the socket is closed after these bytes are sent
 abbrev pub closes : List ℕ → Course
 closes sent = record { lines = []; sent = sent; closed = true }
 
--- lines and sent bytes, and then what comes behind them
+-- lines and sent bytes, followed by the rest
 abbrev pub before : List (List ℕ) → List ℕ → Course → Course
 before lines sent rest =
     record { lines = lines ++ rest.lines; sent = sent ++ rest.sent; closed = rest.closed }
@@ -40,7 +40,7 @@ sent_by (Err error) = []
 abbrev pub farewell : Connection → CloseCode → List ℕ
 farewell conn code = sent_by (close_step conn (Some (code, [])))
 
--- the code that a failed read is answered with
+-- the code that answers a failed read
 abbrev pub close_code : Error → CloseCode
 close_code Failed.ConnectionClosed = Protocol
 close_code Failed.AlreadyClosed = Protocol
@@ -49,26 +49,28 @@ close_code (Failed.Protocol cause) = Protocol
 close_code Failed.Utf8 = Invalid
 close_code Failed.OutOfMemory = Protocol
 
--- what comes of a frame, and then of those behind it
+-- what a frame leads to, followed by what those after it lead to
 abbrev pub takes : Heard → Effect → Course → Course
 takes Nothing effect rest = before [] (frame_bytes effect.reply) rest
 takes Line effect rest = before (text_of effect.message ∷ []) (frame_bytes effect.reply) rest
 takes Closed effect rest = closes (frame_bytes effect.reply)
 takes (Refused code) effect rest = closes (frame_bytes effect.reply ++ farewell effect.next code)
 
--- what comes of bytes, by what the first read of them gives
+-- what bytes lead to, by the result of the first read
 abbrev pub course_after : (Connection → List ℕ → Course) → Connection → List ℕ
     → Result (FrameStatus (ℕ × Effect)) Error → Course
-course_after others conn bytes (Err error) = closes (farewell (failed_connection conn) (close_code error))
+course_after others conn bytes (Err error) = closes
+    (farewell (failed_connection conn) (close_code error))
 course_after others conn bytes (Ok (Partial needed)) = waits
 course_after others conn bytes (Ok (Complete p)) =
     takes (heard_of p.1.message) p.1 (others p.1.next (drop p.0 bytes))
 
--- what comes of bytes by at most so many reads
+-- what bytes lead to with at most this many reads
 unfoldable pub course_times : ℕ → Connection → List ℕ → Course
 course_times zero conn bytes = waits
-course_times (suc count) conn bytes = course_after (course_times count) conn bytes (read_step conn bytes)
+course_times (suc count) conn bytes = course_after (course_times count) conn bytes
+    (read_step conn bytes)
 
--- what comes of bytes: each frame has a byte, so these are reads enough
+-- what bytes lead to: each frame has at least one byte, so as many reads as bytes are enough
 abbrev pub course_of : Connection → List ℕ → Course
 course_of conn bytes = course_times (suc (length bytes)) conn bytes

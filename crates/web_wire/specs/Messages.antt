@@ -22,7 +22,8 @@ is_line bytes = nat_lt 0 (length bytes) && not (list_any is_feed bytes)
 abbrev pub with_feed : List ℕ → List ℕ
 with_feed line = line ++ 10 ∷ []
 
--- what a message is to a server of lines: a text is a line if it is one, and binary bytes are refused
+-- what a message means to a server of lines: a text that is one line is a line, and other texts and binary bytes are
+-- refused
 abbrev pub heard_of : Option Content → Heard
 heard_of None = Nothing
 heard_of (Some (text bytes)) = if is_line bytes then Line else Refused Policy
@@ -40,7 +41,7 @@ text_of (Some (ping bytes)) = []
 text_of (Some (pong bytes)) = []
 text_of (Some (close frame)) = []
 
--- the bytes of a frame that a server sends, if it sends one: whole, and without a mask
+-- the bytes of a frame that a server sends, if it sends one: unfragmented and unmasked
 abbrev pub frame_bytes : Option Outgoing → List ℕ
 frame_bytes None = []
 frame_bytes (Some frame) = encode_frame (whole_header frame.opcode None) frame.payload

@@ -1,4 +1,4 @@
--- What a request has to be for a page or for the socket.
+-- Which requests are answered with a page or with the socket.
 use Rattle.std.specs.Prelude.{◌≡◌, ◌⊎◌, not, ⊤, ℕ, ◌≤◌, Bool, true, false, ◌&&◌, ◌||◌, ◌==◌, nat_lt, if◌then◌else◌, List, [], ◌++◌, map, length, take, drop, codes, bytes_eq, Option, None, Some, Result, Ok, Err, Contains, unwrap_or}
 use Rattle.std.specs.List.{list_any, position}
 use Rattle.std.specs.declared.alloc.AllocError.{AllocError}
@@ -22,7 +22,7 @@ use Rattle.web_wire.specs.declared.visit.TheConstants.{LONGEST_HEAD, MOST_FIELDS
 use Rattle.web_wire.specs.declared.visit.Next.{Next}
 use Rattle.web_wire.specs.declared.visit.Next.TheVariants.{Read, Close, Socket}
 
--- what a visit shows: the bytes that came and were not used, and those that are to be sent
+-- a visit as callers see it: the unused bytes, and those that are to be sent
 pub record Exchange : Type 0 where
   pub input : List ℕ
   pub output : List ℕ
@@ -31,7 +31,7 @@ pub record Exchange : Type 0 where
 abbrev pub is_query : ℕ → Bool
 is_query byte = byte == 63
 
--- the path of a target: all up to a question mark
+-- the path of a target: everything before a question mark
 abbrev pub path_of : List ℕ → List ℕ
 path_of target = take (unwrap_or (position is_query target) (length target)) target
 
@@ -39,32 +39,33 @@ path_of target = take (unwrap_or (position is_query target) (length target)) tar
 abbrev pub fields : RequestHead → Fields
 fields head = map name_and_value head.fields
 
--- whether an origin is this scheme and this host; the case of the host's letters does not count
+-- whether an origin consists of this scheme and this host; the case of the host's letters does not matter
 abbrev pub is_at : List ℕ → List ℕ → List ℕ → Bool
 is_at scheme origin host =
     bytes_eq (take (length scheme) origin) scheme
     && (nat_lt 0 (length host) && eq_ignore_case (drop (length scheme) origin) host)
 
--- whether an origin is that of the host that was asked
+-- whether an origin is that of the requested host
 abbrev pub is_own : List ℕ → Option (List ℕ) → Bool
 is_own origin None = false
 is_own origin (Some host) = is_at (codes "http://") origin host || is_at (codes "https://") origin host
 
--- whether a request with this origin and this host may open the socket: its own pages, those of the allowed origins,
--- and clients that name none
+-- whether a request with this origin and this host may open the socket: the origin is the server's own or an allowed
+-- one, or the client names none
 abbrev pub may_connect : Option (List ℕ) → Option (List ℕ) → List (List ℕ) → Bool
 may_connect None host allowed = true
 may_connect (Some origin) host allowed =
     is_own origin host || list_any (λ one. eq_ignore_case origin one) allowed
 
--- a handshake with these parts is answered by this key: it asks as RFC 6455 says, for version 13, with a valid key, and
--- its origin is allowed
+-- a handshake with these parts is answered with this key: it follows RFC 6455, asks for version 13 with a valid key,
+-- and its origin is allowed
 abbrev pub MayOpen : List (List ℕ) → List ℕ → ℕ → Fields → List ℕ → Type 0
 MayOpen origins method minor head_fields answer =
-    ((key : List ℕ) × (requested_key method minor head_fields ≡ Ok key) × IsValidKey key × (answer ≡ accept_key_of key))
+    ((key : List ℕ) × (requested_key method minor head_fields ≡ Ok key) × IsValidKey key
+    × (answer ≡ accept_key_of key))
     × (may_connect (header_value head_fields (codes "Origin")) (header_value head_fields (codes "Host")) origins ≡ true)
 
--- whether a method is one that is answered
+-- whether a method is GET or HEAD
 abbrev pub is_reading : List ℕ → Bool
 is_reading method = bytes_eq method (codes "GET") || bytes_eq method (codes "HEAD")
 
@@ -78,9 +79,10 @@ has_bytes Unknown = true
 abbrev pub has_page : List Page → List ℕ → Bool
 has_page pages path = list_any (λ page. bytes_eq page.path.now path) pages
 
--- why a request may be refused: its method, its body, a handshake that may not open the socket or has no room, or that
--- no page has its path
-abbrev pub MayRefuse : List Page → List (List ℕ) → Bool → Bool → List ℕ → List ℕ → ℕ → Fields → Type 0
+-- why a request may be refused: its method, its body, a handshake that may not open the socket or for which there is no
+-- room, or a path that no page has
+abbrev pub MayRefuse : List Page → List (List ℕ) → Bool → Bool → List ℕ → List ℕ → ℕ → Fields
+    → Type 0
 MayRefuse pages origins room body method target minor head_fields =
     (is_reading method ≡ false) ⊎ ((body ≡ true) ⊎ (((path_of target ≡ codes "/socket")
     × ((answer : List ℕ) → MayOpen origins method minor head_fields answer → room ≡ false))
@@ -93,16 +95,17 @@ IfSocket (Planned.Unchanged page) P = ⊤
 IfSocket (Planned.Socket key) P = P key
 IfSocket (Planned.Refused status whole) P = ⊤
 
--- the plan is no page, and a refusal says so by its status and has this reason
+-- the plan is not a page, and if it is a refusal, its status is that of one and it has this reason
 abbrev pub IsNoPage : Plan → Type 0 → Type 0
 IsNoPage (Planned.Page page whole) Reason = ⊥
 IsNoPage (Planned.Unchanged page) Reason = ⊥
 IsNoPage (Planned.Socket key) Reason = ⊤
 IsNoPage (Planned.Refused status whole) Reason = (400 ≤ status) × Reason
 
--- what is planned for a request: a page only for its path, the socket only for a handshake at its path that may open it
--- while there is room, and else a refusal that says so by its status, for a reason
-abbrev pub IsPlanned : List Page → List (List ℕ) → Bool → Bool → List ℕ → List ℕ → ℕ → Fields → Plan → Type 0
+-- the plan for a request: a page only for its path, the socket only for a handshake at its path that may open it while
+-- there is room, and otherwise a refusal with a status that refuses, for a reason
+abbrev pub IsPlanned : List Page → List (List ℕ) → Bool → Bool → List ℕ → List ℕ → ℕ → Fields → Plan
+    → Type 0
 IsPlanned pages origins room body method target minor head_fields (Planned.Page page whole) =
     Contains pages page.now × (page.now.path.now ≡ path_of target) × (whole ≡ bytes_eq method (codes "GET"))
 IsPlanned pages origins room body method target minor head_fields (Planned.Unchanged page) =
@@ -112,8 +115,8 @@ IsPlanned pages origins room body method target minor head_fields (Planned.Socke
 IsPlanned pages origins room body method target minor head_fields (Planned.Refused status whole) =
     (400 ≤ status) × MayRefuse pages origins room body method target minor head_fields
 
--- the request at the front became a socket, whose first bytes are the rest: it was a handshake at the socket's path that
--- may open it, and is answered as RFC 6455 says
+-- the request at the front opened the socket, whose first bytes are the rest: it was a handshake at the socket's path
+-- that may open it, and is answered as RFC 6455 requires
 pub record OpensSocket (origins : List (List ℕ)) (old new : Exchange) : Type 0 where
   pub head : RequestHead
   pub reads : ReadsRequest old.input head new.input
@@ -122,7 +125,7 @@ pub record OpensSocket (origins : List (List ℕ)) (old new : Exchange) : Type 0
   pub may : MayOpen origins head.method head.minor (fields head) answer
   pub sent : new.output ≡ old.output ++ response_bytes answer []
 
--- the request at the front is for a page, and its text was sent behind a head, or the head alone for a HEAD
+-- the request at the front is for a page, and its text was sent after a head, or only the head for a HEAD
 pub record ServesPage (pages : List Page) (old new : Exchange) : Type 0 where
   pub head : RequestHead
   pub reads : ReadsRequest old.input head new.input
@@ -136,39 +139,44 @@ pub record ServesPage (pages : List Page) (old new : Exchange) : Type 0 where
 abbrev pub Grows : List ℕ → List ℕ → Type 0
 Grows old new = (more : List ℕ) × (new ≡ old ++ more)
 
--- a page was appended, whole or its head alone
+-- a page was appended, whole or only its head
 abbrev pub PutsPage : Page → Bool → List ℕ → List ℕ → Type 0
-PutsPage page whole old new = (lead : List ℕ) × (new ≡ old ++ (lead ++ (if whole then page.text.now else [])))
+PutsPage page whole old new = (lead : List ℕ)
+    × (new ≡ old ++ (lead ++ (if whole then page.text.now else [])))
 
--- what the response to a plan was
+-- the response to a plan
 abbrev pub Responds : Plan → Exchange → Result Next AllocError → Exchange → Type 0
 Responds plan old (Err error) new = new ≡ old
 Responds plan old (Ok Read) new = ⊥
 Responds (Planned.Page page whole) old (Ok (Close status)) new =
-    (new.input ≡ old.input) × (((status ≡ 200) × PutsPage page.now whole old.output new.output) ⊎ (status ≡ 500))
+    (new.input ≡ old.input) × (((status ≡ 200) × PutsPage page.now whole old.output new.output)
+    ⊎ (status ≡ 500))
 Responds (Planned.Unchanged page) old (Ok (Close status)) new =
     (new.input ≡ old.input) × ((status ≡ 304) ⊎ (status ≡ 500))
 Responds (Planned.Socket key) old (Ok (Close status)) new = (new.input ≡ old.input) × (status ≡ 500)
-Responds (Planned.Refused code whole) old (Ok (Close status)) new = (new.input ≡ old.input) × (400 ≤ status)
+Responds (Planned.Refused code whole) old (Ok (Close status)) new = (new.input ≡ old.input)
+    × (400 ≤ status)
 Responds (Planned.Socket key) old (Ok Socket) new =
     (new.input ≡ old.input) × (new.output ≡ old.output ++ response_bytes key [])
 Responds (Planned.Page page whole) old (Ok Socket) new = ⊥
 Responds (Planned.Unchanged page) old (Ok Socket) new = ⊥
 Responds (Planned.Refused status whole) old (Ok Socket) new = ⊥
 
--- a plan that refuses says so by its status
+-- a plan that refuses has a status that refuses
 abbrev pub IsRefused : Plan → Type 0
 IsRefused (Planned.Page page whole) = ⊤
 IsRefused (Planned.Unchanged page) = ⊤
 IsRefused (Planned.Socket key) = ⊤
 IsRefused (Planned.Refused status whole) = 400 ≤ status
 
--- the request at the front was refused, for a reason
-pub record Refuses (limits : Limits) (pages : List Page) (origins : List (List ℕ)) (room : Bool) (old new : Exchange) : Type 0 where
+-- the request at the front was refused for a reason
+pub record Refuses (limits : Limits) (pages : List Page) (origins : List (List ℕ)) (room : Bool)
+    (old new : Exchange) : Type 0 where
   pub head : RequestHead
   pub framing : Framing
   pub accepts : AcceptsRequest limits old.input head framing new.input
-  pub may : MayRefuse pages origins room (has_bytes (unread_size (Reads.Body (decoder_for limits framing)))) head.method
+  pub may : MayRefuse pages origins room
+      (has_bytes (unread_size (Reads.Body (decoder_for limits framing)))) head.method
       head.target head.minor (fields head)
 
 -- a visit ended with a status that refuses
@@ -180,12 +188,17 @@ IfRefused (Err error) P = ⊤
 
 -- the limits of a request
 abbrev pub request_limits : Limits
-request_limits = record { max_head_len = LONGEST_HEAD; max_extensions_len = 64; max_trailers_len = 64 }
+request_limits = record {
+  max_head_len = LONGEST_HEAD;
+  max_extensions_len = 64;
+  max_trailers_len = 64;
+}
 
--- why a visit is refused: a page that cannot be sent, bytes that can become no request, or a reason of the request
+-- why a visit is refused: a page that cannot be sent, bytes that cannot become a request, or a reason of the request
 abbrev pub HasReason : List Page → List (List ℕ) → Bool → Exchange → Exchange → ℕ → Type 0
 HasReason pages origins room old new status =
-    (status ≡ 500) ⊎ (HasNoHead request_limits old.input MOST_FIELDS ⊎ Refuses request_limits pages origins room old new)
+    (status ≡ 500) ⊎ (HasNoHead request_limits old.input MOST_FIELDS
+    ⊎ Refuses request_limits pages origins room old new)
 
 -- the status of a visit that ended is that of a page, of one that is unchanged, or of a refusal
 abbrev pub IsKnown : Next → Type 0

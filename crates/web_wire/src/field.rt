@@ -5,7 +5,7 @@ ghost use Rattle.websocket.specs.Headers.{eq_ignore_case, fields_of, header_valu
 
 use httparse::spans::HeaderSpan;
 
-/// Whether two texts are equal but for the case of letters.
+/// Whether two texts are equal up to the case of letters.
 pub(crate) fn is_same(a: &[u8], b: &[u8]) -> bool
     ensures { result ≡ eq_ignore_case a.now b.now }
 {
@@ -15,7 +15,8 @@ pub(crate) fn is_same(a: &[u8], b: &[u8]) -> bool
 /// The value of the first field with a name.
 pub(crate) fn field<'b>(input: &'b [u8], fields: &[HeaderSpan], name: &[u8]) -> Option<&'b [u8]>
     requires { All (IsHeaderWithin (length input.now)) fields.now }
-    ensures { option_map (λ value. value.now) result ≡ header_value (fields_of input.now fields.now) name.now }
+    ensures { option_map (λ value. value.now) result
+        ≡ header_value (fields_of input.now fields.now) name.now }
 {
     for span in fields {
         if is_same(span.name.of(input), name) {

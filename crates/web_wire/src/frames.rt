@@ -1,4 +1,4 @@
-//! The server's side of a WebSocket after its handshake: bytes come in pieces, and each text message is a line.
+//! The server's side of a WebSocket after its handshake: bytes arrive in pieces, and each text message is a line.
 ghost use Rattle.std.specs.Prelude.{◌≡◌, ◌⊎◌, ◌<◌, true, false, if◌then◌else◌, [], ◌++◌, length, nat_eq, Ok, Err, IfOk, OnOk, OnErr};
 ghost use Rattle.websocket.specs.declared.protocol.config.Role.TheVariants.{Server};
 ghost use Rattle.web_wire.specs.Course.{close_code, farewell, waits};
@@ -12,30 +12,30 @@ use std::marker::Model;
 use websocket::error::Error;
 use websocket::protocol::{CloseCode, CloseFrame, NoMask, Role, WebSocketConfig, WebSocketContext};
 
-/// The most bytes of a message, and of a frame: those of a line.
+/// The most bytes of a message, and of a frame: as many as of a line.
 pub const LONGEST_MESSAGE: usize = 8_388_608;
 
-// The room that a pong or a close frame takes at most.
+// The most bytes of a pong or a close frame.
 const LONGEST_REPLY: usize = 139;
 
-// The room that is kept for waiting bytes. What a longer message took is given back when more bytes come.
+// The capacity that is kept for waiting bytes. What a longer message needed is freed when more bytes arrive.
 const KEPT: usize = 131_072;
 
-// The room that is kept while nothing comes, so that a short message needs no memory.
+// The capacity that is kept while nothing arrives, so that a short message needs no allocation.
 const KEPT_IDLE: usize = 1_024;
 
 /// What comes next.
 #[derive(Clone, Copy, Debug, PartialEq, Eq)]
 pub enum Turn {
-    /// No whole message waits: more bytes have to come.
+    /// No complete message waits: more bytes are needed.
     Read,
     /// A line was appended, with its line feed.
     Line,
-    /// The output has to be sent, and then the connection closed.
+    /// Send the output, then close the connection.
     Close,
 }
 
-// What one frame came to.
+// The outcome of one frame.
 #[derive(Clone, Copy, Debug, PartialEq, Eq)]
 enum Step {
     Waits,
@@ -44,7 +44,7 @@ enum Step {
     Closes,
 }
 
-/// The bytes of a socket that came and were not used, and what is known of the message that they go on with.
+/// The unused bytes of a socket, and the state of the message that they continue.
 #[derive(Drop)]
 pub struct Frames {
     context: WebSocketContext,
@@ -60,13 +60,18 @@ impl Model for Frames {
 
     ghost Value = { Socket };
 
-    ghost view = { λ f. record { conn = f.context; waiting = drop f.used f.input.items; ended = f.ended } };
+    ghost view = { λ f. record {
+      conn = f.context;
+      waiting = drop f.used f.input.items;
+      ended = f.ended;
+    } };
 
-    ghost invariant = { λ f. (f.used ≤ length f.input.items) × (f.ended ≡ false → f.context.role ≡ Server) };
+    ghost invariant = { λ f. (f.used ≤ length f.input.items)
+        × (f.ended ≡ false → f.context.role ≡ Server) };
 }
 
 impl Frames {
-    /// A socket after its handshake. `input` is what came behind the request.
+    /// A socket after its handshake. `input` holds the bytes that followed the request.
     pub fn new(alloc: Global, input: Vec<u8>) -> Frames
         ensures { result ≡ fresh input.items }
     {
@@ -78,7 +83,7 @@ impl Frames {
         }
     }
 
-    /// Puts bytes behind those that wait, or none of them.
+    /// Appends bytes to those that wait; if memory runs out, none of them.
     pub fn feed(&mut self, bytes: &[u8]) -> Result<(), AllocError>
         ensures ok { OnOk result (self.new ≡ fed self.old bytes.now) }
         ensures err { OnErr result (self.new ≡ self.old) }
@@ -87,11 +92,11 @@ impl Frames {
         self.input.extend_from_slice(bytes)
     }
 
-    /// Takes frames up to the next message, and appends its line to `line`. The pongs and the close that frames ask for
-    /// are appended to `output`, which has to be sent after each call.
+    /// Takes frames up to the next message, and appends its line to `line`. Pongs and the close frame are appended to
+    /// `output`, which has to be sent after each call.
     ///
-    /// Out of memory, what the socket comes to is unchanged, or it has ended: that is so if memory is lacking for a
-    /// message in fragments or for the close.
+    /// If memory runs out, the further course of the socket is unchanged, or the socket has ended. It ends if there is
+    /// no memory for a message in fragments or for the close.
     pub fn next_line(
         &mut self,
         line: &mut Vec<u8>,
@@ -99,9 +104,11 @@ impl Frames {
     ) -> Result<Turn, AllocError>
         ensures line { result ≡ Ok Turn.Line → GivesLine self.old line.old.items output.old.items
             self.new line.new.items output.new.items }
-        ensures none { result ≡ Ok Turn.Read → GoesOn [] self.old output.old.items self.new output.new.items
+        ensures none { result ≡ Ok Turn.Read
+            → GoesOn [] self.old output.old.items self.new output.new.items
             × (course self.new [] ≡ waits) }
-        ensures end { result ≡ Ok Turn.Close → GoesOn [] self.old output.old.items self.new output.new.items
+        ensures end { result ≡ Ok Turn.Close
+            → GoesOn [] self.old output.old.items self.new output.new.items
             × (self.new.ended ≡ true) }
         ensures err { OnErr result (GoesOn [] self.old output.old.items self.new output.new.items
             ⊎ (self.new.ended ≡ true)) }
@@ -120,8 +127,8 @@ impl Frames {
         }
     }
 
-    /// Ends a socket because the server ends, or serves it no longer: a close with code 1001 is appended to `output`,
-    /// unless the socket has ended. Out of memory it ends without one.
+    /// Ends a socket because the server stops, or no longer serves it: appends a close frame with code 1001 to
+    /// `output`, unless the socket has ended. If memory runs out, the socket ends without one.
     pub fn go_away(&mut self, output: &mut Vec<u8>) -> Result<(), AllocError>
         ensures ok { OnOk result (output.new.items ≡ output.old.items ++ (if self.old.ended then []
             else farewell self.old.conn CloseCode.Away)) }
@@ -136,21 +143,22 @@ impl Frames {
         }
     }
 
-    /// How many bytes wait.
+    /// The number of waiting bytes.
     pub fn len(&self) -> usize
         ensures { result ≡ length self.now.waiting }
     {
         self.input.len() - self.used
     }
 
-    /// Whether no byte waits.
+    /// Whether no bytes wait.
     pub fn is_empty(&self) -> bool
         ensures { result ≡ nat_eq 0 (length self.now.waiting) }
     {
         self.input.len() == self.used
     }
 
-    /// Gives back the room that waiting bytes do not need, but for 1 KiB. It moves them, so call it while nothing comes.
+    /// Frees the capacity that waiting bytes do not need, except 1 KiB. It moves the bytes, so call it while none
+    /// arrive.
     pub fn release(&mut self)
         ensures { self.new ≡ self.old }
     {
@@ -161,20 +169,23 @@ impl Frames {
     // Takes one frame.
     fn step(&mut self, line: &mut Vec<u8>, output: &mut Vec<u8>) -> Result<Step, AllocError>
         requires { self.old.ended ≡ false }
-        ensures quiet { result ≡ Ok Step.Quiet → GoesOn [] self.old output.old.items self.new output.new.items
+        ensures quiet { result ≡ Ok Step.Quiet
+            → GoesOn [] self.old output.old.items self.new output.new.items
             × (length self.new.waiting < length self.old.waiting) × (self.new.ended ≡ false) }
         ensures line { result ≡ Ok Step.Line → GivesLine self.old line.old.items output.old.items
             self.new line.new.items output.new.items }
-        ensures waits { result ≡ Ok Step.Waits → GoesOn [] self.old output.old.items self.new output.new.items
+        ensures waits { result ≡ Ok Step.Waits
+            → GoesOn [] self.old output.old.items self.new output.new.items
             × (course self.new [] ≡ waits) }
-        ensures closes { result ≡ Ok Step.Closes → GoesOn [] self.old output.old.items self.new output.new.items
+        ensures closes { result ≡ Ok Step.Closes
+            → GoesOn [] self.old output.old.items self.new output.new.items
             × (self.new.ended ≡ true) }
         ensures err { OnErr result (GoesOn [] self.old output.old.items self.new output.new.items
             ⊎ (self.new.ended ≡ true)) }
         ensures lines { (result ≡ Ok Step.Line) ⊎ (line.new.items ≡ line.old.items) }
     {
         let used = self.used;
-        // Room is found before a frame is read: behind that, only a message in fragments can lack it.
+        // Memory is reserved before a frame is read. After that, only a message in fragments can run out of it.
         output.reserve(LONGEST_REPLY)?;
         line.reserve((self.input.len() - used).min(LONGEST_MESSAGE) + 1)?;
         match read_from(&mut self.context, &mut self.input, used, line, output) {
@@ -198,7 +209,8 @@ impl Frames {
     // Ends the socket after a read that failed.
     fn fail(&mut self, error: Error, output: &mut Vec<u8>) -> Result<Step, AllocError>
         requires { self.old.conn.role ≡ Server }
-        ensures ok { OnOk result (output.new.items ≡ output.old.items ++ farewell self.old.conn (close_code error)) }
+        ensures ok { OnOk result (output.new.items
+            ≡ output.old.items ++ farewell self.old.conn (close_code error)) }
         ensures step { IfOk result (λ step. step ≡ Step.Closes) }
         ensures ended { self.new.ended ≡ true }
         ensures memory { error ≡ Error.OutOfMemory → result ≡ Err (record {}) }
@@ -212,24 +224,25 @@ impl Frames {
         }
     }
 
-    // Ends the socket, and says why.
+    // Ends the socket with a close frame that has this code.
     fn end(&mut self, code: CloseCode, output: &mut Vec<u8>) -> Result<Step, AllocError>
         requires { self.old.conn.role ≡ Server }
-        ensures ok { OnOk result (output.new.items ≡ output.old.items ++ farewell self.old.conn code) }
+        ensures ok { OnOk result (output.new.items
+            ≡ output.old.items ++ farewell self.old.conn code) }
         ensures step { IfOk result (λ step. step ≡ Step.Closes) }
         ensures ended { self.new.ended ≡ true }
     {
         let frame = CloseFrame { code, reason: "" };
         let told = self.context.close(Some(frame), output, &mut NoMask);
         self.ended = true;
-        // The codes are ones that may be sent, so only memory can be short.
+        // All of these codes may be sent, so only memory can be missing.
         match told {
             Ok(()) => Ok(Step::Closes),
             Err(_) => Err(AllocError),
         }
     }
 
-    // Drops the used bytes once they are half of those held, so that bytes are moved no more often than they come.
+    // Drops the used bytes once they are half of those held, so that at most as many bytes are moved as arrive.
     fn make_space(&mut self)
         ensures { self.new ≡ self.old }
     {
@@ -259,7 +272,7 @@ fn config() -> WebSocketConfig
     }
 }
 
-// With which code a socket ends after a read that failed.
+// The code with which a socket ends after a read that failed.
 fn code_of(error: Error) -> CloseCode
     ensures { result ≡ close_code error }
 {

@@ -9,14 +9,14 @@ use websocket::protocol::{FrameStatus, NoMask, WebSocketContext};
 
 /// What is at the front of the bytes.
 pub(crate) enum Front {
-    /// No whole frame.
+    /// No complete frame.
     Cut,
-    /// A frame of so many bytes, and what it is to a server of lines.
+    /// A frame of this many bytes, and what it means to a server of lines.
     Whole(usize, Heard),
 }
 
-/// Reads the frame at the front of the bytes, and unmasks it there. Its line is appended to `line`, and what it asks to
-/// send to `output`.
+/// Reads the frame at the front of the bytes, and unmasks it there. Its line is appended to `line`, and the frame that
+/// answers it to `output`.
 pub(crate) fn read_front(
     context: &mut WebSocketContext,
     bytes: &mut [u8],
@@ -25,8 +25,18 @@ pub(crate) fn read_front(
 ) -> Result<Front, Error>
     requires { context.old.role ≡ Server }
     ensures reads { Reads result
-        (record { conn = context.old; bytes = bytes.old; line = line.old.items; output = output.old.items })
-        (record { conn = context.new; bytes = bytes.new; line = line.new.items; output = output.new.items }) }
+        (record {
+          conn = context.old;
+          bytes = bytes.old;
+          line = line.old.items;
+          output = output.old.items;
+        })
+        (record {
+          conn = context.new;
+          bytes = bytes.new;
+          line = line.new.items;
+          output = output.new.items;
+        }) }
     ensures role { context.new.role ≡ Server }
 {
     match context.read(bytes, output, &mut NoMask)? {
@@ -49,8 +59,18 @@ pub(crate) fn read_from(
     requires role { context.old.role ≡ Server }
     requires inside { used ≤ vec_len input.old }
     ensures reads { Reads result
-        (record { conn = context.old; bytes = drop used input.old.items; line = line.old.items; output = output.old.items })
-        (record { conn = context.new; bytes = drop used input.new.items; line = line.new.items; output = output.new.items }) }
+        (record {
+          conn = context.old;
+          bytes = drop used input.old.items;
+          line = line.old.items;
+          output = output.old.items;
+        })
+        (record {
+          conn = context.new;
+          bytes = drop used input.new.items;
+          line = line.new.items;
+          output = output.new.items;
+        }) }
     ensures role { context.new.role ≡ Server }
     ensures len { length input.new.items ≡ length input.old.items }
 {

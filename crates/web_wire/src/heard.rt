@@ -1,4 +1,4 @@
-//! What a message is to a server of lines.
+//! What a message means to a server of lines.
 ghost use Rattle.std.specs.Prelude.{◌≡◌, ◌≢◌, ◌++◌, true, option_map, Ok, Some, IfOk, IfSome, OnOk, OnErr};
 ghost use Rattle.websocket.specs.Content.{IsPayloadInside, IsReceivedInside, payload_bytes, received_content, text};
 ghost use Rattle.web_wire.specs.Messages.{heard_of, is_line, text_of, with_feed};
@@ -6,10 +6,10 @@ ghost use Rattle.web_wire.specs.Messages.{heard_of, is_line, text_of, with_feed}
 use std::alloc::AllocError;
 use websocket::protocol::{CloseCode, Payload, Received};
 
-/// What a message is to a server of lines.
+/// What a message means to a server of lines.
 #[derive(Clone, Copy, Debug, PartialEq, Eq)]
 pub(crate) enum Heard {
-    /// No line: a part of a message, a ping or a pong.
+    /// No line: a fragment of a message, a ping or a pong.
     Nothing,
     /// A line.
     Line,
@@ -19,16 +19,18 @@ pub(crate) enum Heard {
     Refused(CloseCode),
 }
 
-/// Says what a message is, and appends its line with a line feed. `input` is as the read left it.
+/// Returns what a message means, and appends its line with a line feed. `input` is as the read left it.
 pub(crate) fn hear(
     message: &Option<Received>,
     input: &[u8],
     line: &mut Vec<u8>,
 ) -> Result<Heard, AllocError>
     requires { IfSome message.now (IsReceivedInside input.now) }
-    ensures heard { IfOk result (λ heard. heard ≡ heard_of (option_map (received_content input.now) message.now)) }
+    ensures heard { IfOk result (λ heard. heard
+        ≡ heard_of (option_map (received_content input.now) message.now)) }
     ensures line { result ≡ Ok Heard.Line → line.new.items
-        ≡ line.old.items ++ with_feed (text_of (option_map (received_content input.now) message.now)) }
+        ≡ line.old.items ++ with_feed (text_of
+        (option_map (received_content input.now) message.now)) }
     ensures is_line { result ≡ Ok Heard.Line →
         is_line (text_of (option_map (received_content input.now) message.now)) ≡ true }
     ensures other { result ≢ Ok Heard.Line → line.new.items ≡ line.old.items }
@@ -41,12 +43,15 @@ pub(crate) fn hear(
     }
 }
 
-// Appends a text as a line, unless it would be no line or several.
+// Appends a text as a line, if it is exactly one line.
 fn hear_text(payload: &Payload, input: &[u8], line: &mut Vec<u8>) -> Result<Heard, AllocError>
     requires { IsPayloadInside input.now payload.now }
-    ensures heard { IfOk result (λ heard. heard ≡ heard_of (Some (text (payload_bytes input.now payload.now)))) }
-    ensures line { result ≡ Ok Heard.Line → line.new.items ≡ line.old.items ++ with_feed (payload_bytes input.now payload.now) }
-    ensures is_line { result ≡ Ok Heard.Line → is_line (payload_bytes input.now payload.now) ≡ true }
+    ensures heard { IfOk result (λ heard. heard
+        ≡ heard_of (Some (text (payload_bytes input.now payload.now)))) }
+    ensures line { result ≡ Ok Heard.Line
+        → line.new.items ≡ line.old.items ++ with_feed (payload_bytes input.now payload.now) }
+    ensures is_line { result ≡ Ok Heard.Line
+        → is_line (payload_bytes input.now payload.now) ≡ true }
     ensures other { result ≢ Ok Heard.Line → line.new.items ≡ line.old.items }
 {
     let text = payload.of(input);
@@ -64,7 +69,7 @@ fn is_line(text: &[u8]) -> bool
     !text.is_empty() && !text.contains(&b'\n')
 }
 
-// Appends a line with its line feed, or nothing.
+// Appends a line with a line feed; if memory runs out, nothing.
 fn put_line(text: &[u8], line: &mut Vec<u8>) -> Result<(), AllocError>
     ensures ok { OnOk result (line.new.items ≡ line.old.items ++ with_feed text.now) }
     ensures err { OnErr result (line.new.items ≡ line.old.items) }

@@ -1,4 +1,4 @@
-//! Bytes that are held.
+//! Held bytes.
 ghost use Rattle.std.specs.Prelude.{◌≡◌, ◌≤◌, drop, vec_len};
 
 /// Drops the first bytes.

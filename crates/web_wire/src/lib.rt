@@ -1,8 +1,8 @@
 //! HTTP and WebSocket from bytes to bytes: one request for a page or for the socket, and the messages of the socket as
 //! lines.
 //!
-//! It reads no device and no clock, so that threads that block and threads that poll can both drive it. It depends on
-//! `http1`, `httparse`, `websocket` and `bytes`. It knows no JSON: a line is bytes.
+//! It reads no device and no clock, so both blocking and polling threads can drive it. It depends on `http1`,
+//! `httparse`, `websocket` and `bytes`. It knows nothing of JSON: a line is bytes.
 #![tactic(auto)]
 
 mod field;

@@ -1,4 +1,4 @@
-//! Which pages may open the socket. A browser names the origin of the page that asks, and other clients name none.
+//! Which pages may open the socket. A browser names the origin of the page that asks; other clients name none.
 ghost use Rattle.std.specs.Prelude.{◌≡◌, map, option_map, string_bytes};
 ghost use Rattle.std.specs.List.{list_any};
 ghost use Rattle.websocket.specs.Headers.{eq_ignore_case};
@@ -17,7 +17,7 @@ pub(crate) fn may_connect(origin: Option<&[u8]>, host: Option<&[u8]>, allowed: &
     }
 }
 
-// Whether an origin is that of the host that was asked.
+// Whether an origin is that of the requested host.
 fn is_own(origin: &[u8], host: Option<&[u8]>) -> bool
     ensures { result ≡ is_own origin.now (option_map (λ h. h.now) host.entry) }
 {
@@ -27,7 +27,7 @@ fn is_own(origin: &[u8], host: Option<&[u8]>) -> bool
     }
 }
 
-// Whether an origin is this scheme and this host.
+// Whether an origin consists of this scheme and this host.
 fn is_at(origin: &[u8], scheme: &[u8], host: &[u8]) -> bool
     ensures { result ≡ is_at scheme.now origin.now host.now }
 {
@@ -37,9 +37,10 @@ fn is_at(origin: &[u8], scheme: &[u8], host: &[u8]) -> bool
     }
 }
 
-// Whether an origin is one of a list.
+// Whether an origin is in a list.
 fn is_allowed(origin: &[u8], allowed: &[String]) -> bool
-    ensures { result ≡ list_any (λ one. eq_ignore_case origin.now one) (map string_bytes allowed.now) }
+    ensures { result ≡ list_any (λ one. eq_ignore_case origin.now one)
+        (map string_bytes allowed.now) }
 {
     for one in allowed {
         if is_same(origin, one.as_bytes()) {

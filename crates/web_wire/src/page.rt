@@ -1,13 +1,13 @@
-//! What is served: the files of the page, and to which pages the socket is open.
+//! What is served: the files of the page, and which pages may open the socket.
 
-/// A file that is served. Its texts are part of the program.
+/// A file that is served. Its texts are compiled into the program.
 #[derive(Clone, Copy, Debug, PartialEq, Eq)]
 pub struct Page {
-    /// The path, with its slash at the front.
+    /// The path, with a leading slash.
     pub path: &'static str,
     /// The content type.
     pub kind: &'static str,
-    /// The tag that changes with the text, in its quotation marks.
+    /// The entity tag, which changes with the text, in quotation marks.
     pub tag: &'static str,
     pub text: &'static str,
 }
@@ -16,7 +16,7 @@ pub struct Page {
 #[derive(Clone, Copy)]
 pub struct Site<'a> {
     pub pages: &'a [Page],
-    /// The origins whose pages may open the socket beside those of the server itself. Each is a scheme and a host, as
-    /// browsers name them: `https://pads.example`.
+    /// The origins, beside the server's own, whose pages may open the socket. Each is a scheme and a host, as browsers
+    /// name them: `https://pads.example`.
     pub origins: &'a [String],
 }

@@ -1,4 +1,4 @@
-//! What a request is answered.
+//! How a request is answered.
 ghost use Rattle.std.specs.Prelude.{◌≡◌, ◌≤◌, Contains, IfNone, IfSome, true, false, take, map, string_bytes};
 ghost use Rattle.std.specs.List.{position};
 ghost use Rattle.httparse.specs.Spans.{IsRequestWithin, span_bytes};
@@ -15,20 +15,20 @@ use websocket::handshake::server::check_request;
 // The path of the socket.
 const SOCKET: &[u8] = b"/socket";
 
-/// What a request is answered.
+/// How a request is answered.
 #[derive(Clone, Copy)]
 pub(crate) enum Plan<'a> {
-    /// A page: whole, or its head alone.
+    /// A page: whole, or only its head.
     Page(&'a Page, bool),
-    /// The client's copy of a page is the present one.
+    /// The client's copy of a page is up to date.
     Unchanged(&'a Page),
     /// The socket, with the key that answers the client's.
     Socket([u8; 28]),
-    /// A refusal with this status: in words, or its head alone.
+    /// A refusal with this status: in words, or only its head.
     Refused(u16, bool),
 }
 
-/// What a request is answered.
+/// How a request is answered.
 pub(crate) fn plan_of<'a>(
     input: &[u8],
     head: &RequestSpans,
@@ -38,9 +38,11 @@ pub(crate) fn plan_of<'a>(
     has_room: bool,
 ) -> Plan<'a>
     requires { IsRequestWithin input.now spans.now head.now }
-    ensures { IsPlanned site.entry.pages.now (map string_bytes site.entry.origins.now) has_room has_body
+    ensures { IsPlanned site.entry.pages.now (map string_bytes site.entry.origins.now) has_room
+        has_body
         (span_bytes input.now head.now.method)
-        (span_bytes input.now head.now.path) head.now.version (fields_of input.now (take head.now.headers spans.now)) result }
+        (span_bytes input.now head.now.path) head.now.version
+        (fields_of input.now (take head.now.headers spans.now)) result }
 {
     let method = head.method.of(input);
     if method != b"GET".as_slice() && method != b"HEAD".as_slice() {
@@ -66,7 +68,7 @@ pub(crate) fn plan_of<'a>(
     }
 }
 
-// What a request for the socket is answered.
+// How a request for the socket is answered.
 fn socket_plan(
     input: &[u8],
     head: &RequestSpans,
@@ -75,7 +77,8 @@ fn socket_plan(
     has_room: bool,
 ) -> Plan<'static>
     requires { IsRequestWithin input.now spans.now head.now }
-    ensures socket { IfSocket result (λ key. (has_room ≡ true) × MayOpen (map string_bytes allowed.now)
+    ensures socket { IfSocket result (λ key. (has_room ≡ true)
+        × MayOpen (map string_bytes allowed.now)
         (span_bytes input.now head.now.method)
         head.now.version (fields_of input.now (take head.now.headers spans.now)) key) }
     ensures no_page { IsNoPage result ((answer : _) → MayOpen (map string_bytes allowed.now)
@@ -95,7 +98,7 @@ fn socket_plan(
     }
 }
 
-// The status of a request that is no handshake.
+// The status of a request that is not a handshake.
 fn status_of(error: HandshakeError) -> u16
     ensures { 400 ≤ result }
 {
@@ -107,7 +110,7 @@ fn status_of(error: HandshakeError) -> u16
     }
 }
 
-// The path of a target: all up to a question mark.
+// The path of a target: everything before a question mark.
 fn path_of(target: &[u8]) -> &[u8]
     ensures { result.now ≡ path_of target.now }
 {
@@ -117,7 +120,7 @@ fn path_of(target: &[u8]) -> &[u8]
     }
 }
 
-// Where the question mark of a target is.
+// The index of the question mark of a target.
 fn find_query(target: &[u8]) -> Option<usize>
     ensures { result ≡ position is_query target.now }
 {
@@ -127,7 +130,8 @@ fn find_query(target: &[u8]) -> Option<usize>
 // The first page with a path.
 fn find_page<'a>(pages: &'a [Page], path: &[u8]) -> Option<&'a Page>
     ensures none { IfNone result (has_page pages.now path.now ≡ false) }
-    ensures some { IfSome result (λ page. Contains pages.now page.now × (page.now.path.now ≡ path.now)) }
+    ensures some { IfSome result (λ page. Contains pages.now page.now
+        × (page.now.path.now ≡ path.now)) }
 {
     for page in pages {
         if page.path.as_bytes() == path {
@@ -137,7 +141,7 @@ fn find_page<'a>(pages: &'a [Page], path: &[u8]) -> Option<&'a Page>
     None
 }
 
-// Whether a list of tags has this one. A weak one matches too, and so does an asterisk.
+// Whether a list of tags contains this one. A weak tag matches too, and so does an asterisk.
 fn has_tag(tags: &[u8], tag: &[u8]) -> bool {
     tags.split(|byte| *byte == b',').any(|one| {
         let one = one.trim_ascii();

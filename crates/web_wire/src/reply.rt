@@ -8,7 +8,7 @@ use http1::{BodySize, Header, Server, WriteError};
 use websocket::handshake::HandshakeError;
 use websocket::handshake::server::write_response;
 
-/// What a page may do: load its own files and open its own socket, and nothing else.
+/// The content security policy: a page may load its own files and open its own socket, and nothing else.
 const POLICY: &[u8] =
     b"default-src 'none'; script-src 'self'; style-src 'self'; img-src 'self'; connect-src 'self'; base-uri 'none'; form-action 'none'; frame-ancestors 'none'";
 
@@ -78,7 +78,7 @@ fn fields(page: &Page) -> [Header<'_>; 9] {
     ]
 }
 
-/// Appends a page: whole, or its head alone.
+/// Appends a page: whole, or only its head.
 pub(crate) fn put_page(
     server: &mut Server,
     output: &mut Vec<u8>,
@@ -97,7 +97,7 @@ pub(crate) fn put_page(
     Ok(())
 }
 
-/// Appends that a page is unchanged.
+/// Appends the response that a page is unchanged.
 pub(crate) fn put_unchanged(
     server: &mut Server,
     output: &mut Vec<u8>,
@@ -108,7 +108,7 @@ pub(crate) fn put_unchanged(
     server.write_response(output, 304, b"Not Modified", &fields(page), BodySize::Empty)
 }
 
-/// Appends a refusal of a request that was read, in words unless it asked for a head alone.
+/// Appends a refusal of a request that was read, in words unless it asked only for a head.
 pub(crate) fn put_refusal(
     server: &mut Server,
     output: &mut Vec<u8>,
@@ -132,7 +132,7 @@ pub(crate) fn put_refusal(
     Ok(())
 }
 
-// The fields of a refusal. The last one is what the status asks for.
+// The fields of a refusal. The last one is the one that the status requires.
 fn refusal_fields(status: u16) -> [Header<'static>; 4] {
     let last = match status {
         405 => Header {
@@ -169,7 +169,7 @@ fn refusal_fields(status: u16) -> [Header<'static>; 4] {
     ]
 }
 
-/// Appends a refusal of what is no request, or was not read. It ends where the connection is closed.
+/// Appends a refusal of bytes that are not a request, or were not read. The response ends when the connection closes.
 pub(crate) fn put_unread(output: &mut Vec<u8>, status: u16) -> Result<(), WriteError>
     ensures grows { Grows output.old.items output.new.items }
 {
@@ -184,7 +184,7 @@ pub(crate) fn put_unread(output: &mut Vec<u8>, status: u16) -> Result<(), WriteE
     Ok(output.extend_from_slice(words(status))?)
 }
 
-/// Appends that the connection is a socket from here on.
+/// Appends the response that the connection is a socket from here on.
 pub(crate) fn put_upgrade(output: &mut Vec<u8>, key: &[u8; 28]) -> Result<(), WriteError>
     ensures ok { OnOk result (output.new.items ≡ output.old.items ++ response_bytes key.now []) }
     ensures grows { Grows output.old.items output.new.items }

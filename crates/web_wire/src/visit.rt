@@ -25,21 +25,20 @@ const MOST_FIELDS: usize = 64;
 /// What comes next.
 #[derive(Clone, Copy, Debug, PartialEq, Eq)]
 pub enum Next {
-    /// More bytes have to come.
+    /// More bytes are needed.
     Read,
-    /// The output has to be sent, and then the connection closed. This is the status of the response.
+    /// Send the output, then close the connection. The number is the status of the response.
     Close(u16),
-    /// The output has to be sent, and then the connection is a socket, whose first bytes are those that were not
-    /// used.
+    /// Send the output. Then the connection is a socket, whose first bytes are the unused ones.
     Socket,
 }
 
 /// The bytes of a visit that has ended.
 #[derive(Drop)]
 pub struct Parts {
-    /// Those that came and were not used: behind a handshake, the first ones of the socket.
+    /// The unused bytes; after a handshake, the first ones of the socket.
     pub input: Vec<u8>,
-    /// Those that have to be sent.
+    /// The bytes that have to be sent.
     pub output: Vec<u8>,
 }
 
@@ -59,7 +58,7 @@ impl Model for Visit {
 }
 
 impl Visit {
-    /// Nothing came yet.
+    /// A visit without bytes.
     pub fn new(alloc: Global) -> Visit
         ensures { result ≡ record { input = []; output = [] } }
     {
@@ -69,22 +68,23 @@ impl Visit {
         }
     }
 
-    /// Puts bytes behind those that came, or none of them.
+    /// Appends bytes to those that arrived; if memory runs out, none of them.
     pub fn feed(&mut self, bytes: &[u8]) -> Result<(), AllocError>
-        ensures ok { OnOk result (self.new ≡ record { input = self.old.input ++ bytes.now; output = self.old.output }) }
+        ensures ok { OnOk result (self.new
+            ≡ record { input = self.old.input ++ bytes.now; output = self.old.output }) }
         ensures err { OnErr result (self.new ≡ self.old) }
     {
         self.input.extend_from_slice(bytes)
     }
 
-    /// What has to be sent.
+    /// The bytes that have to be sent.
     pub fn output(&self) -> &[u8]
         ensures { result.now ≡ self.now.output }
     {
         self.output.as_slice()
     }
 
-    /// Its bytes, when it has ended.
+    /// Returns the bytes of a visit that has ended.
     pub fn into_parts(self) -> Parts
         ensures input { result.input.items ≡ self.input }
         ensures output { result.output.items ≡ self.output }
@@ -93,7 +93,7 @@ impl Visit {
         Parts { input, output }
     }
 
-    /// Appends a refusal in words of whatever comes: the server is full.
+    /// Appends a refusal whatever the request is, because the server is full.
     pub fn refuse(&mut self) -> Result<Next, AllocError>
         ensures closes { IfOk result (λ next. (next ≡ Next.Close 503) ⊎ (next ≡ Next.Close 500)) }
         ensures err { OnErr result (self.new ≡ self.old) }
@@ -103,16 +103,19 @@ impl Visit {
         self.refuse_unread(503)
     }
 
-    /// Answers the request once its head has come. A handshake becomes a socket only if there is room for one.
+    /// Answers the request once its head has arrived. A handshake becomes a socket only if `has_room` is true.
     ///
-    /// Out of memory, nothing has changed, so it may be called again.
+    /// If memory runs out, nothing changes, and it may be called again.
     pub fn answer(&mut self, site: Site<'_>, has_room: bool) -> Result<Next, AllocError>
-        ensures waits { result ≡ Ok Next.Read → (self.new ≡ self.old) × HasNoRequest self.old.input }
+        ensures waits { result ≡ Ok Next.Read
+            → (self.new ≡ self.old) × HasNoRequest self.old.input }
         ensures socket { result ≡ Ok Next.Socket → (has_room ≡ true)
             × OpensSocket (map string_bytes site.entry.origins.now) self.old self.new }
-        ensures page { result ≡ Ok (Next.Close 200) → ServesPage site.entry.pages.now self.old self.new }
+        ensures page { result ≡ Ok (Next.Close 200)
+            → ServesPage site.entry.pages.now self.old self.new }
         ensures known { IfOk result IsKnown }
-        ensures refused { IfRefused result (HasReason site.entry.pages.now (map string_bytes site.entry.origins.now) has_room
+        ensures refused { IfRefused result
+            (HasReason site.entry.pages.now (map string_bytes site.entry.origins.now) has_room
             self.old self.new) }
         ensures err { OnErr result (self.new ≡ self.old) }
     {
@@ -138,7 +141,7 @@ impl Visit {
         }
     }
 
-    // What a request is answered.
+    // How a request is answered.
     fn plan<'a>(
         &self,
         server: &Server,
@@ -149,8 +152,10 @@ impl Visit {
     ) -> Plan<'a>
         requires { IsRequestWithin self.now.input spans.now head.now }
         ensures { IsPlanned site.entry.pages.now (map string_bytes site.entry.origins.now) has_room
-            (has_bytes (unread_size (reading server.now))) (span_bytes self.now.input head.now.method)
-            (span_bytes self.now.input head.now.path) head.now.version (fields_of self.now.input (take head.now.headers spans.now)) result }
+            (has_bytes (unread_size (reading server.now)))
+            (span_bytes self.now.input head.now.method)
+            (span_bytes self.now.input head.now.path) head.now.version
+            (fields_of self.now.input (take head.now.headers spans.now)) result }
     {
         let has_body = has_bytes(server.unread_size());
         plan_of(self.input.as_slice(), head, spans, site, has_body, has_room)
@@ -191,10 +196,11 @@ impl Visit {
         drop_front(&mut self.input, len);
     }
 
-    // Refuses bytes that are no request.
+    // Refuses bytes that are not a request.
     fn refuse_unread(&mut self, status: u16) -> Result<Next, AllocError>
         ensures err { OnErr result (self.new ≡ self.old) }
-        ensures closes { IfOk result (λ next. (next ≡ Next.Close status) ⊎ (next ≡ Next.Close 500)) }
+        ensures closes { IfOk result (λ next. (next ≡ Next.Close status)
+            ⊎ (next ≡ Next.Close 500)) }
         ensures input { self.new.input ≡ self.old.input }
         ensures grows { Grows self.old.output self.new.output }
     {
@@ -203,7 +209,7 @@ impl Visit {
         self.settle(before, put, Next::Close(status))
     }
 
-    // Says what comes after a response, and takes back one that was not written whole.
+    // Returns what comes after a response, and removes one that was not written whole.
     fn settle(
         &mut self,
         before: usize,
@@ -211,7 +217,8 @@ impl Visit {
         next: Next,
     ) -> Result<Next, AllocError>
         ensures ok { OnOk put ((result ≡ Ok next) × (self.new ≡ self.old)) }
-        ensures undone { OnErr put (self.new ≡ record { input = self.old.input; output = take before self.old.output }) }
+        ensures undone { OnErr put (self.new
+            ≡ record { input = self.old.input; output = take before self.old.output }) }
         ensures failed { OnErr put (IfOk result (λ said. said ≡ Next.Close 500)) }
     {
         match put {

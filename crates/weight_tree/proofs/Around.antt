@@ -102,8 +102,8 @@ module _ {X : Type 0} where
   get_right (z ∷ l) x r zero j y e is = absurd (omega arith)
   get_right (z ∷ l) x r (suc i) j y e is = get_right l x r i j y (omega arith) is
 
--- what lies before and behind a place of a list, and what that sums to
+-- the parts of a list before and after a place, and their sums
 pub ruleset parts = (take_right, sum_around, length_around)
 
--- what a list with one item replaced is, and what it sums to
+-- a list with one item replaced, and its sum
 pub ruleset edits = (set_left, set_here, set_right, sum_around, length_around, sum_by-append, length-append, length-set)

@@ -1,4 +1,4 @@
--- What is known of a tree d once its root is a branch.
+-- Facts about a tree d whose root is a branch.
 use Rattle.std.proofs.Common.{◌≡◌, Option, Some, Box, sym, ap, ◌∙◌}
 use Rattle.std.specs.declared.alloc.Global.{Global}
 use Rattle.weight_tree.specs.ItemsAndHeight.{ItemsAndHeight}

@@ -1,4 +1,4 @@
--- What follows from the clauses of this crate, for those who call it.
+-- Consequences of the clauses of this crate, for its callers.
 use Rattle.std.proofs.Common.{◌≡◌, ℕ, zero, suc, ◌+◌, ◌<◌, ◌≤◌, true, false, List, [], ◌∷◌, length, take, sum_by}
 use Rattle.std.proofs.Common.{slice_get, slice_set, Some, IsSomeAnd, Bor, subst, inl, inr, arith}
 use Rattle.std.proofs.Math.ListN.{set}
@@ -16,7 +16,7 @@ use Rattle.weight_tree.proofs.Counts.{less_below, not_less_from}
 use Rattle.weight_tree.proofs.Falls.{within_range}
 
 module _ {X : Type 0} (f : X → ℕ) where
-  -- what a list sums to after `replace`, for its `requires`
+  -- the sum of a list after `replace`, for its `requires`
   pub sum_replaced : (xs : List X) (i : ℕ) (x y : X) → slice_get xs i ≡ Some x → sum_by f (slice_set xs i y) + f x
       ≡ sum_by f xs + f y
   sum_replaced [] i x y e = absurd (cc)
@@ -67,7 +67,7 @@ module _ {X : Type 0} (weight_of : X → ℕ) where
       let reaches = sum_take_le xs (suc r) s h in
       omega (arith, f.before, g.before)
 
-  -- a number falls in one item alone, at one offset
+  -- a number falls in only one item, at one offset
   pub falls_once : (xs : List X) (number r o s p : ℕ) → FallsIn weight_of xs number r o →
       FallsIn weight_of xs number s p → (r ≡ s) × (o ≡ p)
   falls_once xs number r o s p f g =
@@ -88,12 +88,3 @@ pub rank_from_clause : {X F : Type 0} {g : Mut F (Bor X × Unit {0}) Ordering} {
     i ≡ count_less order xs
 rank_from_clause {g = g} {f = f} order xs i clause rising same =
     clause order (always_returns_same g (λ a r. r ≡ order a.0.now) f same) rising
-
--- where the answers rise, the rank parts the items that are below from the others
-pub partition_at_rank : {X : Type 0} (order : X → Ordering) (xs : List X) → IsRising order xs
-    → IsPartitionPoint (λ x. is_lt (order x) ≡ true) (λ x. is_lt (order x) ≡ false) xs (count_less order xs)
-partition_at_rank order xs rising = (
-  λ k d from below. less_below order xs rising k d below
-      (omega (arith, count_by-le-length (λ x. is_lt (order x)) xs)),
-  λ k d from within. not_less_from order xs rising k d from within,
-)

@@ -1,4 +1,4 @@
--- How many items of a list l ++ x ∷ r are below, where the answers rise.
+-- How many items of a list l ++ x ∷ r are below, if the answers rise.
 use Rattle.std.proofs.Common.{◌≡◌, ℕ, zero, suc, ◌+◌, ◌<◌, ◌≤◌, ◌⊎◌, inl, inr, Bool, true, false, cond, List, [], ◌∷◌}
 use Rattle.std.proofs.Common.{◌++◌, length, get_or, count_by, refl, ◌∙◌, arith, length-append}
 use Rattle.std.proofs.Math.ListN.{get_or-append}
@@ -70,7 +70,7 @@ module _ {X : Type 0} where
         rw (first, second) at (rising (length l + suc i) (length l + suc j) d (omega arith)
         (omega (arith, length-append l (x ∷ r))))
 
-    -- where x is below, so is all that stands before it
+    -- if x is below, so is every item before it
     pub count_past : IsRising order (l ++ x ∷ r) → is_lt (order x) ≡ true → count_less order (l ++ x ∷ r) ≡ length l + 1
         + count_less order r
     count_past rising less =
@@ -82,7 +82,7 @@ module _ {X : Type 0} where
         (omega (arith, length-append l (x ∷ r)))))) in
         count_around ∙ rw (left, less) refl
 
-    -- where x is not below, nothing behind it is
+    -- if x is not below, no item after it is
     pub count_up_to : IsRising order (l ++ x ∷ r) → is_lt (order x) ≡ false → count_less order (l ++ x ∷ r)
         ≡ count_less order l
     count_up_to rising not_less =
@@ -95,7 +95,7 @@ module _ {X : Type 0} where
         count_around ∙ rw (right, not_less) (omega arith)
 
   module _ (order : X → Ordering) where
-    -- where the answers rise, the items before the count are below
+    -- if the answers rise, the items before the count are below
     pub less_below : (xs : List X) → IsRising order xs → (k : ℕ) (d : X) → k < count_less order xs → k < length xs →
         is_lt (order (get_or xs k d)) ≡ true
     less_below [] rising k d below within = absurd (omega arith)

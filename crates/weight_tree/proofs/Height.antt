@@ -4,7 +4,7 @@ use Rattle.std.proofs.Math.Nat.{pow-suc, mul-le-mul_left, max-eq_left, max-eq_ri
 use Rattle.std.proofs.lemmas.Bool.{cases_lt}
 use Rattle.weight_tree.specs.Balance.{IsBalanced, IsLow}
 
--- a branch over a low side, where the other side has a third of its weight, is low
+-- a branch over a low side is low if the other side has a third of its weight
 low_step : (h n m : ℕ) → IsLow h n → n + 1 ≤ 3 * (m + 1) → IsLow (suc h) (n + m + 1)
 low_step h n m low third =
     let weights : 4 * (n + 1) ≤ 3 * (n + m + 1 + 1) = omega arith in

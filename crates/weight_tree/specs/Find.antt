@@ -1,7 +1,8 @@
--- Where a number falls among the weights of a list of items laid end to end.
+-- Where a number falls among the weights of a list of items, laid end to end.
 use Rattle.std.specs.Prelude.{◌≡◌, ℕ, ◌+◌, ◌<◌, List, take, sum_by, slice_get, IsSomeAnd}
 
--- the item at this rank, so far into its weight, is what the number falls in
-pub record FallsIn {T : Type 0} (weight_of : T → ℕ) (items : List T) (number rank offset : ℕ) : Type 0 where
+-- the number falls in the item at this rank, at this offset into its weight
+pub record FallsIn {T : Type 0} (weight_of : T → ℕ) (items : List T) (number rank offset : ℕ) : Type
+    0 where
   pub before : sum_by weight_of (take rank items) + offset ≡ number
   pub within : IsSomeAnd (slice_get items rank) (λ item. offset < weight_of item)

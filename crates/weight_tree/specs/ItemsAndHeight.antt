@@ -1,4 +1,4 @@
--- What a caller sees of a tree.
+-- A tree as callers see it.
 use Rattle.std.specs.Prelude.{ℕ, List}
 
 -- the items of a tree in order, and its height

@@ -1,4 +1,4 @@
--- What a tree's root is seen as, and what holds of it.
+-- The view of a tree's root, and its invariant.
 use Rattle.std.specs.Prelude.{◌≡◌, ℕ, ◌+◌, ◌^◌, ◌<◌, max, List, [], ◌∷◌, ◌++◌, length, sum_by, Option, Some, None, Box}
 use Rattle.std.specs.declared.alloc.Global.{Global}
 use Rattle.weight_tree.specs.Balance.{IsBalanced, IsLow}
@@ -22,7 +22,8 @@ pub record IsMended {T : Type 0} (weight_of : T → ℕ) (b : Branch T) : Type 0
   pub right_height : b.right_height ≡ b.right.height
   pub size : b.size ≡ length b.left.items + length b.right.items + 1
   pub size_fits : b.size < 2 ^ 64
-  pub weight : b.weight ≡ sum_by weight_of b.left.items + weight_of b.item + sum_by weight_of b.right.items
+  pub weight : b.weight ≡ sum_by weight_of b.left.items + weight_of b.item
+      + sum_by weight_of b.right.items
   pub weight_fits : b.weight < 2 ^ 64
   pub height : b.height ≡ max b.left.height b.right.height + 1
   pub height_fits : b.height < 2 ^ 8
@@ -36,8 +37,9 @@ abbrev pub IsWeightTree : {T : Type 0} → (T → ℕ) → Option (Box (Branch T
 IsWeightTree weight_of None = Unit {0}
 IsWeightTree weight_of (Some b) = IsMended weight_of b.value
 
--- the items of two sides and one between them are few and light enough to be counted and weighed in 64 bits
+-- the number and the weight of the items of two sides and one between them fit 64 bits
 pub record FitTogether {T : Type 0} (weight_of : T → ℕ) (left : ItemsAndHeight T) (middle : T)
     (right : ItemsAndHeight T) : Type 0 where
   pub size : length left.items + length right.items + 1 < 2 ^ 64
-  pub weight : sum_by weight_of left.items + weight_of middle + sum_by weight_of right.items < 2 ^ 64
+  pub weight : sum_by weight_of left.items + weight_of middle + sum_by weight_of right.items
+      < 2 ^ 64

@@ -1,4 +1,4 @@
-//! One more item, one less, and an item in place of another.
+//! Insertion, removal and replacement of an item.
 ghost use Rattle.std.specs.Prelude.{◌≡◌, ◌+◌, ◌<◌, ◌≤◌, ◌^◌, Some, length, sum_by, insert, slice_get, slice_set};
 ghost use Rattle.std.specs.List.{remove};
 
@@ -9,7 +9,7 @@ use crate::weigh::Weigh;
 use std::mem;
 
 impl<T: Weigh> WeightTree<T> {
-    /// Puts an item at `rank`, before those that stood there and after it.
+    /// Inserts an item at `rank`, before the items from there on.
     pub fn insert(&mut self, rank: usize, node: Node<T>)
         requires in_range { rank ≤ length self.old.items }
         requires size_fits { length self.old.items + 1 < 2 ^ 64 }
@@ -45,7 +45,7 @@ impl<T: Weigh> WeightTree<T> {
         }
     }
 
-    /// Takes out the item at `rank`. It takes no memory.
+    /// Removes the item at `rank`. It allocates no memory.
     pub fn remove(&mut self, rank: usize) -> T
         requires in_range { rank < length self.old.items }
         ensures items { self.new.items ≡ remove self.old.items rank }
@@ -79,7 +79,7 @@ impl<T: Weigh> WeightTree<T> {
         (Self::rebalance(left, next, right), middle)
     }
 
-    /// Puts an item in the place of the one at `rank`, and returns that one.
+    /// Replaces the item at `rank`, and returns the old one.
     pub fn replace(&mut self, rank: usize, item: T) -> T
         requires in_range { rank < length self.old.items }
         requires weight_fits { sum_by T.weight_of (slice_set self.old.items rank item) < 2 ^ 64 }

@@ -1,16 +1,16 @@
-//! Which item a number falls in, where the weights lie end to end.
+//! Which item a number falls in, with the weights laid end to end.
 ghost use Rattle.std.specs.Prelude.{◌<◌, ◌≤◌, ◌↔◌, sum_by, length, IsNone, IfSome};
 ghost use Rattle.weight_tree.specs.Find.{FallsIn};
 
 use crate::tree::WeightTree;
 use crate::weigh::Weigh;
 
-/// What `find` has found.
+/// The result of `find`: the item that the number falls in, and how far into its weight.
 #[derive(Clone, Copy, Debug, PartialEq, Eq)]
 pub struct Found {
     pub rank: usize,
     pub offset: u64,
-    /// How many nodes were looked at on the way down.
+    /// The number of nodes that were visited on the way down.
     pub visits: usize,
 }
 

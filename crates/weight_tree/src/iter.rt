@@ -1,4 +1,4 @@
-//! The items of a tree in order, on a stack of fixed size.
+//! The items of a tree in order, with a stack of fixed size.
 ghost use Rattle.std.specs.Prelude.{◌≡◌, ◌+◌, ◌≤◌, ◌++◌, take, length};
 ghost use Rattle.std.specs.Iterator.{YieldsFirstRef, item_count};
 ghost use Rattle.weight_tree.specs.Waiting.{from_waiting, IsWaiting};
@@ -7,7 +7,7 @@ use crate::tree::{Branch, MOST_HEIGHT, WeightTree};
 use crate::weigh::Weigh;
 use std::marker::Model;
 
-/// The items of a `WeightTree` that are still to come, in order.
+/// An iterator over the items of a `WeightTree`, in order.
 #[derive(Drop)]
 pub struct Iter<'a, T: Weigh> {
     waiting: [Option<&'a Branch<T>>; MOST_HEIGHT],
@@ -28,7 +28,7 @@ impl<'a, T: Weigh> Model for Iter<'a, T> {
 }
 
 impl<T: Weigh> WeightTree<T> {
-    /// Takes constant time from item to item on average, and no memory.
+    /// Iterates over the items in order. A step takes constant time on average, and no memory is allocated.
     pub fn iter(&self) -> Iter<'_, T>
         ensures { result ≡ self.now.items }
     {
@@ -73,7 +73,7 @@ impl<'a, T: Weigh> Iterator for Iter<'a, T> {
     }
 }
 
-// Lets the branches along the left side of `tree` wait from `depth` on, and returns the new depth.
+// Pushes the branches along the left side of `tree` from `depth` on, and returns the new depth.
 fn descend<'a, T: Weigh>(
     waiting: &mut [Option<&'a Branch<T>>],
     mut depth: usize,
@@ -83,7 +83,8 @@ fn descend<'a, T: Weigh>(
     requires room { depth + tree.now.height ≤ length waiting.old }
     ensures waiting { IsWaiting (length waiting.new) result waiting.new }
     ensures room { result ≤ length waiting.new }
-    ensures items { from_waiting (take result waiting.new) ≡ tree.now.items ++ from_waiting (take depth waiting.old) }
+    ensures items { from_waiting (take result waiting.new)
+        ≡ tree.now.items ++ from_waiting (take depth waiting.old) }
 {
     while let Some(branch) = &tree.root {
         waiting[depth] = Some(branch);

@@ -1,9 +1,9 @@
-//! A list of weighed items in a balanced tree: the item in which a number falls, the weight before a
-//! rank and the rank that a closure's answers point to are found on one way down from the root.
+//! A list of weighed items in a balanced tree. One descent from the root finds the item that a number falls in, the
+//! weight before a rank, or the rank that a closure points to.
 //!
-//! It stands on std alone. A node's memory is taken before a change, by `Node::make`, and no other call
-//! takes any. The tree is balanced by how many items its sides have, and not by what they weigh. It has
-//! no links to parents, and gives out no `&mut` to an item, since that could change its weight unseen.
+//! It depends only on std. `Node::make` allocates a node's memory before a change, and no other call allocates any. The
+//! tree is balanced by the number of items of its sides, not by their weights. It has no links to parents, and lends no
+//! `&mut` to an item, which could change the item's weight unnoticed.
 #![tactic(auto)]
 
 mod edit;

@@ -1,4 +1,4 @@
-//! What a branch stores of a side that has changed below it.
+//! What a branch stores of a side, updated after that side has changed.
 ghost use Rattle.std.specs.Prelude.{◌≡◌, ◌+◌, length, sum_by};
 ghost use Rattle.weight_tree.specs.Balance.{IsBalanced};
 ghost use Rattle.weight_tree.specs.Sides.{StoresLeft, StoresRight};
@@ -28,8 +28,8 @@ impl<T: Weigh> Branch<T> {
         self.height = self.left_height.max(self.right_height) + 1;
     }
 
-    // Updates the sums and the height after a change of the right side. It does not read the left side: all but the right
-    // side weighs `rest`.
+    // Updates the sums and the height after a change of the right side. It does not read the left side: `rest` is the
+    // weight of everything but the right side.
     pub(crate) fn mend_right(&mut self, rest: u64)
         requires rest { rest ≡ sum_by T.weight_of self.old.left.items + T.weight_of self.old.item }
         requires left { StoresLeft T.weight_of self.old }

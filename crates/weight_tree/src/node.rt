@@ -1,4 +1,4 @@
-//! An item in the memory that it takes in a tree.
+//! An item in a node of its own, allocated before it enters a tree.
 ghost use Rattle.std.specs.Prelude.{◌≡◌, MatchResult};
 
 use crate::tree::{Branch, WeightTree};
@@ -6,7 +6,7 @@ use crate::weigh::Weigh;
 use std::alloc::{AllocFailed, Global};
 use std::marker::Model;
 
-/// One item, in the memory that it takes in a `WeightTree`.
+/// One item, in the memory that it needs in a `WeightTree`.
 #[derive(Drop)]
 pub struct Node<T: Weigh> {
     pub(crate) branch: Box<Branch<T>>,
@@ -19,7 +19,7 @@ impl<T: Weigh> Model for Node<T> {
 }
 
 impl<T: Weigh> Node<T> {
-    /// Takes the memory that an insertion needs, ahead of it.
+    /// Allocates the memory that an insertion needs. If there is none, the error returns the item.
     pub fn make(alloc: Global, item: T) -> Result<Node<T>, AllocFailed<T>>
         ensures { MatchResult result (λ node. node ≡ item) (λ refused. refused.value ≡ item) }
     {

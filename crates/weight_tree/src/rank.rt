@@ -1,4 +1,4 @@
-//! The rank that a closure's answers point to.
+//! The rank that a closure points to.
 ghost use Rattle.std.specs.Prelude.{◌≡◌, ◌≤◌, length};
 ghost use Rattle.std.specs.Fn.{CalledAt, ComputesKey};
 ghost use Rattle.std.specs.declared.cmp.Ordering.{Ordering};
@@ -8,16 +8,16 @@ use crate::tree::WeightTree;
 use crate::weigh::Weigh;
 use std::cmp::Ordering;
 
-/// Where `rank_by` has ended.
+/// The result of `rank_by`.
 #[derive(Clone, Copy, Debug, PartialEq, Eq)]
 pub struct Placed {
     pub rank: usize,
-    /// How many nodes were looked at on the way down.
+    /// The number of nodes that were visited on the way down.
     pub visits: usize,
 }
 
 impl<T: Weigh> WeightTree<T> {
-    /// Counts the items for which `f` answers `Less`. It asks `f` once about each node that it visits.
+    /// Counts the items for which `f` returns `Less`. It calls `f` once for each node that it visits.
     pub fn rank_by<F: FnMut(&T) -> Ordering>(&self, mut f: F) -> Placed
         requires { F.IsAlwaysCallable f }
         ensures rank { IsRankBy F.FnMut f self.now.items result.rank }
@@ -55,7 +55,7 @@ impl<T: Weigh> WeightTree<T> {
     }
 }
 
-// What `f` answers about one item.
+// Calls `f` with one item.
 fn ask<T, F: FnMut(&T) -> Ordering>(f: &mut F, item: &T) -> Ordering
     requires { F.IsAlwaysCallable f.old }
     ensures callable { F.IsAlwaysCallable f.new }

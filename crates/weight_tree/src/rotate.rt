@@ -1,8 +1,8 @@
-//! How a tree is taken apart and put together, and what mends a side that is too heavy.
+//! How a tree is taken apart and put together, and how a side that is too heavy is rebalanced.
 //!
-//! The weight of a side is here its number of items and one. An insertion below leaves at worst sides
-//! of the weights 3w + 1 and w, and a removal sides of the weights 3w + 3 and w. With a the outer and b
-//! the inner part of the heavy side, and c and d the parts of b, the two ways to mend it are
+//! Here the weight of a side is its number of items plus one. At worst, an insertion below leaves sides of the weights
+//! 3w + 1 and w, and a removal leaves sides of the weights 3w + 3 and w. Let a be the outer and b the inner part of the
+//! heavy side, and c and d the parts of b. The two rotations are
 //!
 //!         single, where b < 2a              double
 //!
@@ -24,7 +24,7 @@ use crate::tree::WeightTree;
 use crate::weigh::Weigh;
 use std::mem;
 
-// Whether a side of this size may stand beside another.
+// Whether a side of this size is light enough beside the other.
 pub(crate) fn is_light_enough(size: usize, other: usize) -> bool
     ensures { IsTrue result ↔ (size + 1 ≤ 3 * (other + 1)) }
 {
@@ -32,7 +32,7 @@ pub(crate) fn is_light_enough(size: usize, other: usize) -> bool
 }
 
 impl<T: Weigh> WeightTree<T> {
-    // In 128 bits, where three times the weight fits.
+    // In 128 bits, so that three times the weight fits.
     fn balance_weight(&self) -> u128
         ensures weight { result ≡ length self.now.items + 1 }
         ensures fits { result ≤ 2 ^ 64 }
@@ -74,7 +74,7 @@ impl<T: Weigh> WeightTree<T> {
         }
     }
 
-    // As `join`, where one side has got an item or lost one.
+    // Like `join`, after one side has gained or lost an item.
     pub(crate) fn rebalance(left: Self, node: Node<T>, right: Self) -> Self
         requires nearly { IsNearlyBalanced (length left.items) (length right.items) }
         requires fits { FitTogether T.weight_of left node right }
@@ -89,11 +89,12 @@ impl<T: Weigh> WeightTree<T> {
         }
     }
 
-    // Whether a single rotation mends a side with these parts that is too heavy.
+    // Whether a single rotation rebalances a heavy side with these parts.
     fn single_mends(outer: &Self, inner: &Self) -> bool
-        ensures choice { IsTrue result ↔ (length inner.now.items + 1 < 2 * (length outer.now.items + 1)) }
+        ensures choice { IsTrue result ↔ (length inner.now.items + 1
+            < 2 * (length outer.now.items + 1)) }
 
-        // Such a side is mended by one rotation: by a single one or else by a double one.
+        // One rotation rebalances such a side: a single one, or else a double one.
         ensures mends { let a = length outer.now.items in
             let b = length inner.now.items in
             (w : ℕ) → IsBalanced a b → IsTooHeavy (a + b + 1) w →
@@ -102,7 +103,7 @@ impl<T: Weigh> WeightTree<T> {
         inner.balance_weight() < 2 * outer.balance_weight()
     }
 
-    // The left side is too heavy.
+    // Rebalances a tree whose left side is too heavy.
     fn lean_right(left: Self, node: Node<T>, right: Self) -> Self
         requires heavy { IsTooHeavy (length left.items) (length right.items) }
         requires fits { FitTogether T.weight_of left node right }
@@ -119,7 +120,7 @@ impl<T: Weigh> WeightTree<T> {
         }
     }
 
-    // The right side is too heavy.
+    // Rebalances a tree whose right side is too heavy.
     fn lean_left(left: Self, node: Node<T>, right: Self) -> Self
         requires heavy { IsTooHeavy (length right.items) (length left.items) }
         requires fits { FitTogether T.weight_of left node right }

@@ -1,22 +1,22 @@
-//! The tree, its sums and what lies at a rank.
+//! The tree, its sums and access by rank.
 ghost use Rattle.std.specs.Prelude.{◌≡◌, ◌<◌, ◌≤◌, ◌↔◌, [], length, sum_by, take, slice_get, IsTrue};
 ghost use Rattle.weight_tree.specs.Balance.{IsLow};
 
 use crate::weigh::Weigh;
 use std::marker::Model;
 
-// What no height is above, where a size fits 64 bits.
+// The greatest height of a tree whose size fits 64 bits.
 pub(crate) const MOST_HEIGHT: usize = 154;
 
-/// Weighed items in their order.
+/// A list of weighed items.
 #[cycle(tree)]
 #[derive(Drop)]
 pub struct WeightTree<T: Weigh> {
     pub(crate) root: Option<Box<Branch<T>>>,
 }
 
-// An item between two subtrees, with the sums of all three and those of the left side. So a descent reads no
-// node beside its path. Fields are laid out as declared: what a descent reads lies together, behind the item.
+// An item between two subtrees, with the sums of all three and those of the left side. So a descent reads no node off
+// its path. Fields are laid out as declared: those that a descent reads are together, after the item.
 #[cycle(tree)]
 #[derive(Drop)]
 pub(crate) struct Branch<T: Weigh> {
@@ -90,11 +90,11 @@ impl<T: Weigh> WeightTree<T> {
         }
     }
 
-    /// The number of nodes on the longest way down from the root.
+    /// The number of nodes on the longest path down from the root.
     pub fn height(&self) -> usize
         ensures height { result ≡ self.now.height }
 
-        // The height is at most the logarithm of the number of items and one to the base 4/3.
+        // The height is at most the logarithm to the base 4/3 of the number of items plus one.
         ensures low { IsLow self.now.height (length self.now.items) }
         ensures most { self.now.height ≤ MOST_HEIGHT }
     {

@@ -1,4 +1,4 @@
-//! What an item weighs.
+//! The weight of an item.
 ghost use Rattle.std.specs.Prelude.{◌≡◌, ℕ};
 
 /// An item that has a weight.

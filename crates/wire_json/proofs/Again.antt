@@ -21,7 +21,7 @@ use Rattle.wire_json.specs.Laws.{IsStamp}
 use Rattle.wire_json.specs.Reading.{of_two, of_three, of_four, field, null_or, list_in, positive_in, within_in, text_in}
 use Rattle.wire_json.specs.Reading.{stamp_of, stamp_in, op_name_in, counted_in, span_in, rising_in, seen_in}
 
--- what is made of things that are there
+-- what is made of two things that are there
 pub two_found : {A B C : Type 0} (make : A → B → C) (a : A) (b : B) (first : Option A) (second : Option B) →
     first ≡ Some a → second ≡ Some b
     → of_two make first second ≡ Some (make a b)
@@ -80,7 +80,7 @@ counted_again pair low high some =
     two_found (λ o n. record { origin = o; count = n }) pair.origin pair.count _ _
     (within_again pair.origin MAX_REPLICA low high) (positive_again pair.count some)
 
--- a list is read as it was written where each item is
+-- a list is read as it was written if each item is
 pub list_again : {A : Type 0} (form : Data → Option A) (data_of : A → Data) (xs : List A) →
     AllByRecursion (λ x. form (data_of x) ≡ Some x) xs
     → list_in form (each_data data_of xs) ≡ Some xs

@@ -1,4 +1,4 @@
--- Lists that are no pairs and no triples.
+-- Lists that are neither pairs nor triples.
 use Rattle.std.proofs.Common.{◌≡◌, List, [], ◌∷◌, length, None, refl}
 use Rattle.serde_json.specs.View.{items_view}
 use Rattle.serde_json.specs.declared.value.Value.{Value}

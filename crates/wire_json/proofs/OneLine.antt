@@ -1,4 +1,4 @@
--- What is written has no byte below 32, and so no line feed.
+-- Written text has no byte below 32, and so no line feed.
 use Rattle.std.proofs.Common.{◌≡◌, ℕ, zero, suc, ◌+◌, ◌/◌, ◌%◌, ◌≤◌, ◌==◌, nat_lt, List, [], ◌∷◌, ◌++◌, Bool, true}
 use Rattle.std.proofs.Common.{false, if◌then◌else◌, pos, negsuc, decimal, refl, arith, lit≤}
 use Rattle.std.proofs.lemmas.Bool.{ltb-false}

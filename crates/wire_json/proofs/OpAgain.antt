@@ -63,13 +63,6 @@ resolve_again : (comment : OpName) (d : Data) → get (codes "comment") d ≡ So
 resolve_again comment d is named h = ap (option_map Resolve)
     (field_found op_name_in (codes "comment") d _ comment is (op_name_again comment named.0 h named.1))
 
-kind_again : (k : Kind) (d : Data) → get (codes "kind") d ≡ Some (string (kind_word k)) → kind_in d ≡ Some k
-kind_again kind.Insert d is = rw is refl
-kind_again kind.Delete d is = rw is refl
-kind_again kind.Comment d is = rw is refl
-kind_again kind.Resolve d is = rw is refl
-kind_again kind.Edit d is = rw is refl
-
 -- a part of an edit
 edit_part_again : (p : Part) → is_edit p ≡ true → IsSayablePart p → edit_part_in (part_data p) ≡ Some p
 edit_part_again (Insert run) edit h = insert_again run (part_data (Insert run)) refl refl refl h
@@ -94,12 +87,6 @@ edit_again p q parts d is edits h =
     (list_again edit_part_in part_data (p ∷ q ∷ parts) (each_edit_part (p ∷ q ∷ parts) edits h)))
     (several_parts p q parts)
 
-kind_of_several : (p q : Part) (parts : List Part) → kind_of (p ∷ q ∷ parts) ≡ kind.Edit
-kind_of_several (Insert run) q parts = refl
-kind_of_several (Delete spans) q parts = refl
-kind_of_several (Comment first last text) q parts = refl
-kind_of_several (Resolve comment) q parts = refl
-
 five : (a b c d e : Bool) → (a && b && c && d && e) ≡ true → (a ≡ true) × (b ≡ true) × (c ≡ true) × (d ≡ true)
     × (e ≡ true)
 five a b c d e h =
@@ -109,7 +96,7 @@ five a b c d e h =
     let s = and_parts a b r.0 in
     (s.0, s.1, r.1, q.1, p.1)
 
--- what the check says of parts: several only insert and erase, and each is in its limits
+-- what the check says about parts: several only insert and erase, and each is within its limits
 checked_parts : (origin : ℕ) (parts : List Part) → are_parts origin parts ≡ true
     → ((nat_le (length parts) 1 || list_all is_edit parts) ≡ true) × (list_all (is_part origin) parts ≡ true)
 checked_parts origin parts checked =
@@ -155,7 +142,7 @@ parts_again name seen author (p ∷ q ∷ parts) checked h =
     edit_again p q parts (op_data (op_of name seen author (p ∷ q ∷ parts))) refl
     (several_edits name.origin p q parts checked) h
 
--- the other fields stand beside those of the parts
+-- the other fields are beside those of the parts
 others_again : (name : OpName) (seen : List Counted) (author : List ℕ) (parts : List Part) → let d =
     op_data (op_of name seen author parts) in
     (get (codes "name") d ≡ Some (op_name_data name)) × (get (codes "seen") d ≡ Some (seen_data seen))

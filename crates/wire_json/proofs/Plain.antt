@@ -1,4 +1,5 @@
--- What is written is plain: it holds no float, so its text is known, and it nests a few levels deep, so it can be read.
+-- Written values are plain: they hold no float, so their text is known, and they are nested only a few levels deep, so
+-- they can be read.
 use Rattle.std.proofs.Common.{◌≡◌, ℕ, ◌≤◌, List, [], ◌∷◌, map, false, Option, Some, None, Result, Ok, Err, refl, arith}
 use Rattle.std.proofs.Common.{lit≤}
 use Rattle.serde_json.specs.Data.{Data, depth, items_depth}
@@ -26,12 +27,12 @@ use Rattle.wire_json.specs.Requests.{op_of}
 use Rattle.wire_json.specs.Replies.{run_data, piece_data, shown_data, entry_data, present_data, grant_data, listed_data, pad_data}
 use Rattle.wire_json.specs.Replies.{outcome_data, reply_data}
 
--- a value holds no float, and nests at most so many levels deep
+-- a value holds no float, and is nested at most this many levels deep
 record IsPlain (most : ℕ) (d : Data) : Type 0 where
   floatless : has_float d ≡ false
   shallow : depth d ≤ most
 
--- the same of the items of a list
+-- the same for the items of a list
 record ArePlain {A : Type 0} (most : ℕ) (data_of : A → Data) (items : List A) : Type 0 where
   floatless : items_have_float (items_of (map data_of items)) ≡ false
   shallow : items_depth (items_of (map data_of items)) ≤ most
@@ -98,7 +99,7 @@ piece_of (piece.Keep n) = record { floatless = refl; shallow = lit≤ tt }
 piece_of (piece.Drop n) = record { floatless = refl; shallow = lit≤ tt }
 piece_of (piece.Insert author text) = record { floatless = refl; shallow = lit≤ tt }
 
--- a pad's answer: one that lists something needs a line of its own, any other one is plain as it stands
+-- a pad's reply: one with a list needs a line of its own, any other one is plain by computation
 pad_of : (said : PadReply) → IsPlain 7 (pad_data said)
 pad_of (pad.Runs now rev runs) =
     let all = each_of run_data 1 (λ run. record { floatless = refl; shallow = lit≤ tt }) runs in
@@ -143,7 +144,7 @@ outcome_of (Err refusal) = record { floatless = refl; shallow = lit≤ tt }
 pub outcome_has_no_float : (outcome : Result Reply Refusal) → has_float (outcome_data outcome) ≡ false
 outcome_has_no_float outcome = (outcome_of outcome).floatless
 
--- no reply nests deeper
+-- no reply is nested deeper
 pub outcome_is_shallow : (outcome : Result Reply Refusal) → depth (outcome_data outcome) ≤ 7
 outcome_is_shallow outcome = (outcome_of outcome).shallow
 
@@ -175,7 +176,7 @@ vector_has_no_float pad = refl
 pub push_has_no_float : (pad : List ℕ) (op : Op) → has_float (push_request pad op) ≡ false
 push_has_no_float pad op = (push_of pad op).floatless
 
--- nor does one nest deeper
+-- nor is one nested deeper
 pub peer_is_shallow : (own : ℕ) (token : List ℕ) → depth (peer_request own token) ≤ 7
 peer_is_shallow own token = lit≤ tt
 

@@ -1,4 +1,4 @@
--- The lines of replies of numbers alone: each is the text of the reply's value, and is read as it.
+-- The lines of replies with only numbers: each is the text of the reply's value, and is read as it.
 use Rattle.std.proofs.Common.{◌≡◌, ℕ, false, arith, ◌^◌, ◌<◌, ◌≤◌, List, [], ◌∷◌, ◌++◌, codes, decimal, Option, Some}
 use Rattle.std.proofs.Common.{Result, Ok, Err, IfOk, option_and_then, refl, sym, ap, ◌∙◌, subst, append_assoc}
 use Rattle.std.proofs.Common.{append-nil, lit≤}
@@ -28,7 +28,7 @@ use Rattle.wire_json.specs.Words.{state_word}
 use Rattle.wire_json.proofs.OneLine.{text_plain}
 use Rattle.wire_json.proofs.Plain.{outcome_has_no_float, outcome_is_shallow}
 
--- the text of a value is read as it, where its numbers have texts and it nests a few levels deep
+-- the text of a value is read as the value, if its numbers have texts and it is nested only a few levels deep
 record IsReadable (d : Data) : Type 0 where
   numbers : tree.HasNumbers (outline d)
   shallow : tree.depth (outline d) ≤ max_depth
@@ -48,7 +48,7 @@ read_back d h =
 written : (d : Data) (line : List ℕ) → IsReadable d → line ≡ compact_text d ++ 10 ∷ [] → IsWritten d line
 written d line h is = (is, (compact_text d, is, text_plain d, read_back d h))
 
--- a line feed behind a text that ends in a number and more is one behind what follows the number
+-- a line feed after a text that ends in a number and more is one after what follows the number
 behind : (front : List ℕ) (n : ℕ) (rest back : List ℕ) → rest ≡ back ++ 10 ∷ [] → front ++ (decimal n ++ rest)
     ≡ (front ++ (decimal n ++ back)) ++ 10 ∷ []
 behind front n rest back is =
@@ -56,7 +56,7 @@ behind front n rest back is =
     ∙ ap (λ r. front ++ r) (sym (append_assoc (decimal n) back (10 ∷ [])))
     ∙ sym (append_assoc front (decimal n ++ back) (10 ∷ []))
 
--- a text onto nothing
+-- a text appended to nothing
 pub onto : (old text line : List ℕ) → old ≡ [] → line ≡ old ++ text → line ≡ text
 onto old text line none is = is ∙ ap (λ b. b ++ text) none
 
@@ -199,7 +199,7 @@ pushed_told now state word released dropped line low low_released low_dropped na
     last_word pushed.Held = refl
     last_word pushed.Delivered = refl
 
--- what says nothing but that all is well
+-- the reply that only says that all is well
 pub ended : IsWritten (answer []) (codes "{\"ok\":true}\n")
 unfolding escape_byte
 ended = written (answer []) _ (record { numbers = (tt, tt); shallow = lit≤ tt; same = refl }) refl
@@ -209,7 +209,7 @@ pub if_ended : {A E : Type 0} (bytes_of : A → List ℕ) (r : Result A E) →
 if_ended bytes_of (Ok line) is = subst (λ bytes. IsWritten (answer []) bytes) (sym is) ended
 if_ended bytes_of (Err e) is = is
 
--- the line of a value that says this, which holds no float and nests a few levels deep
+-- the line of such a value, which holds no float and is nested only a few levels deep
 pub said : {A E : Type 0} (bytes_of : A → List ℕ) (d : Data) (value : Result Value E) (r : Result A E)
     → has_float d ≡ false → depth d ≤ 7 → IfOk value (λ v. view v ≡ d)
     → IfOk r (λ line. (v : Value) × (value ≡ Ok v) × (has_float (view v) ≡ false → depth (view v) ≤ max_depth →

@@ -1,4 +1,4 @@
--- The value of a line that is UTF-8, and of one that has none.
+-- The value of a line in UTF-8, and lines that have none.
 use Rattle.std.proofs.Common.{◌≡◌, ℕ, List, Bool, true, false, Some, None, refl, if◌then◌else◌}
 use Rattle.std.specs.Str.{IsUtf8, is_utf8}
 use Rattle.std.proofs.lemmas.Str.{IsUtf8-from_is_utf8, is_utf8-from_IsUtf8}
@@ -15,6 +15,6 @@ none_at : (line : List ℕ) (b : Bool) → is_utf8 line ≡ b → (IsUtf8 line �
 none_at line true is refused = refused (IsUtf8-from_is_utf8 line is)
 none_at line false is refused = refl
 
--- a line has none where its text is refused
+-- a line has none if its text is refused
 pub no_value : (line : List ℕ) → (IsUtf8 line → read line ≡ None) → value_of line ≡ None
 no_value line refused = none_at line (is_utf8 line) refl refused

@@ -1,4 +1,4 @@
--- What the small things are written as: numbers, texts, names, stamps, spans and vectors.
+-- How the small forms are written: numbers, texts, names, stamps, spans and vectors.
 use Rattle.std.specs.Prelude.{ℕ, List, [], ◌∷◌, ◌++◌, map, decimal, Option, Some, None, encode_utf8_all}
 use Rattle.serde_json.specs.Data.{Data, null, number, string, array, object, unsigned, Members, no_members, put}
 use Rattle.serde_json.specs.View.{items_of}
@@ -12,12 +12,12 @@ use Rattle.pad_model.specs.declared.who.Author.{Author}
 abbrev pub Field : Type 0
 Field = List ℕ × Data
 
--- members with these fields put to them, one after the other
+-- members with these fields added, one after another
 abbrev pub with_fields : List Field → Members → Members
 with_fields [] ms = ms
 with_fields (f ∷ fs) ms = with_fields fs (put f.0 f.1 ms)
 
--- the object of some fields; an object has them in byte order
+-- the object with some fields, which are in byte order
 abbrev pub fields_data : List Field → Data
 fields_data fs = object (with_fields fs no_members)
 
@@ -25,7 +25,7 @@ fields_data fs = object (with_fields fs no_members)
 abbrev pub list_data : List Data → Data
 list_data items = array (items_of items)
 
--- a list of what each item is written as
+-- a list of items, each in its written form
 abbrev pub each_data : {A : Type 0} → (A → Data) → List A → Data
 each_data data_of items = list_data (map data_of items)
 
@@ -50,18 +50,19 @@ abbrev pub parent_data : Option Stamp → Data
 parent_data None = null
 parent_data (Some stamp) = stamp_data stamp
 
--- stamps that follow one another: the counter and the replica of the first one, and how many
+-- consecutive stamps: the counter and the replica of the first one, and their number
 abbrev pub span_data : Span → Data
-span_data span = list_data (number_data span.first.counter ∷ number_data span.first.replica ∷ number_data span.len ∷ [])
+span_data span = list_data (number_data span.first.counter ∷ number_data span.first.replica
+    ∷ number_data span.len ∷ [])
 
 -- how many operations of an origin are known
 abbrev pub counted_data : Counted → Data
 counted_data pair = list_data (number_data pair.origin ∷ number_data pair.count ∷ [])
 
--- a version vector, by rising origin
+-- a version vector, in ascending order of origin
 abbrev pub seen_data : List Counted → Data
 seen_data pairs = each_data counted_data pairs
 
--- an author with the number of the server that knows it, as `ann@1`
+-- an author with the number of the server that has the account, such as `ann@1`
 abbrev pub author_data : Author → Data
 author_data author = string (author.name ++ 64 ∷ decimal author.origin)

@@ -1,4 +1,4 @@
--- What a line asks.
+-- The request of a line.
 use Rattle.std.specs.Prelude.{ℕ, if◌then◌else◌, List, Option, Some, None, Result, Ok, Err}
 use Rattle.std.specs.Str.{is_utf8}
 use Rattle.serde_json.specs.Data.{Data}
@@ -12,7 +12,7 @@ use Rattle.wire_json.specs.Requests.{request_in}
 abbrev pub value_of : List ℕ → Option Data
 value_of line = if is_utf8 line then read line else None
 
--- what is expected, or that it is no request
+-- what is expected, or the refusal that the line is not a request
 abbrev pub or_no_request : {A : Type 0} → Option A → Result A Refusal
 or_no_request None = Err NotRequest
 or_no_request (Some found) = Ok found

@@ -1,4 +1,4 @@
--- What operations are written as.
+-- How operations are written.
 use Rattle.std.specs.Prelude.{List, [], ◌∷◌, codes}
 use Rattle.serde_json.specs.Data.{Data, string}
 use Rattle.pad_model.specs.declared.op.Op.{Op}
@@ -9,7 +9,7 @@ use Rattle.wire_json.specs.Words.{kind_word}
 use Rattle.wire_json.specs.Forms.{Field, fields_data, text_data, each_data, op_name_data, stamp_data, parent_data}
 use Rattle.wire_json.specs.Forms.{span_data, seen_data}
 
--- the fields of a part beside its kind
+-- the fields of a part, except its kind
 abbrev pub part_fields : Part → List Field
 part_fields (part.Insert run) = (codes "after", parent_data run.after) ∷ (codes "first", stamp_data run.first)
     ∷ (codes "text", text_data run.text) ∷ []
@@ -22,7 +22,7 @@ part_fields (part.Resolve comment) = (codes "comment", op_name_data comment) ∷
 abbrev pub part_data : Part → Data
 part_data p = fields_data ((codes "kind", string (kind_word (kind_of (p ∷ [])))) ∷ part_fields p)
 
--- the fields of parts: one part has its own, others stand in a list
+-- the fields of parts: a single part has its own, and several are in a list
 abbrev pub parts_fields : List Part → List Field
 parts_fields [] = (codes "parts", each_data part_data []) ∷ []
 parts_fields (p ∷ []) = part_fields p

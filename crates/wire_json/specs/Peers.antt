@@ -1,4 +1,4 @@
--- What a server asks a peer, and what it takes the peer's answers for.
+-- A server's requests to a peer, and how it reads the peer's answers.
 use Rattle.std.specs.Prelude.{ℕ, Bool, true, false, if◌then◌else◌, ◌==◌, List, [], ◌∷◌, ◌++◌, codes, Option, None, Some}
 use Rattle.std.specs.Prelude.{option_map, option_and_then}
 use Rattle.serde_json.specs.Data.{Data, string}
@@ -18,28 +18,28 @@ use Rattle.wire_json.specs.Words.{state_of_word}
 use Rattle.wire_json.specs.declared.peer_answer.Told.{Told}
 use Rattle.wire_json.specs.declared.peer_answer.Told.TheVariants.{Said, Refused}
 
--- a server begins a session at a peer, in version 2
+-- the request that logs a server in at a peer, in version 2
 abbrev pub peer_request : ℕ → List ℕ → Data
 peer_request own token = fields_data
     ((codes "do", string (codes "peer")) ∷ (codes "number", number_data own) ∷ (codes "token", string token)
     ∷ (codes "version", number_data 2) ∷ [])
 
--- how many operations a batch may give, where one is asked for
+-- the most operations of a batch, if one is asked for
 abbrev pub batch_fields : Option ℕ → List Field
 batch_fields None = []
 batch_fields (Some n) = (codes "batch", number_data n) ∷ []
 
--- it asks for the first operations of a pad that these counts lack, or for a batch of them
+-- the request for the first operations of a pad that these counts lack, or for a batch of them
 abbrev pub pull_request : List ℕ → List Counted → ℕ → Option ℕ → Data
 pull_request pad seen most batch = fields_data (batch_fields batch
     ++ (codes "do", string (codes "pull")) ∷ (codes "max", number_data most) ∷ (codes "pad", string pad)
     ∷ (codes "seen", seen_data seen) ∷ [])
 
--- it asks for the counts of a pad
+-- the request for the counts of a pad
 abbrev pub vector_request : List ℕ → Data
 vector_request pad = fields_data ((codes "do", string (codes "vector")) ∷ (codes "pad", string pad) ∷ [])
 
--- it gives an operation of a pad
+-- the request that pushes an operation of a pad
 abbrev pub push_request : List ℕ → Op → Data
 push_request pad op = fields_data ((codes "do", string (codes "push")) ∷ (codes "op", op_data op)
     ∷ (codes "pad", string pad) ∷ [])
@@ -48,24 +48,26 @@ push_request pad op = fields_data ((codes "do", string (codes "push")) ∷ (code
 abbrev pub refused_in : Data → Option Bool
 refused_in d = of_two (λ code name. false) (field number_in (codes "code") d) (field name_in (codes "error") d)
 
--- whether an answer grants what was asked
+-- whether an answer gives what was asked for, or nothing if it is neither that nor a refusal
 abbrev pub granted_in : Data → Option Bool
 granted_in d = option_and_then (λ ok. if ok then Some true else refused_in d) (field as_bool (codes "ok") d)
 
--- what an answer says in a form, or that it is a refusal
+-- what an answer says in a form, or its refusal
 abbrev pub told_in : {A : Type 0} → (Data → Option A) → Data → Option (Told A)
-told_in form d = option_and_then (λ granted. if granted then option_map Said (form d) else Some Refused) (granted_in d)
+told_in form d = option_and_then (λ granted. if granted then option_map Said (form d)
+    else Some Refused) (granted_in d)
 
--- the same of a line
+-- the same for a line
 abbrev pub told : {A : Type 0} → (Data → Option A) → List ℕ → Option (Told A)
 told form line = option_and_then (told_in form) (value_of line)
 
--- the version that an answer names: 2, or none where the peer is of the first
+-- the version that an answer names: 2, or version 1 if it names none
 abbrev pub answered_version : Option Data → Option Version
 answered_version None = Some version.One
-answered_version (Some d) = option_and_then (λ n. if n == 2 then Some version.Two else None) (number_in d)
+answered_version (Some d) = option_and_then (λ n. if n == 2 then Some version.Two else None)
+    (number_in d)
 
--- the version of a peer, which tells its replica number too
+-- the version of a peer, whose answer has its replica number too
 abbrev pub peer_answer : Data → Option Version
 peer_answer d = of_two (λ replica told. told) (field (within_in MAX_REPLICA) (codes "replica") d)
     (answered_version (get (codes "version") d))

@@ -1,4 +1,4 @@
--- What replies are written as.
+-- How replies are written.
 use Rattle.std.specs.Prelude.{ℕ, List, [], ◌∷◌, ◌++◌, codes, true, false, Result, Ok, Err, ◌≡◌, ◌≤◌, Some}
 use Rattle.std.specs.List.{AllByRecursion}
 use Rattle.serde_json.specs.Data.{Data, boolean, string}
@@ -29,7 +29,7 @@ use Rattle.wire_json.specs.Operations.{op_data}
 abbrev pub run_data : AuthorRun → Data
 run_data run = list_data (author_data run.author ∷ number_data run.len ∷ [])
 
--- a piece of what leads from one text to another
+-- a piece of the changes from one text to another
 abbrev pub piece_data : Piece → Data
 piece_data (piece.Keep n) = list_data (string (codes "keep") ∷ number_data n ∷ [])
 piece_data (piece.Drop n) = list_data (string (codes "drop") ∷ number_data n ∷ [])
@@ -51,7 +51,7 @@ entry_data entry = fields_data
     ∷ (codes "name", op_name_data entry.name)
     ∷ (codes "rev", number_data entry.rev) ∷ [])
 
--- somebody who is present
+-- a visit that is present
 abbrev pub present_data : Present → Data
 present_data present =
     fields_data ((codes "author", author_data present.author) ∷ (codes "caret", number_data present.caret)
@@ -63,17 +63,18 @@ grant_data grant = list_data (string grant.name ∷ string (right_word grant.rig
 
 -- a pad in a list of pads: its name, the right on it and its present revision
 abbrev pub listed_data : Listed → Data
-listed_data pad = list_data (string pad.name ∷ string (right_word pad.right) ∷ number_data pad.now ∷ [])
+listed_data pad = list_data (string pad.name ∷ string (right_word pad.right) ∷ number_data pad.now
+    ∷ [])
 
--- an answer says that all is well, and has these fields
+-- a reply of success with these fields
 abbrev pub answer : List Field → Data
 answer fields = fields_data ((codes "ok", boolean true) ∷ fields)
 
--- a pad's answer says its present revision too
+-- a pad's reply of success, which has its present revision too
 abbrev pub pad_answer : ℕ → List Field → Data
 pad_answer now fields = answer ((codes "now", number_data now) ∷ fields)
 
--- what a pad answers; that it has another name is no answer of a server
+-- a pad's reply; that it has another name is never a server's reply
 abbrev pub pad_data : PadReply → Data
 pad_data pad.Elsewhere = answer []
 pad_data (pad.Joined now visit) = pad_answer now ((codes "visit", number_data visit) ∷ [])
@@ -101,12 +102,12 @@ pad_data (pad.Pushed now state released dropped) =
     ∷ (codes "state", string (state_word state)) ∷ [])
 pad_data (pad.Pulled now ops) = pad_answer now ((codes "ops", each_data op_data ops) ∷ [])
 
--- the version of a session is told to who named it
+-- the version of a session, which is named only to peers of version 2
 abbrev pub version_fields : Version → List Field
 version_fields version.One = []
 version_fields version.Two = (codes "version", number_data 2) ∷ []
 
--- what a server answers
+-- a server's reply
 abbrev pub reply_data : Reply → Data
 reply_data (reply.Hello author) = answer ((codes "author", author_data author) ∷ [])
 reply_data (reply.Peer replica version) = answer ((codes "replica", number_data replica) ∷ version_fields version)
@@ -129,11 +130,13 @@ outcome_data (Err refusal) = refusal_data refusal
 abbrev pub line_of : Result Reply Refusal → List ℕ
 line_of outcome = compact_text (outcome_data outcome) ++ 10 ∷ []
 
--- a line says a value: its text reads as it and has no byte below 32, so no line feed but the one behind it
+-- a line represents a value: its text reads as the value and has no byte below 32, so the only line feed is the one at
+-- its end
 abbrev pub IsLineFor : Data → List ℕ → Type 0
-IsLineFor d line = (text : List ℕ) × (line ≡ text ++ 10 ∷ []) × AllByRecursion (λ byte. 32 ≤ byte) text
+IsLineFor d line = (text : List ℕ) × (line ≡ text ++ 10 ∷ [])
+    × AllByRecursion (λ byte. 32 ≤ byte) text
     × (read text ≡ Some d)
 
--- bytes are the line of a value, and say it
+-- bytes are the line of a value, and represent it
 abbrev pub IsWritten : Data → List ℕ → Type 0
 IsWritten d line = (line ≡ compact_text d ++ 10 ∷ []) × IsLineFor d line

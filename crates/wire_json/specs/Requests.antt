@@ -1,4 +1,4 @@
--- What requests and operations are read as. What is nothing here is no request.
+-- How requests and operations are read. A value for which these definitions give nothing is not a request.
 use Rattle.std.specs.Prelude.{ℕ, ◌==◌, if◌then◌else◌, Bool, true, false, List, [], ◌∷◌, length, Option, Some, None}
 use Rattle.std.specs.Prelude.{option_map, option_and_then, unwrap_or, is_some, bytes_eq, codes}
 use Rattle.serde_json.specs.Data.{Data}
@@ -17,8 +17,8 @@ use Rattle.pad_core.specs.declared.reply.Kind.{Kind}
 use Rattle.pad_core.specs.declared.reply.Kind.TheVariants as kind
 use Rattle.pad_core.specs.declared.request.Request.{Request}
 use Rattle.pad_core.specs.declared.request.Request.TheVariants as request
-use Rattle.wire_json.specs.declared.act_word.ActWord.{ActWord}
-use Rattle.wire_json.specs.declared.act_word.ActWord.TheVariants as act_word
+use Rattle.wire_json.specs.declared.act_words.ActWord.{ActWord}
+use Rattle.wire_json.specs.declared.act_words.ActWord.TheVariants as act_word
 use Rattle.wire_json.specs.Words.{kind_of_word, act_word_of}
 use Rattle.wire_json.specs.Reading.{of_two, of_three, of_four, field, null_or, optional, list_in, number_in, name_in}
 use Rattle.wire_json.specs.Reading.{if_there, within_in, text_in, stamp_in, op_name_in, span_in, seen_in, right_in, version_of}
@@ -26,7 +26,8 @@ use Rattle.wire_json.specs.Reading.{if_there, within_in, text_in, stamp_in, op_n
 -- the part of a kind
 abbrev pub part_of : Kind → Data → Option Part
 part_of kind.Insert d =
-    of_three (λ first after text. part.Insert (record { first = first; after = after; text = text }))
+    of_three (λ first after text. part.Insert
+    (record { first = first; after = after; text = text }))
     (field stamp_in (codes "first") d) (field (null_or stamp_in) (codes "after") d) (field text_in (codes "text") d)
 part_of kind.Delete d = option_map part.Delete (field (list_in span_in) (codes "spans") d)
 part_of kind.Comment d =
@@ -39,11 +40,11 @@ part_of kind.Edit d = None
 abbrev pub kind_in : Data → Option Kind
 kind_in d = option_and_then kind_of_word (field name_in (codes "kind") d)
 
--- a part of an edit, by its own kind; that it is an insertion or a deletion is for the check of the operation
+-- a part of an edit, by its own kind; the check of the operation tells whether it is an insertion or a deletion
 abbrev pub edit_part_in : Data → Option Part
 edit_part_in d = option_and_then (λ k. part_of k d) (kind_in d)
 
--- several parts, or none; one part has the form of its kind
+-- several parts, or none; a single part has the form of its kind
 abbrev pub several : List Part → Option (List Part)
 several parts = if length parts == 1 then None else Some parts
 
@@ -112,17 +113,17 @@ act_of act_word.Pull d =
     of_three act.Pull (field seen_in (codes "seen") d) (field number_in (codes "max") d)
     (if_there (within_in MAX_BATCH) (codes "batch") d)
 
--- an author begins a session
+-- a log-in of an author
 abbrev pub hello_in : Data → Option Request
 hello_in d = of_two request.Hello (field name_in (codes "name") d) (field name_in (codes "token") d)
 
--- a peer begins a session
+-- a log-in of a peer
 abbrev pub peer_in : Data → Option Request
 peer_in d =
     of_three request.Peer (field number_in (codes "number") d) (field name_in (codes "token") d)
     (option_and_then version_of (optional number_in (codes "version") d))
 
--- a pad is created
+-- a creation of a pad
 abbrev pub create_in : Data → Option Request
 create_in d = option_map request.Create (field name_in (codes "pad") d)
 
@@ -130,7 +131,7 @@ create_in d = option_map request.Create (field name_in (codes "pad") d)
 abbrev pub on_in : List ℕ → Data → Option Request
 on_in word d = of_two request.On (field name_in (codes "pad") d) (option_and_then (λ k. act_of k d) (act_word_of word))
 
--- what a word asks
+-- the request that a word names
 abbrev pub asked : List ℕ → Data → Option Request
 asked word d =
     if bytes_eq word (codes "hello") then hello_in d

@@ -1,4 +1,4 @@
--- The words that stand for acts, rights, kinds and states.
+-- The words for acts, rights, kinds and states.
 use Rattle.std.specs.Prelude.{ℕ, List, [], ◌∷◌, codes, bytes_eq, if◌then◌else◌, Option, Some, None}
 use Rattle.rights.specs.declared.right.Right.{Right}
 use Rattle.rights.specs.declared.right.Right.TheVariants as right
@@ -6,8 +6,8 @@ use Rattle.pad_core.specs.declared.reply.Kind.{Kind}
 use Rattle.pad_core.specs.declared.reply.Kind.TheVariants as kind
 use Rattle.pad_core.specs.declared.reply.Pushed.{Pushed}
 use Rattle.pad_core.specs.declared.reply.Pushed.TheVariants as state
-use Rattle.wire_json.specs.declared.act_word.ActWord.{ActWord}
-use Rattle.wire_json.specs.declared.act_word.ActWord.TheVariants as act_word
+use Rattle.wire_json.specs.declared.act_words.ActWord.{ActWord}
+use Rattle.wire_json.specs.declared.act_words.ActWord.TheVariants as act_word
 
 -- the word for a right
 abbrev pub right_word : Right → List ℕ
@@ -38,7 +38,7 @@ state_of_word word =
     else if bytes_eq word (codes "delivered") then Some state.Delivered
     else None
 
--- the right that a word gives: `none` takes it away
+-- the right that a word grants; `none` revokes it
 abbrev pub granted_by : List ℕ → Option (Option Right)
 granted_by word =
     if bytes_eq word (codes "none") then Some None
@@ -58,10 +58,11 @@ kind_of_word word =
     else if bytes_eq word (codes "edit") then Some kind.Edit
     else None
 
--- what a word stands for in a table, if it is there
+-- the meaning of a word in a table, if it is there
 abbrev pub looked_up : {A : Type 0} → List ℕ → List (List ℕ × A) → Option A
 looked_up word [] = None
-looked_up word ((name, meant) ∷ rest) = if bytes_eq word name then Some meant else looked_up word rest
+looked_up word ((name, meant) ∷ rest) = if bytes_eq word name then Some meant
+    else looked_up word rest
 
 -- the acts by their words
 abbrev pub act_words : List (List ℕ × ActWord)

@@ -1,4 +1,4 @@
-//! The fields of an object. What lacks a field, or has another form there, is no request.
+//! The fields of an object. If a field is missing or has another form, the line is not a request (`NotRequest`).
 ghost use Rattle.std.specs.Prelude.{◌≡◌, Some, None, IfOk, MatchResult};
 ghost use Rattle.std.specs.Str.{chars};
 ghost use Rattle.serde_json.specs.Find.{get, as_str};
@@ -11,7 +11,8 @@ use sessions::Word;
 use std::alloc::{AllocError, Global};
 
 pub fn field<'a>(value: &'a Value, key: &str) -> Result<&'a Value, Refusal>
-    ensures { MatchResult result (λ found. get key.now (view value.now) ≡ Some (view found.now)) (λ e. (e ≡ Refusal.NotRequest) × (get key.now (view value.now) ≡ None)) }
+    ensures { MatchResult result (λ found. get key.now (view value.now) ≡ Some (view found.now))
+        (λ e. (e ≡ Refusal.NotRequest) × (get key.now (view value.now) ≡ None)) }
 {
     match value.get(key) {
         Some(found) => Ok(found),
@@ -19,7 +20,7 @@ pub fn field<'a>(value: &'a Value, key: &str) -> Result<&'a Value, Refusal>
     }
 }
 
-/// A number without sign, fraction and exponent, below 2^64.
+/// A number below 2^64, without sign, fraction and exponent.
 pub fn number(value: &Value) -> Result<u64, Refusal>
     ensures { IsForm (number_in (view value.now)) result }
 {
@@ -46,7 +47,7 @@ pub fn optional_number_field(value: &Value, key: &str) -> Result<Option<u64>, Re
     }
 }
 
-/// A number from 1 to most.
+/// A number from 1 to `most`.
 fn limited(value: &Value, most: u64) -> Result<u64, Refusal>
     ensures { IsForm (within_in most (view value.now)) result }
 {
@@ -58,7 +59,7 @@ fn limited(value: &Value, most: u64) -> Result<u64, Refusal>
     }
 }
 
-/// A number from 1 to most that may be absent, but not null.
+/// A number from 1 to `most` that may be absent, but not null.
 pub fn optional_limited_field(value: &Value, key: &str, most: u64) -> Result<Option<u64>, Refusal>
     ensures { IsForm (if_there (within_in most) key.now (view value.now)) result }
 {
@@ -69,7 +70,9 @@ pub fn optional_limited_field(value: &Value, key: &str, most: u64) -> Result<Opt
 }
 
 pub fn str_field<'a>(value: &'a Value, key: &str) -> Result<&'a str, Refusal>
-    ensures { MatchResult result (λ found. field_in as_str key.now (view value.now) ≡ Some found.now) (λ e. (e ≡ Refusal.NotRequest) × (field_in as_str key.now (view value.now) ≡ None)) }
+    ensures { MatchResult result (λ found. field_in as_str key.now (view value.now)
+        ≡ Some found.now) (λ e. (e ≡ Refusal.NotRequest)
+        × (field_in as_str key.now (view value.now) ≡ None)) }
 {
     match field(value, key)?.as_str() {
         Some(text) => Ok(text),

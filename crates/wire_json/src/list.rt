@@ -1,4 +1,4 @@
-//! Lists of one form.
+//! Lists whose items have the same form.
 ghost use Rattle.std.specs.Prelude.{◌≡◌, Option, IfOk};
 ghost use Rattle.serde_json.specs.Data.{Data};
 ghost use Rattle.serde_json.specs.View.{view};
@@ -10,7 +10,7 @@ use pad_model::{Refusal, Row};
 use serde_json::Value;
 use std::alloc::{AllocError, Global};
 
-/// What a JSON value can say.
+/// A type that is read from a JSON value.
 pub trait FromJson: Drop {
     ghost form: { Data → Option Self };
 
@@ -20,7 +20,7 @@ pub trait FromJson: Drop {
         ensures { IsRead (form (view value.now)) result };
 }
 
-/// What can be said as a JSON value.
+/// A type that is written as a JSON value.
 pub trait ToJson {
     ghost says: { Self → Data };
 

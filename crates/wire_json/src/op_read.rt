@@ -5,15 +5,16 @@ ghost use Rattle.wire_json.specs.Reading.{IsForm, IsRead, field as field_in, lis
 ghost use Rattle.wire_json.specs.Requests.{op_in, kind_in, part_of, parts_of, edit_part_in, several as several_of};
 
 use crate::field::{str_field, text_field};
-use crate::form::{op_name_field, seen_field, stamp_field, stamp_or_null_field};
 use crate::list::{FromJson, list_field};
+use crate::read_forms::{op_name_field, seen_field, stamp_field, stamp_or_null_field};
 use crate::word::kind_of_word;
 use pad_core::Kind;
 use pad_model::{Name, Op, Part, Refusal, Row, Run};
 use serde_json::Value;
 use std::alloc::Global;
 
-/// The operation that a value says, or NotRequest or Memory. Whether it is in its limits, `Op::check` tells.
+/// Reads the operation of a value, or returns `NotRequest` or `Memory`. `Op::check` tells whether it is within its
+/// limits.
 pub fn read_op(alloc: Global, value: &Value) -> Result<Op, Refusal>
     ensures { IsRead (op_in (view value.now)) result }
 {
@@ -63,7 +64,7 @@ fn only(alloc: Global, part: Part) -> Result<Row<Part>, Refusal>
     Ok(Row::of_one(alloc, part)?)
 }
 
-/// The parts of an edit. One part alone has the form of its kind.
+/// The parts of an edit. An operation of a single part has the form of its kind instead.
 fn several(alloc: Global, value: &Value) -> Result<Row<Part>, Refusal>
     ensures { IsRead (parts_of Kind.Edit (view value.now)) result }
 {
@@ -77,7 +78,7 @@ fn several(alloc: Global, value: &Value) -> Result<Row<Part>, Refusal>
 impl FromJson for Part {
     ghost form = { edit_part_in };
 
-    /// A part of an edit. That it is an insertion or a deletion, `Op::check` tells.
+    /// A part of an edit. `Op::check` tells whether it is an insertion or a deletion.
     fn from_json(alloc: Global, value: &Value) -> Result<Part, Refusal> {
         read_part(alloc, kind_field(value)?, value)
     }

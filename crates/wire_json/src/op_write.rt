@@ -8,14 +8,16 @@ ghost use Rattle.wire_json.specs.Forms.{with_fields};
 ghost use Rattle.wire_json.specs.Operations.{part_fields, parts_fields, part_data, op_data};
 
 use crate::list::{ToJson, list_value};
-use crate::show::{name_value, op_name_value, parent_value, seen_value, stamp_value, text_value};
 use crate::word::kind_word;
+use crate::write_forms::{
+    name_value, op_name_value, parent_value, seen_value, stamp_value, text_value,
+};
 use pad_core::Kind;
 use pad_model::{Op, Part, Refusal, Run, Stamp, Text};
 use serde_json::{Map, Value, put};
 use std::alloc::{AllocError, Global};
 
-/// An operation as a JSON value: in the form of its kind where it has one part, else as an edit of its parts.
+/// An operation as a JSON value: in the form of its kind if it has one part, and otherwise as an edit of its parts.
 pub fn op_value(alloc: Global, op: &Op) -> Result<Value, Refusal>
     ensures { MatchResult result (λ v. view v ≡ op_data op.now) (λ e. e ≡ Refusal.Memory) }
 {
@@ -72,13 +74,14 @@ fn part_kind(part: &Part) -> Kind
     }
 }
 
-/// One part has its own fields, others stand in a list.
+/// Adds the fields of a single part, or the list of several parts.
 fn put_parts(
     alloc: Global,
     fields: &mut Map<String, Value>,
     parts: &[Part],
 ) -> Result<(), AllocError>
-    ensures { OnOk result (members_view fields.new.entries ≡ with_fields (parts_fields parts.now) (members_view fields.old.entries)) }
+    ensures { OnOk result (members_view fields.new.entries
+        ≡ with_fields (parts_fields parts.now) (members_view fields.old.entries)) }
 {
     match parts {
         [part] => put_part(alloc, fields, part),
@@ -103,9 +106,10 @@ impl ToJson for Part {
     }
 }
 
-/// The fields of a part beside its kind.
+/// Adds the fields of a part, except its kind.
 fn put_part(alloc: Global, fields: &mut Map<String, Value>, part: &Part) -> Result<(), AllocError>
-    ensures { OnOk result (members_view fields.new.entries ≡ with_fields (part_fields part.now) (members_view fields.old.entries)) }
+    ensures { OnOk result (members_view fields.new.entries
+        ≡ with_fields (part_fields part.now) (members_view fields.old.entries)) }
 {
     match part {
         Part::Insert(run) => put_insert(alloc, fields, run),
@@ -116,7 +120,8 @@ fn put_part(alloc: Global, fields: &mut Map<String, Value>, part: &Part) -> Resu
 }
 
 fn put_insert(alloc: Global, fields: &mut Map<String, Value>, run: &Run) -> Result<(), AllocError>
-    ensures { OnOk result (members_view fields.new.entries ≡ with_fields (part_fields (Part.Insert run.now)) (members_view fields.old.entries)) }
+    ensures { OnOk result (members_view fields.new.entries
+        ≡ with_fields (part_fields (Part.Insert run.now)) (members_view fields.old.entries)) }
 {
     put(fields, alloc, "after", parent_value(alloc, run.after)?)?;
     put(fields, alloc, "first", stamp_value(alloc, run.first)?)?;
@@ -130,7 +135,9 @@ fn put_comment(
     last: Stamp,
     text: &Text,
 ) -> Result<(), AllocError>
-    ensures { OnOk result (members_view fields.new.entries ≡ with_fields (part_fields (Part.Comment first last text.now)) (members_view fields.old.entries)) }
+    ensures { OnOk result (members_view fields.new.entries
+        ≡ with_fields (part_fields (Part.Comment first last text.now))
+        (members_view fields.old.entries)) }
 {
     put(fields, alloc, "first", stamp_value(alloc, first)?)?;
     put(fields, alloc, "last", stamp_value(alloc, last)?)?;

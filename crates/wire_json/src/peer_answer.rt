@@ -1,7 +1,7 @@
-//! What a peer answers, from its lines.
+//! Reads a peer's answers from its lines.
 //!
-//! An answer has the form that a server of this project writes; fields beside those of the form are passed over. Whatever
-//! is no answer to what was asked is `NotRequest`, as a line that is no JSON.
+//! An answer has the form that a server of this project writes; other fields are ignored. A line that is not an answer
+//! to the question, or not JSON, is `NotRequest`.
 ghost use Rattle.std.specs.Prelude.{◌≡◌, ◌⊎◌, Some, None, MatchResult, option_and_then, codes};
 ghost use Rattle.serde_json.specs.Find.{get, as_bool};
 ghost use Rattle.serde_json.specs.View.{view};
@@ -12,8 +12,8 @@ ghost use Rattle.wire_json.specs.Reading.{IsForm, IsRead, field as field_in, nam
 ghost use Rattle.wire_json.specs.Words.{state_of_word};
 
 use crate::field::{field, number, number_field, str_field};
-use crate::form::{replica, seen_field};
 use crate::list::list_field;
+use crate::read_forms::{replica, seen_field};
 use crate::request::read_value;
 use crate::word::state_of_word;
 use pad_core::Pushed;
@@ -21,14 +21,14 @@ use pad_model::{Op, Refusal, Row, Seen, Version};
 use serde_json::Value;
 use std::alloc::Global;
 
-/// What a peer answers: what was asked for, or that it refuses.
+/// A peer's answer: what was asked for, or a refusal.
 #[derive(Debug, PartialEq, Drop)]
 pub enum Told<T> {
     Said(T),
     Refused,
 }
 
-/// The answer to `peer`: the version of the peer.
+/// Reads the answer to `peer`: the version of the peer.
 pub fn read_peer_answer(alloc: Global, line: &[u8]) -> Result<Told<Version>, Refusal>
     ensures { IsRead (told peer_answer line.now) result }
 {
@@ -40,7 +40,7 @@ pub fn read_peer_answer(alloc: Global, line: &[u8]) -> Result<Told<Version>, Ref
     }
 }
 
-/// The answer to `vector`: how many operations of each origin the peer's pad has.
+/// Reads the answer to `vector`: how many operations of each origin the peer's pad has.
 pub fn read_vector_answer(alloc: Global, line: &[u8]) -> Result<Told<Seen>, Refusal>
     ensures { IsRead (told vector_answer line.now) result }
 {
@@ -52,7 +52,7 @@ pub fn read_vector_answer(alloc: Global, line: &[u8]) -> Result<Told<Seen>, Refu
     }
 }
 
-/// The answer to `pull`: operations. Whether each is in its limits, `Op::check` tells.
+/// Reads the answer to `pull`: operations. `Op::check` tells whether each is within its limits.
 pub fn read_pull_answer(alloc: Global, line: &[u8]) -> Result<Told<Row<Op>>, Refusal>
     ensures { IsRead (told pull_answer line.now) result }
 {
@@ -64,7 +64,7 @@ pub fn read_pull_answer(alloc: Global, line: &[u8]) -> Result<Told<Row<Op>>, Ref
     }
 }
 
-/// The answer to `push`: what became of the operation.
+/// Reads the answer to `push`: what became of the operation.
 pub fn read_push_answer(alloc: Global, line: &[u8]) -> Result<Told<Pushed>, Refusal>
     ensures { IsRead (told push_answer line.now) result }
 {
@@ -77,7 +77,8 @@ pub fn read_push_answer(alloc: Global, line: &[u8]) -> Result<Told<Pushed>, Refu
 }
 
 fn answer_value(alloc: Global, line: &[u8]) -> Result<Value, Refusal>
-    ensures { MatchResult result (λ v. value_of line.now ≡ Some (view v)) (λ e. (e ≡ Refusal.Memory) ⊎ ((e ≡ Refusal.NotRequest) × (value_of line.now ≡ None))) }
+    ensures { MatchResult result (λ v. value_of line.now ≡ Some (view v))
+        (λ e. (e ≡ Refusal.Memory) ⊎ ((e ≡ Refusal.NotRequest) × (value_of line.now ≡ None))) }
 {
     match read_value(alloc, line) {
         Ok(value) => Ok(value),
@@ -86,7 +87,7 @@ fn answer_value(alloc: Global, line: &[u8]) -> Result<Value, Refusal>
     }
 }
 
-/// Whether an answer grants what was asked.
+/// Whether an answer gives what was asked for. If it neither does nor is a refusal, it is an error.
 fn is_granted(value: &Value) -> Result<bool, Refusal>
     ensures { IsForm (granted_in (view value.now)) result }
 {
@@ -97,7 +98,7 @@ fn is_granted(value: &Value) -> Result<bool, Refusal>
     }
 }
 
-/// That an answer is a refusal, which has a number and a name.
+/// Checks that an answer is a refusal, which has a number and a name, and returns false.
 fn refused(value: &Value) -> Result<bool, Refusal>
     ensures { IsForm (refused_in (view value.now)) result }
 {

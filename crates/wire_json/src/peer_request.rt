@@ -1,24 +1,25 @@
-//! What a server asks a peer, as lines: compact JSON with its keys in byte order, and the line feed.
+//! A server's requests to a peer, as lines: compact JSON with keys in byte order, and a line feed.
 ghost use Rattle.std.specs.Prelude.{◌≡◌, IfOk, string_bytes};
 ghost use Rattle.serde_json.specs.View.{view};
 ghost use Rattle.wire_json.specs.Peers.{peer_request, pull_request, vector_request, push_request};
 ghost use Rattle.wire_json.specs.Replies.{IsWritten};
 
-use crate::line::value_line;
 use crate::list::ToJson;
-use crate::show::{name_value, seen_value};
+use crate::value_lines::value_line;
+use crate::write_forms::{name_value, seen_value};
 use pad_model::{Name, Op, Seen};
 use serde_json::{Value, json};
 use std::alloc::{AllocError, Global};
 
-/// Begins a session at a peer, by this server's number and the token of both, in version 2.
+/// Logs in at a peer, with this server's number and the shared token, in version 2.
 pub fn peer_line(alloc: Global, own: u16, token: &str) -> Result<String, AllocError>
     ensures { IfOk result (λ line. IsWritten (peer_request own token.now) (string_bytes line)) }
 {
     value_line(alloc, peer_value(alloc, own, token))
 }
 
-/// Asks for at most `most` operations of a pad that are not counted in `seen`, or for a batch of so many.
+/// Asks for the first operations of a pad that `seen` does not count: a batch of at most `batch` if it is given and the
+/// peer knows batches, and otherwise at most `most`.
 pub fn pull_line(
     alloc: Global,
     pad: &Name,
@@ -26,7 +27,8 @@ pub fn pull_line(
     most: u64,
     batch: Option<u64>,
 ) -> Result<String, AllocError>
-    ensures { IfOk result (λ line. IsWritten (pull_request pad.now seen.now most batch) (string_bytes line)) }
+    ensures { IfOk result (λ line. IsWritten (pull_request pad.now seen.now most batch)
+        (string_bytes line)) }
 {
     value_line(alloc, pull_value(alloc, pad, seen, most, batch))
 }
@@ -38,7 +40,7 @@ pub fn vector_line(alloc: Global, pad: &Name) -> Result<String, AllocError>
     value_line(alloc, vector_value(alloc, pad))
 }
 
-/// Gives an operation of a pad.
+/// Pushes an operation of a pad.
 pub fn push_line(alloc: Global, pad: &Name, op: &Op) -> Result<String, AllocError>
     ensures { IfOk result (λ line. IsWritten (push_request pad.now op.now) (string_bytes line)) }
 {

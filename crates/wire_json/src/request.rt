@@ -6,17 +6,17 @@ ghost use Rattle.wire_json.specs.Reading.{IsForm, IsLine, IsRead};
 ghost use Rattle.wire_json.specs.Words.{act_word_of};
 ghost use Rattle.wire_json.specs.Requests.{request_in, hello_in, peer_in, create_in, on_in};
 
-use crate::act::read_act;
-use crate::act_word::{ActWord, act_word_of};
+use crate::act_words::{ActWord, act_word_of};
 use crate::field::{name_field, number_field, str_field, word_field};
-use crate::form::version_field;
+use crate::read_acts::read_act;
+use crate::read_forms::version_field;
 use pad_core::Request;
 use pad_model::{Name, Refusal};
 use serde_json::Value;
 use sessions::Word;
 use std::alloc::Global;
 
-/// The request of a line, or why there is none: NotJson, NotRequest, or Memory.
+/// Reads the request of a line, or returns why it is none: `NotJson`, `NotRequest` or `Memory`.
 pub fn read_request(alloc: Global, line: &[u8]) -> Result<Request, Refusal>
     ensures { IsLine (request line.now) result }
 {
@@ -25,7 +25,8 @@ pub fn read_request(alloc: Global, line: &[u8]) -> Result<Request, Refusal>
 }
 
 pub fn read_value(alloc: Global, line: &[u8]) -> Result<Value, Refusal>
-    ensures { MatchResult result (λ v. value_of line.now ≡ Some (view v)) (λ e. (e ≡ Refusal.Memory) ⊎ ((e ≡ Refusal.NotJson) × (value_of line.now ≡ None))) }
+    ensures { MatchResult result (λ v. value_of line.now ≡ Some (view v))
+        (λ e. (e ≡ Refusal.Memory) ⊎ ((e ≡ Refusal.NotJson) × (value_of line.now ≡ None))) }
 {
     match Value::from_slice(alloc, line) {
         Ok(value) => Ok(value),

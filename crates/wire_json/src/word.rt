@@ -1,4 +1,4 @@
-//! The words that stand for rights, kinds and states on the wire.
+//! The words for rights, kinds and states on the wire.
 ghost use Rattle.std.specs.Prelude.{◌≡◌};
 ghost use Rattle.wire_json.specs.Words.{right_word, kind_word, state_word, state_of_word, granted_by, kind_of_word};
 
@@ -16,7 +16,7 @@ pub fn right_word(right: Right) -> &'static str
     }
 }
 
-/// The right that a request gives; `none` takes it away.
+/// The right that a word grants; `none` revokes it.
 pub fn granted_by(word: &str) -> Option<Option<Right>>
     ensures { result ≡ granted_by word.now }
 {
@@ -65,7 +65,7 @@ pub fn state_word(state: Pushed) -> &'static str
     }
 }
 
-/// What became of a pushed operation, as a peer tells it.
+/// What became of a pushed operation, by a peer's word.
 pub fn state_of_word(word: &str) -> Option<Pushed>
     ensures { result ≡ state_of_word word.now }
 {

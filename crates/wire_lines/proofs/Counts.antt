@@ -5,12 +5,12 @@ use Rattle.wire_lines.specs.Device.{one_more}
 use Rattle.wire_lines.specs.declared.fault.Fault.{Fault}
 use Rattle.wire_lines.specs.declared.fault.Fault.TheVariants.{ReadFault, WriteFault, PeerReply, Memory}
 
--- so many reads were made and counted
+-- this many reads were made and counted
 abbrev pub Counted : ℕ → ℕ → ℕ → ℕ → Type 0
 Counted made made_then counted counted_then = (count : ℕ) × (counted_then ≡ counted + count)
     × (made_then ≡ with_more made count)
 
--- two counts, one after the other
+-- two counts in succession
 with_both : (made first second all : ℕ) → all ≡ first + second → with_more made all
     ≡ with_more (with_more made first) second
 with_both made first zero all is = let same : all ≡ first = omega arith in ap (with_more made) same

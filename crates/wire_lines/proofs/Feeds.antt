@@ -33,7 +33,7 @@ line_end-found bytes more lt = prefix_len-append (λ b. not (is_feed b)) bytes m
     pick : (end len other : ℕ) → end < len → cond (eqb end len) other end ≡ end
     pick end len other lt = grind arith
 
--- with more bytes the first line does not end earlier
+-- with more bytes the first line ends no earlier
 pub line_end-more : (bytes more : List ℕ) → line_end bytes ≤ line_end (bytes ++ more)
 line_end-more bytes more =
     subst (λ n. line_end bytes ≤ n) (sym (prefix_len-append (λ b. not (is_feed b)) bytes more))
@@ -45,12 +45,12 @@ line_end-more bytes more =
 place-none : (end len : ℕ) → cond (ltb end len) (Some end) None ≡ None → len ≤ end
 place-none end len is = grind arith
 
--- all that stands behind a place
+-- everything from a place on
 behind : (held : List ℕ) (place : ℕ) → take (length held - place) (drop place held) ≡ drop place held
 behind held place = ap (λ n. take n (drop place held)) (sym (length-drop place held))
     ∙ take_all (length (drop place held)) (drop place held) (omega arith)
 
--- where no line feed is found, the line ends with the bytes
+-- if there is no line feed, the line ends with the bytes
 pub end-none : (held : List ℕ) (from : ℕ) → from ≤ length held
     → position is_feed (take (length held - from) (drop from held)) ≡ None → length held ≡ from
     + line_end (drop from held)

@@ -1,4 +1,4 @@
--- The first line and the others are all the lines.
+-- The first line followed by the others gives all lines.
 use Rattle.std.proofs.Common.{◌≡◌, ℕ, ◌+◌, ◌<◌, suc, ◌⊎◌, ⊎_elim, Bool, true, false, ◌||◌, not, cond, ltb, eqb, List}
 use Rattle.std.proofs.Common.{[], ◌∷◌, length, take, refl, ap, ◌∙◌, sym, subst, arith}
 use Rattle.std.proofs.Math.Nat.{eq-or-lt_of_le}
@@ -24,7 +24,7 @@ parts_none (b ∷ bytes) is = next (is_feed b) (line_end bytes) (parts_none byte
     next true end go is = absurd (omega (arith, is))
     next false end go is = ap (onto_first b) (go (omega (arith, is)))
 
--- behind a line feed there is a part
+-- after a line feed there is a part
 some_part : (bytes : List ℕ) → (part : List ℕ) × (parts : List (List ℕ)) × (slice_split is_feed bytes ≡ part ∷ parts)
 some_part [] = ([], [], refl)
 some_part (b ∷ bytes) = next (is_feed b) (some_part bytes)
@@ -54,7 +54,7 @@ any_behind part parts long is = ap (λ b. b || list_any is_long parts) is
 part_length : (bytes : List ℕ) → length (take (line_end bytes) bytes) ≡ line_end bytes
 part_length bytes = length-take-le (line_end bytes) bytes (line_end-le bytes)
 
--- with a line feed: the first part, and those behind it
+-- with a line feed: the first part, and those after it
 split_at : (bytes : List ℕ) → line_end bytes < length bytes → slice_split is_feed bytes ≡ take (line_end bytes) bytes
     ∷ slice_split is_feed (behind_line bytes)
 split_at bytes lt = slice_split_first is_feed bytes 0 lt
@@ -68,9 +68,6 @@ text_with_feed bytes lt short =
           ∙ ap (λ l. l ∷ lines (behind_line bytes)) (sym (first-of bytes lt)),
       ap (list_any is_long) (split_at bytes lt) ∙ any_behind part (slice_split is_feed (behind_line bytes)) false fits,
     )
-
-nothing_is_cut : is_cut [] ≡ false
-nothing_is_cut = refl
 
 last_line : (bytes : List ℕ) → line_end bytes ≡ length bytes → 0 < length bytes → is_too_long bytes ≡ false
     → (lines bytes ≡ first_line bytes ∷ lines (behind_line bytes)) × (is_cut bytes ≡ is_cut (behind_line bytes))

@@ -1,4 +1,4 @@
--- What a part of the bytes shows of all of them.
+-- What a part of the bytes shows about all of them.
 use Rattle.std.proofs.Common.{◌≡◌, ℕ, ◌+◌, ◌-◌, ◌<◌, ◌≤◌, true, false, cond, ltb, List, ◌++◌, length, length-append}
 use Rattle.std.proofs.Common.{take, drop, refl, ap, ◌∙◌, sym, subst, arith, length-drop, drop-drop}
 use Rattle.std.proofs.lemmas.List.{take-append-le, drop-append-le}
@@ -31,7 +31,7 @@ not-above end most le = grind arith
 above : (end most : ℕ) → most < end → ltb most end ≡ true
 above end most lt = grind arith
 
--- a line feed was found, not too far
+-- a line feed was found within the limit
 pub shows_text : (bytes : List ℕ) → line_end bytes < length bytes → line_end bytes ≤ MAX_LINE
     → ShowsBefore Text bytes (without_return (take (line_end bytes) bytes)) (drop (line_end bytes + 1) bytes)
 shows_text bytes lt few more =
@@ -60,7 +60,7 @@ held_line held waiting start end to is at line =
     sym (line ∙ ap (λ n. without_return (take n (drop start held))) so
     ∙ ap (λ w. without_return (take (line_end waiting) w)) is)
 
--- what is held behind the end of the first line is the rest
+-- what is held after the end of the first line is the rest
 pub held_rest : (held waiting : List ℕ) (start end : ℕ) → drop start held ≡ waiting
     → end ≡ start + line_end (drop start held) → drop (line_end waiting + 1) waiting ≡ drop (end + 1) held
 held_rest held waiting start end is at =

@@ -1,4 +1,4 @@
--- What two writes in a row have written.
+-- What two successive writes have written.
 use Rattle.std.proofs.Common.{◌≡◌, ℕ, ◌+◌, ◌-◌, ◌≤◌, ◌<◌, Bool, true, false, cond, eqb, ◌&&◌, List, length, take, drop}
 use Rattle.std.proofs.Common.{arith, length-drop, Option}
 use Rattle.std.proofs.Math.Seq.{take-add}
@@ -14,13 +14,13 @@ written_more bytes place count a b c front more =
     (drop place bytes) (omega (arith, length-drop place bytes)) in
     rw (take-add place count bytes) (Appends-trans a b c _ _ front (rw all at more))
 
--- no more than there are
+-- at most as many as there are
 pub written_in : (bytes : List ℕ) (place count : ℕ) → place ≤ length bytes →
     count ≤ length (take (length bytes - place) (drop place bytes)) → place + count ≤ length bytes
 written_in bytes place count in_range le =
     omega (arith, length-take (length bytes - place) (drop place bytes), length-drop place bytes)
 
--- some bytes were taken, so it is no failure
+-- some bytes were taken, so the write did not fail
 pub took_some : (count : ℕ) (given : Bool) (failed stays : ℕ) → 0 < count → cond (eqb count 0 && given) failed stays
     ≡ stays
 took_some count true failed stays lt = grind arith

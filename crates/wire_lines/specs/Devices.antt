@@ -1,4 +1,4 @@
--- What a clause reads of the devices over memory and over std.
+-- What contracts see of the devices over memory and over std.
 use Rattle.std.specs.Prelude.{ℕ, ◌%◌, ◌==◌, ◌&&◌, Bool, false, if◌then◌else◌, min, List, length, Result, Ok, Err}
 use Rattle.wire_lines.specs.Device.{one_more}
 use Rattle.wire_lines.specs.declared.device.ReadError.{ReadError}
@@ -12,18 +12,22 @@ use Rattle.wire_lines.specs.declared.std_device.Std.{Std}
 abbrev pub input_rest : Input → List ℕ
 input_rest input = input.rest.now
 
--- how a device is set: it gives or takes so many bytes a call at most, each call is interrupted once or is not, and one
--- call fails (0: none)
+-- the settings of a device: the most bytes that it gives or takes in a call, whether each call is interrupted once, and
+-- which call fails (0: none)
 pub record Settings : Type 0 where
   pub piece : ℕ
   pub is_interrupted : Bool
   pub fails_at : ℕ
 
--- how an input is set
+-- the settings of an input
 abbrev pub input_settings : Input → Settings
-input_settings input = record { piece = input.piece; is_interrupted = input.is_interrupted; fails_at = input.fails_at }
+input_settings input = record {
+  piece = input.piece;
+  is_interrupted = input.is_interrupted;
+  fails_at = input.fails_at;
+}
 
--- what a read of an input answers where the buffer has so much room
+-- the result of a read of an input into a buffer of this size
 abbrev pub input_answer : Input → ℕ → Result ℕ ReadError
 input_answer input room =
     if one_more input.calls == input.fails_at then Err Failed
@@ -34,11 +38,15 @@ input_answer input room =
 abbrev pub output_bytes : Output → List ℕ
 output_bytes output = output.bytes.items
 
--- how an output is set; it is never interrupted
+-- the settings of an output, which is never interrupted
 abbrev pub output_settings : Output → Settings
-output_settings output = record { piece = output.piece; is_interrupted = false; fails_at = output.fails_at }
+output_settings output = record {
+  piece = output.piece;
+  is_interrupted = false;
+  fails_at = output.fails_at;
+}
 
--- what a write of so many bytes to an output answers while there is memory
+-- the result of a write of this many bytes to an output, while there is memory
 abbrev pub output_answer : Output → ℕ → Result ℕ WriteError
 output_answer output count = if one_more output.calls == output.fails_at then Err (record {})
     else Ok (min output.piece count)

@@ -1,9 +1,10 @@
--- What the fields of a splitter of lines and of an inlet keep.
+-- The invariants of a splitter of lines and of an inlet.
 use Rattle.std.specs.Prelude.{◌≡◌, ℕ, ◌+◌, ◌≤◌, List, length, drop}
 use Rattle.wire_lines.specs.Lines.{line_end}
 use Rattle.wire_lines.specs.declared.inlet.TheConstants.{MAX_READS, CHUNK}
 
--- the first line of a splitter starts in what is held, and its end is known; the line found last lies in what is held
+-- the first line of a splitter starts within the held bytes, and its end is known; the line found last is within the
+-- held bytes
 pub record IsSplit (held : List ℕ) (start end line_from line_to : ℕ) : Type 0 where
   pub start_in : start ≤ length held
   pub ends : end ≡ start + line_end (drop start held)
@@ -11,7 +12,7 @@ pub record IsSplit (held : List ℕ) (start end line_from line_to : ℕ) : Type 
   pub line_ordered : line_from ≤ line_to
   pub line_in : line_to ≤ length held
 
--- the last read of an inlet gave so many bytes of a chunk, and no more reads were made than may be
+-- the last read of an inlet gave this many bytes of a chunk, and at most as many reads were made as may be
 pub record IsInlet (chunk : List ℕ) (count reads : ℕ) : Type 0 where
   pub count_in : count ≤ length chunk
   pub whole_chunk : length chunk ≡ CHUNK

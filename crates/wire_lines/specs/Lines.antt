@@ -1,4 +1,4 @@
--- Bytes as lines: where the first one ends, what it says, and what stands behind it.
+-- Bytes as lines: where the first one ends, its bytes, and what follows it.
 use Rattle.std.specs.Prelude.{ℕ, ◌+◌, Bool, ◌==◌, nat_lt, if◌then◌else◌, List, length, take, drop}
 use Rattle.std.specs.List.{position_or_len}
 use Rattle.std.specs.Io.BufRead.{strip_last}
@@ -16,15 +16,16 @@ line_end bytes = position_or_len is_feed bytes
 abbrev pub without_return : List ℕ → List ℕ
 without_return line = strip_last 13 line
 
--- the first line, without its line feed and one carriage return before that; one that no line feed ends is whole
+-- the first line, without its line feed and one carriage return before it; a line that no line feed ends is kept whole
 abbrev pub first_line : List ℕ → List ℕ
-first_line bytes = if nat_lt (line_end bytes) (length bytes) then without_return (take (line_end bytes) bytes)
+first_line bytes = if nat_lt (line_end bytes) (length bytes)
+    then without_return (take (line_end bytes) bytes)
     else bytes
 
--- the bytes behind the first line
+-- the bytes after the first line
 abbrev pub behind_line : List ℕ → List ℕ
 behind_line bytes = drop (line_end bytes + 1) bytes
 
--- whether the first line has more bytes than a line may have, a carriage return counted
+-- whether the first line has more bytes than a line may have, including a carriage return
 abbrev pub is_too_long : List ℕ → Bool
 is_too_long bytes = nat_lt MAX_LINE (line_end bytes)

@@ -1,4 +1,4 @@
--- What a reader of lines has before it, and what it gives of that.
+-- What a reader of lines is yet to read, and what it gives of that.
 use Rattle.std.specs.Prelude.{◌≡◌, ℕ, true, false, List, [], ⊤, Option, None, Some, Result, Ok, Err}
 use Rattle.wire_lines.specs.Lines.{first_line, behind_line, is_too_long}
 use Rattle.wire_lines.specs.Buffer.{ahead}
@@ -8,31 +8,31 @@ use Rattle.wire_lines.specs.declared.lines.Lines.{Lines}
 use Rattle.wire_lines.specs.declared.lines.Line.{Line}
 use Rattle.wire_lines.specs.declared.lines.Line.TheVariants as line
 
--- the reader behind the lines
+-- the reader of the lines
 abbrev pub source_of : {R : Type 0} → Lines R → R
 source_of lines = lines.source
 
--- the bytes that are to come, where they are known
+-- the bytes that are to come, if they are known
 abbrev pub lines_ahead : {R : Type 0} → (R → Option (List ℕ)) → Lines R → Option (List ℕ)
 lines_ahead remaining lines = ahead lines.buffer (remaining lines.source)
 
--- the fault that is answered from now on
+-- the fault that is returned from now on, if any
 abbrev pub fault_of : {R : Type 0} → Lines R → Option Fault
 fault_of lines = lines.buffer.fault
 
--- a line is the first of the bytes that are to come, is too long, or there is none
+-- the line is the first of the bytes that are to come; or that one is too long, or there is none
 abbrev pub IsFirst : Line → List ℕ → Type 0
 IsFirst (line.Text text) bytes = (is_too_long bytes ≡ false) × (text.now ≡ first_line bytes)
 IsFirst line.TooLong bytes = is_too_long bytes ≡ true
 IsFirst line.End bytes = bytes ≡ []
 
--- what is answered is the first line of the bytes, where they are known, or a fault
+-- the result is the first line of the bytes, if they are known, or a fault
 abbrev pub GivesLine : Option (List ℕ) → Result Line Fault → Type 0
 GivesLine None answer = ⊤
 GivesLine (Some bytes) (Err fault) = ⊤
 GivesLine (Some bytes) (Ok line) = IsFirst line bytes
 
--- a line was taken off, and nothing else of the bytes is lost
+-- a line was taken, and nothing else of the bytes is lost
 abbrev pub IsAnswered : Result Line Fault → Option (List ℕ) → Option (List ℕ) → Type 0
 IsAnswered answer None new = ⊤
 IsAnswered answer (Some bytes) None = ⊥
@@ -49,7 +49,7 @@ failures_of failures lines = failures lines.source
 abbrev pub reads_of : {R : Type 0} → Lines R → ℕ
 reads_of lines = lines.buffer.reads
 
--- a fault has its cause: the one of before is answered again, and a new one comes as it does to a search for a line
+-- a fault has its cause: an earlier one is returned again, and a new one has the cause of a failed search for a line
 abbrev pub IsCaused : Option Fault → Result Line Fault → ℕ → ℕ → ℕ → Type 0
 IsCaused (Some fault) answer old new reads = answer ≡ Err fault
 IsCaused None answer old new reads = HasCause answer old new reads

@@ -14,7 +14,7 @@ use crate::splitter::LineSplitter;
 use std::alloc::Global;
 use std::marker::Model;
 
-/// What comes first in the bytes.
+/// What is at the front of the bytes.
 #[derive(Clone, Copy, Debug, PartialEq, Eq)]
 pub enum Found {
     /// A line.
@@ -25,7 +25,7 @@ pub enum Found {
     End,
 }
 
-/// An inlet, a splitter of what it reads, and the fault that ended the reading.
+/// Finds lines in what it reads from a source. After a fault it stays at that fault.
 #[derive(Drop)]
 pub struct LineBuffer {
     inlet: Inlet,
@@ -50,7 +50,8 @@ impl Model for LineBuffer {
 impl LineBuffer {
     /// A buffer that has read nothing.
     pub fn new(alloc: Global) -> Result<LineBuffer, Fault>
-        ensures made { IfOk result (λ buffer. buffer ≡ record { waiting = []; line = []; reads = 0; ended = false; fault = None }) }
+        ensures made { IfOk result (λ buffer. buffer
+            ≡ record { waiting = []; line = []; reads = 0; ended = false; fault = None }) }
         ensures err { IfErr result (λ fault. fault ≡ Memory) }
     {
         Ok(LineBuffer {
@@ -60,33 +61,37 @@ impl LineBuffer {
         })
     }
 
-    /// The line that was found last, without its end.
+    /// The line that was found last, without its line end.
     pub fn line(&self) -> &[u8]
         ensures { result.now ≡ self.now.line }
     {
         self.splitter.line()
     }
 
-    /// Finds the next line, and reads as often as it has to. After a fault, it returns that fault again.
+    /// Finds the next line, reading as often as necessary. After a fault, every call returns that fault.
     pub fn find_line<R: Source>(&mut self, source: &mut R) -> Result<Found, Fault>
-        // What waits and what the source still gives are the bytes to come: what is found stands at their front.
+        // The bytes to come are those that wait and those that the source still gives. The result describes their
+        // front.
         ensures found { IfOk result (λ found. Finds found (ahead self.old (R.remaining source.old))
             self.new.line (ahead self.new (R.remaining source.new))) }
         ensures kept { OnErr result (Keeps (ahead self.old (R.remaining source.old))
             (ahead self.new (R.remaining source.new))) }
 
-        // Each line whose line feed was read has been found before a fault.
-        ensures served { OnErr result (IfNone self.old.fault (line_end self.new.waiting ≡ length self.new.waiting)) }
+        // Before a fault, each line whose line feed was read has been found.
+        ensures served { OnErr result (IfNone self.old.fault
+            (line_end self.new.waiting ≡ length self.new.waiting)) }
         ensures going { OnErr result (IfNone self.old.fault (self.new.ended ≡ false)) }
-        ensures again { IfSome self.old.fault (λ fault. (result ≡ Err fault) × (self.new ≡ self.old) × (source.new ≡ source.old)) }
+        ensures again { IfSome self.old.fault
+            (λ fault. (result ≡ Err fault) × (self.new ≡ self.old) × (source.new ≡ source.old)) }
         ensures fault { self.new.fault ≡ result_err result }
 
-        // Lines come only as long as there is a budget of bytes and reads.
+        // Each line uses up some of a budget of bytes and reads.
         ensures budget { result ≡ Ok Found.Text → budget self.new < budget self.old }
         ensures cause { IfNone self.old.fault
             (HasCause result (R.failures source.old) (R.failures source.new) self.new.reads) }
         ensures counted { IfNone self.old.fault
-            (AreCounted result (R.reads source.old) (R.reads source.new) self.old.reads self.new.reads) }
+            (AreCounted result (R.reads source.old) (R.reads source.new) self.old.reads
+            self.new.reads) }
     {
         if let Some(fault) = self.fault {
             return Err(fault);
@@ -98,7 +103,7 @@ impl LineBuffer {
         answer
     }
 
-    // Reads until the bytes that wait show what the first line is.
+    // Reads until the waiting bytes show what the first line is.
     fn search<R: Source>(&mut self, source: &mut R) -> Result<Found, Fault>
         ensures found { IfOk result (λ found. Finds found (ahead self.old (R.remaining source.old))
             self.new.line (ahead self.new (R.remaining source.new))) }
@@ -108,8 +113,10 @@ impl LineBuffer {
         ensures going { OnErr result (self.new.ended ≡ false) }
         ensures budget { result ≡ Ok Found.Text → budget self.new < budget self.old }
         ensures fault { self.new.fault ≡ self.old.fault }
-        ensures cause { HasCause result (R.failures source.old) (R.failures source.new) self.new.reads }
-        ensures counted { AreCounted result (R.reads source.old) (R.reads source.new) self.old.reads self.new.reads }
+        ensures cause { HasCause result (R.failures source.old) (R.failures source.new)
+            self.new.reads }
+        ensures counted { AreCounted result (R.reads source.old) (R.reads source.new) self.old.reads
+            self.new.reads }
     {
         loop {
             if let Some(found) = self.splitter.next_line() {

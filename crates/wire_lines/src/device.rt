@@ -1,4 +1,4 @@
-//! What a reader and a writer may do: cut, be interrupted, fail.
+//! Readers and writers, which may transfer fewer bytes than asked, be interrupted, or fail.
 ghost use Rattle.std.specs.Prelude.{◌≡◌, ℕ, ◌≤◌, Bool, true, List, Option, None, IfOk, IfSome, OnOk, length};
 ghost use Rattle.std.specs.Io.KnownBytes.{Keeps, ReadConsumes, WriteAppends};
 ghost use Rattle.wire_lines.specs.Device.{after_read, after_write, after_flush, one_more};
@@ -6,7 +6,7 @@ ghost use Rattle.wire_lines.specs.Device.{after_read, after_write, after_flush, 
 /// Why a read gave nothing.
 #[derive(Clone, Copy, Debug, PartialEq, Eq)]
 pub enum ReadError {
-    /// It may be tried again.
+    /// The read was interrupted and can be repeated.
     Interrupted,
     /// The reader failed.
     Failed,
@@ -18,13 +18,13 @@ pub struct WriteError;
 
 /// Bytes that come in.
 pub trait Source {
-    /// The bytes that reads will give from here on, where they are known.
+    /// The bytes that reads will give from now on, if they are known.
     ghost remaining: { Self → Option (List ℕ) };
 
-    /// How many calls have failed, as far as a `u64` counts.
+    /// The number of failed calls, at most the greatest `u64`.
     ghost failures: { Self → ℕ };
 
-    /// How many calls were made, as far as a `u64` counts.
+    /// The number of calls, at most the greatest `u64`.
     ghost reads: { Self → ℕ };
 
     /// Reads once. It returns 0 only at the end, or if the buffer is empty.
@@ -37,16 +37,16 @@ pub trait Source {
 
 /// Bytes that go out.
 pub trait Sink {
-    /// The bytes that were written, where they are known.
+    /// The bytes that were written, if they are known.
     ghost contents: { Self → Option (List ℕ) };
 
-    /// How many calls have failed or taken no byte of some, as far as a `u64` counts.
+    /// The number of calls that failed or took none of the bytes offered, at most the greatest `u64`.
     ghost failures: { Self → ℕ };
 
-    /// Whether all that was written has been sent on, where the writer says so.
+    /// Whether everything that was written has been sent on, if the writer says.
     ghost is_sent: { Self → Option Bool } = { λ _. None };
 
-    /// Writes once, as many bytes as it takes.
+    /// Writes once, and returns how many of the bytes were taken.
     fn write(&mut self, bytes: &[u8]) -> Result<usize, WriteError>
         ensures bound { IfOk result (λ count. count ≤ length bytes.now) }
         ensures bytes { WriteAppends (contents self.old) (contents self.new) result bytes.now }

@@ -9,22 +9,22 @@ use thiserror::Error;
 /// Why a connection or a relay round ended early.
 #[derive(Clone, Copy, Debug, PartialEq, Eq, Error)]
 pub enum Fault {
-    /// 510: the reader failed, or all reads were made.
+    /// 510: the reader failed, or `MAX_READS` reads were made.
     #[error("510 ReadFault")]
     ReadFault,
-    /// 511: the writer failed, or took no byte.
+    /// 511: the writer failed, or took no bytes.
     #[error("511 WriteFault")]
     WriteFault,
-    /// 512: a peer's line is not a reply.
+    /// 512: a line of a peer is not a reply.
     #[error("512 PeerReply")]
     PeerReply,
-    /// 900: there was no memory.
+    /// 900: out of memory.
     #[error("900 Memory")]
     Memory,
 }
 
 impl Fault {
-    /// The number.
+    /// The number of the fault, from 510 on, or 900.
     pub fn code(self) -> u16
         ensures { result ≡ code_of self }
     {
@@ -36,7 +36,7 @@ impl Fault {
         }
     }
 
-    /// The name.
+    /// The name of the fault.
     pub fn name(self) -> &'static str
         ensures { result.now ≡ name_of self }
     {

@@ -3,10 +3,10 @@ ghost use Rattle.std.specs.Prelude.{◌≡◌, ◌+◌, ◌≤◌, length, drop,
 ghost use Rattle.std.specs.List.{position};
 ghost use Rattle.wire_lines.specs.Lines.{is_feed, line_end, without_return};
 
-/// The most bytes of a line: 8 MiB. Its line feed is not counted, a carriage return is.
+/// The most bytes of a line: 8 MiB. The line feed does not count, but a carriage return does.
 pub const MAX_LINE: usize = 8_388_608;
 
-/// Where the line that `from` lies in ends: at the first line feed from there on, or where the bytes end.
+/// The end of the line that contains `from`: the first line feed from there on, or the end of the bytes.
 pub fn end_from(held: &[u8], from: usize) -> usize
     requires { from ≤ length held.now }
     ensures end { result ≡ from + line_end (drop from held.now) }
@@ -24,11 +24,12 @@ fn find_feed(bytes: &[u8]) -> Option<usize>
     bytes.iter().position(|byte| *byte == b'\n')
 }
 
-/// Where a line ends without one carriage return at its end.
+/// The end of a line without one carriage return at its end.
 pub fn end_without_return(held: &[u8], start: usize, feed: usize) -> usize
     requires ordered { start ≤ feed }
     requires in_range { feed ≤ length held.now }
-    ensures line { slice_range held.now start result ≡ without_return (slice_range held.now start feed) }
+    ensures line { slice_range held.now start result
+        ≡ without_return (slice_range held.now start feed) }
     ensures from_start { start ≤ result }
     ensures bound { result ≤ feed }
 {

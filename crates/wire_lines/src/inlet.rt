@@ -10,13 +10,13 @@ use crate::fault::Fault;
 use std::alloc::Global;
 use std::marker::Model;
 
-/// The most reads that are made by one inlet: 2^32.
+/// The most reads that one inlet makes: 2^32.
 pub const MAX_READS: u64 = 4_294_967_296;
 
 /// The most bytes that one read gives: 64 KiB.
 pub const CHUNK: usize = 65_536;
 
-/// What the last read of a source gave, and how many reads were made.
+/// The bytes of the last read of a source, and the number of reads.
 #[derive(Drop)]
 pub struct Inlet {
     chunk: Vec<u8>,
@@ -32,7 +32,11 @@ impl Model for Inlet {
 
     ghost Value = { Come };
 
-    ghost view = { λ i. record { bytes = take i.count i.chunk.items; reads = i.reads; ended = i.ended } };
+    ghost view = { λ i. record {
+      bytes = take i.count i.chunk.items;
+      reads = i.reads;
+      ended = i.ended;
+    } };
 
     ghost invariant = { λ i. IsInlet i.chunk.items i.count i.reads };
 }
@@ -40,7 +44,8 @@ impl Model for Inlet {
 impl Inlet {
     /// An inlet that has read nothing.
     pub fn new(alloc: Global) -> Result<Inlet, Fault>
-        ensures made { IfOk result (λ inlet. inlet ≡ record { bytes = []; reads = 0; ended = false }) }
+        ensures made { IfOk result (λ inlet. inlet
+            ≡ record { bytes = []; reads = 0; ended = false }) }
         ensures err { IfErr result (λ fault. fault ≡ Memory) }
     {
         let mut chunk = Vec::new(alloc);
@@ -68,17 +73,20 @@ impl Inlet {
         self.ended
     }
 
-    /// Reads once. An interrupted read gives no bytes. After `MAX_READS` reads it is ReadFault, and nothing is read.
+    /// Reads once. An interrupted read gives no bytes. After `MAX_READS` reads it returns `ReadFault` without reading.
     pub fn read<R: Source>(&mut self, source: &mut R) -> Result<(), Fault>
         requires going { self.old.ended ≡ false }
-        ensures bytes { Keeps (R.remaining source.old) (prepend_known self.new.bytes (R.remaining source.new)) }
+        ensures bytes { Keeps (R.remaining source.old)
+            (prepend_known self.new.bytes (R.remaining source.new)) }
         ensures most { length self.new.bytes ≤ CHUNK }
         ensures end { OnTrue self.new.ended (IsAtEnd (R.remaining source.new)) }
         ensures err { OnErr result ((self.new.bytes ≡ []) × (self.new.ended ≡ false)) }
         ensures few { self.new.reads ≤ MAX_READS }
         ensures one { OnOk result (self.new.reads ≡ self.old.reads + 1) }
-        ensures cause { HasCause result (R.failures source.old) (R.failures source.new) self.new.reads }
-        ensures counted { AreCounted result (R.reads source.old) (R.reads source.new) self.old.reads self.new.reads }
+        ensures cause { HasCause result (R.failures source.old) (R.failures source.new)
+            self.new.reads }
+        ensures counted { AreCounted result (R.reads source.old) (R.reads source.new) self.old.reads
+            self.new.reads }
     {
         self.count = 0;
         if self.reads >= MAX_READS {

@@ -1,6 +1,7 @@
-//! Bytes as lines, and lines as bytes: readers and writers that may cut, interrupt or fail.
+//! Bytes as lines, and lines as bytes, over readers and writers that may transfer fewer bytes than asked, be
+//! interrupted or fail.
 //!
-//! It depends on std and `thiserror`. It knows no JSON: a line is bytes.
+//! It depends on std and `thiserror`. It knows nothing of JSON: a line is bytes.
 #![tactic(auto)]
 
 mod buffer;

@@ -15,15 +15,15 @@ use std::alloc::Global;
 /// What comes next.
 #[derive(Clone, Copy, Debug, PartialEq, Eq)]
 pub enum Line<'a> {
-    /// A line, without its end.
+    /// A line, without its line end.
     Text(&'a [u8]),
-    /// A line of more than `MAX_LINE` bytes. It is returned again from then on.
+    /// A line of more than `MAX_LINE` bytes. Every later call returns this again.
     TooLong,
     /// No more lines.
     End,
 }
 
-/// The lines of a reader, which may be lent.
+/// The lines of a reader, which may be borrowed.
 #[derive(Drop)]
 pub struct Lines<R> {
     source: R,
@@ -31,7 +31,7 @@ pub struct Lines<R> {
 }
 
 impl<R: Source> Lines<R> {
-    /// Reads nothing yet. If there is no memory, the reader is dropped.
+    /// Creates the lines of a reader, without reading. If memory runs out, the reader is dropped.
     pub fn new(alloc: Global, source: R) -> Result<Lines<R>, Fault>
     where
         R: Drop,
@@ -44,12 +44,14 @@ impl<R: Source> Lines<R> {
         Ok(Lines { source, buffer })
     }
 
-    /// The next line. After a line that is too long, or a fault, it returns that again.
+    /// The next line. After a line that is too long, or a fault, every call returns the same.
     pub fn next(&mut self) -> Result<Line<'_>, Fault>
         ensures line { GivesLine (lines_ahead R.remaining self.old) result }
         ensures* after_borrow { sem 𝓛 (Rests (the_row R.row) self.entry (λ new.
-            IsAnswered result (lines_ahead R.remaining self.old) (lines_ahead R.remaining new) × (fault_of new ≡ result_err result)
-            × IsCaused (fault_of self.old) result (failures_of R.failures self.old) (failures_of R.failures new) (reads_of new))) }
+            IsAnswered result (lines_ahead R.remaining self.old) (lines_ahead R.remaining new)
+            × (fault_of new ≡ result_err result)
+            × IsCaused (fault_of self.old) result (failures_of R.failures self.old)
+            (failures_of R.failures new) (reads_of new))) }
     {
         match self.buffer.find_line(&mut self.source)? {
             Found::Text => Ok(Line::Text(self.buffer.line())),

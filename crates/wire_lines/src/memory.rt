@@ -1,4 +1,4 @@
-//! Devices over memory, for tests: they cut, are interrupted, or fail at a chosen call.
+//! Devices over memory, for tests, which transfer bytes in pieces, are interrupted, or fail at a chosen call.
 ghost use Rattle.std.specs.Prelude.{◌≡◌, ◌⊎◌, ◌+◌, ◌≤◌, ◌<◌, [], Some, true, false, IfOk, IsOk, IsErr, min, length, take, drop};
 ghost use Rattle.std.specs.Io.KnownBytes.{ReadConsumes, WriteAppends};
 ghost use Rattle.wire_lines.specs.Device.{after_read, after_write, one_more};
@@ -24,7 +24,8 @@ impl<'a> Input<'a> {
     /// A reader that fills each buffer and does not fail.
     pub fn new(bytes: &'a [u8]) -> Input<'a>
         ensures bytes { input_rest result ≡ bytes.now }
-        ensures settings { input_settings result ≡ record { piece = usize.MAX; is_interrupted = false; fails_at = 0 } }
+        ensures settings { input_settings result
+            ≡ record { piece = usize.MAX; is_interrupted = false; fails_at = 0 } }
         ensures counts { (result.calls ≡ 0) × (result.failures ≡ 0) }
     {
         Input {
@@ -37,32 +38,38 @@ impl<'a> Input<'a> {
         }
     }
 
-    /// With at most `piece` bytes for each read.
+    /// Gives at most `piece` bytes in each read.
     pub fn in_pieces(mut self, piece: usize) -> Input<'a>
         requires { 0 < piece }
         ensures bytes { input_rest result ≡ input_rest self.entry }
-        ensures settings { input_settings result ≡ record (input_settings self.entry) { piece = piece } }
-        ensures counts { (result.calls ≡ self.entry.calls) × (result.failures ≡ self.entry.failures) }
+        ensures settings { input_settings result
+            ≡ record (input_settings self.entry) { piece = piece } }
+        ensures counts { (result.calls ≡ self.entry.calls)
+            × (result.failures ≡ self.entry.failures) }
     {
         self.piece = piece;
         self
     }
 
-    /// Each read is interrupted once before it gives its bytes.
+    /// Interrupts each read once before it gives bytes.
     pub fn interrupted(mut self) -> Input<'a>
         ensures bytes { input_rest result ≡ input_rest self.entry }
-        ensures settings { input_settings result ≡ record (input_settings self.entry) { is_interrupted = true } }
-        ensures counts { (result.calls ≡ self.entry.calls) × (result.failures ≡ self.entry.failures) }
+        ensures settings { input_settings result
+            ≡ record (input_settings self.entry) { is_interrupted = true } }
+        ensures counts { (result.calls ≡ self.entry.calls)
+            × (result.failures ≡ self.entry.failures) }
     {
         self.is_interrupted = true;
         self
     }
 
-    /// With a read that fails, counted from 1.
+    /// Makes one read fail; reads are counted from 1.
     pub fn failing_at(mut self, call: u64) -> Input<'a>
         ensures bytes { input_rest result ≡ input_rest self.entry }
-        ensures settings { input_settings result ≡ record (input_settings self.entry) { fails_at = call } }
-        ensures counts { (result.calls ≡ self.entry.calls) × (result.failures ≡ self.entry.failures) }
+        ensures settings { input_settings result
+            ≡ record (input_settings self.entry) { fails_at = call } }
+        ensures counts { (result.calls ≡ self.entry.calls)
+            × (result.failures ≡ self.entry.failures) }
     {
         self.fails_at = call;
         self
@@ -80,7 +87,8 @@ impl Source for Input<'_> {
 
     fn read(&mut self, buffer: &mut [u8]) -> Result<usize, ReadError>
         ensures bound { IfOk result (λ count. count ≤ length buffer.new) }
-        ensures bytes { ReadConsumes (Some (input_rest self.old)) (Some (input_rest self.new)) result buffer.new }
+        ensures bytes { ReadConsumes (Some (input_rest self.old)) (Some (input_rest self.new))
+            result buffer.new }
         ensures failures { self.new.failures ≡ after_read result self.old.failures }
         ensures reads { self.new.calls ≡ one_more self.old.calls }
         ensures answer { result ≡ input_answer self.old (length buffer.old) }
@@ -101,7 +109,7 @@ impl Source for Input<'_> {
     }
 }
 
-// Writes a front of the bytes over the front of the buffer.
+// Copies the first `count` bytes over the front of the buffer.
 fn copy_front(bytes: &[u8], buffer: &mut [u8], count: usize)
     requires bytes { count ≤ length bytes.now }
     requires room { count ≤ length buffer.old }
@@ -110,7 +118,7 @@ fn copy_front(bytes: &[u8], buffer: &mut [u8], count: usize)
     buffer[..count].copy_from_slice(&bytes[..count]);
 }
 
-// One more, up to the greatest `u64`.
+// One more, at most the greatest `u64`.
 fn one_more(calls: u64) -> u64
     ensures { result ≡ one_more calls }
 {
@@ -130,10 +138,11 @@ pub struct Output {
 impl Output {
     ghost use Rattle.wire_lines.specs.Devices.{output_bytes, output_settings};
 
-    /// An empty writer, which takes all bytes of a call and fails only if it is out of memory.
+    /// An empty writer, which takes all bytes of a call and fails only if memory runs out.
     pub fn new(alloc: Global) -> Output
         ensures bytes { output_bytes result ≡ [] }
-        ensures settings { output_settings result ≡ record { piece = usize.MAX; is_interrupted = false; fails_at = 0 } }
+        ensures settings { output_settings result
+            ≡ record { piece = usize.MAX; is_interrupted = false; fails_at = 0 } }
         ensures counts { (result.calls ≡ 0) × (result.failures ≡ 0) }
     {
         Output {
@@ -145,27 +154,29 @@ impl Output {
         }
     }
 
-    /// With at most `piece` bytes for each write, which may be 0.
+    /// Takes at most `piece` bytes in each write, which may be 0.
     pub fn in_pieces(mut self, piece: usize) -> Output
         ensures bytes { output_bytes result ≡ output_bytes self }
-        ensures settings { output_settings result ≡ record (output_settings self) { piece = piece } }
+        ensures settings { output_settings result
+            ≡ record (output_settings self) { piece = piece } }
         ensures counts { (result.calls ≡ self.calls) × (result.failures ≡ self.failures) }
     {
         self.piece = piece;
         self
     }
 
-    /// With a write that fails, counted from 1.
+    /// Makes one write fail; writes are counted from 1.
     pub fn failing_at(mut self, call: u64) -> Output
         ensures bytes { output_bytes result ≡ output_bytes self }
-        ensures settings { output_settings result ≡ record (output_settings self) { fails_at = call } }
+        ensures settings { output_settings result
+            ≡ record (output_settings self) { fails_at = call } }
         ensures counts { (result.calls ≡ self.calls) × (result.failures ≡ self.failures) }
     {
         self.fails_at = call;
         self
     }
 
-    /// What was written.
+    /// The bytes that were written.
     pub fn bytes(&self) -> &[u8]
         ensures { result.now ≡ output_bytes self.now }
     {
@@ -184,7 +195,8 @@ impl Sink for Output {
 
     fn write(&mut self, bytes: &[u8]) -> Result<usize, WriteError>
         ensures bound { IfOk result (λ count. count ≤ length bytes.now) }
-        ensures bytes { WriteAppends (Some (output_bytes self.old)) (Some (output_bytes self.new)) result bytes.now }
+        ensures bytes { WriteAppends (Some (output_bytes self.old)) (Some (output_bytes self.new))
+            result bytes.now }
         ensures failures { self.new.failures ≡ after_write result bytes.now self.old.failures }
         ensures answer { IsErr result ⊎ (result ≡ output_answer self.old (length bytes.now)) }
         ensures calls { self.new.calls ≡ one_more self.old.calls }

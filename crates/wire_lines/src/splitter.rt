@@ -1,4 +1,4 @@
-//! Bytes that came in pieces, and the lines in them. Nothing is read here: the caller brings the bytes, or an inlet.
+//! Bytes that arrive in pieces, and the lines in them. Nothing is read here: the caller passes the bytes, or an inlet.
 ghost use Rattle.std.specs.Prelude.{◌≡◌, ◌+◌, ◌≤◌, ◌<◌, true, false, ◌≢◌, nat_lt, [], ◌++◌, length, drop, IfErr, IfNone, IfOk, IfSome, OnOk, OnErr, IsOk, Some, vec_len, vec_capacity};
 ghost use Rattle.std.specs.Bool.{OnTrue};
 ghost use Rattle.std.specs.Io.KnownBytes.{Keeps, IsAtEnd, prepend_known};
@@ -16,18 +16,18 @@ use crate::inlet::{CHUNK, Inlet};
 use std::alloc::Global;
 use std::marker::Model;
 
-// The room that is kept for waiting bytes. What a longer line took is given back when more bytes come.
+// The capacity that is kept for waiting bytes. What a longer line needed is freed when more bytes arrive.
 const KEPT: usize = 2 * CHUNK;
 
-// The room that is kept while nothing comes, so that a short line needs no memory.
+// The capacity that is kept while nothing arrives, so that a short line needs no allocation.
 const KEPT_IDLE: usize = 1_024;
 
-/// Bytes that came and were not used yet, and the line that was found last.
+/// The bytes that arrived and were not yet used, and the line that was found last.
 #[derive(Drop)]
 pub struct LineSplitter {
     held: Vec<u8>,
     start: usize,
-    // Where the first line ends: at its line feed, or where the held bytes end. So no byte is searched twice.
+    // The end of the first line: its line feed, or the end of the held bytes. So no byte is searched twice.
     end: usize,
     line_from: usize,
     line_to: usize,
@@ -49,7 +49,7 @@ impl Model for LineSplitter {
 }
 
 impl LineSplitter {
-    /// A splitter to which nothing came. It takes no memory.
+    /// A splitter without bytes. It allocates no memory.
     pub fn new(alloc: Global) -> LineSplitter
         ensures { result ≡ record { waiting = []; line = [] } }
     {
@@ -62,7 +62,7 @@ impl LineSplitter {
         }
     }
 
-    /// The line that was found last, without its end. There is none after `receive`, `receive_from` and `release`.
+    /// The line that was found last, without its line end. It is empty after `receive`, `receive_from` and `release`.
     pub fn line(&self) -> &[u8]
         ensures { result.now ≡ self.now.line }
     {
@@ -70,14 +70,14 @@ impl LineSplitter {
         &self.held[from..to]
     }
 
-    /// How many bytes wait.
+    /// The number of waiting bytes.
     pub fn len(&self) -> usize
         ensures { result ≡ length self.now.waiting }
     {
         self.held.len() - self.start
     }
 
-    /// Whether no byte waits.
+    /// Whether no bytes wait.
     pub fn is_empty(&self) -> bool
         ensures empty { result ≡ true → self.now.waiting ≡ [] }
         ensures some { result ≡ false → 0 < length self.now.waiting }
@@ -85,9 +85,10 @@ impl LineSplitter {
         self.start == self.held.len()
     }
 
-    /// The first line, without its end, if its line feed has come and it is not too long. It stays.
+    /// The first line, without its line end, if its line feed has arrived and it is not too long. The line stays.
     pub fn first_line(&self) -> Option<&[u8]>
-        ensures some { IfSome result (λ line. ShowsBefore Found.Text self.now.waiting line.now (behind_line self.now.waiting)) }
+        ensures some { IfSome result (λ line. ShowsBefore Found.Text self.now.waiting line.now
+            (behind_line self.now.waiting)) }
         ensures none { IfNone result (has_line self.now.waiting ≡ false) }
     {
         let (start, end) = (self.start, self.end);
@@ -100,14 +101,14 @@ impl LineSplitter {
         None
     }
 
-    /// Whether any byte has come behind the line feed of the first line.
+    /// Whether any byte follows the line feed of the first line.
     pub fn has_second(&self) -> bool
         ensures { result ≡ nat_lt 0 (length (behind_line self.now.waiting)) }
     {
         self.end + 1 < self.held.len()
     }
 
-    /// Puts bytes behind those that wait, or none of them.
+    /// Appends bytes to those that wait; if memory runs out, none of them.
     pub fn receive(&mut self, bytes: &[u8]) -> Result<(), Fault>
         ensures bytes { OnOk result (self.new.waiting ≡ self.old.waiting ++ bytes.now) }
         ensures err { OnErr result (self.new.waiting ≡ self.old.waiting) }
@@ -121,7 +122,7 @@ impl LineSplitter {
         Ok(())
     }
 
-    /// Reads once, and puts what the read gave behind the bytes that wait. Out of memory, nothing is read.
+    /// Reads once, and appends the bytes to those that wait. If memory runs out, nothing is read.
     pub fn receive_from<R: Source>(
         &mut self,
         inlet: &mut Inlet,
@@ -132,12 +133,15 @@ impl LineSplitter {
             (prepend_known self.new.waiting (R.remaining source.new)) }
         ensures most { length self.new.waiting ≤ length self.old.waiting + CHUNK }
         ensures end { OnTrue inlet.new.ended (IsAtEnd (R.remaining source.new)) }
-        ensures err { OnErr result ((self.new.waiting ≡ self.old.waiting) × (inlet.new.ended ≡ false)) }
+        ensures err { OnErr result ((self.new.waiting ≡ self.old.waiting)
+            × (inlet.new.ended ≡ false)) }
         ensures line { self.new.line ≡ [] }
         ensures few { OnOk result (inlet.new.reads ≤ most_reads) }
         ensures one { OnOk result (inlet.new.reads ≡ inlet.old.reads + 1) }
-        ensures cause { HasCause result (R.failures source.old) (R.failures source.new) inlet.new.reads }
-        ensures counted { AreCounted result (R.reads source.old) (R.reads source.new) inlet.old.reads inlet.new.reads }
+        ensures cause { HasCause result (R.failures source.old) (R.failures source.new)
+            inlet.new.reads }
+        ensures counted { AreCounted result (R.reads source.old) (R.reads source.new)
+            inlet.old.reads inlet.new.reads }
     {
         self.make_space();
         self.held.reserve(CHUNK)?;
@@ -146,12 +150,14 @@ impl LineSplitter {
         Ok(())
     }
 
-    /// Takes the first line off, if its line feed has come. One that is too long stays.
+    /// Takes the first line, if its line feed has arrived. A line that is too long stays.
     pub fn next_line(&mut self) -> Option<Found>
-        ensures found { IfSome result (λ found. ShowsBefore found self.old.waiting self.new.line self.new.waiting) }
+        ensures found { IfSome result (λ found. ShowsBefore found self.old.waiting self.new.line
+            self.new.waiting) }
         ensures none { IfNone result (IsPart self.new.waiting) }
         ensures not_end { result ≢ Some Found.End }
-        ensures shorter { result ≡ Some Found.Text → length self.new.waiting < length self.old.waiting }
+        ensures shorter { result ≡ Some Found.Text
+            → length self.new.waiting < length self.old.waiting }
         ensures stays { IfNone result (self.new.waiting ≡ self.old.waiting) }
     {
         let (start, end) = (self.start, self.end);
@@ -170,10 +176,11 @@ impl LineSplitter {
         Some(Found::Text)
     }
 
-    /// Takes all that waits as the last line. False: nothing waits.
+    /// Takes all waiting bytes as the last line. Returns false if there are none.
     pub fn last_line(&mut self) -> bool
         requires { IsPart self.old.waiting }
-        ensures text { result ≡ true → Shows Found.Text self.old.waiting self.new.line self.new.waiting }
+        ensures text { result ≡ true → Shows Found.Text self.old.waiting self.new.line
+            self.new.waiting }
         ensures none { result ≡ false → self.old.waiting ≡ [] }
         ensures rest { self.new.waiting ≡ [] }
     {
@@ -188,7 +195,8 @@ impl LineSplitter {
         true
     }
 
-    /// Gives back the room that waiting bytes do not need, but for 1 KiB. It moves them, so call it while nothing comes.
+    /// Frees the capacity that waiting bytes do not need, except 1 KiB. It moves the bytes, so call it while none
+    /// arrive.
     pub fn release(&mut self)
         ensures { self.new ≡ record { waiting = self.old.waiting; line = [] } }
     {
@@ -196,7 +204,7 @@ impl LineSplitter {
         self.held.shrink_to(KEPT_IDLE);
     }
 
-    // Drops the used bytes once they are half of those held, so that bytes are moved no more often than they come.
+    // Drops the used bytes once they are half of those held, so that at most as many bytes are moved as arrive.
     fn make_space(&mut self)
         ensures { self.new ≡ record { waiting = self.old.waiting; line = [] } }
     {
@@ -220,11 +228,12 @@ impl LineSplitter {
     }
 }
 
-// Appends bytes. Returns where the line ends then that did not end before `end`.
+// Appends bytes, and returns the new end of a line that was searched up to `end`.
 fn append(held: &mut Vec<u8>, end: usize, bytes: &[u8]) -> Result<usize, Fault>
     requires { end ≤ vec_len held.old }
     ensures bytes { OnOk result (held.new.items ≡ held.old.items ++ bytes.now) }
-    ensures end { IfOk result (λ new. (new ≡ end + line_end (drop end held.new.items)) × (new ≤ length held.new.items)) }
+    ensures end { IfOk result (λ new. (new ≡ end + line_end (drop end held.new.items))
+        × (new ≤ length held.new.items)) }
     ensures err { OnErr result (held.new.items ≡ held.old.items) }
     ensures room { vec_len held.old + length bytes.now ≤ vec_capacity held.old → IsOk result }
     ensures fault { IfErr result (λ fault. fault ≡ Memory) }

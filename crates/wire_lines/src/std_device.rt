@@ -1,4 +1,4 @@
-//! The devices over std's readers and writers, by their raw calls.
+//! Devices over std's readers and writers, by single calls.
 ghost use Rattle.std.specs.Prelude.{◌≡◌};
 ghost use Rattle.wire_lines.specs.Device.{one_more};
 
@@ -16,7 +16,7 @@ pub struct Std<T> {
 impl<T> Std<T> {
     ghost use Rattle.wire_lines.specs.Devices.{std_inner};
 
-    /// No call has failed yet.
+    /// Wraps a reader or a writer, with no failed calls.
     pub fn new(inner: T) -> Std<T>
         ensures inner { std_inner result ≡ inner }
         ensures counts { (result.failures ≡ 0) × (result.reads ≡ 0) }
@@ -28,7 +28,7 @@ impl<T> Std<T> {
         }
     }
 
-    /// The reader or writer, when it is not used by this any more.
+    /// Returns the wrapped reader or writer.
     pub fn into_inner(self) -> T
         ensures { result ≡ std_inner self }
     {
@@ -37,7 +37,7 @@ impl<T> Std<T> {
     }
 }
 
-// One more, up to the greatest `u64`.
+// One more, at most the greatest `u64`.
 fn one_more(failures: u64) -> u64
     ensures { result ≡ one_more failures }
 {

@@ -15,7 +15,7 @@ with_more-add made counted (suc count) =
     let one : counted + suc count ≡ suc (counted + count) = omega arith in
     ap one_more (with_more-add made counted count) ∙ ap (with_more made) (sym one)
 
--- the fault that a `?` hands on
+-- the fault that a `?` passes on
 pub fault_exit : {X : Type 0} (r : Result X Fault) (fault : Fault) → IsErrAnd r (λ e. e ≡ fault) → r ≡ Err fault
 fault_exit r fault h = let p = err_from_is_err_and r h in p.1 ∙ ap Err p.2
 
@@ -46,7 +46,7 @@ read_failed X Y Z PeerReply start unread unread_then first made made_then counte
 read_failed X Y Z Memory start unread unread_then first made made_then counted counted_then unwritten unwritten_then
     cause count same so kept = (cause ∙ same, kept)
 
--- and whose fault was told
+-- a read that failed, and whose fault was reported
 pub read_told : (X Y Z : Type 0) (fault told : Fault)
     (start unread unread_then first made made_then counted counted_then unwritten between unwritten_then : ℕ)
     (old new : Option (List ℕ)) → HasCause {X = Y} (Err fault) unread unread_then counted_then →
@@ -72,7 +72,7 @@ read_told X Y Z Memory told start unread unread_then first made made_then counte
     subst (λ f. HasFaultCause {X = X} (Err f) start unread_then first made_then unwritten unwritten_then) (sym failed.0)
     (cause ∙ same, failed.1 ∙ ap one_more kept)
 
--- out of memory for a reply, which was told
+-- there was no memory for a reply, which was reported
 pub memory_told : (X : Type 0) (fault told : Fault) (start unread first made unwritten between unwritten_then : ℕ)
     (old new : Option (List ℕ)) → fault ≡ Memory → unread ≡ start → between ≡ unwritten →
     TellsFault fault told between unwritten_then old new →
@@ -100,7 +100,7 @@ write_failed X Y WriteFault start unread first made before unwritten unwritten_t
 write_failed X Y PeerReply start unread first made before unwritten unwritten_then same kept cause = absurd cause
 write_failed X Y Memory start unread first made before unwritten unwritten_then same kept cause = absurd cause
 
--- the same of what a `?` hands on
+-- the same for a fault that a `?` passes on
 pub write_fails : {X : Type 0} (Y : Type 0) (r : Result X Fault) (fault : Fault)
     (start unread first made before unwritten unwritten_then : ℕ) → IsErrAnd r (λ e. e ≡ fault) → unread ≡ start →
     unwritten ≡ before → HasWriteCause {X = Y} (Err fault) unwritten unwritten_then →

@@ -1,4 +1,4 @@
--- A connection as far as its conversation has come.
+-- A connection, by the progress of its conversation.
 use Rattle.std.proofs.Common.{◌≡◌, ℕ, Bool, true, false, cond, List, [], ◌∷◌, ◌++◌, take, Option, Some, Err}
 use Rattle.std.proofs.Common.{refl, sym, ap, ◌∙◌, subst, append-nil}
 use Rattle.std.specs.Io.KnownBytes.{Appends, Keeps, prepend_known}
@@ -14,40 +14,17 @@ use Rattle.workers.proofs.Serving.{IsServing, at_cut, at_end, breaks_in, cut_in_
 use Rattle.workers.proofs.Talks.{finds_before}
 use Rattle.workers.proofs.Turns.{text_of_one}
 
--- no bytes are to come
+-- no bytes are yet to be answered
 finds_end : (waiting : List ℕ) (ended : Bool) (remaining : Option (List ℕ)) → ended ≡ true → waiting ≡ [] →
     Finds found.End (prepend_known waiting (cond ended (Some []) remaining)) [] (Some [])
 finds_end [] true remaining is none = (refl, refl)
 finds_end [] false remaining is none = absurd (cc)
 finds_end (byte ∷ waiting) ended remaining is none = absurd (cc)
 
--- what waits is the last line
-finds_last : (waiting rest line : List ℕ) (ended : Bool) (remaining : Option (List ℕ)) → ended ≡ true → rest ≡ [] →
-    Shows found.Text waiting line [] →
-    Finds found.Text (prepend_known waiting (cond ended (Some []) remaining)) line
-    (prepend_known rest (cond ended (Some []) remaining))
-finds_last waiting rest line true remaining is none shows =
-    subst (λ r. Shows found.Text (waiting ++ []) line (r ++ [])) (sym none)
-    (subst (λ w. Shows found.Text w line []) (sym (append-nil waiting)) shows)
-finds_last waiting rest line false remaining is none shows = absurd (cc)
-
--- what was told behind no reply
+-- an answer that is the only reply
 only_told : (old new : Talk) (told : Option ℕ) (answers : List Answer) → old.replies ≡ [] → Says old told answers new →
     new.replies ≡ texts answers
 only_told old new told answers none says = says.0 ∙ ap (λ l. l ++ texts answers) none
-
--- the first line that waits is the next one
-pub next_of_first : {P : Type 0} (calls : P → Request → Answer → P → Type 0) (ended : Bool) (old new : P)
-    (talk talked : Talk) → AnswersFirst calls old talk new talked → AnswersNext calls ended old talk new talked
-next_of_first calls ended old new talk talked (line, shows, answers) =
-    (line, (λ remaining. finds_before found.Text talk.waiting line talked.waiting (cond ended (Some []) remaining) shows), answers)
-
--- at the end, so is the last one
-pub next_of_last : {P : Type 0} (calls : P → Request → Answer → P → Type 0) (ended : Bool) (old new : P)
-    (talk talked : Talk) → ended ≡ true → AnswersLast calls old talk new talked →
-    AnswersNext calls ended old talk new talked
-next_of_last calls ended old new talk talked is (line, shows, none, answers) =
-    (line, (λ remaining. finds_last talk.waiting talked.waiting line ended remaining is none shows), answers)
 
 module _ {P : Type 0} (calls : P → Request → Answer → P → Type 0) (old now : P) (known remaining : Option (List ℕ))
     (talk : Talk) (ended : Bool) (before after : Option (List ℕ))
@@ -62,7 +39,7 @@ module _ {P : Type 0} (calls : P → Request → Answer → P → Type 0) (old n
       (ahead talked ended remaining) last line (finds remaining)
       (answers, serves, tells, subst (Appends after last) (only_told talk talked told answers none says) wrote))
 
-  -- the next line was answered, and a front of the reply was written
+  -- the next line was answered, and a prefix of the reply was written
   pub next_breaks : (new : P) (talked : Talk) (last : Option (List ℕ)) → talk.replies ≡ [] →
       AnswersNext calls ended now talk new talked → (count : ℕ) × Appends after last (take count talked.replies) →
       BreaksOff calls old known before last new
@@ -78,7 +55,7 @@ module _ {P : Type 0} (calls : P → Request → Answer → P → Type 0) (old n
         subst (λ t. Appends after last (take count t)) (only_told talk talked told answers none says) wrote,
       )
 
-  -- the next line is too long, and that was written
+  -- the next line is too long, and the reply that says so was written
   pub cut_served : (talked : Talk) (last : Option (List ℕ)) → talk.replies ≡ [] → TellsLong talk talked →
       Appends after last talked.replies → ServesAll calls old known talked.served before last now
   cut_served talked last none (line, shows, says, cut) wrote =
@@ -89,7 +66,7 @@ module _ {P : Type 0} (calls : P → Request → Answer → P → Type 0) (old n
       (subst (Appends after last)
       (only_told talk talked (Some 0) (Err TooLong ∷ []) none says ∙ text_of_one (Err TooLong)) wrote))
 
-  -- a front of that was written
+  -- the next line is too long, and a prefix of the reply that says so was written
   pub cut_breaks : (talked : Talk) (last : Option (List ℕ)) → talk.replies ≡ [] → TellsLong talk talked →
       (count : ℕ) × Appends after last (take count talked.replies) → BreaksOff calls old known before last now
   cut_breaks talked last none (line, shows, says, cut) (count, wrote) =
@@ -101,7 +78,7 @@ module _ {P : Type 0} (calls : P → Request → Answer → P → Type 0) (old n
             (only_told talk talked (Some 0) (Err TooLong ∷ []) none says ∙ text_of_one (Err TooLong)) wrote,
       )
 
-  -- no more bytes come, and none wait
+  -- no more bytes arrive, and none wait
   pub all_served : ended ≡ true → talk.waiting ≡ [] → ServesAll calls old known talk.served before after now
   all_served is none =
       at_end calls old now known (ahead talk ended remaining) talk.served before after so (Some []) []

@@ -1,4 +1,4 @@
--- What a conversation gives out, by its course.
+-- What a conversation outputs, by its course.
 use Rattle.std.proofs.Common.{◌≡◌, inl, inr, ℕ, Bool, true, false, List, [], ◌∷◌, ◌++◌, take, drop}
 use Rattle.std.proofs.Common.{Err, refl, sym, ap, ◌∙◌, subst, append-nil, append_assoc, take-append-drop, Some}
 use Rattle.pad_model.specs.declared.refusal.Refusal.TheVariants.{TooLong}
@@ -38,7 +38,7 @@ follows_line bytes rest line last asked so shows behind =
       (so behind).1 ∙ law.1,
     )
 
--- a line that is too long stays
+-- a line that is too long stays too long
 follows_long : (bytes rest line last : List ℕ) (asked : List (List ℕ)) → Follows bytes asked rest →
     ShowsBefore found.TooLong rest line last → Follows bytes asked last × IsLong last
 follows_long bytes rest line last asked so shows = (
@@ -55,7 +55,7 @@ long_more : (bytes more : List ℕ) → IsLong bytes → IsLong (bytes ++ more)
 long_more bytes more long behind =
     subst (λ l. (lines l ≡ []) × (is_cut l ≡ true)) (sym (append_assoc bytes more behind)) (long (more ++ behind))
 
--- replies that are written are given out as they were
+-- replies that are written are output unchanged
 out_written : (out replies text : List ℕ) (count : ℕ) → out ++ replies ≡ text →
     (out ++ take count replies) ++ drop count replies ≡ text
 out_written out replies text count is =
@@ -68,7 +68,7 @@ out_more out replies new answers more is says =
     ap (λ l. out ++ l) says ∙ sym (append_assoc out replies (texts more)) ∙ ap (λ l. l ++ texts more) is
     ∙ sym (texts-append answers more)
 
--- where no line was too long so far
+-- if no line was too long so far
 none_long : (answers : List Answer) (cut : Bool) → cut ≡ false → answers ++ long_told cut ≡ answers
 none_long answers false uncut = append-nil answers
 none_long answers true uncut = absurd (cc)
@@ -140,7 +140,7 @@ module _ {P : Type 0} (calls : P → Request → Answer → P → Type 0) (other
       let (asked, answers, serves, follows, long, count, gave) = gave_out old now bytes out talk course in
       (asked, answers, between asked answers now new serves other, follows, long, count, gave)
 
-  -- the lines of bytes behind which nothing comes
+  -- the lines of bytes after which nothing arrives
   follows_end : (bytes rest : List ℕ) (asked : List (List ℕ)) → Follows bytes asked rest →
       (lines bytes ≡ asked ++ lines rest) × (is_cut bytes ≡ is_cut rest)
   follows_end bytes rest asked so =
@@ -187,7 +187,7 @@ module _ {P : Type 0} (calls : P → Request → Answer → P → Type 0) (other
         ap (λ (t : Talk). out ++ t.replies) still ∙ gave ∙ ap texts same,
       )
 
--- with nobody in between
+-- if nobody else uses the pads in between
 module _ {P : Type 0} (calls : P → Request → Answer → P → Type 0) where
   served_alone : (old now : P) (asked : List (List ℕ)) (answers : List Answer) →
       ServesApart calls (λ before after. after ≡ before) old asked answers now → Serves calls old asked answers now

@@ -1,14 +1,14 @@
--- What a connection leaves.
+-- The state that a connection leaves.
 use Rattle.std.proofs.Common.{ℕ, List, Option, Result, Ok, Err}
 use Rattle.std.specs.Prelude.{IfOk, OnErr}
 use Rattle.pad_core.specs.declared.request.Request.{Request}
 use Rattle.wire_lines.specs.declared.fault.Fault.{Fault}
 use Rattle.workers.specs.Connection.{BreaksOff, ServesAll, ThenEnds}
-use Rattle.workers.specs.Crew.{ServesConnection}
+use Rattle.workers.specs.WorkerThreads.{ServesConnection}
 use Rattle.workers.specs.Session.{Answer}
 use Rattle.workers.specs.declared.served.Served.{Served}
 
--- lines were answered, and the session was ended, whatever the bytes are
+-- lines were answered, and then the session was ended, whatever the bytes are
 pub was_served : {P : Type 0} (calls : P → Request → Answer → P → Type 0) (ends : P → P → Type 0) (old new : P)
     (known before after : Option (List ℕ)) (result : Result Served Fault)
     → IfOk result (λ served. ThenEnds (ServesAll calls old known served before after) ends new)

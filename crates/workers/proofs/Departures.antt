@@ -9,7 +9,7 @@ use Rattle.sessions.specs.declared.session.Room.{Room}
 use Rattle.shared_pads.specs.Kept.{Departs}
 use Rattle.shared_pads.specs.declared.seat.Seat.{Seat}
 use Rattle.shared_pads.specs.declared.shared_pad.SharedPad.{SharedPad}
-use Rattle.workers.specs.Crew.{LeavesRoom}
+use Rattle.workers.specs.WorkerThreads.{LeavesRoom}
 use Rattle.workers.specs.Seating.{cells_in}
 
 -- the cell of the pad at a place of a row
@@ -25,7 +25,7 @@ same_number a b e = cc
 same_seat : (a b : Seat) → Some a ≡ Some b → a ≡ b
 same_seat a b e = cc
 
--- what was read twice at one place is the same
+-- two reads at one place give the same
 pub same_at : (seats : List Seat) (place : ℕ) (first again : Seat) → place < length seats →
     first ≡ get_or seats place first → again ≡ get_or seats place again → first ≡ again
 same_at seats place first again low first_is again_is =

@@ -1,4 +1,4 @@
--- What is under way comes to its end.
+-- What is under way ends.
 use Rattle.std.proofs.Common.{◌≡◌, inl, inr, ℕ, ◌+◌, ◌<◌, true, nat_lt, List, [], ◌∷◌, length}
 use Rattle.std.proofs.Common.{Option, Some, None, Result, Ok, Err, refl, sym, ap, ◌∙◌, subst, arith}
 use Rattle.std.specs.List.{slice_get, slice_set}
@@ -24,7 +24,7 @@ use Rattle.server_core.proofs.Served.{told_memory}
 use Rattle.server_core.proofs.Named.{get-set_same}
 use Rattle.workers.specs.Fuel.{task_left, actor_left, moves_left}
 
--- a scan goes on only where there is a cell behind
+-- a scan continues only if there is a further cell
 behind : (answer : Result (Option Reply) Refusal) (cell count : ℕ) → goes_on answer cell count ≡ true → cell + 1 < count
 behind (Ok None) cell count e = ltb-true (cell + 1) count e
 behind (Ok (Some reply)) cell count e = cc
@@ -35,7 +35,7 @@ concludes request (Ok None) e = cc
 concludes request (Ok (Some reply)) e = cc
 concludes request (Err refusal) e = cc
 
--- a move after which something is still under way has less before it
+-- a move after which something is still under way leaves fewer moves to make
 abbrev Nears : Task → Actor → List Machine → Moved × Actor × List Machine → Type 0
 Nears task a cells done = done.0 ≡ moved.Scanning → task_left done.1.task done.1 done.2 < task_left task a cells
 
@@ -64,7 +64,7 @@ move-nears replica accounts (Listing cell found) a cells e = split (nat_lt (cell
     (λ stops. rw stops (λ is. cc))
 move-nears replica accounts Leaving a cells e = leave-nears a a.rooms cells refl
 
--- the same of a server's actor
+-- the same for a server's actor
 from_actor : (s : Server) (actor : ℕ) (answer : Moved) (new : Server) (o : Option Actor) → slice_get s.actors actor
     ≡ o → Served s actor Move answer new → answer ≡ moved.Scanning
     → moves_left actor new < moves_left actor s

@@ -1,4 +1,4 @@
--- Seats that serve another session than the thread's own.
+-- Seats that serve a session other than the thread's own.
 use Rattle.std.proofs.Common.{◌≡◌, inl, inr, ℕ, Bool, true, false, List, [], ◌∷◌, Result, Ok, Err, refl, ap, ◌∙◌}
 use Rattle.std.specs.Result.{OnErr}
 use Rattle.pad_model.specs.declared.refusal.Refusal.{Refusal}
@@ -6,7 +6,7 @@ use Rattle.pad_core.specs.declared.request.Request.{Request}
 use Rattle.sessions.specs.Session.{Session}
 use Rattle.wire_json.specs.Lines.{request}
 use Rattle.wire_lines.specs.declared.fault.Fault.{Fault}
-use Rattle.workers.specs.Crew.{CallsRow, lent}
+use Rattle.workers.specs.WorkerThreads.{CallsRow, lent}
 use Rattle.workers.specs.Session.{Answer, Hears, Serves}
 use Rattle.workers.specs.Talk.{Talk, AnswersFirst, AnswersLast}
 use Rattle.workers.specs.declared.conversation.Turn.{Turn}
@@ -14,7 +14,7 @@ use Rattle.workers.specs.declared.conversation.Turn.TheVariants as turn
 use Rattle.workers.specs.declared.shared.Shared.{Shared}
 
 module _ {S R G : Type 0} where
-  -- a session that is handed out, in its place again
+  -- a session that was swapped out is put back
   pub lent_back : (pads self : Shared S R G) (own session : Session) → self ≡ lent pads own →
       session ≡ pads.session → lent self session ≡ pads
   lent_back pads self own session is same = ap (λ s. lent s session) is ∙ ap (λ x. lent pads x) same
@@ -26,7 +26,7 @@ module _ {S R G : Type 0} where
   hears_row old new (Ok asked) answer (inr (is, same)) = ap (λ (s : Shared S R G). s.row) same
   hears_row old new (Err refusal) answer (inr (is, same)) = ap (λ (s : Shared S R G). s.row) same
 
-  -- a line leaves the row
+  -- a line leaves the row unchanged
   serves_row : (old new : Shared S R G) (line : List ℕ) (answers : List Answer) →
       Serves CallsRow old (line ∷ []) answers new → new.row ≡ old.row
   serves_row old new [] [] served = ap (λ (s : Shared S R G). s.row) served
@@ -36,7 +36,7 @@ module _ {S R G : Type 0} where
       ap (λ (s : Shared S R G). s.row) same ∙ hears_row old mid (request (byte ∷ line)) answer hears
   serves_row old new (byte ∷ line) (told ∷ other ∷ answers) (mid, tells, none) = absurd none
 
-  -- a turn leaves it
+  -- a turn leaves the row unchanged
   pub turn_row : (old new : Shared S R G) (talk talked : Talk) (result : Result Turn Fault) (L W F : Type 0) →
       (result ≡ Ok turn.Answered → AnswersFirst CallsRow old talk new talked) →
       (result ≡ Ok turn.Cut → L × (new ≡ old)) →

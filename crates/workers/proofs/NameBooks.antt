@@ -1,4 +1,4 @@
--- Names that are learned, and where one of them stands.
+-- Names that are learned, and the place of one of them.
 use Rattle.std.proofs.Common.{◌≡◌, ℕ, suc, ◌+◌, ◌≤◌, Bool, true, false, cond, List, [], ◌∷◌, ◌++◌, length, not}
 use Rattle.std.proofs.Common.{Option, Some, None, refl, sym, ap, ◌∙◌, subst, arith}
 use Rattle.std.specs.Prelude.{nat_lt}
@@ -8,7 +8,7 @@ use Rattle.std.proofs.lemmas.Bool.{ltb-false}
 use Rattle.shared_pads.specs.Kept.{IsNamed}
 use Rattle.workers.specs.Names.{AreNames}
 
--- the name of the next cell behind those of the cells before it
+-- the name of the next cell after those of the cells before it
 pub names_push : (cell : ℕ) (names : List (List ℕ)) (name : List ℕ) → AreNames cell names →
     IsNamed (cell + length names) name → AreNames cell (names ++ name ∷ [])
 names_push cell [] name h one =
@@ -17,7 +17,7 @@ names_push cell (x ∷ names) name h one =
     let at : cell + suc (length names) ≡ cell + 1 + length names = omega arith in
     (h.0, names_push (cell + 1) names name h.1 (subst (λ n. IsNamed n name) at one))
 
--- the names after one was inserted where it is the next one
+-- the names after one was inserted, if it is that of the next cell
 pub names_kept : (names : List (List ℕ)) (name : List ℕ) (cell : ℕ) (known : Bool) → AreNames 0 names →
     IsNamed cell name → cell ≡ length names → AreNames 0 (cond known names (names ++ name ∷ []))
 names_kept names name cell true h one at = h
@@ -25,19 +25,11 @@ names_kept names name cell false h one at =
     let next : cell ≡ 0 + length names = omega arith in
     names_push 0 names name h (subst (λ n. IsNamed n name) next one)
 
-found_in : (b : Bool) (n i : ℕ) → (let o : Option ℕ = cond b (Some n) None in o) ≡ Some i → i ≡ n
-found_in true n i e = cc
-found_in false n i e = absurd (cc)
-
 none_in : (b : Bool) (n : ℕ) → (let o : Option ℕ = cond b (Some n) None in o) ≡ None → b ≡ false
 none_in true n e = absurd (cc)
 none_in false n e = refl
 
--- where a name stands that was found
-pub place_found : {X : Type 0} (p : X → Bool) (xs : List X) (i : ℕ) → position p xs ≡ Some i → i ≡ position_or_len p xs
-place_found p xs i e = found_in (nat_lt (position_or_len p xs) (length xs)) (position_or_len p xs) i e
-
--- and where one would that was not
+-- a name that is not known has its place after all names
 pub place_missing : {X : Type 0} (p : X → Bool) (xs : List X) → position p xs ≡ None → length xs ≡ position_or_len p xs
 place_missing p xs e =
     let past = ltb-false (position_or_len p xs) (length xs)

@@ -28,7 +28,7 @@ use Rattle.server_core.specs.declared.task.Task.TheVariants.{Resting, Scanning, 
 use Rattle.server_core.proofs.Named.{get-set_same}
 use Rattle.workers.specs.Calls.{IsAtRest, IsUnderWay, IsCall, IsAnswer}
 
--- after what was told an actor rests, or something is under way
+-- after a step an actor rests or something is under way, as the outcome says
 abbrev pub Leaves : Moved → Actor → Type 0
 Leaves moved.Scanning a = is_busy a.task ≡ true
 Leaves (moved.Done reply) a = a.task ≡ Resting
@@ -36,7 +36,7 @@ Leaves (moved.Refused refusal) a = a.task ≡ Resting
 Leaves moved.Idle a = ⊥
 Leaves (moved.Named name) a = ⊥
 
--- the same of a server's actor
+-- the same for a server's actor
 abbrev pub LeavesAt : ℕ → Moved → Server → Type 0
 LeavesAt actor answer new = (a : Actor) × (slice_get new.actors actor ≡ Some a) × Leaves answer a
 
@@ -121,7 +121,7 @@ put s new actor a done answer is step leaves =
       leaves,
     )
 
--- a step that was out of memory leaves the actor at rest
+-- a step that runs out of memory leaves the actor at rest
 none_leaves : (step : Step) (task : Task) (a : Actor) (cells : List Machine) (expected answer : Moved) (new : Actor)
     (after : List Machine) → a.task ≡ task → FoundNone step task a cells expected answer new after →
     (answer ≡ moved.Refused Memory) × (new.task ≡ Resting)
@@ -163,7 +163,7 @@ pub moves_leave : (s new : Server) (actor : ℕ) (answer : Moved) → IsUnderWay
 moves_leave s new actor answer busy served =
     leaves_at s new actor Move busy.0 answer busy.1 (move-leaves busy.0.task busy.0 s.cells busy.2) served
 
--- what is not under way is answered
+-- if nothing is under way, there is an answer
 pub rests : (actor : ℕ) (answer : Moved) (new : Server) → (answer ≡ moved.Scanning → ⊥) → LeavesAt actor answer new →
     IsAnswer answer × IsAtRest new actor
 rests actor moved.Scanning new not leaves = absurd (not refl)

@@ -41,7 +41,7 @@ passes_on cell place who now then request old mid new told low (same, passed) st
       ),
     )
 
--- a search where nothing speaks against the request
+-- a search that is not refused at once
 pub searched : (r : Option Refusal) (row : ℕ) (name : List ℕ) (who then : Who) (request : Request) (old new : Seated)
     (answer : Result Reply Refusal) → r ≡ None → then ≡ who → Seeks row name who request old answer new →
     Searches r row name who request old answer new × (then ≡ who)

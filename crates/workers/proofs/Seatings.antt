@@ -1,4 +1,4 @@
--- Seats that are made one after the other, and pads that are.
+-- Seats, and pads, that are made one after another.
 use Rattle.std.proofs.Common.{◌≡◌, ◌+◌, ℕ, zero, suc, List, [], ◌∷◌, ◌++◌, Result, Ok, Err, IsErrAnd, sym, ap, ap₂}
 use Rattle.std.proofs.Common.{◌∙◌, arith}
 use Rattle.std.specs.Prelude.{Vec, replicate}
@@ -38,14 +38,14 @@ one_more_thread {S} old crew new more seats row count so cells pushed full = (
       ∙ replicate_more count (cells_in row),
 )
 
--- what a refusal leaves
+-- the seats after a refusal
 pub refused_taking : {S : Type 0} (P : Refusal → Type 0) (row : List (SharedPad S)) (threads : ℕ)
     (old new : List (Vec Seat Global)) (result : Result (Unit {0}) Refusal) → IsErrAnd result P →
     TakesAllSeats row threads old (Err Memory) new → TakesAllSeats row threads old result new
 refused_taking P row threads old new (Err refusal) refused taken = taken
 refused_taking P row threads old new (Ok done) refused taken = absurd refused
 
--- so many numbers and the next one are one number more
+-- a range of numbers and the next number are a range with one more
 range_more : (first count : ℕ) → range_with_len first (suc count) ≡ range_with_len first count ++ (first + count) ∷ []
 range_more first zero = let same : first ≡ first + zero = omega arith in ap (λ n. n ∷ []) same
 range_more first (suc count) =

@@ -1,4 +1,4 @@
--- A connection as far as it has come, and how it ends.
+-- A connection at any point, and how it ends.
 use Rattle.std.proofs.Common.{◌≡◌, inl, inr, ℕ, ◌+◌, cond, List, [], ◌∷◌, ◌++◌, length, take, Option, None, Some, Err}
 use Rattle.std.proofs.Common.{refl, sym, ap, ◌∙◌, subst, append-nil, append_assoc, arith, length-append}
 use Rattle.std.specs.Io.KnownBytes.{Appends, Keeps, prepend_known}
@@ -23,7 +23,7 @@ use Rattle.workers.specs.Delivered.{IsCount, Tells, counted, delivered_of, up_to
 use Rattle.workers.specs.declared.served.Served.{Served}
 use Rattle.workers.proofs.Turns.{serves_then, texts-append, text_of_one}
 
--- the lines so far were answered, the answers written, and these bytes are still to come
+-- the lines so far were answered and the answers written, and these bytes are not read yet
 pub record IsServing {P : Type 0} (calls : P → Request → Answer → P → Type 0) (old now : P)
     (known left : Option (List ℕ)) (served : Served) (before after : Option (List ℕ)) : Type 0 where
   pub asked : List (List ℕ)
@@ -84,7 +84,7 @@ cut_whole (Some bytes) (Some more) (Some rest) asked line stays finds =
       sym (ap (λ b. cond b (Err TooLong ∷ []) []) (stays.1 ∙ law.1)),
     )
 
--- behind a line
+-- after a line
 line_left : (known left rest : Option (List ℕ)) (asked : List (List ℕ)) (line : List ℕ) → IsBefore known asked left →
     Finds found.Text left line rest → IsBefore known (asked ++ line ∷ []) rest
 line_left None left rest asked line stays finds = tt
@@ -94,7 +94,7 @@ line_left (Some bytes) (Some more) (Some rest) asked line stays finds =
     let law = lines_in_order found.Text more line rest finds in
     (stays.0 ∙ ap (λ l. asked ++ l) law.0 ∙ sym (append_assoc asked (line ∷ []) (lines rest)), stays.1 ∙ law.1)
 
--- what stays is kept
+-- what remains is kept
 pub kept_left : (known left rest : Option (List ℕ)) (asked : List (List ℕ)) → IsBefore known asked left → Keeps left rest →
     IsBefore known asked rest
 kept_left None left rest asked stays keeps = tt
@@ -103,7 +103,7 @@ kept_left (Some bytes) (Some more) None asked stays keeps = absurd keeps
 kept_left (Some bytes) (Some more) (Some rest) asked stays keeps =
     (stays.0 ∙ ap (λ l. asked ++ lines l) (sym keeps), stays.1 ∙ ap is_cut (sym keeps))
 
--- the lines that stay follow
+-- the remaining lines follow
 front_left : (known left : Option (List ℕ)) (asked : List (List ℕ)) → IsBefore known asked left → IsFront known asked []
 front_left None left asked stays = inl refl
 front_left (Some bytes) None asked stays = absurd stays
@@ -123,7 +123,7 @@ front_whole None asked tail (inl none) = inl none
 front_whole None asked tail (inr cut) = inr (inl cut)
 front_whole (Some bytes) asked tail whole = ([], sym (append-nil asked ∙ whole.0), inr (inl (refl, whole.1)))
 
--- some of the next line and those behind it stay
+-- some of the next line and of those after it remain
 front_some : (known rest : Option (List ℕ)) (asked some more : List (List ℕ)) (line : List ℕ) → line ∷ [] ≡ some
     ++ more → IsBefore known (asked ++ line ∷ []) rest → IsFront known (asked ++ some) []
 front_some None rest asked some more line parts stays = inl refl
@@ -140,7 +140,7 @@ pub whole_text : (text : List ℕ) (before after : Option (List ℕ)) → Append
     Appends before after (take (length text) text)
 whole_text text before after wrote = subst (Appends before after) (sym (take-length text)) wrote
 
--- a text, and then a front of another
+-- a text, followed by a prefix of another
 pub front_text : (text other : List ℕ) (count : ℕ) (a b c : Option (List ℕ)) → Appends a b text →
     Appends b c (take count other) → Appends a c (take (length text + count) (text ++ other))
 front_text text other count a b c first then = subst (Appends a c) (sym (take-append-add text other count))
@@ -162,7 +162,7 @@ module _ {P : Type 0} (calls : P → Request → Answer → P → Type 0) (old n
       subst (λ l. Appends before after (texts l)) (sym (append-nil so.answers)) so.written,
     )
 
-    -- a line is too long, and that is told
+    -- a line is too long, and the reply says so
     pub at_cut : (rest last : Option (List ℕ)) (line : List ℕ) → Finds found.TooLong left line rest →
         Appends after last (line_of (Err TooLong)) → ServesAll calls old known (counted served (Some 0)) before last now
     at_cut rest last line finds wrote = (
@@ -177,7 +177,7 @@ module _ {P : Type 0} (calls : P → Request → Answer → P → Type 0) (old n
           (Appends-trans before after last (texts so.answers) (line_of (Err TooLong)) so.written wrote),
     )
 
-    -- that a line is too long is told in part
+    -- a prefix of the reply that a line is too long is written
     pub cut_in_part : (rest last : Option (List ℕ)) (line : List ℕ) → Finds found.TooLong left line rest → (count : ℕ)
         × Appends after last (take count (line_of (Err TooLong)))
         → BreaksOff calls old known before last now
@@ -206,7 +206,7 @@ module _ {P : Type 0} (calls : P → Request → Answer → P → Type 0) (old n
           (whole_text (texts so.answers) before after so.written),
     )
 
-    -- that there is no memory for a line is told, or a front of it is
+    -- the reply that there is no memory for a line is written, or a prefix of it
     memory_told : (count : ℕ) (last : Option (List ℕ)) → Appends after last (take count (line_of (Err Refusal.Memory))) →
         BreaksOff calls old known before last now
     memory_told count last wrote = (
@@ -221,7 +221,7 @@ module _ {P : Type 0} (calls : P → Request → Answer → P → Type 0) (old n
           (front_text (texts so.answers) (line_of (Err Refusal.Memory)) count before after last so.written wrote),
     )
 
-    -- no line is found, and that is told where memory ran out
+    -- no line is found, and out of memory is reported if it is the cause
     pub told_off : (fault told : Fault) (failed failed_then : ℕ) (last : Option (List ℕ)) →
         TellsFault fault told failed failed_then after last → BreaksOff calls old known before last now
     told_off ReadFault told failed failed_then last tells = subst (λ l. BreaksOff calls old known before l now)
@@ -235,7 +235,7 @@ module _ {P : Type 0} (calls : P → Request → Answer → P → Type 0) (old n
         (whole_text (line_of (Err Refusal.Memory)) after last wrote)
     told_off Memory told failed failed_then last (inr (write, more, count, wrote)) = memory_told count last wrote
 
-    -- no line is found where memory ran out, and that was told whole
+    -- no line is found because memory ran out, and that was reported in a whole line
     pub runs_out : (fault told : Fault) (failed failed_then : ℕ) (last : Option (List ℕ)) →
         TellsFault fault told failed failed_then after last → told ≡ Memory → RunsOut calls old known before last now
     runs_out ReadFault told failed failed_then last tells memory = let same : told ≡ ReadFault = tells.0 in absurd (cc)
@@ -280,7 +280,7 @@ module _ {P : Type 0} (calls : P → Request → Answer → P → Type 0) (old n
       stays = line_left known left rest so.asked line so.stays finds;
     }
 
-    -- one more line, or not quite
+    -- one more line, or a prefix of its reply
     pub breaks_in : (new : P) (rest last : Option (List ℕ)) (line : List ℕ) → Finds found.Text left line rest →
         ServesSome calls now (line ∷ []) after last new → BreaksOff calls old known before last new
     breaks_in new rest last line finds (asked, more, answers, count, parts, serves, wrote) = (

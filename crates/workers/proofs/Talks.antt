@@ -1,4 +1,4 @@
--- Bytes that come in pieces: the lines that were answered so far, whatever comes behind them.
+-- Bytes that arrive in pieces: the lines answered so far, whatever bytes follow them.
 use Rattle.std.proofs.Common.{◌≡◌, ℕ, List, ◌++◌, length, Option, None, Some}
 use Rattle.std.proofs.Common.{◌≤◌, drop, ap, ◌∙◌}
 use Rattle.std.proofs.lemmas.List.{drop-append-le}
@@ -6,13 +6,13 @@ use Rattle.std.specs.Io.KnownBytes.{prepend_known}
 use Rattle.wire_lines.specs.Buffer.{Finds, ShowsBefore}
 use Rattle.wire_lines.specs.declared.buffer.Found.{Found}
 
--- what shows whatever follows shows before what is to come
+-- what is shown whatever follows is shown before the bytes yet to arrive
 pub finds_before : (what : Found) (waiting line rest : List ℕ) (remaining : Option (List ℕ)) →
     ShowsBefore what waiting line rest → Finds what (prepend_known waiting remaining) line (prepend_known rest remaining)
 finds_before what waiting line rest None shows = tt
 finds_before what waiting line rest (Some more) shows = shows more
 
--- a text behind others of which some were written
+-- a text appended to others, of which some were written
 pub put_behind : (items new line before text : List ℕ) (sent : ℕ) → new ≡ items ++ line → sent ≤ length items
     → drop sent items ≡ before → line ≡ text → drop sent new ≡ before ++ text
 put_behind items new line before text sent is le rest same =

@@ -1,4 +1,4 @@
--- One line, and one line after another.
+-- One line, and several lines one after another.
 use Rattle.std.proofs.Common.{◌≡◌, ℕ, false, eqb, List, [], ◌∷◌, ◌++◌, length, take, Option, Some, Result, Ok, Err}
 use Rattle.std.proofs.Common.{refl, sym, ap, ◌∙◌, subst, append-nil, append_assoc}
 use Rattle.std.specs.Result.{OnErr}
@@ -9,7 +9,7 @@ use Rattle.wire_json.specs.Replies.{line_of}
 use Rattle.workers.specs.Session.{Answer, Hears, TellsLine, Serves, ServesSome, texts}
 use Rattle.workers.specs.Connection.{ServesOne, WritesAnswer, WritesPart}
 
--- what holds in any case holds of an error
+-- what holds in any case holds for an error
 pub of_error : {X E : Type 0} (r : Result X E) (Q : Type 0) → Q → OnErr r Q
 of_error (Ok x) Q q = tt
 of_error (Err e) Q q = q

@@ -1,4 +1,4 @@
--- What an actor's call of the server machine comes to.
+-- The outcome of an actor's call of the server machine.
 use Rattle.std.specs.Prelude.{◌≡◌, ◌⊎◌, ℕ, zero, suc, true, List, Option, Some, slice_get, Result, Ok, Err}
 use Rattle.pad_model.specs.declared.refusal.Refusal.{Refusal}
 use Rattle.pad_core.specs.declared.reply.Reply.{Reply}
@@ -22,11 +22,12 @@ pub record Alone : Type 0 where
 abbrev pub IsAtRest : Server → ℕ → Type 0
 IsAtRest server actor = (a : Actor) × (slice_get server.actors actor ≡ Some a) × (a.task ≡ Resting)
 
--- a scan or an end of the actor is under way
+-- a scan or the end of a session is under way for the actor
 abbrev pub IsUnderWay : Server → ℕ → Type 0
-IsUnderWay server actor = (a : Actor) × (slice_get server.actors actor ≡ Some a) × (is_busy a.task ≡ true)
+IsUnderWay server actor = (a : Actor) × (slice_get server.actors actor ≡ Some a)
+    × (is_busy a.task ≡ true)
 
--- a step that is gone on with until nothing is under way
+-- a step that asks a request, makes the session that of a peer, or ends it
 abbrev pub IsCall : Step → Type 0
 IsCall (Ask request) = Unit {0}
 IsCall (Relay number) = Unit {0}
@@ -34,7 +35,7 @@ IsCall End = Unit {0}
 IsCall Move = ⊥
 IsCall (Look cell) = ⊥
 
--- what is told is an answer
+-- the outcome is a reply or a refusal
 abbrev pub IsAnswer : Moved → Type 0
 IsAnswer (Done reply) = Unit {0}
 IsAnswer (Refused refusal) = Unit {0}
@@ -42,12 +43,13 @@ IsAnswer Scanning = ⊥
 IsAnswer Idle = ⊥
 IsAnswer (Named name) = ⊥
 
--- so many moves in a row, after each of which something is still under way
+-- this many moves in a row, after each of which something is still under way
 abbrev pub Scans : ℕ → ℕ → Server → Server → Type 0
 Scans actor zero old new = new ≡ old
-Scans actor (suc count) old new = (mid : Server) × Scans actor count old mid × Served mid actor Move Scanning new
+Scans actor (suc count) old new = (mid : Server) × Scans actor count old mid
+    × Served mid actor Move Scanning new
 
--- moves lead to an answer
+-- some moves lead to an answer
 abbrev pub Finishes : ℕ → Server → Moved → Server → Type 0
 Finishes actor old answer new = (count : ℕ) × (mid : Server) × Scans actor count old mid
     × Served mid actor Move answer new × IsAnswer answer
@@ -58,29 +60,32 @@ Made old actor step answer new =
     (Served old actor step answer new × IsAnswer answer)
     ⊎ ((mid : Server) × Served old actor step Scanning mid × Finishes actor mid answer new)
 
--- a request is asked, and answered by the steps of the actor
+-- a request is answered by the steps of the actor
 abbrev pub Asks : Alone → Request → Result Reply Refusal → Alone → Type 0
-Asks old request answer new = Made old.server old.actor (Ask request) (told answer) new.server × (new.actor ≡ old.actor)
+Asks old request answer new = Made old.server old.actor (Ask request) (told answer) new.server
+    × (new.actor ≡ old.actor)
 
--- the session is made that of a peer
+-- the session becomes that of a peer
 abbrev pub Relays : Alone → ℕ → Result Reply Refusal → Alone → Type 0
 Relays old number answer new = Made old.server old.actor (Relay number) (told answer) new.server
     × (new.actor ≡ old.actor)
 
 -- the session is ended
 abbrev pub Ends : Alone → Alone → Type 0
-Ends old new = (answer : Moved) × Made old.server old.actor End answer new.server × (new.actor ≡ old.actor)
+Ends old new = (answer : Moved) × Made old.server old.actor End answer new.server
+    × (new.actor ≡ old.actor)
 
--- the name of a cell, or why it is not told
+-- the outcome of a look: the name of a cell, or a refusal
 abbrev pub named : Result (Option (List ℕ)) Refusal → Moved
 named (Ok name) = Named name
 named (Err refusal) = Refused refusal
 
--- a cell is looked at
+-- a look at a cell returns the cell's name, or a refusal
 abbrev pub Looks : Alone → ℕ → Result (Option (List ℕ)) Refusal → Alone → Type 0
-Looks old cell answer new = Served old.server old.actor (Look cell) (named answer) new.server × (new.actor ≡ old.actor)
+Looks old cell answer new = Served old.server old.actor (Look cell) (named answer) new.server
+    × (new.actor ≡ old.actor)
 
--- what was told at a look is a name or a refusal
+-- the outcome is that of a look: a name or a refusal
 abbrev pub IsNamed : Moved → Type 0
 IsNamed (Named name) = Unit {0}
 IsNamed (Refused refusal) = Unit {0}

@@ -1,7 +1,6 @@
 -- The definitions that the contracts cite, by topic.
 pub mod Calls
 pub mod Connection
-pub mod Crew
 pub mod Delivered
 pub mod Fuel
 pub mod Laws
@@ -10,3 +9,4 @@ pub mod Row
 pub mod Seating
 pub mod Session
 pub mod Talk
+pub mod WorkerThreads

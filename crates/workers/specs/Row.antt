@@ -1,4 +1,4 @@
--- What a session asks of a row of shared pads.
+-- The requests of a session to a row of shared pads.
 use Rattle.std.specs.Prelude.{◌≡◌, ◌⊎◌, ℕ, zero, suc, ◌+◌, ◌≤◌, true, List, slice_get, slice_set, Option, None, Some}
 use Rattle.std.specs.Prelude.{length, Result, Ok, Err}
 use Rattle.std.specs.List.{AllByRecursion, find}
@@ -28,78 +28,85 @@ pub record Seated : Type 0 where
   pub rooms : List Room
   pub seats : List Seat
 
--- one call of the seat at a cell; a cell without a seat of its own is told as a seat that the pad does not know
+-- one call by the seat at a cell; if there is no seat of that cell, it is refused as by a seat that the pad does not
+-- know
 abbrev pub VisitsAt : Who → Request → ℕ → Seated → Result (Option Reply) Refusal → Seated → Type 0
 VisitsAt who request cell old answer new =
     ((answer ≡ Err SeatsOut) × (new ≡ old))
     ⊎ ((seat : Seat) × (after : Seat) × (slice_get old.seats cell ≡ Some seat)
-    × Called seat who request old.rooms answer after new.rooms × (new.seats ≡ slice_set old.seats cell after))
+    × Called seat who request old.rooms answer after new.rooms
+    × (new.seats ≡ slice_set old.seats cell after))
 
--- so many cells in a row, from one on, were visited, and their pads have other names
+-- this many cells, from this one on, were visited, and their pads have other names
 abbrev pub Passes : Who → Request → ℕ → ℕ → Seated → Seated → Type 0
 Passes who request cell zero old new = new ≡ old
 Passes who request cell (suc count) old new = (mid : Seated) × Passes who request cell count old mid
     × VisitsAt who request (cell + count) mid (Ok None) new
 
--- an answer of a cell, as the session's
+-- the answer to a session, as its cell gives it
 abbrev pub of_cell : Result Reply Refusal → Result (Option Reply) Refusal
 of_cell (Ok reply) = Ok (Some reply)
 of_cell (Err refusal) = Err refusal
 
--- a scan from a cell on: some cells have other names, and the next one answers; or the row ends
+-- a scan from a cell: the pads of some cells have other names, and the next cell answers; or the row ends
 abbrev pub Scans : ℕ → ℕ → Who → Request → Seated → Result Reply Refusal → Seated → Type 0
 Scans row cell who request old answer new =
     (count : ℕ) × (mid : Seated) × Passes who request cell count old mid
     × (VisitsAt who request (cell + count) mid (of_cell answer) new
     ⊎ ((row ≤ cell + count) × (answer ≡ Err (past_row request)) × (new ≡ mid)))
 
--- the cell of a pad that a session has joined
+-- the cell of a pad, if the session has joined it
 abbrev pub room_cell : List ℕ → List Room → Option ℕ
 room_cell name rooms = option_map (λ room. room.cell) (find (is_of name) rooms)
 
--- a scan from where a request is asked first; where it is asked nowhere, there is no such pad
-abbrev pub ScansFrom : Option ℕ → ℕ → Who → Request → Seated → Result Reply Refusal → Seated → Type 0
+-- a scan from the given cell; if none is given, there is no such pad
+abbrev pub ScansFrom : Option ℕ → ℕ → Who → Request → Seated → Result Reply Refusal → Seated
+    → Type 0
 ScansFrom (Some start) row who request old answer new = Scans row start who request old answer new
 ScansFrom None row who request old answer new = (answer ≡ Err (past_row request)) × (new ≡ old)
 
--- a scan from where the names of the first cells say. Each cell that it passes over has another name, and a pad keeps its
--- name, so a scan of all cells would pass it too
+-- a scan from the cell that the names of the first cells give. Each cell that is skipped has another name, and a pad
+-- keeps its name, so a scan of all cells would pass over it too
 abbrev pub Finds : ℕ → List ℕ → Who → Request → Seated → Result Reply Refusal → Seated → Type 0
 Finds row name who request old answer new =
     (start : Option ℕ) × Starts name request start × ScansFrom start row who request old answer new
 
--- a scan from the cell of the session's room on, where it has joined the pad, or else from where the names say
-abbrev pub Goes : Option ℕ → ℕ → List ℕ → Who → Request → Seated → Result Reply Refusal → Seated → Type 0
+-- a scan from the cell of the session's room, if it has joined the pad, or else from the cell that the names give
+abbrev pub Goes : Option ℕ → ℕ → List ℕ → Who → Request → Seated → Result Reply Refusal → Seated
+    → Type 0
 Goes (Some cell) row name who request old answer new = Scans row cell who request old answer new
 Goes None row name who request old answer new = Finds row name who request old answer new
 
--- the refusal of a request that may leave records, where they cannot be kept or there is no memory to find out; or its
--- scan
+-- a request that may leave records is refused because they cannot be kept or there is no memory to find out; or the
+-- request is scanned
 abbrev pub Seeks : ℕ → List ℕ → Who → Request → Seated → Result Reply Refusal → Seated → Type 0
 Seeks row name who request old answer new =
     ((may_leave request ≡ true) × ((answer ≡ Err StoreFull) ⊎ (answer ≡ Err Memory)) × (new ≡ old))
     ⊎ Goes (room_cell name old.rooms) row name who request old answer new
 
--- a request on the pad of a name, where nothing speaks against it
-abbrev pub Searches : Option Refusal → ℕ → List ℕ → Who → Request → Seated → Result Reply Refusal → Seated → Type 0
+-- a request on the pad of this name: the refusal, if there is one, and otherwise a scan
+abbrev pub Searches : Option Refusal → ℕ → List ℕ → Who → Request → Seated → Result Reply Refusal
+    → Seated → Type 0
 Searches (Some refusal) row name who request old answer new = (answer ≡ Err refusal) × (new ≡ old)
 Searches None row name who request old answer new = Seeks row name who request old answer new
 
--- a list of the pads that somebody may read: what each pad of the row tells, in some state that it can have, one cell
--- after the other
+-- a list of the pads that this client may read: what each pad of the row shows, in some state that it can have, in the
+-- order of the cells
 abbrev pub ListsRow : ℕ → Who → Result Reply Refusal → Type 0
 ListsRow row who answer =
     (answer ≡ Err Memory)
-    ⊎ ((ms : List Machine) × (length ms ≡ row) × AllByRecursion CanBe ms × (answer ≡ Ok (Pads (pads_of who ms))))
+    ⊎ ((ms : List Machine) × (length ms ≡ row) × AllByRecursion CanBe ms
+    × (answer ≡ Ok (Pads (pads_of who ms))))
 
--- the same, where nothing speaks against it
+-- the refusal of a list, if there is one, and otherwise the list
 abbrev pub Lists : Option Refusal → ℕ → Who → Result Reply Refusal → Type 0
 Lists (Some refusal) row who answer = answer ≡ Err refusal
 Lists None row who answer = ListsRow row who answer
 
--- a session asks a row of so many cells: its own requests are answered as by the server machine, others by a scan or as
--- 901
-abbrev pub RowAsked : ℕ → Accounts → ℕ → Who → Seated → Request → Result Reply Refusal → Who → Seated → Type 0
+-- the answer to a session by a row of this many cells: requests about the session itself are answered as by the server
+-- machine, the others by a scan or with 901
+abbrev pub RowAsked : ℕ → Accounts → ℕ → Who → Seated → Request → Result Reply Refusal → Who
+    → Seated → Type 0
 RowAsked replica accounts row who old (request.Hello name token) answer then new =
     Answers who (hello replica accounts name token who) answer then × (new ≡ old)
 RowAsked replica accounts row who old (request.Peer number token version) answer then new =

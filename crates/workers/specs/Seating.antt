@@ -13,9 +13,11 @@ cells_of seats = map (λ seat. seat.cell) seats
 abbrev pub cells_in : {S : Type 0} → List (SharedPad S) → List ℕ
 cells_in row = map (λ pad. pad.cell) row
 
--- the seats that are there stay; behind them is one at each cell of a row, in order, or at the first ones alone
-abbrev pub TakesSeats : {S : Type 0} → List (SharedPad S) → List Seat → Result (Unit {0}) Refusal → List Seat → Type 0
-TakesSeats row old (Ok done) new = (more : List Seat) × (new ≡ old ++ more) × (cells_of more ≡ cells_in row)
+-- the seats stay, and after them comes one at each cell of a row, in order, or at only the first cells
+abbrev pub TakesSeats : {S : Type 0} → List (SharedPad S) → List Seat → Result (Unit {0}) Refusal
+    → List Seat → Type 0
+TakesSeats row old (Ok done) new = (more : List Seat) × (new ≡ old ++ more)
+    × (cells_of more ≡ cells_in row)
 TakesSeats row old (Err refusal) new = (more : List Seat) × (count : ℕ) × (new ≡ old ++ more)
     × (cells_of more ≡ cells_in (take count row))
 
@@ -23,18 +25,20 @@ TakesSeats row old (Err refusal) new = (more : List Seat) × (count : ℕ) × (n
 abbrev pub crew_cells : List (Vec Seat Global) → List (List ℕ)
 crew_cells crew = map (λ seats. cells_of seats.items) crew
 
--- nothing, or one thread's seats, at the first cells of a row
+-- no seats, or one thread's seats at the first cells of a row
 abbrev pub IsPart : {S : Type 0} → List (SharedPad S) → List (Vec Seat Global) → Type 0
 IsPart row last =
     (last ≡ []) ⊎ ((seats : Vec Seat Global) × (count : ℕ) × (last ≡ seats ∷ [])
     × (cells_of seats.items ≡ cells_in (take count row)))
 
--- the threads that are there keep their seats; behind them so many threads have a seat at each cell of a row; or the
--- first of them have, and the next one has those at the first cells, if it has any
+-- the threads keep their seats, and after them come this many threads with a seat at each cell of a row; or fewer, and
+-- then perhaps one with seats at only the first cells
 abbrev pub TakesAllSeats : {S : Type 0} → List (SharedPad S) → ℕ → List (Vec Seat Global) →
     Result (Unit {0}) Refusal → List (Vec Seat Global) → Type 0
 TakesAllSeats row threads old (Ok done) new =
-    (more : List (Vec Seat Global)) × (new ≡ old ++ more) × (crew_cells more ≡ replicate threads (cells_in row))
+    (more : List (Vec Seat Global)) × (new ≡ old ++ more)
+    × (crew_cells more ≡ replicate threads (cells_in row))
 TakesAllSeats row threads old (Err refusal) new =
-    (more last : List (Vec Seat Global)) × (count : ℕ) × (new ≡ (old ++ more) ++ last) × (count < threads)
+    (more last : List (Vec Seat Global)) × (count : ℕ) × (new ≡ (old ++ more) ++ last)
+    × (count < threads)
     × (crew_cells more ≡ replicate count (cells_in row)) × IsPart row last

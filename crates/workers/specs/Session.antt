@@ -10,33 +10,33 @@ use Rattle.wire_json.specs.Lines.{request}
 use Rattle.wire_json.specs.Replies.{line_of}
 use Rattle.wire_lines.specs.Served.{lines, is_cut}
 
--- an answer: a reply, or why there is none
+-- an answer: a reply or a refusal
 abbrev pub Answer : Type 0
 Answer = Result Reply Refusal
 
--- what is written for answers
+-- the lines that are written for answers
 abbrev pub texts : List Answer → List ℕ
 texts answers = flat_map line_of answers
 
--- what a line is told: its answer, or out of memory in the answer's place
+-- what is written for an answer: the answer itself, or out of memory in its place
 abbrev pub IsTold : Answer → Answer → Type 0
 IsTold answer told = (told ≡ answer) ⊎ (told ≡ Err Memory)
 
 module _ {P : Type 0} (calls : P → Request → Answer → P → Type 0) where
-  -- what is no request is refused, and a request is answered by a call
+  -- a line that is not a request is refused, and a request is answered by a call
   abbrev pub Answers : P → Result Request Refusal → Answer → P → Type 0
   Answers old (Err refusal) answer new = (answer ≡ Err refusal) × (new ≡ old)
   Answers old (Ok asked) answer new = calls old asked answer new
 
-  -- a line is answered, or there was no memory to read it as a request
+  -- a line is answered, or there is no memory to read it as a request
   abbrev pub Hears : P → Result Request Refusal → Answer → P → Type 0
   Hears old asked answer new = Answers old asked answer new ⊎ ((answer ≡ Err Memory) × (new ≡ old))
 
-  -- a line is answered, and the answer told, or out of memory in its place
+  -- a line is answered, and the answer is sent, or out of memory in its place
   abbrev pub TellsLine : P → Result Request Refusal → Answer → P → Type 0
   TellsLine old asked told new = (answer : Answer) × Hears old asked answer new × IsTold answer told
 
-  -- the lines are answered one after the other, and the answers told; an empty line has no answer
+  -- the lines are answered one after another; an empty line has no answer
   abbrev pub Serves : P → List (List ℕ) → List Answer → P → Type 0
   Serves old [] [] new = new ≡ old
   Serves old [] (answer ∷ answers) new = ⊥
@@ -45,36 +45,39 @@ module _ {P : Type 0} (calls : P → Request → Answer → P → Type 0) where
   Serves old ((byte ∷ line) ∷ lines) (answer ∷ answers) new =
       (mid : P) × TellsLine old (request (byte ∷ line)) answer mid × Serves mid lines answers new
 
-  -- some first of the lines were answered, and a front of the answers was written
+  -- the first lines, however many, were answered, and a prefix of the answers was written
   abbrev pub ServesSome : P → List (List ℕ) → Option (List ℕ) → Option (List ℕ) → P → Type 0
   ServesSome old lines before after new =
       (asked more : List (List ℕ)) × (answers : List Answer) × (count : ℕ) × (lines ≡ asked ++ more)
       × Serves old asked answers new
       × Appends before after (take count (texts answers))
 
--- that a line is too long, where one ends the lines of the bytes
+-- the answer that a line is too long, if one ends the lines of the bytes
 abbrev pub cut_answers : List ℕ → List Answer
 cut_answers bytes = if is_cut bytes then Err TooLong ∷ [] else []
 
--- the lines that were answered, and that one is too long, are all of the bytes, where they are known
+-- if the bytes are known, the lines that were answered are all of their lines, followed by the answer that a line is
+-- too long if one is
 abbrev pub IsWhole : Option (List ℕ) → List (List ℕ) → List Answer → Type 0
 IsWhole None asked tail = (tail ≡ []) ⊎ (tail ≡ Err TooLong ∷ [])
 IsWhole (Some bytes) asked tail = (asked ≡ lines bytes) × (tail ≡ cut_answers bytes)
 
--- that there is no memory for a line
+-- the answer that there is no memory for a line
 abbrev pub no_memory : List Answer
 no_memory = Err Memory ∷ []
 
--- the lines that were answered are the first of the bytes, where they are known; then there may have been no memory for
--- a line
+-- if the bytes are known, the lines that were answered are the first of their lines; after them there may have been no
+-- memory for a line
 abbrev pub IsFront : Option (List ℕ) → List (List ℕ) → List Answer → Type 0
 IsFront None asked tail = (tail ≡ []) ⊎ (tail ≡ Err TooLong ∷ []) ⊎ (tail ≡ no_memory)
 IsFront (Some bytes) asked tail =
-    (more : List (List ℕ)) × (lines bytes ≡ asked ++ more) × ((tail ≡ []) ⊎ ((more ≡ []) × (tail ≡ cut_answers bytes))
+    (more : List (List ℕ)) × (lines bytes ≡ asked ++ more)
+    × ((tail ≡ []) ⊎ ((more ≡ []) × (tail ≡ cut_answers bytes))
     ⊎ (tail ≡ no_memory))
 
--- the lines that were answered are those before some bytes that stay, where the bytes are known
+-- if the bytes are known, the lines that were answered are those before some remaining bytes
 abbrev pub IsBefore : Option (List ℕ) → List (List ℕ) → Option (List ℕ) → Type 0
 IsBefore None asked rest = Unit {0}
 IsBefore (Some bytes) asked None = ⊥
-IsBefore (Some bytes) asked (Some rest) = (lines bytes ≡ asked ++ lines rest) × (is_cut bytes ≡ is_cut rest)
+IsBefore (Some bytes) asked (Some rest) = (lines bytes ≡ asked ++ lines rest)
+    × (is_cut bytes ≡ is_cut rest)

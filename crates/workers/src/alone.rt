@@ -1,4 +1,4 @@
-//! A server that one thread has alone, and one of its actors.
+//! A server owned by a single thread, and one of its actors.
 ghost use Rattle.std.specs.Prelude.{◌≡◌, length, IsTrue, IfOk, IfSome};
 ghost use Rattle.pad_model.specs.Checked.{is_name};
 ghost use Rattle.server_core.specs.Steps.{told};
@@ -12,7 +12,7 @@ use server_core::{Moved, Server, Step};
 use std::alloc::Global;
 use std::marker::Model;
 
-/// A server and one of its actors, which has nothing under way between two calls.
+/// A server and one of its actors. Between two calls the actor has nothing under way.
 #[derive(Drop)]
 pub struct Alone<S: Sequence> {
     server: Server<S>,
@@ -30,7 +30,7 @@ impl<S: Sequence> Model for Alone<S> {
 }
 
 impl<S: Sequence> Alone<S> {
-    /// A server, and the number of an actor that was opened and has nothing under way.
+    /// Takes a server and the number of an opened actor that has nothing under way.
     pub fn new(server: Server<S>, actor: u32) -> Alone<S>
         requires { IsAtRest server actor }
         ensures { result ≡ record { server = server; actor = actor } }
@@ -39,7 +39,7 @@ impl<S: Sequence> Alone<S> {
     }
 }
 
-// The answer that an actor was told.
+// Returns the answer that a step ended with.
 fn answer_of(moved: Moved) -> Result<Reply, Refusal>
     requires { IsAnswer moved }
     ensures { told result ≡ moved }
@@ -51,7 +51,7 @@ fn answer_of(moved: Moved) -> Result<Reply, Refusal>
     }
 }
 
-// The name that an actor was told.
+// Returns the name that a look ended with.
 fn name_in(moved: Moved) -> Result<Option<Name>, Refusal>
     requires { IsNamed moved }
     ensures { named result ≡ moved }
@@ -70,7 +70,8 @@ impl<S: Sequence> Pads for Alone<S> {
 
     ghost ends = { λ old new. Ends old new };
 
-    ghost names = { λ old cell answer new. Looks old cell answer new × IfOk answer (λ name. IfSome name (λ text. IsTrue (is_name text))) };
+    ghost names = { λ old cell answer new. Looks old cell answer new
+        × IfOk answer (λ name. IfSome name (λ text. IsTrue (is_name text))) };
 
     ghost width = { λ a. length a.server.cells };
 

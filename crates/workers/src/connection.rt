@@ -1,4 +1,4 @@
-//! One connection: each line is answered, and the reply written, before more is read.
+//! One connection: each line is answered and its reply written before more is read.
 ghost use Rattle.std.specs.Prelude.{◌≡◌, ◌≢◌, ℕ, ◌<◌, false, [], length, take, Ok, Err, IfOk, IfErr, OnErr, OnOk};
 ghost use Rattle.std.specs.Bool.{OnTrue};
 ghost use Rattle.std.specs.Io.KnownBytes.{Appends};
@@ -15,7 +15,7 @@ use std::alloc::Global;
 use wire_json::memory_line;
 use wire_lines::{Fault, Inlet, Sink, Source, write_all};
 
-/// Answers the lines of a reader until they end, or one is too long. Then, and after a fault, the session is ended.
+/// Answers the lines of a reader until they end or one is too long. Then, and after a fault, it ends the session.
 pub fn serve_connection<P: Pads, R: Source, W: Sink, G: Gate>(
     alloc: Global,
     pads: &mut P,
@@ -24,29 +24,33 @@ pub fn serve_connection<P: Pads, R: Source, W: Sink, G: Gate>(
     connection: u64,
     gate: &G,
 ) -> Result<Served, Fault>
-    // At the end all lines were answered, and what was written are the answers.
+    // On success all lines were answered, and exactly their answers were written.
     ensures all { IfOk result (λ served. ThenEnds
-        (ServesAll P.calls pads.old (R.remaining reader.old) served (W.contents writer.old) (W.contents writer.new))
+        (ServesAll P.calls pads.old (R.remaining reader.old) served (W.contents writer.old)
+        (W.contents writer.new))
         P.ends pads.new) }
 
-    // A fault leaves a front of them.
+    // After a fault, a prefix of the answers was written.
     ensures fault { OnErr result (ThenEnds
-        (BreaksOff P.calls pads.old (R.remaining reader.old) (W.contents writer.old) (W.contents writer.new))
+        (BreaksOff P.calls pads.old (R.remaining reader.old) (W.contents writer.old)
+        (W.contents writer.new))
         P.ends pads.new) }
 
-    // Where the reader failed, the lines whose line feed was read were answered, and all their answers written.
+    // If the reader failed, each line whose line feed was read was answered, and all these answers were written.
     ensures unread { result ≡ Err ReadFault → ThenEnds
         (ServesRead P.calls pads.old (R.remaining reader.old) (R.remaining reader.new)
         (W.contents writer.old) (W.contents writer.new))
         P.ends pads.new }
 
-    // Where memory ran out, all answers so far were written, and then the line that says so.
+    // If memory ran out, all answers so far were written, and then the out-of-memory line.
     ensures memory { result ≡ Err Memory → ThenEnds
-        (RunsOut P.calls pads.old (R.remaining reader.old) (W.contents writer.old) (W.contents writer.new))
+        (RunsOut P.calls pads.old (R.remaining reader.old) (W.contents writer.old)
+        (W.contents writer.new))
         P.ends pads.new }
 
-    // Which fault it is, the devices tell.
-    ensures cause { HasFaultCause result (R.failures reader.old) (R.failures reader.new) (R.reads reader.old) (R.reads reader.new)
+    // The fault matches what failed at the devices.
+    ensures cause { HasFaultCause result (R.failures reader.old) (R.failures reader.new)
+        (R.reads reader.old) (R.reads reader.new)
         (W.failures writer.old) (W.failures writer.new) }
 {
     let served = serve_lines(alloc, pads, reader, writer, connection, gate);
@@ -54,7 +58,7 @@ pub fn serve_connection<P: Pads, R: Source, W: Sink, G: Gate>(
     served
 }
 
-// Answers the lines of a reader.
+// Answers the lines of a reader. It does not end the session.
 fn serve_lines<P: Pads, R: Source, W: Sink, G: Gate>(
     alloc: Global,
     pads: &mut P,
@@ -67,13 +71,15 @@ fn serve_lines<P: Pads, R: Source, W: Sink, G: Gate>(
         (W.contents writer.old) (W.contents writer.new) pads.new) }
     ensures fault { OnErr result (BreaksOff P.calls pads.old (R.remaining reader.old)
         (W.contents writer.old) (W.contents writer.new) pads.new) }
-    ensures unread { result ≡ Err ReadFault → ServesRead P.calls pads.old (R.remaining reader.old) (R.remaining reader.new)
+    ensures unread { result ≡ Err ReadFault
+        → ServesRead P.calls pads.old (R.remaining reader.old) (R.remaining reader.new)
         (W.contents writer.old) (W.contents writer.new) pads.new }
     ensures memory { result ≡ Err Memory → RunsOut P.calls pads.old (R.remaining reader.old)
         (W.contents writer.old) (W.contents writer.new) pads.new }
 
-    // Which fault it is, the devices tell.
-    ensures cause { HasFaultCause result (R.failures reader.old) (R.failures reader.new) (R.reads reader.old) (R.reads reader.new)
+    // The fault matches what failed at the devices.
+    ensures cause { HasFaultCause result (R.failures reader.old) (R.failures reader.new)
+        (R.reads reader.old) (R.reads reader.new)
         (W.failures writer.old) (W.failures writer.new) }
 {
     let mut inlet = match Inlet::new(alloc) {
@@ -103,7 +109,7 @@ fn serve_lines<P: Pads, R: Source, W: Sink, G: Gate>(
     }
 }
 
-// Answers the next line; once the input has ended, what waits is the last one.
+// Answers the next line. Once the input has ended, the bytes that remain are the last line.
 fn answer_next<P: Pads, G: Gate>(
     alloc: Global,
     pads: &mut P,
@@ -114,10 +120,15 @@ fn answer_next<P: Pads, G: Gate>(
 ) -> Result<Turn, Fault>
     requires open { conversation.old.cut ≡ false }
     requires written { conversation.old.replies ≡ [] }
-    ensures answered { result ≡ Ok Turn.Answered → AnswersNext P.calls ended pads.old conversation.old pads.new conversation.new }
-    ensures shorter { result ≡ Ok Turn.Answered → length conversation.new.waiting < length conversation.old.waiting }
-    ensures long { result ≡ Ok Turn.Cut → TellsLong conversation.old conversation.new × (pads.new ≡ pads.old) }
-    ensures waits { result ≡ Ok Turn.Waits → (conversation.new ≡ conversation.old) × (pads.new ≡ pads.old) × IsPart conversation.new.waiting }
+    ensures answered { result ≡ Ok Turn.Answered
+        → AnswersNext P.calls ended pads.old conversation.old pads.new conversation.new }
+    ensures shorter { result ≡ Ok Turn.Answered
+        → length conversation.new.waiting < length conversation.old.waiting }
+    ensures long { result ≡ Ok Turn.Cut
+        → TellsLong conversation.old conversation.new × (pads.new ≡ pads.old) }
+    ensures waits { result ≡ Ok Turn.Waits
+        → (conversation.new ≡ conversation.old) × (pads.new ≡ pads.old)
+        × IsPart conversation.new.waiting }
     ensures end { result ≡ Ok Turn.Waits → OnTrue ended (conversation.new.waiting ≡ []) }
     ensures room { result ≢ Ok Turn.Full }
     ensures err { OnErr result ((conversation.new ≡ conversation.old) × (pads.new ≡ pads.old)) }
@@ -130,11 +141,14 @@ fn answer_next<P: Pads, G: Gate>(
     Ok(turn)
 }
 
-// Writes the replies that wait, if there are any.
+// Writes the pending replies, if there are any.
 fn write_replies<W: Sink>(writer: &mut W, conversation: &mut Conversation) -> Result<(), Fault>
-    ensures whole { OnOk result (Appends (W.contents writer.old) (W.contents writer.new) conversation.old.replies) }
+    ensures whole { OnOk result (Appends (W.contents writer.old) (W.contents writer.new)
+        conversation.old.replies) }
     ensures written { OnOk result (conversation.new ≡ unwritten conversation.old []) }
-    ensures front { OnErr result ((count : ℕ) × Appends (W.contents writer.old) (W.contents writer.new) (take count conversation.old.replies)) }
+    ensures front { OnErr result ((count : ℕ)
+        × Appends (W.contents writer.old) (W.contents writer.new)
+        (take count conversation.old.replies)) }
     ensures cause { HasWriteCause result (W.failures writer.old) (W.failures writer.new) }
 {
     let count = conversation.replies().len();
@@ -145,9 +159,10 @@ fn write_replies<W: Sink>(writer: &mut W, conversation: &mut Conversation) -> Re
     Ok(())
 }
 
-// Tells that there is no memory for a line, if that is the fault, and says which fault ends the connection.
+// Writes the out-of-memory line if that is the fault. Returns the fault that ends the connection.
 fn tell_fault<W: Sink, G: Gate>(writer: &mut W, connection: u64, gate: &G, fault: Fault) -> Fault
-    ensures { TellsFault fault result (W.failures writer.old) (W.failures writer.new) (W.contents writer.old) (W.contents writer.new) }
+    ensures { TellsFault fault result (W.failures writer.old) (W.failures writer.new)
+        (W.contents writer.old) (W.contents writer.new) }
 {
     match fault {
         Fault::Memory => {

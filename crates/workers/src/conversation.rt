@@ -1,4 +1,4 @@
-//! A connection without its devices: bytes come in, lines are answered, and the replies wait to be written.
+//! A connection without its devices: bytes come in, lines are answered, and the caller writes the replies.
 ghost use Rattle.std.specs.Prelude.{◌≡◌, ◌≢◌, ◌⊎◌, ◌+◌, ◌<◌, ◌≤◌, true, false, nat_lt, [], drop, length, Err, Ok, IfErr, IfNone, IfSome, OnErr, OnOk};
 ghost use Rattle.std.specs.Io.KnownBytes.{Keeps};
 ghost use Rattle.wire_lines.specs.Buffer.{IsPart, ShowsBefore};
@@ -18,26 +18,26 @@ use std::marker::Model;
 use wire_json::too_long_line;
 use wire_lines::{Fault, Found, Inlet, LineSplitter, Source};
 
-// The room that is kept for replies between two lines: what a longer one took is given back when it was written.
+// The capacity in bytes that is kept for replies between two lines. Once all replies are written, more is released.
 const KEPT: usize = 65_536;
 
-// The room that is kept for a reply while nothing comes.
+// The capacity in bytes that is kept for replies while the connection is idle.
 const KEPT_IDLE: usize = 128;
 
-/// What came of a call of `Conversation::answer`.
+/// The outcome of a call of `Conversation::answer`.
 #[derive(Clone, Copy, Debug, PartialEq, Eq)]
 pub enum Turn {
     /// The first line was answered; an empty line has no reply.
     Answered,
-    /// No whole line waits.
+    /// No whole line has arrived.
     Waits,
-    /// There is no memory for one more reply: some have to be written first.
+    /// There is no memory for another reply until some are written.
     Full,
-    /// The first line is too long, and the reply says so. Nothing is answered any more.
+    /// The first line is too long, and the reply says so. No further line is answered.
     Cut,
 }
 
-/// The lines of one client and the replies to them. It reads and writes nothing itself, and it knows no session.
+/// The lines of one client and the replies to them. It does no I/O of its own, and has no session.
 #[derive(Drop)]
 pub struct Conversation {
     lines: LineSplitter,
@@ -64,7 +64,7 @@ impl Model for Conversation {
 }
 
 impl Conversation {
-    /// One in which nothing came yet. It takes no memory.
+    /// Creates a conversation in which nothing has arrived. This allocates no memory.
     pub fn new(alloc: Global) -> Conversation
         ensures { result ≡ silent }
     {
@@ -80,7 +80,7 @@ impl Conversation {
         }
     }
 
-    /// Appends bytes to those that wait; out of memory, none of them.
+    /// Appends bytes that arrived. If memory runs out, none are appended.
     pub fn receive(&mut self, bytes: &[u8]) -> Result<(), Fault>
         ensures bytes { OnOk result (self.new ≡ heard self.old bytes.now) }
         ensures err { OnErr result (self.new ≡ self.old) }
@@ -89,7 +89,7 @@ impl Conversation {
         self.lines.receive(bytes)
     }
 
-    /// Reads once, and appends what the read gave; out of memory, nothing is read.
+    /// Reads once, and appends the bytes. If memory runs out, nothing is read.
     pub fn receive_from<R: Source>(
         &mut self,
         inlet: &mut Inlet,
@@ -97,35 +97,39 @@ impl Conversation {
     ) -> Result<(), Fault>
         requires going { inlet.old.ended ≡ false }
         ensures only { self.new ≡ waits self.old self.new.waiting }
-        ensures bytes { Keeps (ahead self.old false (R.remaining source.old)) (ahead self.new inlet.new.ended (R.remaining source.new)) }
+        ensures bytes { Keeps (ahead self.old false (R.remaining source.old))
+            (ahead self.new inlet.new.ended (R.remaining source.new)) }
         ensures most { length self.new.waiting ≤ length self.old.waiting + CHUNK }
         ensures err { OnErr result ((self.new ≡ self.old) × (inlet.new.ended ≡ false)) }
         ensures few { OnOk result (inlet.new.reads ≤ most_reads) }
         ensures one { OnOk result (inlet.new.reads ≡ inlet.old.reads + 1) }
-        ensures cause { HasCause result (R.failures source.old) (R.failures source.new) inlet.new.reads }
-        ensures counted { AreCounted result (R.reads source.old) (R.reads source.new) inlet.old.reads inlet.new.reads }
+        ensures cause { HasCause result (R.failures source.old) (R.failures source.new)
+            inlet.new.reads }
+        ensures counted { AreCounted result (R.reads source.old) (R.reads source.new)
+            inlet.old.reads inlet.new.reads }
     {
         self.lines.receive_from(inlet, source)
     }
 
-    /// The first line, without its end, if it is whole and not too long: for a caller that holds a line back.
+    /// Returns the first line without its line end, if it is whole and not too long. For callers that hold lines back.
     pub fn first_line(&self) -> Option<&[u8]>
-        ensures some { IfSome result (λ line. ShowsBefore Found.Text self.now.waiting line.now (behind_line self.now.waiting)) }
+        ensures some { IfSome result (λ line. ShowsBefore Found.Text self.now.waiting line.now
+            (behind_line self.now.waiting)) }
         ensures none { IfNone result (has_line self.now.waiting ≡ false) }
     {
         self.lines.first_line()
     }
 
-    /// Whether any byte has come behind the first line.
+    /// Whether any byte follows the first line.
     pub fn has_second(&self) -> bool
         ensures { result ≡ nat_lt 0 (length (behind_line self.now.waiting)) }
     {
         self.lines.has_second()
     }
 
-    /// Answers the first line, if a whole one waits and there is memory for a reply. The caller decides when.
+    /// Answers the first line, if it is whole and there is memory for a reply. The caller decides when.
     ///
-    /// Out of memory for even the shortest reply, while none waits to be written: nothing was asked.
+    /// Fails if there is no memory for even the shortest reply and no reply is pending. Then no request was made.
     pub fn answer<P: Pads, G: Gate>(
         &mut self,
         alloc: Global,
@@ -134,11 +138,15 @@ impl Conversation {
         gate: &G,
     ) -> Result<Turn, Fault>
         requires open { self.old.cut ≡ false }
-        ensures answered { result ≡ Ok Turn.Answered → AnswersFirst P.calls pads.old self.old pads.new self.new }
-        ensures shorter { result ≡ Ok Turn.Answered → length self.new.waiting < length self.old.waiting }
+        ensures answered { result ≡ Ok Turn.Answered
+            → AnswersFirst P.calls pads.old self.old pads.new self.new }
+        ensures shorter { result ≡ Ok Turn.Answered
+            → length self.new.waiting < length self.old.waiting }
         ensures long { result ≡ Ok Turn.Cut → TellsLong self.old self.new × (pads.new ≡ pads.old) }
-        ensures waits { result ≡ Ok Turn.Waits → (self.new ≡ self.old) × (pads.new ≡ pads.old) × IsPart self.new.waiting }
-        ensures full { result ≡ Ok Turn.Full → (self.new ≡ self.old) × (pads.new ≡ pads.old) × (self.old.replies ≢ []) }
+        ensures waits { result ≡ Ok Turn.Waits
+            → (self.new ≡ self.old) × (pads.new ≡ pads.old) × IsPart self.new.waiting }
+        ensures full { result ≡ Ok Turn.Full
+            → (self.new ≡ self.old) × (pads.new ≡ pads.old) × (self.old.replies ≢ []) }
         ensures err { OnErr result ((self.new ≡ self.old) × (pads.new ≡ pads.old)) }
         ensures fault { IfErr result (λ fault. fault ≡ Memory) }
     {
@@ -164,7 +172,7 @@ impl Conversation {
         }
     }
 
-    /// Answers what waits as the last line, once no more bytes come. False if nothing waits.
+    /// Answers the remaining bytes as the last line, once no more arrive. Returns false if there are none.
     pub fn answer_last<P: Pads, G: Gate>(
         &mut self,
         alloc: Global,
@@ -175,7 +183,8 @@ impl Conversation {
         requires part { IsPart self.old.waiting }
         requires written { self.old.replies ≡ [] }
         ensures last { result ≡ Ok true → AnswersLast P.calls pads.old self.old pads.new self.new }
-        ensures none { result ≡ Ok false → (self.new ≡ self.old) × (self.old.waiting ≡ []) × (pads.new ≡ pads.old) }
+        ensures none { result ≡ Ok false → (self.new ≡ self.old) × (self.old.waiting ≡ [])
+            × (pads.new ≡ pads.old) }
         ensures err { OnErr result ((self.new ≡ self.old) × (pads.new ≡ pads.old)) }
         ensures fault { IfErr result (λ fault. fault ≡ Memory) }
     {
@@ -191,7 +200,7 @@ impl Conversation {
         Ok(true)
     }
 
-    /// The bytes that are to be written.
+    /// The bytes of the replies that are not written yet.
     pub fn replies(&self) -> &[u8]
         ensures { result.now ≡ self.now.replies }
     {
@@ -199,7 +208,7 @@ impl Conversation {
         &self.replies[sent..]
     }
 
-    /// Notes that a count of these bytes was written.
+    /// Notes that the first `count` of these bytes were written.
     pub fn sent(&mut self, count: usize)
         requires { count ≤ length self.old.replies }
         ensures { self.new ≡ unwritten self.old (drop count self.old.replies) }
@@ -212,28 +221,28 @@ impl Conversation {
         }
     }
 
-    /// How many bytes wait for an answer.
+    /// The number of bytes that have arrived and are not answered yet.
     pub fn waiting(&self) -> usize
         ensures { result ≡ length self.now.waiting }
     {
         self.lines.len()
     }
 
-    /// Whether a line was too long, so that nothing more is answered.
+    /// Whether a line was too long. If so, no further line is answered.
     pub fn is_cut(&self) -> bool
         ensures { result ≡ self.now.cut }
     {
         self.cut
     }
 
-    /// What was answered so far.
+    /// The counts of lines and operations so far.
     pub fn served(&self) -> Served
         ensures { result ≡ self.now.served }
     {
         self.served
     }
 
-    /// Gives back the memory that is not needed while nothing comes.
+    /// Releases the memory that an idle connection does not need.
     pub fn rest(&mut self)
         ensures { self.new ≡ self.old }
     {
@@ -242,7 +251,7 @@ impl Conversation {
     }
 }
 
-// What a turn comes to that has no room for a reply.
+// Returns the outcome of a turn without memory for a reply.
 fn without_room(all_written: bool) -> Result<Turn, Fault>
     ensures full { result ≡ Ok Turn.Full → all_written ≡ false }
     ensures only { (result ≡ Ok Turn.Full) ⊎ (result ≡ Err Memory) }

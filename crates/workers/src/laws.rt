@@ -1,6 +1,6 @@
 //! Laws of conversations, each the contract of a function that does nothing.
 ghost use Rattle.std.specs.Prelude.{◌≡◌};
-ghost use Rattle.workers.specs.Crew.{CallsRow, KeepsSession};
+ghost use Rattle.workers.specs.WorkerThreads.{CallsRow, KeepsSession};
 ghost use Rattle.workers.specs.Laws.{CourseLaw, LastLaw, ServesApart};
 ghost use Rattle.workers.specs.Session.{Serves};
 ghost use Rattle.workers.specs.declared.shared.Shared.{Shared};
@@ -10,15 +10,17 @@ use pad_model::Sequence;
 use shared_pads::Gate;
 use std::sync::Wait;
 
-/// In whatever pieces its bytes come, what a conversation gives out is the session text of the lines of those bytes so
-/// far; of all of them at the end.
+/// However its bytes are split into pieces, a conversation outputs the replies of its session to the first lines of
+/// these bytes; at the end, to all of them.
 pub fn conversation_law<P: Pads>()
     ensures course { CourseLaw P.calls (λ old new. new ≡ old) (Serves P.calls) }
     ensures last { LastLaw P.calls (λ old new. new ≡ old) (Serves P.calls) }
 {}
 
-/// The same where the thread's seats serve other sessions between two lines of this one.
+/// The same if the thread's seats serve other sessions between two lines of this one.
 pub fn shared_law<S: Sequence, R: Wait, G: Gate>()
-    ensures course { CourseLaw {P = Shared S R G} CallsRow KeepsSession (ServesApart CallsRow KeepsSession) }
-    ensures last { LastLaw {P = Shared S R G} CallsRow KeepsSession (ServesApart CallsRow KeepsSession) }
+    ensures course { CourseLaw {P = Shared S R G} CallsRow KeepsSession
+        (ServesApart CallsRow KeepsSession) }
+    ensures last { LastLaw {P = Shared S R G} CallsRow KeepsSession
+        (ServesApart CallsRow KeepsSession) }
 {}

@@ -1,12 +1,12 @@
-//! Connections to a server of pads: lines come in, each is answered before the next is read.
+//! Connections to a server of pads: each line that arrives is answered before the next one is read.
 //!
-//! It stands on the server machine, on the lines of bytes and on the JSON of requests and replies.
+//! It depends on `server_core` and `shared_pads` for the pads, on `wire_lines` for lines of bytes, and on `wire_json`
+//! for requests and replies.
 #![tactic(auto)]
 
 mod alone;
 mod connection;
 mod conversation;
-mod crew;
 mod delivered;
 pub mod laws;
 mod names;
@@ -17,11 +17,11 @@ mod seating;
 mod served;
 mod settle;
 mod shared;
+mod worker_threads;
 
 pub use alone::Alone;
 pub use connection::serve_connection;
 pub use conversation::{Conversation, Turn};
-pub use crew::{Connection, pool, serve_all, serve_client};
 pub use delivered::delivered_by;
 pub use names::Names;
 pub use pads::Pads;
@@ -30,3 +30,4 @@ pub use seating::{take_all_seats, take_seats};
 pub use served::Served;
 pub use shared::Shared;
 pub use shared_pads::{Gate, Open};
+pub use worker_threads::{Connection, pool, serve_all, serve_client};

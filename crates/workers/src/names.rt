@@ -11,7 +11,7 @@ use std::alloc::Global;
 use std::marker::Model;
 use std::sync::{Mutex, Wait};
 
-/// The names of a row's first cells, in the order of the cells, and how many creations are under way.
+/// The names of a row's first cells, in the order of the cells, and the number of creations under way.
 #[derive(Drop)]
 struct NameBook {
     names: IndexSet<Name>,
@@ -29,7 +29,7 @@ impl Model for NameBook {
 }
 
 impl NameBook {
-    // No name is known, and no creation is under way.
+    // Creates an empty book: no name is known, and no creation is under way.
     fn new(alloc: Global) -> NameBook {
         NameBook {
             names: IndexSet::new(alloc),
@@ -37,21 +37,21 @@ impl NameBook {
         }
     }
 
-    // How many names are known.
+    // The number of known names.
     fn count(&self) -> usize
         ensures { result ≡ length self.now.names }
     {
         self.names.len()
     }
 
-    // Whether the name is one of a cell that is known.
+    // Whether a cell is known to have this name.
     fn is_known(&self, pad: &Name) -> bool
         ensures { result ≡ is_known pad.now self.now.names }
     {
         self.names.contains(pad)
     }
 
-    // The first cell with a name, else the first one that no name is known of.
+    // The first cell with this name, or else the first cell whose name is not known.
     fn place_of(&self, pad: &Name) -> usize
         ensures { result ≡ place_of pad.now self.now.names }
     {
@@ -61,7 +61,7 @@ impl NameBook {
         }
     }
 
-    // Where a request on the pad of a name is asked first.
+    // The first cell at which to try a request on the pad of this name; None if no cell can have that name.
     fn start_of(&self, pad: &Name, request: &Request) -> Option<usize>
         ensures { result ≡ start_of pad.now request.now self.now }
     {
@@ -75,11 +75,14 @@ impl NameBook {
         None
     }
 
-    // The same. A creation is under way then.
+    // The same, and counts the request as under way if it is a creation.
     fn start(&mut self, pad: &Name, request: &Request) -> Option<usize>
         ensures start { result ≡ start_of pad.now request.now self.old }
         ensures starts { Starts pad.now request.now result }
-        ensures book { self.new ≡ record { names = self.old.names; creations = counted request.now self.old.creations } }
+        ensures book { self.new ≡ record {
+          names = self.old.names;
+          creations = counted request.now self.old.creations;
+        } }
     {
         let start = self.start_of(pad, request);
         if let Request::Create { .. } = request {
@@ -88,7 +91,7 @@ impl NameBook {
         start
     }
 
-    // A creation has ended. Where no more could be counted, they stay.
+    // Counts a creation as ended. A count that has reached its maximum stays there.
     fn end(&mut self)
         ensures { self.new ≡ record self.old { creations = fewer self.old.creations } }
     {
@@ -97,10 +100,14 @@ impl NameBook {
         }
     }
 
-    // Learns the name of a cell, where it is the next one.
+    // Adds the name of a cell, if it is the next cell.
     fn learn(&mut self, cell: u32, name: Name) -> Result<(), Refusal>
         requires { IsNamed cell name }
-        ensures learned { OnOk result (self.new ≡ record { names = with_name cell name self.old.names; creations = self.old.creations }) }
+        ensures learned { OnOk result (self.new
+            ≡ record {
+              names = with_name cell name self.old.names;
+              creations = self.old.creations;
+            }) }
         ensures memory { IfErr result (λ e. e ≡ Refusal.Memory) }
         ensures refused { OnErr result (self.new ≡ self.old) }
     {
@@ -111,16 +118,16 @@ impl NameBook {
     }
 }
 
-/// The names of a row's pads behind a lock of their own, which is held for a look-up or for one more name alone.
+/// The names of a row's pads, under a lock of their own. It is held only for a look-up or to add one name.
 ///
-/// Whenever the lock is free, each name is that of the pad in the cell of its place.
+/// Whenever the lock is free, each name is that of the pad in the cell at its index.
 #[derive(Drop)]
 pub struct Names {
     book: Mutex<NameBook>,
 }
 
 impl Names {
-    /// The names that the pads of a row have, up to the first cell without one. No creation is under way. 900.
+    /// Collects the names of a row's pads, up to the first cell without one. No creation is counted. Refusal: 900.
     pub fn fill<S: Sequence, R: Wait>(
         rt: &R,
         alloc: Global,
@@ -135,14 +142,16 @@ impl Names {
         Ok(names)
     }
 
-    // Where a request on the pad of a name is asked first, by the names that are known. A creation is under way then.
+    // The first cell at which to try a request on the pad of this name, by the known names. A creation is counted as
+    // under way.
     pub(crate) fn start<R: Wait>(&self, rt: &R, pad: &Name, request: &Request) -> Option<usize>
         ensures { Starts pad.now request.now result }
     {
         self.book.lock(rt).start(pad, request)
     }
 
-    // A creation has ended, at a cell or at none. It stays under way where the names up to that cell can't be learned.
+    // Ends a creation that made a pad in a cell, or in none. It stays counted if the names up to that cell cannot be
+    // learned.
     pub(crate) fn conclude<S: Sequence, R: Wait>(
         &self,
         rt: &R,
@@ -159,7 +168,7 @@ impl Names {
         self.book.lock(rt).end();
     }
 
-    // Learns the names of the first cells of a row, before an end, up to the first one without a name.
+    // Adds the names of the cells before `end`, up to the first cell without a name.
     fn learn<S: Sequence, R: Wait>(
         &self,
         rt: &R,
@@ -179,7 +188,7 @@ impl Names {
         Ok(())
     }
 
-    // How many names are known.
+    // The number of known names.
     fn count<R: Wait>(&self, rt: &R) -> usize {
         self.book.lock(rt).count()
     }

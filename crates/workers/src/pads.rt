@@ -1,4 +1,4 @@
-//! What a connection asks of the pads, for one session.
+//! The pads as a connection calls them, for one session.
 ghost use Rattle.std.specs.Prelude.{◌≡◌, ℕ, List, Option, Result};
 ghost use Rattle.pad_model.specs.declared.refusal.Refusal.{Refusal};
 ghost use Rattle.pad_core.specs.declared.reply.Reply.{Reply};
@@ -10,26 +10,26 @@ use std::alloc::Global;
 
 /// The pads of a server, as one session sees them.
 pub trait Pads {
-    /// What a call may answer, and leave.
+    /// What `call` may return, and the state that it may leave.
     ghost calls: { Self → Request → Result Reply Refusal → Self → Type 0 };
 
-    /// What may come of it that the session is made that of a peer.
+    /// What `relay` may return, and the state that it may leave.
     ghost relays: { Self → ℕ → Result Reply Refusal → Self → Type 0 };
 
-    /// What the end of the session may leave.
+    /// The state that `end` may leave.
     ghost ends: { Self → Self → Type 0 };
 
-    /// What may be told as the name of a cell.
+    /// What `name_of` may return, and the state that it may leave.
     ghost names: { Self → ℕ → Result (Option (List ℕ)) Refusal → Self → Type 0 };
 
-    /// How many cells there are.
+    /// The number of cells.
     ghost width: { Self → ℕ };
 
-    /// Asks a request, and waits for its answer.
+    /// Makes a request, and waits for its answer.
     fn call(&mut self, alloc: Global, request: &Request) -> Result<Reply, Refusal>
         ensures { calls self.old request.now result self.new };
 
-    /// Makes the session that of a peer with this replica number, for exchange.
+    /// Makes the session that of the peer with this replica number, for an exchange.
     fn relay(&mut self, alloc: Global, number: u16) -> Result<Reply, Refusal>
         ensures { relays self.old number result self.new };
 
@@ -37,11 +37,11 @@ pub trait Pads {
     fn end(&mut self, alloc: Global)
         ensures { ends self.old self.new };
 
-    /// The name of a cell, if it has one.
+    /// The name of the pad in a cell, if it has one.
     fn name_of(&mut self, alloc: Global, cell: u32) -> Result<Option<Name>, Refusal>
         ensures { names self.old cell result self.new };
 
-    /// How many cells there are.
+    /// The number of cells.
     fn cells(&self) -> u32
         ensures { result ≡ width self.now };
 }

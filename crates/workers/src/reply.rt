@@ -1,4 +1,4 @@
-//! One line, and the reply to it, put behind other replies.
+//! Answers one line, and appends the reply to earlier ones.
 ghost use Rattle.std.specs.Prelude.{◌≡◌, ◌+◌, ◌≤◌, true, false, ◌++◌, length, vec_len, vec_capacity};
 ghost use Rattle.wire_json.specs.Lines.{request};
 ghost use Rattle.wire_json.specs.Replies.{line_of};
@@ -13,7 +13,7 @@ use shared_pads::Gate;
 use std::alloc::Global;
 use wire_json::{memory_line, read_request, reply_line, too_long_line};
 
-/// Makes room behind replies for one that needs no memory of its own. False: there is none.
+/// Reserves memory for either of the fixed replies: out of memory, and line too long. Returns false if there is none.
 pub(crate) fn make_room(replies: &mut Vec<u8>) -> bool
     ensures room { result ≡ true → HasRoom replies.new }
     ensures items { replies.new.items ≡ replies.old.items }
@@ -22,8 +22,8 @@ pub(crate) fn make_room(replies: &mut Vec<u8>) -> bool
     replies.reserve(most).is_ok()
 }
 
-/// Answers a line, puts the reply behind others, and says how many operations it tells of as delivered; an empty line
-/// has no reply.
+/// Answers a line and appends the reply. Returns the number of operations that the reply reports as delivered, or None
+/// for an empty line, which has no reply.
 pub(crate) fn tell<P: Pads, G: Gate>(
     alloc: Global,
     pads: &mut P,
@@ -33,7 +33,8 @@ pub(crate) fn tell<P: Pads, G: Gate>(
     gate: &G,
 ) -> Option<u64>
     requires room { HasRoom replies.old }
-    ensures { TellsOne P.calls pads.old line.now result replies.old.items replies.new.items pads.new }
+    ensures { TellsOne P.calls pads.old line.now result replies.old.items replies.new.items
+        pads.new }
 {
     if line.is_empty() {
         return None;
@@ -42,7 +43,7 @@ pub(crate) fn tell<P: Pads, G: Gate>(
     Some(put_answer(alloc, replies, connection, gate, &answer))
 }
 
-// The answer to a line.
+// Answers a line.
 fn answer_line<P: Pads>(alloc: Global, pads: &mut P, line: &[u8]) -> Result<Reply, Refusal>
     ensures { Hears P.calls pads.old (request line.now) result pads.new }
 {
@@ -50,7 +51,8 @@ fn answer_line<P: Pads>(alloc: Global, pads: &mut P, line: &[u8]) -> Result<Repl
     pads.call(alloc, &request)
 }
 
-// Puts an answer behind other replies, or that there is no memory for it, and says how many operations that tells of.
+// Appends an answer, or the out-of-memory line in its place. Returns the number of operations that it reports as
+// delivered.
 fn put_answer<G: Gate>(
     alloc: Global,
     replies: &mut Vec<u8>,
@@ -71,7 +73,7 @@ fn put_answer<G: Gate>(
     0
 }
 
-// Puts the line of an answer behind other replies, if there is memory for it.
+// Appends the line of an answer. Returns false if there is no memory for it.
 fn put_whole(alloc: Global, replies: &mut Vec<u8>, answer: &Result<Reply, Refusal>) -> bool
     requires room { HasRoom replies.old }
     ensures whole { result ≡ true → replies.new.items ≡ replies.old.items ++ line_of answer.now }
@@ -83,7 +85,7 @@ fn put_whole(alloc: Global, replies: &mut Vec<u8>, answer: &Result<Reply, Refusa
     }
 }
 
-/// Puts a line behind other replies, for which there is room.
+/// Appends a line, for which there is room.
 pub(crate) fn put(replies: &mut Vec<u8>, line: &[u8])
     requires { vec_len replies.old + length line.now ≤ vec_capacity replies.old }
     ensures { replies.new.items ≡ replies.old.items ++ line.now }

@@ -1,9 +1,9 @@
-//! A row of shared pads, as a session asks it.
+//! A row of shared pads, and how sessions call it.
 ghost use Rattle.std.specs.Prelude.{◌≡◌, ◌≤◌, [], length, IsTrue, IfOk, IfErr, IfSome};
 ghost use Rattle.std.specs.List.{range_with_len};
 ghost use Rattle.pad_model.specs.Checked.{is_name};
 ghost use Rattle.server_core.specs.Rooms.{IsAsked};
-ghost use Rattle.workers.specs.Crew.{LeavesRoom, LeavesRooms};
+ghost use Rattle.workers.specs.WorkerThreads.{LeavesRoom, LeavesRooms};
 ghost use Rattle.workers.specs.Row.{Finds, ListsRow, RowAsked, Scans, Seeks, VisitsAt, room_cell};
 ghost use Rattle.workers.specs.Seating.{cells_in};
 
@@ -17,8 +17,8 @@ use shared_pads::{Gate, Seat, SharedPad};
 use std::alloc::Global;
 use std::sync::Wait;
 
-/// Pads without names, as many as a server is to have room for: 1 to 4,096, each in the cell of its place. On each, this many
-/// visits may be present at once, and it has room for this many seats.
+/// Creates one unnamed pad for each of `cells` cells, which is the most pads that the server can have: 1 to 4,096. At
+/// most `present` visits may be present on a pad at once, and a pad has room for `seats` seats.
 pub fn open_row<S: Sequence>(
     alloc: Global,
     replica: u16,
@@ -40,7 +40,7 @@ pub fn open_row<S: Sequence>(
     Ok(row)
 }
 
-// The cell of a pad that a session has joined.
+// The cell of a pad, if the session has joined it.
 fn cell_of(session: &Session, pad: &Name) -> Option<u32>
     ensures { result ≡ room_cell pad.now session.now.rooms }
 {
@@ -53,21 +53,21 @@ fn cell_of(session: &Session, pad: &Name) -> Option<u32>
 /// The pads that the threads of a server share, and its accounts.
 #[derive(Drop)]
 pub struct Row<'a, S: Sequence, R: Wait, G: Gate> {
-    /// What threads wait by.
+    /// The runtime, for locks.
     pub rt: &'a R,
-    /// At most 4,096, each in the cell of its place.
+    /// At most 4,096 pads, each in the cell of its index.
     pub cells: &'a [SharedPad<S>],
-    /// The names that the pads of these cells have, by which a request finds its cell.
+    /// The names of these pads, by which a request finds its cell.
     pub names: &'a Names,
-    /// The server's own number.
+    /// The server's replica number.
     pub replica: u16,
     pub accounts: &'a Accounts,
-    /// What is told of the course of connections.
+    /// The callbacks at steps and replies.
     pub gate: &'a G,
 }
 
 impl<'a, S: Sequence, R: Wait, G: Gate> Row<'a, S, R, G> {
-    /// Asks a request of a session, by the seats of its thread.
+    /// Answers a request of a session, using the seats of its thread.
     pub fn ask(
         &self,
         alloc: Global,
@@ -75,7 +75,10 @@ impl<'a, S: Sequence, R: Wait, G: Gate> Row<'a, S, R, G> {
         session: &mut Session,
         request: &Request,
     ) -> Result<Reply, Refusal>
-        ensures { RowAsked self.now.replica self.now.accounts.now (length self.now.cells.now) session.old.who (record { rooms = session.old.rooms; seats = seats.old.items }) request.now result session.new.who (record { rooms = session.new.rooms; seats = seats.new.items }) }
+        ensures { RowAsked self.now.replica self.now.accounts.now (length self.now.cells.now)
+            session.old.who (record { rooms = session.old.rooms; seats = seats.old.items })
+            request.now result session.new.who
+            (record { rooms = session.new.rooms; seats = seats.new.items }) }
     {
         match request {
             Request::Hello { name, token } => {
@@ -108,7 +111,7 @@ impl<'a, S: Sequence, R: Wait, G: Gate> Row<'a, S, R, G> {
         }
     }
 
-    /// The pads that somebody may read, one cell after the other.
+    /// Lists the pads that `who` may read, in the order of their cells.
     fn list(&self, alloc: Global, who: &Who) -> Result<Reply, Refusal>
         ensures { ListsRow (length self.now.cells.now) who.now result }
     {
@@ -121,8 +124,8 @@ impl<'a, S: Sequence, R: Wait, G: Gate> Row<'a, S, R, G> {
         Ok(Reply::Pads { pads })
     }
 
-    /// A scan from the cell of the session's room on, or else from where the names say, unless the request may leave what
-    /// cannot be kept.
+    /// Scans from the cell of the session's room, or else from the cell that the names give. A request that may leave
+    /// records is refused first if they cannot be kept.
     fn search(
         &self,
         alloc: Global,
@@ -133,7 +136,9 @@ impl<'a, S: Sequence, R: Wait, G: Gate> Row<'a, S, R, G> {
     ) -> Result<Reply, Refusal>
         requires { IsAsked request.now }
         ensures who { session.new.who ≡ session.old.who }
-        ensures seeks { Seeks (length self.now.cells.now) pad.now session.old.who request.now (record { rooms = session.old.rooms; seats = seats.old.items }) result (record { rooms = session.new.rooms; seats = seats.new.items }) }
+        ensures seeks { Seeks (length self.now.cells.now) pad.now session.old.who request.now
+            (record { rooms = session.old.rooms; seats = seats.old.items }) result
+            (record { rooms = session.new.rooms; seats = seats.new.items }) }
     {
         if leaves_records(request) {
             self.gate.keeps(alloc, request)?;
@@ -144,7 +149,7 @@ impl<'a, S: Sequence, R: Wait, G: Gate> Row<'a, S, R, G> {
         }
     }
 
-    /// A scan from where the names say, for a session that has not joined the pad.
+    /// Scans from the cell that the names give, for a session that has not joined the pad.
     fn find(
         &self,
         alloc: Global,
@@ -155,7 +160,9 @@ impl<'a, S: Sequence, R: Wait, G: Gate> Row<'a, S, R, G> {
     ) -> Result<Reply, Refusal>
         requires { IsAsked request.now }
         ensures who { session.new.who ≡ session.old.who }
-        ensures finds { Finds (length self.now.cells.now) pad.now session.old.who request.now (record { rooms = session.old.rooms; seats = seats.old.items }) result (record { rooms = session.new.rooms; seats = seats.new.items }) }
+        ensures finds { Finds (length self.now.cells.now) pad.now session.old.who request.now
+            (record { rooms = session.old.rooms; seats = seats.old.items }) result
+            (record { rooms = session.new.rooms; seats = seats.new.items }) }
     {
         let Some(start) = self.names.start(self.rt, pad, request) else {
             return Err(past_row(request));
@@ -171,7 +178,7 @@ impl<'a, S: Sequence, R: Wait, G: Gate> Row<'a, S, R, G> {
         answer
     }
 
-    /// A request goes from cell to cell, from this one on, until one answers it.
+    /// Tries a request at one cell after another, from `start`, until a cell answers it.
     fn scan(
         &self,
         alloc: Global,
@@ -182,7 +189,9 @@ impl<'a, S: Sequence, R: Wait, G: Gate> Row<'a, S, R, G> {
     ) -> Result<Reply, Refusal>
         requires { IsAsked request.now }
         ensures who { session.new.who ≡ session.old.who }
-        ensures scans { Scans (length self.now.cells.now) start session.old.who request.now (record { rooms = session.old.rooms; seats = seats.old.items }) result (record { rooms = session.new.rooms; seats = seats.new.items }) }
+        ensures scans { Scans (length self.now.cells.now) start session.old.who request.now
+            (record { rooms = session.old.rooms; seats = seats.old.items }) result
+            (record { rooms = session.new.rooms; seats = seats.new.items }) }
     {
         for place in 0..self.cells.len() {
             if place < start {
@@ -195,7 +204,7 @@ impl<'a, S: Sequence, R: Wait, G: Gate> Row<'a, S, R, G> {
         Err(past_row(request))
     }
 
-    /// One call of the seat at a cell.
+    /// Makes one call at a cell, by the thread's seat there.
     fn visit(
         &self,
         alloc: Global,
@@ -206,7 +215,9 @@ impl<'a, S: Sequence, R: Wait, G: Gate> Row<'a, S, R, G> {
     ) -> Result<Option<Reply>, Refusal>
         requires { IsAsked request.now }
         ensures who { session.new.who ≡ session.old.who }
-        ensures visits { VisitsAt session.old.who request.now place (record { rooms = session.old.rooms; seats = seats.old.items }) result (record { rooms = session.new.rooms; seats = seats.new.items }) }
+        ensures visits { VisitsAt session.old.who request.now place
+            (record { rooms = session.old.rooms; seats = seats.old.items }) result
+            (record { rooms = session.new.rooms; seats = seats.new.items }) }
     {
         if place >= self.cells.len() || place >= seats.len() {
             return Err(Refusal::SeatsOut);
@@ -225,20 +236,22 @@ impl<'a, S: Sequence, R: Wait, G: Gate> Row<'a, S, R, G> {
         )
     }
 
-    /// A session leaves its pads, in order of joining.
+    /// Leaves all pads of a session, in the order in which it joined them.
     pub fn leave_all(&self, seats: &mut Vec<Seat>, session: &mut Session)
         ensures who { session.new.who ≡ session.old.who }
         ensures rooms { session.new.rooms ≡ [] }
-        ensures left { LeavesRooms (cells_in self.now.cells.now) session.old.who session.old.rooms seats.old.items seats.new.items }
+        ensures left { LeavesRooms (cells_in self.now.cells.now) session.old.who session.old.rooms
+            seats.old.items seats.new.items }
     {
         while let Some(room) = session.take_first() {
             self.leave(seats, session, &room);
         }
     }
 
-    /// A session leaves one pad.
+    /// Leaves one pad of a session.
     fn leave(&self, seats: &mut Vec<Seat>, session: &Session, room: &Room)
-        ensures { LeavesRoom (cells_in self.now.cells.now) session.now.who room.now seats.old.items seats.new.items }
+        ensures { LeavesRoom (cells_in self.now.cells.now) session.now.who room.now seats.old.items
+            seats.new.items }
     {
         let place = room.cell as usize;
         if place >= self.cells.len() || place >= seats.len() {
@@ -250,7 +263,7 @@ impl<'a, S: Sequence, R: Wait, G: Gate> Row<'a, S, R, G> {
         }
     }
 
-    /// The name of a cell, if it has one.
+    /// The name of the pad in a cell, if it has one.
     pub fn name_of(&self, alloc: Global, cell: u32) -> Result<Option<Name>, Refusal>
         ensures formed { IfOk result (λ name. IfSome name (λ text. IsTrue (is_name text))) }
         ensures refusal { IfErr result (λ e. e ≡ Refusal.Memory) }

@@ -7,9 +7,9 @@ use shared_pads::{Seat, SharedPad};
 use std::alloc::Global;
 use std::sync::Wait;
 
-/// A seat at each cell of a row, in order, behind the seats that are there.
+/// Appends a seat at each cell of a row, in order.
 ///
-/// 317 where a pad has made all its seats, and out of memory. The seats that were made before that are there then.
+/// Refusals: 317 if a pad has made all its seats, and 900. The seats that were made before are kept.
 pub fn take_seats<S: Sequence, R: Wait>(
     rt: &R,
     cells: &[SharedPad<S>],
@@ -25,10 +25,10 @@ pub fn take_seats<S: Sequence, R: Wait>(
     Ok(())
 }
 
-/// Such seats for each of so many threads, behind those that are there.
+/// Appends such seats to `crew`, for each of `threads` threads.
 ///
-/// 317 where a pad has made all its seats, and out of memory. The seats that were made before that are there then, those
-/// of the thread that could not have all of them too.
+/// Refusals: 317 if a pad has made all its seats, and 900. The seats that were made before are kept, including those of
+/// the thread that did not get all of its seats.
 pub fn take_all_seats<S: Sequence, R: Wait>(
     rt: &R,
     alloc: Global,

@@ -1,19 +1,19 @@
-//! What a connection came to, in numbers.
+//! The counts of a connection.
 ghost use Rattle.std.specs.Prelude.{◌≡◌};
 
-/// What a connection came to.
+/// The counts of lines and operations of a connection.
 #[derive(Clone, Copy, Debug, PartialEq, Eq)]
 pub struct Served {
-    /// The lines that were written.
+    /// The number of lines that were answered.
     pub lines: u64,
-    /// The operations that they tell of as delivered.
+    /// The number of operations that the answers report as delivered.
     pub delivered: u64,
 }
 
 impl Served {
     ghost use Rattle.workers.specs.Delivered.{counted};
 
-    /// With one more line, if there is one, and the operations that it tells of.
+    /// Adds one line, if there is one, and the operations that its answer reports.
     pub(crate) fn with(self, told: Option<u64>) -> Served
         ensures { result ≡ counted self told }
     {

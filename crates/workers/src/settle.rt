@@ -9,7 +9,7 @@ use pad_model::Sequence;
 use server_core::{Moved, Server, Step};
 use std::alloc::Global;
 
-/// Asks a request, and goes on until it is answered.
+/// Makes a request of an actor, then moves the actor until the request is answered.
 pub fn ask<S: Sequence>(
     alloc: Global,
     server: &mut Server<S>,
@@ -27,7 +27,7 @@ pub fn ask<S: Sequence>(
     }
 }
 
-/// Makes a step, and goes on until nothing is under way.
+/// Makes a step, then moves the actor until it has nothing under way.
 pub fn make<S: Sequence>(alloc: Global, server: &mut Server<S>, actor: u32, step: &Step) -> Moved
     requires rest { IsAtRest server.old actor }
     requires call { IsCall step.now }
@@ -41,7 +41,7 @@ pub fn make<S: Sequence>(alloc: Global, server: &mut Server<S>, actor: u32, step
     }
 }
 
-/// Goes on until nothing is under way.
+/// Moves the actor until it has nothing under way.
 fn finish<S: Sequence>(alloc: Global, server: &mut Server<S>, actor: u32) -> Moved
     requires { IsUnderWay server.old actor }
     ensures finishes { Finishes actor server.old result server.new }
@@ -55,7 +55,7 @@ fn finish<S: Sequence>(alloc: Global, server: &mut Server<S>, actor: u32) -> Mov
     }
 }
 
-/// Looks at a cell.
+/// Looks up the name of a cell.
 pub fn look<S: Sequence>(alloc: Global, server: &mut Server<S>, actor: u32, cell: u32) -> Moved
     requires { IsAtRest server.old actor }
     ensures looks { Served server.old actor (Look cell) result server.new }

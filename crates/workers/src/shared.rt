@@ -5,7 +5,7 @@ ghost use Rattle.pad_model.specs.declared.refusal.Refusal.TheVariants as refusal
 ghost use Rattle.server_core.specs.Opening.{relay as relay_opened};
 ghost use Rattle.wire_lines.specs.Buffer.{IsPart};
 ghost use Rattle.wire_lines.specs.declared.fault.Fault.TheVariants.{Memory};
-ghost use Rattle.workers.specs.Crew.{CallsRow, EndsRow, KeepsSession, lent};
+ghost use Rattle.workers.specs.WorkerThreads.{CallsRow, EndsRow, KeepsSession, lent};
 ghost use Rattle.workers.specs.Talk.{AnswersFirst, AnswersLast, TellsLong};
 
 use crate::conversation::{Conversation, Turn};
@@ -21,7 +21,7 @@ use std::mem;
 use std::sync::Wait;
 use wire_lines::Fault;
 
-/// A row of shared pads as one thread sees it: it has a seat at each, and a session.
+/// A row of shared pads as one thread uses it, with a seat at each pad and a session.
 #[derive(Drop)]
 pub struct Shared<'a, S: Sequence, R: Wait, G: Gate> {
     row: &'a Row<'a, S, R, G>,
@@ -30,9 +30,9 @@ pub struct Shared<'a, S: Sequence, R: Wait, G: Gate> {
 }
 
 impl<'a, S: Sequence, R: Wait, G: Gate> Shared<'a, S, R, G> {
-    /// A thread with these seats, as `take_seats` gives them, and a session that has joined no pad. It takes no memory.
+    /// Takes the seats that `take_seats` made, and a session that has joined no pad. This allocates no memory.
     ///
-    /// At a cell without a seat of its own requests are refused as 318.
+    /// Requests at a cell without a seat of its own are refused with 318.
     pub fn new(row: &'a Row<'a, S, R, G>, seats: Vec<Seat>, session: Session) -> Shared<'a, S, R, G>
         ensures { result ≡ record { row = row.entry; seats = seats; session = session } }
     {
@@ -43,8 +43,8 @@ impl<'a, S: Sequence, R: Wait, G: Gate> Shared<'a, S, R, G> {
         }
     }
 
-    /// Answers the first line of a conversation for its session, as `Conversation::answer` does. The thread's own session
-    /// takes no part in it.
+    /// Answers the first line of a conversation in the given session, as `Conversation::answer` does. The thread's own
+    /// session is not used.
     pub fn answer(
         &mut self,
         alloc: Global,
@@ -55,12 +55,23 @@ impl<'a, S: Sequence, R: Wait, G: Gate> Shared<'a, S, R, G> {
         requires open { conversation.old.cut ≡ false }
         ensures own { KeepsSession self.old self.new }
         ensures answered { result ≡ Ok Turn.Answered →
-            AnswersFirst CallsRow (lent self.old session.old) conversation.old (lent self.new session.new) conversation.new }
-        ensures shorter { result ≡ Ok Turn.Answered → length conversation.new.waiting < length conversation.old.waiting }
-        ensures long { result ≡ Ok Turn.Cut → TellsLong conversation.old conversation.new × (lent self.new session.new ≡ lent self.old session.old) }
-        ensures waits { result ≡ Ok Turn.Waits → (conversation.new ≡ conversation.old) × (lent self.new session.new ≡ lent self.old session.old) × IsPart conversation.new.waiting }
-        ensures full { result ≡ Ok Turn.Full → (conversation.new ≡ conversation.old) × (lent self.new session.new ≡ lent self.old session.old) × (conversation.old.replies ≢ []) }
-        ensures err { OnErr result ((conversation.new ≡ conversation.old) × (lent self.new session.new ≡ lent self.old session.old)) }
+            AnswersFirst CallsRow (lent self.old session.old) conversation.old
+            (lent self.new session.new) conversation.new }
+        ensures shorter { result ≡ Ok Turn.Answered
+            → length conversation.new.waiting < length conversation.old.waiting }
+        ensures long { result ≡ Ok Turn.Cut
+            → TellsLong conversation.old conversation.new
+            × (lent self.new session.new ≡ lent self.old session.old) }
+        ensures waits { result ≡ Ok Turn.Waits
+            → (conversation.new ≡ conversation.old)
+            × (lent self.new session.new ≡ lent self.old session.old)
+            × IsPart conversation.new.waiting }
+        ensures full { result ≡ Ok Turn.Full
+            → (conversation.new ≡ conversation.old)
+            × (lent self.new session.new ≡ lent self.old session.old)
+            × (conversation.old.replies ≢ []) }
+        ensures err { OnErr result ((conversation.new ≡ conversation.old)
+            × (lent self.new session.new ≡ lent self.old session.old)) }
         ensures fault { IfErr result (λ fault. fault ≡ Memory) }
     {
         let gate = self.row.gate;
@@ -70,7 +81,8 @@ impl<'a, S: Sequence, R: Wait, G: Gate> Shared<'a, S, R, G> {
         turn
     }
 
-    /// Answers what waits as the last line of a conversation for its session, as `Conversation::answer_last` does.
+    /// Answers the remaining bytes of a conversation as its last line, in the given session, as
+    /// `Conversation::answer_last` does.
     pub fn answer_last(
         &mut self,
         alloc: Global,
@@ -82,9 +94,13 @@ impl<'a, S: Sequence, R: Wait, G: Gate> Shared<'a, S, R, G> {
         requires written { conversation.old.replies ≡ [] }
         ensures own { KeepsSession self.old self.new }
         ensures last { result ≡ Ok true →
-            AnswersLast CallsRow (lent self.old session.old) conversation.old (lent self.new session.new) conversation.new }
-        ensures none { result ≡ Ok false → (conversation.new ≡ conversation.old) × (conversation.old.waiting ≡ []) × (lent self.new session.new ≡ lent self.old session.old) }
-        ensures err { OnErr result ((conversation.new ≡ conversation.old) × (lent self.new session.new ≡ lent self.old session.old)) }
+            AnswersLast CallsRow (lent self.old session.old) conversation.old
+            (lent self.new session.new) conversation.new }
+        ensures none { result ≡ Ok false → (conversation.new ≡ conversation.old)
+            × (conversation.old.waiting ≡ [])
+            × (lent self.new session.new ≡ lent self.old session.old) }
+        ensures err { OnErr result ((conversation.new ≡ conversation.old)
+            × (lent self.new session.new ≡ lent self.old session.old)) }
         ensures fault { IfErr result (λ fault. fault ≡ Memory) }
     {
         let gate = self.row.gate;
@@ -94,7 +110,7 @@ impl<'a, S: Sequence, R: Wait, G: Gate> Shared<'a, S, R, G> {
         told
     }
 
-    /// Ends a session: it leaves its pads, and is unauthenticated then. The thread's own session takes no part in it.
+    /// Ends a session: it leaves its pads and becomes unauthenticated. The thread's own session is not used.
     pub fn end_session(&mut self, session: &mut Session)
         ensures own { KeepsSession self.old self.new }
         ensures ended { EndsRow (lent self.old session.old) (lent self.new session.new) }
@@ -103,7 +119,7 @@ impl<'a, S: Sequence, R: Wait, G: Gate> Shared<'a, S, R, G> {
         session.set(Who::Nobody);
     }
 
-    // Puts another session in the place of its own, which is handed out.
+    // Swaps its own session with another one.
     fn swap(&mut self, session: &mut Session)
         ensures other { self.new ≡ lent self.old session.old }
         ensures own { session.new ≡ self.old.session }
@@ -111,7 +127,7 @@ impl<'a, S: Sequence, R: Wait, G: Gate> Shared<'a, S, R, G> {
         mem::swap(&mut self.session, session);
     }
 
-    /// Its seats, when it is not used any more.
+    /// Returns the seats, for when it is no longer used.
     pub fn seats(self) -> Vec<Seat>
         ensures { result ≡ self.entry.seats }
     {
@@ -123,11 +139,15 @@ impl<'a, S: Sequence, R: Wait, G: Gate> Shared<'a, S, R, G> {
 impl<'a, S: Sequence, R: Wait, G: Gate> Pads for Shared<'a, S, R, G> {
     ghost calls = { λ old request answer new. CallsRow old request answer new };
 
-    ghost relays = { λ old number answer new. (new.row ≡ old.row) × (relay_opened old.row.now.replica number old.session.who ≡ (answer, new.session.who)) × (new.session.rooms ≡ old.session.rooms) × (new.seats.items ≡ old.seats.items) };
+    ghost relays = { λ old number answer new. (new.row ≡ old.row)
+        × (relay_opened old.row.now.replica number old.session.who ≡ (answer, new.session.who))
+        × (new.session.rooms ≡ old.session.rooms) × (new.seats.items ≡ old.seats.items) };
 
     ghost ends = { λ old new. EndsRow old new };
 
-    ghost names = { λ old cell answer new. (new ≡ old) × IfOk answer (λ name. IfSome name (λ text. IsTrue (is_name text))) × IfErr answer (λ e. e ≡ refusal.Memory) };
+    ghost names = { λ old cell answer new. (new ≡ old)
+        × IfOk answer (λ name. IfSome name (λ text. IsTrue (is_name text)))
+        × IfErr answer (λ e. e ≡ refusal.Memory) };
 
     ghost width = { λ s. min (length s.row.now.cells.now) (2 ^ 32 - 1) };
 

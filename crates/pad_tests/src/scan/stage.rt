@@ -1,5 +1,5 @@
-//! A server whose steps are words: `move`, `end`, `look 0`, `relay 2`, or a line of JSON that is asked. In a run, the lines of an
-//! accounts file are its new accounts.
+//! A server whose steps are words: `move`, `end`, `look 0`, `relay 2`, or a request as a line of JSON. In a run, the
+//! lines of an accounts file are new accounts.
 use block_seq::BlockSeq;
 use pad_model::Refusal;
 use server_core::{Event, MAX_CELLS, Moved, Server, Step};
@@ -9,15 +9,15 @@ use std::process::Abort;
 use std::test::Fail;
 use wire_json::{read_request, reply_line};
 
-/// A step of an actor, and what it is told.
+/// A step of an actor, and its result.
 pub type Turn<'a> = (u32, &'a str, &'a str);
 
-/// A server of replica 1 that knows ann, bob and peer 2, with three actors.
+/// Creates a server of replica 1 with accounts for ann, bob and peer 2, and opens three actors.
 pub fn open(alloc: Global, cells: u32) -> Result<Server<BlockSeq>, Fail> {
     open_with_room(alloc, DEFAULT_PRESENT, cells)
 }
 
-/// The same, where so many visits may be present on a pad at once.
+/// The same, with a limit of visits that may be present on a pad at once.
 pub fn open_with_room(alloc: Global, present: u64, cells: u32) -> Result<Server<BlockSeq>, Fail> {
     let accounts = Accounts::read(
         alloc,
@@ -28,7 +28,7 @@ pub fn open_with_room(alloc: Global, present: u64, cells: u32) -> Result<Server<
     Ok(server)
 }
 
-/// So many more actors.
+/// Opens this many more actors.
 pub fn open_more(alloc: Global, server: &mut Server<BlockSeq>, count: u32) -> Result<(), Refusal> {
     for _ in 0..count {
         let _actor = server.open(alloc)?;
@@ -36,7 +36,7 @@ pub fn open_more(alloc: Global, server: &mut Server<BlockSeq>, count: u32) -> Re
     Ok(())
 }
 
-/// Each step is told so.
+/// Asserts that each step has this result.
 pub fn are_told(
     rt: &impl Abort,
     alloc: Global,
@@ -58,7 +58,7 @@ fn is_told(rt: &impl Abort, place: usize, words: &str, want: &str, came: &str) {
     );
 }
 
-/// A run of the steps tells just this.
+/// Asserts that a run of the steps has exactly these results.
 pub fn runs_so(
     rt: &impl Abort,
     alloc: Global,

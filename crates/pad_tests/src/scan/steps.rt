@@ -17,7 +17,7 @@ const HELLO_BOB: Turn<'static> = (
     r#"{"author":"bob@1","ok":true}"#,
 );
 
-/// Two actors ask for one name in a row of one cell; the first to move has it. Then the row is full.
+/// Two actors ask for the same name in a row of one cell; the first to move gets it. Then the row is full.
 const RACE: &[Turn<'static>] = &[
     HELLO_ANN,
     HELLO_BOB,
@@ -37,7 +37,7 @@ const RACE: &[Turn<'static>] = &[
     (0, "look 0", "x"),
 ];
 
-/// A creation goes past another name, one cell at each move. Nothing else is answered meanwhile.
+/// A creation goes past another name, one cell at each move. Meanwhile nothing else is answered.
 const STEPS: &[Turn<'static>] = &[
     HELLO_ANN,
     HELLO_BOB,
@@ -152,7 +152,7 @@ const STORY: &[Turn<'static>] = &[
     (0, "look 1", "no name"),
 ];
 
-/// How many pads a server has room for, and what its actors are told.
+/// How many pads a server has room for, and the steps of its actors with their results.
 const TABLES: &[(u32, &[Turn<'static>])] = &[(1, RACE), (3, STEPS), (2, STORY)];
 
 fn are_told_by_new(
@@ -186,7 +186,7 @@ fn limit_actors(rt: HostRuntime) -> Result<(), Fail> {
     Ok(())
 }
 
-/// Who is logged in goes on under new accounts; who logs in needs one of them.
+/// Sessions go on under new accounts; log-ins need one of them.
 const NEW_ACCOUNTS: &[Turn<'static>] = &[
     HELLO_ANN,
     (0, "author bob t9\npeer 3 p3 127.0.0.1:7403\n", "idle"),
@@ -235,8 +235,8 @@ fn a_run_tells_what_its_steps_do(rt: HostRuntime) -> Result<(), Fail> {
 
 const CROWDED: &str = r#"{"code":313,"error":"Crowded","ok":false}"#;
 
-/// Five sessions of ann's, where three visits may be present on a pad: the owner's counts, and a place that becomes free is
-/// given again. Another pad has room of its own.
+/// Five sessions of ann, with at most three visits present on a pad: the owner's counts, and a place that becomes free
+/// is given again. Another pad has its own limit.
 const THREE_PRESENT: &[Turn<'static>] = &[
     HELLO_ANN,
     (1, HELLO, WELCOME),

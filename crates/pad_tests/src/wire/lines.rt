@@ -1,11 +1,11 @@
-//! Bytes as lines, however they are cut, and lines that are written.
+//! Bytes as lines, in whatever pieces they arrive, and lines that are written.
 use crate::shown::text_of;
 use std::alloc::Global;
 use std::process::Abort;
 use std::test::Fail;
 use wire_lines::{Fault, Input, Line, Lines, MAX_LINE, Output, Source, write_all};
 
-// The lines of a source, each ended by a bar; `!` is one that is too long, `?` a failed read.
+// The lines of a source, each ended by a bar; `!` is a line that is too long, `?` a failed read.
 fn shown<R: Source>(alloc: Global, source: &mut R) -> Result<Vec<u8>, Fault> {
     let mut out = Vec::new(alloc);
     let mut lines = Lines::new(alloc, source)?;
@@ -40,7 +40,8 @@ const FORMS: &[(&str, &str)] = &[
     ("a\n\r", "a|\r|"),
 ];
 
-// Sees that the lines of a source are these. The number says which source: how long its pieces are, or which read fails.
+// Asserts that the lines of a source are these. The number tells which source: the length of its pieces, or which read
+// fails.
 fn shows<R: Source>(
     rt: &impl Abort,
     alloc: Global,
@@ -58,7 +59,7 @@ fn shows<R: Source>(
     Ok(())
 }
 
-// How long what is shown of a source is.
+// The length of what is shown of a source.
 fn count_shown<R: Source>(alloc: Global, source: &mut R) -> Result<usize, Fault> {
     let found = shown(alloc, source)?;
     Ok(found.len())
@@ -75,7 +76,7 @@ fn line_forms(rt: HostRuntime) -> Result<(), Fail> {
     Ok(())
 }
 
-// Two lines of a session, and what comes of them where they are cut behind so many bytes.
+// Two lines of a session, and what is read of them if they are cut after this many bytes.
 const SESSION: &[u8] = b"{\"do\":\"create\",\"pad\":\"p\"}\r\n{\"do\":\"text\",\"pad\":\"p\"}\n";
 
 const BOTH: &[u8] = br#"{"do":"create","pad":"p"}|{"do":"text","pad":"p"}|"#;
@@ -108,7 +109,7 @@ fn lines_by_bytes_and_with_interrupts(rt: HostRuntime) -> Result<(), Fail> {
     Ok(())
 }
 
-// A read that fails: the lines whose line feed was read are served, then the fault, again and again.
+// A read that fails: the lines whose line feed was read are given, then the fault, again and again.
 const FAILED_READS: &[(u64, &str)] = &[(1, "???"), (2, "ab|???"), (3, "ab|???"), (4, "ab|c|")];
 
 #[test]
@@ -120,7 +121,7 @@ fn a_read_that_fails(rt: HostRuntime) -> Result<(), Fail> {
     Ok(())
 }
 
-// The longest line is served, one byte more is not, with a line feed behind it or without; nothing follows.
+// The longest line is given, one byte more is not, with a line feed after it or without; nothing follows.
 const LONG: &[(usize, &[u8], usize)] = &[
     (MAX_LINE, b"", MAX_LINE + 1),
     (MAX_LINE, b"\nx", MAX_LINE + 3),
@@ -130,7 +131,7 @@ const LONG: &[(usize, &[u8], usize)] = &[
     (MAX_LINE + 1, b"\nx", 3),
 ];
 
-// How long what is shown of so many letters and an end is.
+// The length of what is shown of this many letters and an end.
 fn count_of_long(alloc: Global, length: usize, end: &[u8]) -> Result<usize, Fail> {
     let mut bytes = vec![in alloc; b'a'; length]?;
     bytes.extend_from_slice(end)?;
@@ -149,7 +150,7 @@ fn the_longest_line(rt: HostRuntime) -> Result<(), Fail> {
     Ok(())
 }
 
-/// How much a writer takes at a time, where not all, the call at which it fails, if any, what comes of it, and what it took.
+/// How much a writer takes at a time, if not all; the call at which it fails, if any; the result, and what it took.
 type Written = (Option<usize>, Option<u64>, Result<(), Fault>, &'static str);
 
 const WRITTEN: &[Written] = &[

@@ -1,9 +1,9 @@
-//! Lines that are no requests.
+//! Lines that are not requests.
 use std::alloc::{AllocError, Global};
 use std::test::Fail;
 use wire_json::read_request;
 
-/// Fields of an object that are no request, behind `{"pad":"p",`.
+/// Fields of an object that is not a request, after `{"pad":"p",`.
 const UNASKED: &[&str] = &[
     r#""do":"insert","rev":0,"at":1.0,"text":"a""#,
     r#""do":"insert","rev":0,"at":-1,"text":"a""#,
@@ -96,7 +96,7 @@ fn code_of(alloc: Global, line: &[u8]) -> Option<u16> {
     Some(read_request(alloc, line).err()?.code())
 }
 
-/// The same of an object of the pad `p` with these fields.
+/// The same for an object of the pad `p` with these fields.
 fn code_with(alloc: Global, fields: &str) -> Result<Option<u16>, AllocError> {
     let line = format!(in alloc; r#"{{"pad":"p",{fields}}}"#)?;
     Ok(code_of(alloc, line.as_bytes()))
@@ -166,7 +166,7 @@ fn odd_lines_are_refused(rt: HostRuntime) {
     }
 }
 
-/// Texts that are no JSON, or JSON that is no request, with the number of their refusal.
+/// Texts that are not JSON, or JSON that is not a request, with the number of their refusal.
 const ODD: &[(&str, u16)] = &[
     (r#"{"do":"text","pad":"p"]"#, 101),
     (r#"{"do":"text" "pad":"p"}"#, 101),

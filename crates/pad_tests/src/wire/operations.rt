@@ -34,7 +34,7 @@ fn written(alloc: Global, op: &Op) -> Result<String, Refusal> {
     Ok(op_value(alloc, op)?.to_string(alloc)?)
 }
 
-/// An operation is written as the text, and is in its limits or is not.
+/// Asserts that an operation is written as the text, and whether it is within its limits.
 fn is_written(
     rt: &impl Abort,
     alloc: Global,
@@ -52,7 +52,7 @@ fn is_written(
     Ok(())
 }
 
-/// The same of the operation that the text says.
+/// The same for the operation that is read from the text.
 fn is_again(rt: &impl Abort, alloc: Global, text: &str, fits: bool) -> Result<(), Refusal> {
     is_written(rt, alloc, &read(alloc, text)?, text, fits)
 }

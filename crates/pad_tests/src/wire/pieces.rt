@@ -1,4 +1,4 @@
-//! Bytes that come in pieces and the lines in them, and the reads of a source.
+//! Bytes that arrive in pieces and the lines in them, and the reads of a source.
 ghost use Rattle.std.specs.Prelude.{◌<◌};
 
 use crate::shown::text_of;
@@ -7,7 +7,7 @@ use std::process::Abort;
 use std::test::Fail;
 use wire_lines::{Fault, Found, Inlet, Input, LineSplitter, MAX_LINE, Source};
 
-// Takes off the lines that are whole, each ended by a bar; `!` is one that is too long.
+// Takes the complete lines, each ended by a bar; `!` is a line that is too long.
 fn take_lines(splitter: &mut LineSplitter, out: &mut Vec<u8>) -> Result<(), Fault> {
     for _ in 0..10 {
         match splitter.next_line() {
@@ -22,7 +22,7 @@ fn take_lines(splitter: &mut LineSplitter, out: &mut Vec<u8>) -> Result<(), Faul
     Ok(())
 }
 
-// Takes off what waits without a line feed, ended by a stop.
+// Takes what waits without a line feed, ended by a full stop.
 fn take_last(splitter: &mut LineSplitter, out: &mut Vec<u8>) -> Result<(), Fault> {
     if splitter.next_line().is_none() && splitter.last_line() {
         out.extend_from_slice(splitter.line())?;
@@ -35,7 +35,8 @@ const BYTES: &[u8] = b"a\nbc\r\n\n\r\nd\re\r\r\n\rlast\r";
 
 const LINES: &[u8] = b"a|bc|||d\re\r|\rlast\r.";
 
-// The lines of bytes that come in pieces of one size. After each piece, the room that is not needed is given back or not.
+// The lines of bytes that arrive in pieces of one size. After each piece, the memory that is not needed is freed or
+// not.
 fn lines_in_pieces(alloc: Global, size: usize, is_released: bool) -> Result<Vec<u8>, Fault>
     requires { 0 < size }
 {
@@ -90,7 +91,7 @@ fn lines_that_wait_for_their_turn(rt: HostRuntime) -> Result<(), Fail> {
     Ok(())
 }
 
-// Bytes, their first line if it is whole, and whether any byte waits behind it.
+// Bytes, their first line if it is complete, and whether any byte follows it.
 const FIRST: &[(&str, Option<&str>, bool)] = &[
     ("", None, false),
     ("a", None, false),
@@ -102,7 +103,7 @@ const FIRST: &[(&str, Option<&str>, bool)] = &[
     ("a\r\n\n", Some("a"), true),
 ];
 
-// Sees what is told of bytes, twice.
+// Asserts what is reported of bytes, twice.
 fn tells_first(
     rt: &impl Abort,
     alloc: Global,
@@ -136,7 +137,7 @@ fn the_first_line_is_told_without_effect(rt: HostRuntime) -> Result<(), Fail> {
     Ok(())
 }
 
-// So many letters and an end, and what stands first.
+// This many letters and an end, and what is found first.
 const LONG: &[(usize, &[u8], Option<Found>)] = &[
     (MAX_LINE, b"", None),
     (MAX_LINE, b"\n", Some(Found::Text)),
@@ -146,7 +147,7 @@ const LONG: &[(usize, &[u8], Option<Found>)] = &[
     (MAX_LINE + 1, b"\n", Some(Found::TooLong)),
 ];
 
-// What stands first, and whether it is told as a line before.
+// What is found first, and whether `first_line` gave it before.
 fn found_of_long(alloc: Global, length: usize, end: &[u8]) -> Result<(Option<Found>, bool), Fail> {
     let mut splitter = LineSplitter::new(alloc);
     splitter.receive(vec![in alloc; b'a'; length]?.as_slice())?;
@@ -171,7 +172,7 @@ fn the_longest_piece(rt: HostRuntime) -> Result<(), Fail> {
     Ok(())
 }
 
-// Reads once, and puts what came before a bar; a stop at the end.
+// Reads once, and writes what was read, ended by a bar; a full stop at the end.
 fn read_once<R: Source>(inlet: &mut Inlet, source: &mut R, out: &mut Vec<u8>) -> Result<(), Fault> {
     if inlet.has_ended() {
         out.push(b'.')?;

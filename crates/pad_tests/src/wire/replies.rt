@@ -9,7 +9,7 @@ use std::process::Abort;
 use std::test::Fail;
 use wire_json::{read_op, reply_line};
 
-/// A reply that a test writes, in a word.
+/// A reply that a test writes, by a word.
 #[derive(Clone, Copy, Debug)]
 enum Sample {
     Hello,
@@ -86,7 +86,7 @@ fn pad_reply_of(alloc: Global, sample: Sample) -> Result<PadReply, Refusal> {
     }
 }
 
-/// The replies that hold numbers alone.
+/// The replies that hold only numbers.
 fn numbers_told(sample: Sample) -> PadReply {
     let name = OpName {
         origin: 1,

@@ -158,7 +158,7 @@ const REQUESTS: &[(&str, &str)] = &[
     ),
 ];
 
-/// What a line is read as: its request as `{:?}` shows it, or the number of its refusal.
+/// What a line is read as: its request in `{:?}` form, or the number of its refusal.
 fn shown(alloc: Global, line: &[u8]) -> Result<String, AllocError> {
     match read_request(alloc, line) {
         Ok(request) => format!(in alloc; "{request:?}"),
@@ -180,7 +180,7 @@ fn requests_are_read(rt: HostRuntime) -> Result<(), Fail> {
     Ok(())
 }
 
-/// The text that a line inserts; none, where it is no insertion.
+/// The text that a line inserts; empty if it is not an insertion.
 fn text_of(alloc: Global, line: &[u8]) -> Result<String, AllocError> {
     match &read_request(alloc, line) {
         Ok(
@@ -202,7 +202,7 @@ fn insertion(alloc: Global, written: &[u8]) -> Result<Vec<u8>, AllocError> {
     Ok(line)
 }
 
-/// Texts as they are written, and as they are.
+/// Texts in their written form, and what they mean.
 const TEXTS: &[(&[u8], &str)] = &[
     (b"\\u0000\\uffff\\n\\/", "\u{0}\u{ffff}\n/"),
     (b"\\ud83d\\ude00", "\u{1f600}"),
@@ -210,7 +210,7 @@ const TEXTS: &[(&[u8], &str)] = &[
     (b"\\\"\\\\\\b\\f\\r\\t", "\"\\\u{8}\u{c}\r\t"),
 ];
 
-/// Sees that a line inserts these characters.
+/// Asserts that a line inserts these characters.
 fn inserts(rt: &impl Abort, alloc: Global, line: &[u8], want: &str) -> Result<(), AllocError> {
     let came = text_of(alloc, line)?;
     assert!(rt;
@@ -221,7 +221,7 @@ fn inserts(rt: &impl Abort, alloc: Global, line: &[u8], want: &str) -> Result<()
     Ok(())
 }
 
-/// These characters are inserted where they are written so.
+/// Asserts that these characters are inserted if they are written so.
 fn is_written(
     rt: &impl Abort,
     alloc: Global,
@@ -240,7 +240,7 @@ fn texts_hold_any_character(rt: HostRuntime) -> Result<(), Fail> {
     Ok(())
 }
 
-/// A creation with so many lists in one another beside its pad.
+/// A creation with this many nested lists beside its pad.
 fn nested(alloc: Global, depth: u32) -> Result<String, AllocError> {
     let mut line = String::from_str(alloc, r#"{"do":"create","pad":"p","x":"#)?;
     for bracket in ['[', ']'] {

@@ -1,4 +1,4 @@
-//! A hundred thousand seeded operations on an index and on a plain list of blocks, which answer the same.
+//! A hundred thousand seeded operations on an index and on a plain list of blocks, which give the same results.
 ghost use Rattle.std.specs.Prelude.{◌+◌, ◌<◌, ◌≤◌, IfSome, vec_len};
 ghost use Rattle.pad_model.specs.declared.limits.TheConstants.{MAX_COUNTER};
 
@@ -10,7 +10,7 @@ use std::alloc::{AllocError, Global};
 use std::process::Abort;
 use std::test::Fail;
 
-// One of the fifteen hundred stamps that the run is about.
+// Returns one of the fifteen hundred stamps that the run uses.
 fn any_stamp(dice: &mut Dice) -> Result<Stamp, Refusal> {
     Stamp::new(1 + dice.roll(500), 1 + dice.roll(3) as u16)
 }
@@ -44,7 +44,7 @@ impl Block {
     }
 }
 
-// Adds a block if the index holds none of its stamps, and says whether it did.
+// Adds a block if the index holds none of its stamps, and returns whether it did.
 fn add_if_new(index: &mut IdentIndex, first: Stamp, entry: Entry) -> Result<bool, AllocError>
     requires sized { 1 ≤ entry.len }
     requires limit { first.counter + entry.len ≤ MAX_COUNTER + 1 }
@@ -58,8 +58,8 @@ fn add_if_new(index: &mut IdentIndex, first: Stamp, entry: Entry) -> Result<bool
     Ok(true)
 }
 
-// An index and the list of blocks that it should have. Each method but `same` says whether it found
-// what it was about.
+// An index, and the list of blocks that it should have. Each method but `same` returns whether it found what it looked
+// for.
 #[derive(Drop)]
 struct Both {
     index: IdentIndex,
@@ -173,7 +173,7 @@ impl Both {
         want > 0
     }
 
-    // All stamps have the same places in both.
+    // Asserts that all stamps have the same places in both.
     fn same(&self, rt: &impl Abort) -> Result<(), Fail> {
         for counter in 1..510 {
             for replica in 1..5 {
@@ -183,7 +183,7 @@ impl Both {
         Ok(())
     }
 
-    // Does an operation of a kind from 0 to 9, half of the time about a block that is there.
+    // Makes an operation of a kind from 0 to 9, half of the time on an existing block.
     fn step(&mut self, rt: &impl Abort, dice: &mut Dice, kind: u64) -> Result<bool, Fail> {
         let stamp = any_stamp(dice)?;
         let label = dice.roll(1_000_000);
@@ -231,7 +231,7 @@ fn a_hundred_thousand_operations_as_on_a_list(rt: HostRuntime) -> Result<(), Fai
     }
     both.same(&rt)?;
     lie_within(&rt, "operations of each kind", &kinds, 9_500, 10_500);
-    // Everything both finds and misses, but for `len`, which looks for nothing.
+    // Each kind both finds and misses, except `len`, which looks for nothing.
     hits[4] = 5_000;
     lie_within(&rt, "hits of each kind", &hits, 1_000, 9_000);
     Ok(())

@@ -1,4 +1,4 @@
-//! Places and labels as someone counts them.
+//! Places and labels, compared with results worked out by hand.
 ghost use Rattle.std.specs.Prelude.{◌≡◌, IfOk};
 ghost use Rattle.std.specs.FinMap as map;
 
@@ -14,7 +14,7 @@ fn stamp(counter: u64, replica: u16) -> Result<Stamp, Fail>
     Ok(Stamp::new(counter, replica)?)
 }
 
-// The stamps 1 to 5 of replica 1, under the label 100.
+// Returns an index of the stamps 1 to 5 of replica 1, under the label 100.
 fn five_characters(alloc: Global) -> Result<IdentIndex, Fail>
     ensures { IfOk result (λ m. m ≡ map.insert map.empty
         (record { counter = 1; replica = 1 }) (record { len = 5; label = 100 })) }
@@ -32,7 +32,7 @@ fn at(first: Stamp, offset: u64, label: u64) -> Option<Place> {
     })
 }
 
-/// Sees that the index finds a stamp at this place.
+/// Asserts the place at which the index finds a stamp.
 fn is_at(rt: &impl Abort, index: &IdentIndex, stamp: Stamp, want: Option<Place>) {
     let came = index.locate(stamp);
     assert!(rt; came == want, "{stamp:?}: wanted {want:?}, came {came:?}");

@@ -1,5 +1,5 @@
-//! Stones taken out of a big tree, in order and at random, beside a plain list: sums and ranks stay those of the list, and the
-//! tree stays low.
+//! Stones that are removed from a large tree, in order and at random, beside a plain list: the sums and ranks equal
+//! those of the list, and the tree stays low.
 use crate::index::stone::Stone;
 use crate::index::stone_run::Both;
 use dice::Dice;
@@ -9,7 +9,7 @@ use std::test::Fail;
 
 const STONES: u64 = 1_000;
 
-// Which stone is taken out next.
+// Which stone is removed next.
 #[derive(Clone, Copy, Debug)]
 enum Way {
     First,
@@ -27,7 +27,7 @@ fn next_rank(dice: &mut Dice, way: Way, count: usize) -> usize {
     }
 }
 
-// Whether a tree of so many items may be so high: 4^height is at most 3^height times one more than there are.
+// Whether a tree of `count` items may have this height: 4^height is at most 3^height times one more than `count`.
 fn is_low(count: usize, height: usize) -> bool {
     let mut most: u64 = (count as u64).wrapping_add(1);
     let mut high: u64 = 1;
@@ -38,7 +38,7 @@ fn is_low(count: usize, height: usize) -> bool {
     height <= 24 && high <= most
 }
 
-// Stones whose numbers rise and whose weights are 0 to 6.
+// Inserts stones whose numbers rise and whose weights are 0 to 6.
 fn fill(rt: &impl Abort, alloc: Global, both: &mut Both) -> Result<(), Fail> {
     for number in 0..STONES {
         let weight = number % 7;
@@ -47,7 +47,7 @@ fn fill(rt: &impl Abort, alloc: Global, both: &mut Both) -> Result<(), Fail> {
     Ok(())
 }
 
-// That all sums and ranks are those of the list.
+// Asserts that all sums and ranks equal those of the list.
 fn compare(rt: &impl Abort, both: &Both) {
     both.items(rt);
     both.weight(rt);
@@ -57,7 +57,7 @@ fn compare(rt: &impl Abort, both: &Both) {
     }
 }
 
-// Takes out one stone after the other, and compares after each hundredth.
+// Removes one stone after another, and compares after every hundred.
 fn empty_out(rt: &impl Abort, both: &mut Both, way: Way) {
     let mut dice = Dice::new(2026);
     for round in 0..STONES {
@@ -112,7 +112,7 @@ fn stones_come_and_go_as_in_a_list(rt: HostRuntime) -> Result<(), Fail> {
         }
     }
     compare(&rt, &both);
-    // About half of them are taken out, and the others put in.
+    // About half of the steps remove a stone, and the others insert one.
     assert!(rt;
         1_800 <= removed && removed < 2_200,
         "{removed} of 4000 were taken out"

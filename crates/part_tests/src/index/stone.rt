@@ -1,4 +1,4 @@
-//! Items of a tree, and how one is put into it.
+//! The items of a tree, and their insertion.
 use std::alloc::Global;
 use std::process::Abort;
 use std::test::Fail;

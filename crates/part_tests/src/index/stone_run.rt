@@ -1,4 +1,4 @@
-//! A hundred thousand seeded operations on a tree and on a plain list, which answer the same.
+//! A hundred thousand seeded operations on a tree and on a plain list, which give the same results.
 use crate::index::counts::lie_within;
 use crate::index::stone::{Stone, put};
 use dice::Dice;
@@ -7,7 +7,7 @@ use std::process::Abort;
 use std::test::Fail;
 use weight_tree::{Found, WeightTree};
 
-// What the first stones of a list weigh.
+// The weight of the first `count` stones of a list.
 fn weight_of(list: &[Stone], count: usize) -> u64 {
     let mut sum: u64 = 0;
     for stone in list.iter().take(count) {
@@ -16,7 +16,7 @@ fn weight_of(list: &[Stone], count: usize) -> u64 {
     sum
 }
 
-// The rank and the offset where a walk from the start finds a number.
+// The rank and offset at which a walk from the start finds a number.
 fn walk_to(list: &[Stone], mut number: u64) -> Option<(usize, u64)> {
     for (rank, stone) in list.iter().enumerate() {
         if number < stone.weight {
@@ -27,7 +27,7 @@ fn walk_to(list: &[Stone], mut number: u64) -> Option<(usize, u64)> {
     None
 }
 
-// A tree and the list that it should be, with the stones in the order of their numbers.
+// A tree, and the list that it should equal, with the stones in the order of their numbers.
 #[derive(Drop)]
 pub struct Both {
     tree: WeightTree<Stone>,
@@ -42,12 +42,12 @@ impl Both {
         }
     }
 
-    // How many stones there are, and how high the tree is.
+    // The number of stones, and the height of the tree.
     pub fn size(&self) -> (usize, usize) {
         (self.list.len(), self.tree.height())
     }
 
-    // The rank before the first stone whose number is not below this one.
+    // The rank of the first stone whose number is not below this one.
     fn rank_of(&self, rt: &impl Abort, number: u64) -> usize {
         let rank = self.list.partition_point(|stone| stone.number < number);
         let placed = self.tree.rank_by(|stone| stone.number.cmp(&number));
@@ -111,7 +111,7 @@ impl Both {
         assert!(rt; came == want, "before {rank}: wanted {want}, came {came}");
     }
 
-    // Whether the number falls in a stone.
+    // Asserts that both find a number alike, and returns whether it falls in a stone.
     pub fn find(&self, rt: &impl Abort, number: u64) -> bool {
         let want = walk_to(self.list.as_slice(), number);
         let came = match self.tree.find(number) {
@@ -146,8 +146,8 @@ impl Both {
         assert!(rt; came.is_none(), "items: wanted the end, came {came:?}");
     }
 
-    // Does an operation of a kind from 0 to 9, and says whether it found what it looked for, which a
-    // `find` may not.
+    // Makes an operation of a kind from 0 to 9, and returns whether it found what it looked for, which a `find` may
+    // not.
     fn step(
         &mut self,
         rt: &impl Abort,
@@ -192,7 +192,7 @@ fn a_hundred_thousand_operations_as_on_a_list(rt: HostRuntime) -> Result<(), Fai
     }
     both.items(&rt);
     lie_within(&rt, "operations of each kind", &kinds, 9_500, 10_500);
-    // About half of the numbers are found, and hardly anything else misses.
+    // About half of the numbers are found, and hardly anything else is missed.
     lie_within(&rt, "numbers found", &hits[4..5], 4_000, 6_000);
     hits[4] = kinds[4];
     lie_within(&rt, "hits of each kind", &hits, 9_401, u64::MAX);

@@ -1,5 +1,5 @@
-//! The sums of a tree as someone adds them up, how low a tree is however it grew, and that the counts of visits are those
-//! of the calls that are made.
+//! The sums of a tree, compared with results worked out by hand; the height of a tree, however it grew; and the counts
+//! of visits, which equal the calls that are made.
 use crate::index::stone::{Stone, put};
 use std::alloc::Global;
 use std::cmp::Ordering;
@@ -14,13 +14,13 @@ fn put_three(rt: &impl Abort, alloc: Global, tree: &mut WeightTree<Stone>) -> Re
     Ok(())
 }
 
-// Where the tree finds a number, as a rank and an offset.
+// The rank and offset at which the tree finds a number.
 fn place_of(tree: &WeightTree<Stone>, number: u64) -> Option<(usize, u64)> {
     let Found { rank, offset, .. } = tree.find(number)?;
     Some((rank, offset))
 }
 
-// Sees that the tree finds a number at this rank and offset.
+// Asserts the rank and offset at which the tree finds a number.
 fn is_at(rt: &impl Abort, tree: &WeightTree<Stone>, number: u64, want: Option<(usize, u64)>) {
     let came = place_of(tree, number);
     assert!(rt; came == want, "{number}: wanted {want:?}, came {came:?}");
@@ -96,7 +96,7 @@ fn empty_tree_is_flat(rt: HostRuntime) {
     assert!(rt; count == 0, "{count} stones come by");
 }
 
-// Stones of weight 1, each put at the end, at the front or in the middle of those before it.
+// Where each stone, of weight 1, is inserted among those before it.
 #[derive(Clone, Copy)]
 enum Way {
     End,
@@ -122,7 +122,7 @@ fn put_many(
     Ok(())
 }
 
-// That each number of a thousand is found on a short way down.
+// Asserts that each of a thousand numbers is found on a short path.
 fn finds_each(rt: &impl Abort, tree: &WeightTree<Stone>) {
     let height = tree.height();
     assert!(rt; height <= 24, "{height} levels");
@@ -139,7 +139,7 @@ fn finds_each(rt: &impl Abort, tree: &WeightTree<Stone>) {
     }
 }
 
-// Where a closure that always gives this answer ends, and how often it was called.
+// Returns where a closure that always gives this answer leads, and the number of its calls.
 fn place_and_calls(tree: &WeightTree<Stone>, answer: Ordering) -> (Placed, usize) {
     let mut calls: usize = 0;
     let placed = tree.rank_by(|_| {
@@ -149,7 +149,7 @@ fn place_and_calls(tree: &WeightTree<Stone>, answer: Ordering) -> (Placed, usize
     (placed, calls)
 }
 
-// That the same answer everywhere leads down one side.
+// Asserts that the same answer everywhere leads down one side.
 fn goes_down_one_side(rt: &impl Abort, tree: &WeightTree<Stone>) {
     for (answer, rank) in [
         (Ordering::Less, 1023),
@@ -213,7 +213,7 @@ fn rank_walks_one_path(rt: HostRuntime) -> Result<(), Fail> {
     Ok(())
 }
 
-// How many stones come by, each that of its rank.
+// Counts the stones of the iterator, and asserts that each is the one of its rank.
 fn count_by_rank(rt: &impl Abort, tree: &WeightTree<Stone>) -> usize {
     let mut rank: usize = 0;
     for stone in tree.iter() {

@@ -1,11 +1,11 @@
-//! The ways down a tree of 1 to 64 stones, by which stones a search asks.
+//! The paths down a tree of 1 to 64 stones: the stones that a search asks.
 use crate::index::stone::{Stone, put};
 use std::alloc::Global;
 use std::process::Abort;
 use std::test::Fail;
 use weight_tree::WeightTree;
 
-// The most visits that a way is counted to have.
+// The most visits that a path is counted with.
 const MOST: u32 = 16;
 
 // A search for the place of a number among stones that are numbered by rank.
@@ -14,7 +14,7 @@ struct Way {
     rank: usize,
     visits: usize,
     calls: usize,
-    // At which call the stone of the number was asked; 0 where it was not.
+    // The number of the call that asked the stone of the number; 0 if none did.
     met_at: usize,
     asked_twice: bool,
 }
@@ -43,7 +43,8 @@ fn walk(tree: &WeightTree<Stone>, number: u64) -> Way {
     }
 }
 
-// Whether a search asks as often as it says, nothing twice, and meets the stone of the number where `find` stops.
+// Whether a search makes as many calls as it reports, asks no stone twice, and asks the stone of the number where
+// `find` stops.
 fn is_straight(tree: &WeightTree<Stone>, number: u64, way: Way) -> bool {
     let stops = match tree.find(number) {
         Some(found) => found.visits,
@@ -52,7 +53,8 @@ fn is_straight(tree: &WeightTree<Stone>, number: u64, way: Way) -> bool {
     way.rank as u64 == number && way.visits == way.calls && !way.asked_twice && way.met_at == stops
 }
 
-// The ways to all places of a binary tree are those of its leaves: the sum of 2^-visits is 1 (Kraft's equality).
+// Asserts that the paths to all places of a binary tree are those of its leaves: the sum of 2^-visits is 1 (Kraft's
+// equality).
 fn walk_to_each(rt: &impl Abort, tree: &WeightTree<Stone>, count: u64) {
     let mut sum: u64 = 0;
     for number in 0..=count {

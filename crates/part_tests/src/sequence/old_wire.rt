@@ -1,4 +1,4 @@
-//! What the first wire version can say.
+//! Which operations the first wire version can represent.
 use pad_model::{Name, Op, OpName, Part, Refusal, Row, Seen, Span, Stamp, op_in_v1};
 use std::alloc::Global;
 use std::test::Fail;
@@ -18,7 +18,7 @@ fn parts(alloc: Global, counter: u64, replica: u16) -> Result<Row<Part>, Refusal
     Ok(parts)
 }
 
-/// Whether the first version can say an operation that erases a stamp and the one after it.
+/// Whether the first version can represent an operation that erases a stamp and the one after it.
 fn is_said(alloc: Global, counter: u64, replica: u16) -> Result<bool, Refusal> {
     let op = Op {
         name: OpName {

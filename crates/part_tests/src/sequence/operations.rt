@@ -1,9 +1,10 @@
-//! Which operations are in their limits, and which two are the same.
+//! Which operations are within their limits, and which two are the same.
 use pad_model::{MAX_COUNTER, Name, Op, OpName, Part, Refusal, Row, Run, Seen, Span, Stamp, Text};
 use std::alloc::Global;
 use std::test::Fail;
 
-/// A part by its numbers: an insertion's counter, replica and length, the lengths of spans, the length of a comment, the number of a comment.
+/// A part by its numbers: the counter, replica and length of an insertion, the lengths of spans, the length of a
+/// comment, or the number of a comment.
 #[derive(Clone, Copy)]
 enum Sketch {
     Insert(u64, u16, u64),
@@ -70,7 +71,7 @@ fn parts(alloc: Global, sketches: &[Sketch]) -> Result<Row<Part>, Refusal> {
     Ok(parts)
 }
 
-/// What an operation is but its parts: its name, its author, and the origin that it has seen, with a count.
+/// An operation without its parts: its name, its author, and the origin that it has seen, with a count.
 type Head<'a> = (OpName, &'a str, Option<(u16, u64)>);
 
 const FIRST: OpName = OpName {
@@ -100,7 +101,7 @@ fn op_of(alloc: Global, head: Head<'_>, sketches: &[Sketch]) -> Result<Op, Refus
     })
 }
 
-/// What its check answers of an operation, and whether it only edits the text.
+/// The result of checking an operation, and whether it only edits the text.
 type Judged = (Result<(), Refusal>, bool);
 
 fn judged(alloc: Global, head: Head<'_>, sketches: &[Sketch]) -> Result<Judged, Refusal> {
@@ -108,7 +109,7 @@ fn judged(alloc: Global, head: Head<'_>, sketches: &[Sketch]) -> Result<Judged, 
     Ok((op.check(), op.is_edit()))
 }
 
-/// What is checked, the parts, and whether they fit.
+/// The case, the parts, and whether they are within their limits.
 type Case = (&'static str, &'static [Sketch], bool);
 
 const PARTS: &[Case] = &[
@@ -170,7 +171,7 @@ fn are_edits(sketches: &[Sketch]) -> bool {
     true
 }
 
-/// What the check is to answer of an operation of these parts.
+/// The result that the check of an operation with these parts should give.
 fn wanted(sketches: &[Sketch], fits: bool) -> Judged {
     let answer = if fits { Ok(()) } else { Err(Refusal::BadOp) };
     (answer, are_edits(sketches))
@@ -190,7 +191,7 @@ fn is_same_as_its_copy(op: &Op) -> Result<bool, Refusal> {
     Ok(op.is_same(&op.clone()?))
 }
 
-/// Whether a resolution is the same as its copy.
+/// Whether an operation that resolves a comment is the same as its copy.
 fn copies(alloc: Global, head: Head<'_>) -> Result<bool, Refusal> {
     is_same_as_its_copy(&op_of(alloc, head, &RESOLUTION)?)
 }
@@ -199,7 +200,7 @@ fn is_same_as_with(alloc: Global, op: &Op, head: Head<'_>) -> Result<bool, Refus
     Ok(op.is_same(&op_of(alloc, head, &RESOLUTION)?))
 }
 
-/// Whether resolutions of two heads are the same.
+/// Whether operations with these two heads that resolve a comment are the same.
 fn are_same(alloc: Global, one: Head<'_>, other: Head<'_>) -> Result<bool, Refusal> {
     is_same_as_with(alloc, &op_of(alloc, one, &RESOLUTION)?, other)
 }
@@ -220,7 +221,8 @@ fn a_copy_is_the_same(rt: HostRuntime) -> Result<(), Fail> {
     Ok(())
 }
 
-/// Origin and number of an operation, its author, an origin and its count in the version vector, and whether they fit.
+/// The origin and number of an operation, its author, an origin and its count in the version vector, and whether they
+/// are within their limits.
 type HeadCase = (u16, u64, &'static str, u16, u64, bool);
 
 const HEADS: &[HeadCase] = &[

@@ -1,4 +1,4 @@
-//! Rows, texts and version vectors, as someone fills them.
+//! Rows, texts and version vectors, compared with contents worked out by hand.
 use pad_model::{Counted, OpName, Refusal, Row, Seen, Text};
 use std::alloc::Global;
 use std::test::Fail;

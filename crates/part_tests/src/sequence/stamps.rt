@@ -1,4 +1,4 @@
-//! Stamps and their order, and the numbers of refusals.
+//! Stamps and their order, and the codes of refusals.
 use pad_model::{Refusal, Stamp};
 use std::test::Fail;
 
@@ -29,7 +29,7 @@ fn what_is_outside_the_limits_is_refused(rt: HostRuntime) {
     }
 }
 
-/// Each is newer than the one before it.
+/// Stamps of which each is newer than the one before it.
 const RISING: &[(u64, u16)] = &[(1, 1), (1, 2), (2, 1), (2, 65_535), (3, 2)];
 
 /// Whether the second of two stamps is newer, whether the first is less, and whether they are the same.
@@ -41,7 +41,7 @@ fn order_of(a: (u64, u16), b: (u64, u16)) -> Result<Order, Refusal> {
     Ok((b.is_newer(a), a < b, a.is_same(b)))
 }
 
-/// Two stamps stand to each other as their places do.
+/// Two stamps have the order of their places in `RISING`.
 #[test]
 fn newer_by_counter_and_then_by_replica(rt: HostRuntime) -> Result<(), Fail> {
     for (i, a) in RISING.iter().enumerate() {

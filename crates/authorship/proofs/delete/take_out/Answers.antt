@@ -5,11 +5,9 @@ use Rattle.authorship.proofs.delete.take_out.Goals as goal
 
 pub take_between-seam-requires-clause-order : goal.take_between-seam-requires-clause-order
 take_between-seam-requires-clause-order c =
-    let first = rw c.as_slice.ensures.value at c.place_of-first.ensures.place in
-    let last = rw c.as_slice-2.ensures.value at c.place_of-last.ensures.place in
-    let from = rw c.as_slice.ensures.value at c.place_of-first.ensures.position in
-    let to = rw c.as_slice-2.ensures.value at c.place_of-last.ensures.position in
-    let le = in_order _ _ _ first last (omega arith) in
+    let from = c.place_of-first.ensures.position in
+    let to = c.place_of-last.ensures.position in
+    let le = in_order _ _ _ c.place_of-first.ensures.place c.place_of-last.ensures.place (omega arith) in
     omega arith
 
 pub join-requires-clause-before : goal.join-requires-clause-before
@@ -18,39 +16,30 @@ join-requires-clause-before c = rw (c.take_between-seam.ensures.seam, c.take_bet
 
 pub join-requires-clause-behind : goal.join-requires-clause-behind
 join-requires-clause-behind c =
-    let last = rw c.as_slice-2.ensures.value at c.place_of-last.ensures.place in
-    rw (c.take_between-seam.ensures.seam, c.take_between-seam.ensures.items) (proper-right _ _ _ last c.requires.proper)
+    rw (c.take_between-seam.ensures.seam, c.take_between-seam.ensures.items)
+    (proper-right _ _ _ c.place_of-last.ensures.place c.requires.proper)
 
 pub join-requires-clause-fits : goal.join-requires-clause-fits
 join-requires-clause-fits c =
-    let first = rw c.as_slice.ensures.value at c.place_of-first.ensures.place in
-    let last = rw c.as_slice-2.ensures.value at c.place_of-last.ensures.place in
-    let from = rw c.as_slice.ensures.value at c.place_of-first.ensures.position in
-    let to = rw c.as_slice-2.ensures.value at c.place_of-last.ensures.position in
-    let le = fewer _ _ _ first last (omega arith) in
+    let from = c.place_of-first.ensures.position in
+    let to = c.place_of-last.ensures.position in
+    let le = fewer _ _ _ c.place_of-first.ensures.place c.place_of-last.ensures.place (omega arith) in
     rw c.take_between-seam.ensures.items (omega (arith, c.requires.fits))
 
 pub returns-then-first-last-clause-places : goal.returns-then-first-last-clause-places
 returns-then-first-last-clause-places c =
-    let first = rw c.as_slice.ensures.value at c.place_of-first.ensures.place in
-    let last = rw c.as_slice-2.ensures.value at c.place_of-last.ensures.place in
-    let from = rw c.as_slice.ensures.value at c.place_of-first.ensures.position in
-    let to = rw c.as_slice-2.ensures.value at c.place_of-last.ensures.position in
-    rw c.shorten.ensures.items (places-cut _ _ _ _ _ first last c.if-first-last.true from to (omega arith)).0
+    rw c.cut_out.ensures.items
+    (places-cut _ _ _ _ _ c.place_of-first.ensures.place c.place_of-last.ensures.place c.if-first-last.true
+    c.place_of-first.ensures.position c.place_of-last.ensures.position (omega arith)).0
 
 pub returns-then-first-last-clause-proper : goal.returns-then-first-last-clause-proper
 returns-then-first-last-clause-proper c =
-    let first = rw c.as_slice.ensures.value at c.place_of-first.ensures.place in
-    let last = rw c.as_slice-2.ensures.value at c.place_of-last.ensures.place in
-    let from = rw c.as_slice.ensures.value at c.place_of-first.ensures.position in
-    let to = rw c.as_slice-2.ensures.value at c.place_of-last.ensures.position in
-    let some = (places-cut _ _ _ _ _ first last c.if-first-last.true from to (omega arith)).1 in
-    rw c.shorten.ensures.items (proper-set _ _ _ some c.requires.proper)
+    let some = (places-cut _ _ _ _ _ c.place_of-first.ensures.place c.place_of-last.ensures.place c.if-first-last.true
+    c.place_of-first.ensures.position c.place_of-last.ensures.position (omega arith)).1 in
+    rw c.cut_out.ensures.items (proper-set _ _ _ some c.requires.proper)
 
 pub returns-else-first-last-clause-places : goal.returns-else-first-last-clause-places
 returns-else-first-last-clause-places c =
-    let first = rw c.as_slice.ensures.value at c.place_of-first.ensures.place in
-    let last = rw c.as_slice-2.ensures.value at c.place_of-last.ensures.place in
-    let from = rw c.as_slice.ensures.value at c.place_of-first.ensures.position in
-    let to = rw c.as_slice-2.ensures.value at c.place_of-last.ensures.position in
-    rw (c.join.ensures.places, c.take_between-seam.ensures.items) (places-rest _ _ _ _ _ first last from to)
+    rw (c.join.ensures.places, c.take_between-seam.ensures.items)
+    (places-rest _ _ _ _ _ c.place_of-first.ensures.place c.place_of-last.ensures.place c.place_of-first.ensures.position
+    c.place_of-last.ensures.position)

@@ -1,4 +1,4 @@
-use Rattle.workers.specs.Crew.{CallsRow, KeepsSession}
+use Rattle.workers.specs.WorkerThreads.{CallsRow, KeepsSession}
 use Rattle.workers.specs.Laws.{ServesApart}
 use Rattle.event_loop.proofs.Browsing.{browsers}
 use Rattle.event_loop.proofs.laws.browser_law.Goals as goal

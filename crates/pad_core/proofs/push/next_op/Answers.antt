@@ -1,4 +1,4 @@
-use Rattle.std.proofs.Common.{sym, ◌∙◌, ap, Some}
+use Rattle.std.proofs.Common.{sym, ◌∙◌, ap}
 use Rattle.std.specs.List.{find}
 use Rattle.holdback.specs.Held.{is_ready}
 use Rattle.pad_core.proofs.Releases.{next_none, next_of}

@@ -1,4 +1,4 @@
-use Rattle.std.proofs.Common.{sym, ap, ◌∙◌, ◌||◌, ◌≡◌, false}
+use Rattle.std.proofs.Common.{sym, ap, ◌∙◌, ◌||◌}
 use Rattle.std.proofs.lemmas.Bool.{ne_eqb}
 use Rattle.holdback.specs.Held.{is_covered, is_held, is_ready}
 use Rattle.pad_core.proofs.Receives.{answer_known, answer_own, answer_ready, answer_waits, waiting_checked}

@@ -1,4 +1,4 @@
-use Rattle.workers.specs.Crew.{CallsRow, KeepsSession}
+use Rattle.workers.specs.WorkerThreads.{CallsRow, KeepsSession}
 use Rattle.workers.proofs.Courses.{gave_all, gave_out}
 use Rattle.workers.proofs.laws.shared_law.Goals as goal
 

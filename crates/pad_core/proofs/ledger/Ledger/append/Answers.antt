@@ -22,26 +22,24 @@ count_and_enter-requires-clause-allowed g c = ap (delivery_refusal c.args.op) c.
 
 pub invariant_of-self-2 : goal.invariant_of-self-2
 invariant_of-self-2 g c =
-    IsLedger-push c.self.inside.log.operations c.push.new.self.operations c.args.op c.self.inside.seen
+    IsLedger-push c.self.inside.log.operations c.commit.new.self.operations c.args.op c.self.inside.seen
     c.count_and_enter.new.seen (g.S.Sequence.cells c.self.inside.sequence)
     (g.S.Sequence.cells c.count_and_enter.new.sequence) c.self.inside.comments c.count_and_enter.new.comments
     c.in_ok-hidden.hidden
     c.self.invariant c.requires.checked (subst (λ log. c.args.op.name.number
     ≡ count_in (vector_of log) c.args.op.name.origin + 1) (sym c.self.view_is) c.requires.next)
     (ap (delivery_refusal c.args.op) c.self.view_is ∙ c.requires.allowed) c.in_ok-hidden.ensures.entered
-    (c.push.ensures.operations ∙ (ap (λ op. c.count_and_enter.new.log.operations ++ op ∷ []) c.fitted.ensures
-    ∙ ap (λ log. log ++ c.args.op ∷ []) c.count_and_enter.ensures.log)) c.in_ok-hidden.ensures.counted
+    (c.commit.ensures.operations ∙ ap (λ log. log ++ c.args.op ∷ []) c.count_and_enter.ensures.log) c.in_ok-hidden.ensures.counted
 
 pub returns : goal.returns
 returns g c =
     subst (λ log. Answers log (Ok (hidden_by (erased_by c.args.op) (characters_in log)), log ++ c.args.op ∷ [])
-    (Ok c.in_ok-hidden.hidden) c.push.new.self.operations) c.self.view_is
-    (append_answers c.self.inside.log.operations c.push.new.self.operations c.args.op
+    (Ok c.in_ok-hidden.hidden) c.commit.new.self.operations) c.self.view_is
+    (append_answers c.self.inside.log.operations c.commit.new.self.operations c.args.op
     (g.S.Sequence.cells c.self.inside.sequence, c.self.inside.comments)
     (g.S.Sequence.cells c.count_and_enter.new.sequence, c.count_and_enter.new.comments) c.in_ok-hidden.hidden
     c.in_ok-hidden.ensures.entered
-    (c.push.ensures.operations ∙ (ap (λ op. c.count_and_enter.new.log.operations ++ op ∷ []) c.fitted.ensures
-    ∙ ap (λ log. log ++ c.args.op ∷ []) c.count_and_enter.ensures.log)))
+    (c.commit.ensures.operations ∙ ap (λ log. log ++ c.args.op ∷ []) c.count_and_enter.ensures.log))
 
 pub invariant_of-self : goal.invariant_of-self
 invariant_of-self g c =

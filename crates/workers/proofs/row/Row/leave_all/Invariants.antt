@@ -1,7 +1,7 @@
 -- The loop of `leave_all`: leaving the rooms that are left leaves all of them, and the loop ends.
 use Rattle.std.proofs.Common.{◌≡◌, List, length}
 use Rattle.shared_pads.specs.declared.seat.Seat.{Seat}
-use Rattle.workers.specs.Crew.{LeavesRooms}
+use Rattle.workers.specs.WorkerThreads.{LeavesRooms}
 use Rattle.workers.specs.Seating.{cells_in}
 use Rattle.workers.proofs.row.Row.leave_all.Given as goal
 

@@ -1,5 +1,5 @@
 use Rattle.std.proofs.Common.{ap, ◌∙◌, subst, sym}
-use Rattle.workers.specs.Crew.{CallsRow, lent}
+use Rattle.workers.specs.WorkerThreads.{CallsRow, lent}
 use Rattle.workers.specs.Talk.{AnswersFirst}
 use Rattle.workers.proofs.Lent.{lent_back, turn_row}
 use Rattle.workers.proofs.shared.Shared.answer.Goals as goal

@@ -1,5 +1,5 @@
 use Rattle.std.proofs.Common.{ap, ◌∙◌, subst, sym}
-use Rattle.workers.specs.Crew.{CallsRow, lent}
+use Rattle.workers.specs.WorkerThreads.{CallsRow, lent}
 use Rattle.workers.specs.Talk.{AnswersLast}
 use Rattle.workers.proofs.Lent.{last_row, lent_back}
 use Rattle.workers.proofs.shared.Shared.answer_last.Goals as goal

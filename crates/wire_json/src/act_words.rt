@@ -1,0 +1,56 @@
+//! The words for what a request does on a pad.
+ghost use Rattle.std.specs.Prelude.{◌≡◌};
+ghost use Rattle.wire_json.specs.Words.{act_word_of};
+
+/// What a request does on a pad, by the word in its field `do`.
+#[derive(Clone, Copy)]
+pub enum ActWord {
+    Join,
+    Leave,
+    Insert,
+    Delete,
+    Edit,
+    Text,
+    Runs,
+    Comment,
+    Resolve,
+    Comments,
+    Changes,
+    Revs,
+    Entries,
+    Caret,
+    Who,
+    Grant,
+    Rights,
+    Vector,
+    Push,
+    Pull,
+}
+
+pub fn act_word_of(word: &str) -> Option<ActWord>
+    ensures { result ≡ act_word_of word.now }
+{
+    match word {
+        "join" => Some(ActWord::Join),
+        "leave" => Some(ActWord::Leave),
+        "insert" => Some(ActWord::Insert),
+        "delete" => Some(ActWord::Delete),
+        "edit" => Some(ActWord::Edit),
+        "text" => Some(ActWord::Text),
+        "runs" => Some(ActWord::Runs),
+        "comment" => Some(ActWord::Comment),
+        "resolve" => Some(ActWord::Resolve),
+        "comments" => Some(ActWord::Comments),
+        "changes" => Some(ActWord::Changes),
+        "revs" => Some(ActWord::Revs),
+        "entries" => Some(ActWord::Entries),
+        "caret" => Some(ActWord::Caret),
+        "who" => Some(ActWord::Who),
+        "grant" => Some(ActWord::Grant),
+        "rights" => Some(ActWord::Rights),
+        "vector" => Some(ActWord::Vector),
+        "push" => Some(ActWord::Push),
+        "pull" => Some(ActWord::Pull),
+        _ => None,
+    }
+}

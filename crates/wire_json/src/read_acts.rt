@@ -1,0 +1,205 @@
+//! From a JSON value to an act.
+ghost use Rattle.serde_json.specs.View.{view};
+ghost use Rattle.wire_json.specs.Reading.{IsForm, IsRead, right_in, field};
+ghost use Rattle.wire_json.specs.Requests.{act_of, change_of, change_in};
+
+use crate::act_words::ActWord;
+use crate::field::{
+    field, name_field, number_field, optional_limited_field, optional_number_field, str_field,
+    text_field,
+};
+use crate::list::{FromJson, list_field};
+use crate::op_read::read_op;
+use crate::read_forms::{op_name_field, seen_field};
+use crate::word::granted_by;
+use pad_core::{Act, Change, MAX_BATCH};
+use pad_model::Refusal;
+use rights::Right;
+use serde_json::Value;
+use std::alloc::Global;
+
+fn read_insert(alloc: Global, value: &Value) -> Result<Act, Refusal>
+    ensures { IsRead (act_of ActWord.Insert (view value.now)) result }
+{
+    let rev = number_field(value, "rev")?;
+    let at = number_field(value, "at")?;
+    let text = text_field(alloc, value, "text")?;
+    Ok(Act::Insert { rev, at, text })
+}
+
+fn read_delete(value: &Value) -> Result<Act, Refusal>
+    ensures { IsForm (act_of ActWord.Delete (view value.now)) result }
+{
+    let rev = number_field(value, "rev")?;
+    let at = number_field(value, "at")?;
+    let len = number_field(value, "len")?;
+    Ok(Act::Delete { rev, at, len })
+}
+
+impl FromJson for Change {
+    ghost form = { change_in };
+
+    /// A change has either a text or a length.
+    fn from_json(alloc: Global, value: &Value) -> Result<Change, Refusal> {
+        let at = number_field(value, "at")?;
+        let has_text = value.get("text").is_some();
+        let has_len = value.get("len").is_some();
+        change_at(alloc, at, has_text, has_len, value)
+    }
+}
+
+fn change_at(
+    alloc: Global,
+    at: u64,
+    has_text: bool,
+    has_len: bool,
+    value: &Value,
+) -> Result<Change, Refusal>
+    ensures { IsRead (change_of has_text has_len at (view value.now)) result }
+{
+    match (has_text, has_len) {
+        (true, false) => Ok(Change::Insert {
+            at,
+            text: text_field(alloc, value, "text")?,
+        }),
+        (false, true) => Ok(Change::Delete {
+            at,
+            len: number_field(value, "len")?,
+        }),
+        _ => Err(Refusal::NotRequest),
+    }
+}
+
+fn read_edit(alloc: Global, value: &Value) -> Result<Act, Refusal>
+    ensures { IsRead (act_of ActWord.Edit (view value.now)) result }
+{
+    let rev = number_field(value, "rev")?;
+    let changes = list_field(alloc, value, "parts")?;
+    Ok(Act::Edit { rev, changes })
+}
+
+fn read_comment(alloc: Global, value: &Value) -> Result<Act, Refusal>
+    ensures { IsRead (act_of ActWord.Comment (view value.now)) result }
+{
+    let rev = number_field(value, "rev")?;
+    let at = number_field(value, "at")?;
+    let len = number_field(value, "len")?;
+    let text = text_field(alloc, value, "text")?;
+    Ok(Act::Comment { rev, at, len, text })
+}
+
+fn read_resolve(value: &Value) -> Result<Act, Refusal>
+    ensures { IsForm (act_of ActWord.Resolve (view value.now)) result }
+{
+    let comment = op_name_field(value, "comment")?;
+    Ok(Act::Resolve { comment })
+}
+
+fn read_changes(value: &Value) -> Result<Act, Refusal>
+    ensures { IsForm (act_of ActWord.Changes (view value.now)) result }
+{
+    let rev = number_field(value, "rev")?;
+    let to = optional_number_field(value, "to")?;
+    let wait = optional_number_field(value, "wait")?.unwrap_or(0);
+    Ok(Act::Changes { rev, to, wait })
+}
+
+fn read_entries(value: &Value) -> Result<Act, Refusal>
+    ensures { IsForm (act_of ActWord.Entries (view value.now)) result }
+{
+    let from = number_field(value, "from")?;
+    let count = number_field(value, "count")?;
+    Ok(Act::Entries { from, count })
+}
+
+fn read_caret(value: &Value) -> Result<Act, Refusal>
+    ensures { IsForm (act_of ActWord.Caret (view value.now)) result }
+{
+    let rev = number_field(value, "rev")?;
+    let at = number_field(value, "at")?;
+    Ok(Act::Caret { rev, at })
+}
+
+/// The right to grant, or None to revoke it.
+#[tactic(auto, using(crate::proofs::Fields::right_of_string))]
+fn right_field(value: &Value, key: &str) -> Result<Option<Right>, Refusal>
+    ensures { IsForm (field right_in key.now (view value.now)) result }
+{
+    match granted_by(str_field(value, key)?) {
+        Some(granted) => Ok(granted),
+        None => Err(Refusal::NotRequest),
+    }
+}
+
+fn read_grant(alloc: Global, value: &Value) -> Result<Act, Refusal>
+    ensures { IsRead (act_of ActWord.Grant (view value.now)) result }
+{
+    let right = right_field(value, "right")?;
+    let author = name_field(alloc, value, "author")?;
+    Ok(Act::Grant { author, right })
+}
+
+fn read_push(alloc: Global, value: &Value) -> Result<Act, Refusal>
+    ensures { IsRead (act_of ActWord.Push (view value.now)) result }
+{
+    let op = read_op(alloc, field(value, "op")?)?;
+    Ok(Act::Push { op })
+}
+
+fn read_pull(alloc: Global, value: &Value) -> Result<Act, Refusal>
+    ensures { IsRead (act_of ActWord.Pull (view value.now)) result }
+{
+    let max = number_field(value, "max")?;
+    let batch = optional_limited_field(value, "batch", MAX_BATCH)?;
+    let seen = seen_field(alloc, value, "seen")?;
+    Ok(Act::Pull { seen, max, batch })
+}
+
+fn read_text(value: &Value) -> Result<Act, Refusal>
+    ensures { IsForm (act_of ActWord.Text (view value.now)) result }
+{
+    let rev = optional_number_field(value, "rev")?;
+    Ok(Act::Text { rev })
+}
+
+fn read_runs(value: &Value) -> Result<Act, Refusal>
+    ensures { IsForm (act_of ActWord.Runs (view value.now)) result }
+{
+    let rev = optional_number_field(value, "rev")?;
+    Ok(Act::Runs { rev })
+}
+
+fn read_comments(value: &Value) -> Result<Act, Refusal>
+    ensures { IsForm (act_of ActWord.Comments (view value.now)) result }
+{
+    let rev = optional_number_field(value, "rev")?;
+    Ok(Act::Comments { rev })
+}
+
+/// The act that a request's word names, from the fields that it needs.
+pub fn read_act(alloc: Global, word: ActWord, value: &Value) -> Result<Act, Refusal>
+    ensures { IsRead (act_of word (view value.now)) result }
+{
+    match word {
+        ActWord::Join => Ok(Act::Join),
+        ActWord::Leave => Ok(Act::Leave),
+        ActWord::Insert => read_insert(alloc, value),
+        ActWord::Delete => read_delete(value),
+        ActWord::Edit => read_edit(alloc, value),
+        ActWord::Text => read_text(value),
+        ActWord::Runs => read_runs(value),
+        ActWord::Comment => read_comment(alloc, value),
+        ActWord::Resolve => read_resolve(value),
+        ActWord::Comments => read_comments(value),
+        ActWord::Changes => read_changes(value),
+        ActWord::Revs => Ok(Act::Revs),
+        ActWord::Entries => read_entries(value),
+        ActWord::Caret => read_caret(value),
+        ActWord::Who => Ok(Act::Who),
+        ActWord::Grant => read_grant(alloc, value),
+        ActWord::Rights => Ok(Act::Rights),
+        ActWord::Vector => Ok(Act::Vector),
+        ActWord::Push => read_push(alloc, value),
+        ActWord::Pull => read_pull(alloc, value),
+    }
+}

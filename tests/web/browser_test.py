@@ -12,7 +12,7 @@ import tempfile
 
 from hard_cases import hostile, lost_pad
 from page_checks import contrasts, control_names, drawn_lines
-from windows import PAST, ChangedPage, Keys, Line, Server, Window, units, until
+from windows import PAST, ChangedPage, Keys, Line, Server, WebDriverException, Window, units, until
 
 BOB_MAY = "Can write"
 HUES = """
@@ -24,25 +24,30 @@ OPENING = "Minutes of the harbour council\n\nPresent: Ann, Bob, Cyd.\n\n1. The c
 
 
 class Test:
-    """Two windows of two authors on one pad, and the counts."""
+    """Two windows of two authors on one pad. `tally` counts the checks that hold and those that do not."""
 
-    def __init__(self, server, folder):
-        self.server, self.folder = server, folder
+    def __init__(self, server, folder, tally):
+        self.server, self.folder, self.tally = server, folder, tally
         self.ann, self.bob = Window(server.url), Window(server.url)
-        self.passed = self.failed = 0
 
     def check(self, name, holds, seen=None):
+        self.tally[bool(holds)] += 1
         if holds:
-            self.passed += 1
             print("ok     ", name, flush=True)
         else:
-            self.failed += 1
             print("FAILED ", name, "" if seen is None else repr(seen)[:600], flush=True)
 
     def agree(self, name):
         ann, bob = self.ann, self.bob
         same = until(lambda: ann.is_saved(1) and bob.is_saved(1) and ann.text == bob.text)
         self.check(name, same, (ann.text, ann.state, bob.text, bob.state))
+
+    def end(self):
+        for window in (self.ann, self.bob):
+            try:
+                window.quit()
+            except WebDriverException:  # it is gone already
+                pass
 
     def shot(self, window, name):
         if self.folder:
@@ -80,7 +85,7 @@ def way_in(test):
     check("bob's list has the pad and the right", until(lambda: BOB_MAY in bob.get("pads").text and "minutes" in bob.get("pads").text), bob.get("pads").text)
     test.shot(bob, "pads")
     plain(test, bob, "pads")
-    bob.all("#pads button")[0].click()
+    bob.click_first("#pads button")
     check("bob opens it", until(lambda: bob.get("text").is_displayed()))
     check("ann is told that bob came", until(lambda: ann.get("news").get_property("textContent") == "bob is here."))
     check("both are shown as here", until(lambda: "ann" in bob.get("here").text and "bob" in ann.get("here").text))
@@ -175,7 +180,7 @@ def comments(test):
     plain(test, ann, "a comment is written")
     bob.type("DRAFT. ", 0)
     until(lambda: ann.text.startswith("DRAFT"))
-    ann.all("#comment-box button[value=send]")[0].click()
+    ann.click_first("#comment-box button[value=send]")
     check("bob sees the comment", until(lambda: "Which colour?" in bob.get("margin").text), bob.get("margin").text)
     check("it is on its words, though others typed meanwhile", until(lambda: bob.run(MARKED) == "painted before June"), bob.run(MARKED))
     bob.type("2026: ", 0)
@@ -214,7 +219,7 @@ def history(test):
     check("what was inserted is marked, and what is kept is there", kept.replace("\n", "") == middle.replace("\n", "") and ann.all("#past ins"), (kept, middle))
     test.shot(ann, "comparison")
     plain(test, ann, "comparison")
-    ann.get("compare-go").click()
+    ann.click("compare-go")
     ann.get("rev").send_keys(Keys.HOME)
     check("revision 0 is empty, by the keyboard", until(lambda: ann.run(PAST) == "" and made().startswith("Revision 0 of")), made())
     ann.get("rev").send_keys(Keys.ARROW_RIGHT)
@@ -223,7 +228,7 @@ def history(test):
     check("play goes to the present", until(lambda: made().startswith(f"Revision {now + 1} of") and ann.get("play").text == "Play", 60), made())
     ann.click("back")
     check("and back, with what came meanwhile", until(lambda: ann.text == bob.text and ann.text.endswith("!")), (ann.text, bob.text))
-    bob.all("#margin .card button")[0].click()
+    bob.click_first("#margin .card button")
     check("a comment is resolved", until(lambda: not ann.all("#margin .card") and ann.get("resolved").is_displayed()))
     ann.click("resolved")
     check("and can still be read", until(lambda: "Resolved" in ann.get("margin").text), ann.get("margin").text)
@@ -283,7 +288,7 @@ def exports(test, downloads):
     ann, check = test.ann, test.check
     ann.driver.execute_cdp_cmd("Browser.setDownloadBehavior", {"behavior": "allow", "downloadPath": downloads})
     for button, ending in (("as-text", ".txt"), ("as-markdown", ".md")):
-        ann.all("#exports summary")[0].click()
+        ann.click_first("#exports summary")
         ann.click(button)
         name = until(lambda: next((name for name in os.listdir(downloads) if name.endswith(ending)), None))
         text = ""
@@ -342,13 +347,13 @@ def full_pad(test, folder):
     changed.end()
 
 
-def main(program, folder=None):
-    if folder:
-        os.makedirs(folder, exist_ok=True)
+def play(program, folder, tally):
+    """Plays all parts before a new server."""
     with tempfile.TemporaryDirectory() as home, tempfile.TemporaryDirectory() as pages, tempfile.TemporaryDirectory() as downloads:
         server = Server(program, home)
-        test = Test(server, folder)
+        test = None
         try:
+            test = Test(server, folder, tally)
             for part in (way_in, typing, unusual_typing, comments, history, rights, broken, random_keys, looks):
                 part(test)
             exports(test, downloads)
@@ -356,11 +361,24 @@ def main(program, folder=None):
             lost_pad(test)
             full_pad(test, pages)
         finally:
-            test.ann.quit()
-            test.bob.quit()
+            if test:
+                test.end()
             server.kill()
-    print(f"{test.passed} passed, {test.failed} failed")
-    return int(test.failed > 0)
+
+
+def main(program, folder=None):
+    """A browser that breaks says nothing about the page: it is told, and all is played once more. A failed check stays one."""
+    if folder:
+        os.makedirs(folder, exist_ok=True)
+    tally = {True: 0, False: 0}
+    try:
+        play(program, folder, tally)
+    except WebDriverException as error:
+        print("the browser broke, and all is played again:", type(error).__name__, str(error).split("\n", 1)[0], flush=True)
+        tally[True] = 0
+        play(program, folder, tally)
+    print(f"{tally[True]} passed, {tally[False]} failed")
+    return int(tally[False] > 0)
 
 
 if __name__ == "__main__":

@@ -1,5 +1,6 @@
 """The tests of the page that are scripts: in node, and in Debian's Python, for which Chromium's driver is packaged."""
 import os
+import re
 import subprocess
 
 import peers
@@ -11,6 +12,7 @@ HERE = os.path.dirname(os.path.realpath(__file__))
 NODE = "node"
 PYTHON = "/usr/bin/python3"  # Debian's, beside which its packages are
 PAGES = 40
+RAISED = re.compile(r"[\w.]+(Error|Exception)\b")  # the line of a Python traceback that says what was raised
 
 
 def script(runner, name, *words):
@@ -23,7 +25,7 @@ def script(runner, name, *words):
     except FileNotFoundError:
         raise Failed(f"{runner} is not installed") from None
     lines = done.stdout.splitlines()
-    failed = [line for line in lines if line.startswith("FAILED")]
+    failed = [line for line in lines if line.startswith("FAILED") or RAISED.match(line)]
     if done.returncode or failed or not lines or not lines[-1].endswith(" passed, 0 failed") or lines[-1].startswith("0 "):
         raise Failed("; ".join(failed + lines[-3:])[:3_000] + f" (status {done.returncode})")
 
@@ -74,7 +76,7 @@ TESTS = [
     named(pages_whose_connections_break_make_each_character_once, 150),
     named(another_client_library_speaks_with_the_socket, 60),
     named(forty_pages_type_beside_a_peer, 180),
-    named(two_windows_of_a_browser, 400),
+    named(two_windows_of_a_browser, 700),
 ]
 
 # These take minutes: tests/run --long.

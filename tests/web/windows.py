@@ -6,12 +6,16 @@ import subprocess
 import time
 
 from selenium import webdriver
+from selenium.common.exceptions import ElementClickInterceptedException, ElementNotInteractableException
+from selenium.common.exceptions import StaleElementReferenceException, WebDriverException
 from selenium.webdriver.chrome.service import Service
 from selenium.webdriver.common.action_chains import ActionChains
 from selenium.webdriver.common.by import By
 from selenium.webdriver.common.keys import Keys
 
 HERE = os.path.dirname(os.path.realpath(__file__))
+# What the driver says of an element that is drawn anew or still covered: a moment later it can be clicked.
+NOT_YET = (ElementClickInterceptedException, ElementNotInteractableException, StaleElementReferenceException, IndexError)
 ACCOUNTS = "author ann t1\nauthor bob t2\nauthor cyd t3\n"
 FLAGS = ("--headless=new", "--no-sandbox", "--disable-gpu", "--disable-dev-shm-usage", "--force-color-profile=srgb")
 TEXT = "return [...document.querySelectorAll('#text .line')].map(line => line.textContent).join('\\n')"
@@ -50,6 +54,17 @@ def until(what, seconds=15):
         time.sleep(0.05)
 
 
+def start_browser(options, attempts=3):
+    """A browser. One that does not come up, as happens on a busy machine, is started again."""
+    for left in reversed(range(attempts)):
+        try:
+            return webdriver.Chrome(service=Service("/usr/bin/chromedriver"), options=options)
+        except WebDriverException:
+            if not left:
+                raise
+            time.sleep(2)
+
+
 def units(text):
     return len(text.encode("utf-16-le")) // 2
 
@@ -62,7 +77,7 @@ class Window:
         for flag in (*FLAGS, *flags, f"--window-size={width},{height}"):
             options.add_argument(flag)
         options.set_capability("goog:loggingPrefs", {"browser": "ALL"})
-        self.driver = webdriver.Chrome(service=Service("/usr/bin/chromedriver"), options=options)
+        self.driver = start_browser(options)
         self.driver.set_script_timeout(120)
         self.url = url
 
@@ -75,8 +90,22 @@ class Window:
     def run(self, script, *given):
         return self.driver.execute_script(script, *given)
 
+    def press(self, find, seconds=15):
+        """Clicks the element that `find` answers, once it can be clicked."""
+        end = time.time() + seconds
+        while True:
+            try:
+                return find().click()
+            except NOT_YET:
+                if time.time() > end:
+                    raise
+                time.sleep(0.05)
+
     def click(self, name):
-        self.get(name).click()
+        self.press(lambda: self.get(name))
+
+    def click_first(self, selector):
+        self.press(lambda: self.all(selector)[0])
 
     def keys(self, *keys, held=()):
         """Presses keys while others are held, wherever the focus is."""

@@ -12,7 +12,7 @@ import tempfile
 
 from hard_cases import hostile, lost_pad
 from page_checks import contrasts, control_names, drawn_lines
-from windows import PAST, ChangedPage, Keys, Line, Server, WebDriverException, Window, units, until
+from windows import BROKEN, PAST, ChangedPage, Keys, Line, Server, Window, units, until
 
 BOB_MAY = "Can write"
 HUES = """
@@ -46,7 +46,7 @@ class Test:
         for window in (self.ann, self.bob):
             try:
                 window.quit()
-            except WebDriverException:  # it is gone already
+            except BROKEN:  # it is gone already
                 pass
 
     def shot(self, window, name):
@@ -373,7 +373,7 @@ def main(program, folder=None):
     tally = {True: 0, False: 0}
     try:
         play(program, folder, tally)
-    except WebDriverException as error:
+    except BROKEN as error:
         print("the browser broke, and all is played again:", type(error).__name__, str(error).split("\n", 1)[0], flush=True)
         tally[True] = 0
         play(program, folder, tally)

@@ -12,10 +12,13 @@ from selenium.webdriver.chrome.service import Service
 from selenium.webdriver.common.action_chains import ActionChains
 from selenium.webdriver.common.by import By
 from selenium.webdriver.common.keys import Keys
+from urllib3.exceptions import HTTPError
 
 HERE = os.path.dirname(os.path.realpath(__file__))
 # What the driver says of an element that is drawn anew or still covered: a moment later it can be clicked.
 NOT_YET = (ElementClickInterceptedException, ElementNotInteractableException, StaleElementReferenceException, IndexError)
+# What is raised where the browser or its driver has broken.
+BROKEN = (WebDriverException, HTTPError)
 ACCOUNTS = "author ann t1\nauthor bob t2\nauthor cyd t3\n"
 FLAGS = ("--headless=new", "--no-sandbox", "--disable-gpu", "--disable-dev-shm-usage", "--force-color-profile=srgb")
 TEXT = "return [...document.querySelectorAll('#text .line')].map(line => line.textContent).join('\\n')"
@@ -59,7 +62,7 @@ def start_browser(options, attempts=3):
     for left in reversed(range(attempts)):
         try:
             return webdriver.Chrome(service=Service("/usr/bin/chromedriver"), options=options)
-        except WebDriverException:
+        except BROKEN:
             if not left:
                 raise
             time.sleep(2)

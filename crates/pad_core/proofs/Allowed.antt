@@ -1,6 +1,6 @@
 -- What changes that are not refused keep to.
-use Rattle.std.proofs.Common.{◌≡◌, ℕ, ◌+◌, ◌≤◌, ◌<◌, Bool, true, false, ◌||◌, cond, eqb, ltb, List, [], ◌∷◌, length}
-use Rattle.std.proofs.Common.{min, sum_by, Option, Some, None, refl, arith, ltb-false, leb-false, le-ltb}
+use Rattle.std.proofs.Common.{◌≡◌, ℕ, ◌+◌, ◌≤◌, ◌<◌, Bool, true, false, ◌||◌, cond, ltb, List, [], ◌∷◌, length}
+use Rattle.std.proofs.Common.{min, sum_by, Option, Some, None, refl, arith, ltb-false, leb-false}
 use Rattle.std.proofs.lemmas.Bool.{or_parts}
 use Rattle.std.proofs.lemmas.List.Sums.{sum_by-cons}
 use Rattle.std.specs.List.{AllByRecursion, list_any}
@@ -11,7 +11,6 @@ use Rattle.pad_model.specs.declared.limits.TheConstants.{MAX_TEXT, MAX_PARTS, MA
 use Rattle.pad_model.specs.declared.limits.TheConstants.{MAX_OPERATIONS}
 use Rattle.pad_model.specs.declared.op.Op.{Op}
 use Rattle.pad_model.specs.declared.refusal.Refusal.{Refusal}
-use Rattle.pad_model.specs.declared.refusal.Refusal.TheVariants.{Empty, TooMuch}
 use Rattle.pad_model.proofs.Each.{each_fails}
 use Rattle.pad_model.proofs.Local.{greatest_least}
 use Rattle.pad_model.proofs.Stretch.{low_continues}
@@ -91,27 +90,6 @@ growth-le-size (change ∷ changes) =
     let one = grows_less change in
     let rest = growth-le-size changes in
     omega (arith, sum_by-cons growth_of change changes, sum_by-cons size_of change changes)
-
--- changes that the revision shows are refused if they do nothing, then if they are too much, and then if there is no
--- room
-pub refused_idle : (rev : ℕ) (changes : List Change) (log : List Op) → rev ≤ length log →
-    list_any (is_outside (length (visible (characters_at rev log)))) changes ≡ false →
-    (eqb (length changes) 0 || list_any is_blank changes) ≡ true → edit_refusal rev changes log ≡ Some Empty
-refused_idle rev changes log known within idle = rw (le-ltb (length log) rev known, within, idle) refl
-
-pub refused_much : (rev : ℕ) (changes : List Change) (log : List Op) → rev ≤ length log →
-    list_any (is_outside (length (visible (characters_at rev log)))) changes ≡ false →
-    (eqb (length changes) 0 || list_any is_blank changes) ≡ false →
-    (ltb MAX_PARTS (length changes) || ltb MAX_TEXT (sum_by size_of changes)) ≡ true → edit_refusal rev changes log
-    ≡ Some TooMuch
-refused_much rev changes log known within idle much = rw (le-ltb (length log) rev known, within, idle, much) refl
-
-pub refused_growth : (rev : ℕ) (changes : List Change) (log : List Op) → rev ≤ length log →
-    list_any (is_outside (length (visible (characters_at rev log)))) changes ≡ false →
-    (eqb (length changes) 0 || list_any is_blank changes) ≡ false →
-    (ltb MAX_PARTS (length changes) || ltb MAX_TEXT (sum_by size_of changes)) ≡ false → edit_refusal rev changes log
-    ≡ growth_refusal (sum_by growth_of changes) log
-refused_growth rev changes log known within idle much = rw (le-ltb (length log) rev known, within, idle, much) refl
 
 -- the growth of changes that are not too much was counted in full
 pub grown : (changes : List Change) (total : ℕ) →

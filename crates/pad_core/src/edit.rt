@@ -7,17 +7,15 @@ ghost use Rattle.pad_model.specs.declared.limits.TheConstants.{MAX_PARTS, MAX_TE
 ghost use Rattle.pad_core.specs.Counts.{op_of, next_name as name_next};
 ghost use Rattle.pad_core.specs.Delivered.{IsDelivered, delivery_refusal};
 ghost use Rattle.pad_core.specs.declared.act.Change.TheVariants.{Insert};
-ghost use Rattle.pad_core.specs.Edits.{appended, delete as deleted, edit as many_edited, edit_refusal, edited, growth_refusal, growth_of as change_growth, insert as inserted, is_outside as lies_outside, is_blank as does_nothing, size_of as change_size};
+ghost use Rattle.pad_core.specs.Edits.{appended, delete as deleted, edit as many_edited, edit_refusal, edited, growth_of as change_growth, insert as inserted, is_outside as lies_outside, is_blank as does_nothing, size_of as change_size};
 
 use crate::act::Change;
+use crate::demand::{Demand, first_refusal};
 use crate::ledger::Ledger;
 use crate::make::{make_insertion, make_parts};
 use crate::reply::PadReply;
 use crate::writer::{Passage, Writer};
-use pad_model::{
-    MAX_CHARACTERS, MAX_COUNTER, MAX_OPERATIONS, MAX_PARTS, MAX_TEXT, Op, OpName, Part, Refusal,
-    Row, Sequence, Text,
-};
+use pad_model::{MAX_PARTS, MAX_TEXT, Op, OpName, Part, Refusal, Row, Sequence, Text};
 use std::alloc::Global;
 
 /// An edit that was made: its name, and how many visible characters it hides.
@@ -162,25 +160,18 @@ pub fn make_op<S: Sequence>(
     })
 }
 
-/// Why changes of a revision are refused, or None. The first refusal that applies is returned.
+/// Why changes of a revision are refused, or None.
 fn refuse_edit<S: Sequence>(ledger: &Ledger<S>, rev: u64, changes: &[Change]) -> Option<Refusal>
     ensures value { result ≡ edit_refusal rev changes.now ledger.now }
     ensures sound { IsDelivered ledger.now }
 {
-    if ledger.len() < rev {
-        return Some(Refusal::NoRevision);
-    }
-    let shown = ledger.len_at(rev);
-    if is_any_outside(shown, changes) {
-        return Some(Refusal::OutOfRange);
-    }
-    if are_idle(changes) {
-        return Some(Refusal::Empty);
-    }
-    if are_too_much(changes) {
-        return Some(Refusal::TooMuch);
-    }
-    refuse_growth(ledger, total_growth(changes))
+    let demand = Demand {
+        is_outside: is_any_outside(ledger.len_at(rev), changes),
+        is_idle: are_idle(changes),
+        is_too_much: are_too_much(changes),
+        growth: total_growth(changes),
+    };
+    first_refusal(ledger, rev, demand)
 }
 
 /// The same for one insertion, before its text is copied.
@@ -188,21 +179,14 @@ fn refuse_insert<S: Sequence>(ledger: &Ledger<S>, rev: u64, at: u64, text: &Text
     ensures value { result ≡ edit_refusal rev (Insert at text.now ∷ []) ledger.now }
     ensures sound { IsDelivered ledger.now }
 {
-    let now = ledger.len();
-    if now < rev {
-        return Some(Refusal::NoRevision);
-    }
-    if ledger.len_at(rev) < at {
-        return Some(Refusal::OutOfRange);
-    }
     let growth = text.len() as u64;
-    if growth == 0 {
-        return Some(Refusal::Empty);
-    }
-    if MAX_TEXT < growth {
-        return Some(Refusal::TooMuch);
-    }
-    refuse_growth(ledger, growth)
+    let demand = Demand {
+        is_outside: ledger.len_at(rev) < at,
+        is_idle: growth == 0,
+        is_too_much: MAX_TEXT < growth,
+        growth,
+    };
+    first_refusal(ledger, rev, demand)
 }
 
 fn is_any_outside(shown: u64, changes: &[Change]) -> bool
@@ -229,24 +213,6 @@ fn are_too_much(changes: &[Change]) -> bool
         || nat_lt MAX_TEXT (sum_by change_size changes.now)) }
 {
     MAX_PARTS < changes.len() as u64 || MAX_TEXT < total_size(changes)
-}
-
-/// The limit of the pad that `growth` more characters would exceed, if any.
-fn refuse_growth<S: Sequence>(ledger: &Ledger<S>, growth: u64) -> Option<Refusal>
-    requires { growth ≤ MAX_TEXT }
-    ensures { result ≡ growth_refusal growth ledger.now }
-{
-    let now = ledger.len();
-    if MAX_CHARACTERS < ledger.cell_count() + growth {
-        return Some(Refusal::PadFull);
-    }
-    if MAX_COUNTER < ledger.clock() + growth {
-        return Some(Refusal::ClockFull);
-    }
-    if MAX_OPERATIONS <= now {
-        return Some(Refusal::LogFull);
-    }
-    None
 }
 
 fn is_outside(shown: u64, change: &Change) -> bool

@@ -4,6 +4,7 @@
 mod act;
 mod admit;
 mod batch;
+mod demand;
 mod edit;
 mod enter;
 mod event;

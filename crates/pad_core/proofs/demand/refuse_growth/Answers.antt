@@ -2,7 +2,7 @@ use Rattle.std.proofs.Common.{◌≤◌, arith}
 use Rattle.pad_model.specs.History.{clock_of_characters}
 use Rattle.pad_model.specs.Operation.{characters_in}
 use Rattle.pad_core.proofs.Allowed.{clock_low}
-use Rattle.pad_core.proofs.edit.refuse_growth.Goals as goal
+use Rattle.pad_core.proofs.demand.refuse_growth.Goals as goal
 
 pub overflow_add-clock : goal.overflow_add-clock
 overflow_add-clock g c =

@@ -11,7 +11,7 @@ use Rattle.pad_model.proofs.Newer.{split}
 use Rattle.ident_index.specs.Index.{Index, IsSound}
 use Rattle.blocks.specs.declared.block.Block.{Block}
 use Rattle.blocks.specs.Blocks.{IsListed, IsSized, weight_of}
-use Rattle.slides.specs.declared.slide.Slide.{Slide}
+use Rattle.slides.specs.Slide.{Slide}
 use Rattle.slides.specs.Slides.{since}
 use Rattle.block_seq.specs.RowPieces.{is_touched}
 use Rattle.block_seq.specs.RowSlides.{IsSlid}

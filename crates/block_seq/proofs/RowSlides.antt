@@ -21,7 +21,7 @@ use Rattle.ident_index.specs.Index.{Index}
 use Rattle.blocks.specs.Blocks.{IsKept, IsSized, weight_of, without_labels, unlabelled}
 use Rattle.blocks.specs.Cells.{author_at, run_cells, stretch, block_cells, cells_of, SameCells}
 use Rattle.slides.specs.Slides.{Leads, Moves, since}
-use Rattle.slides.specs.declared.slide.Slide.{Slide}
+use Rattle.slides.specs.Slide.{Slide}
 use Rattle.slides.proofs.Carrying.{length-stamps}
 use Rattle.slides.proofs.Slides.{leads-then, since-later, since-none, sorted-then}
 use Rattle.block_seq.specs.Rows.{IsBlockSeq, IsDated}

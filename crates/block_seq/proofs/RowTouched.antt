@@ -24,7 +24,7 @@ use Rattle.block_seq.proofs.RowLists.{get_here}
 use Rattle.blocks.specs.declared.block.Block.{Block}
 use Rattle.blocks.specs.Blocks.{IsListed, IsSized, weight_of}
 use Rattle.blocks.proofs.Entries.{each_get}
-use Rattle.slides.specs.declared.slide.Slide.{Slide}
+use Rattle.slides.specs.Slide.{Slide}
 use Rattle.slides.specs.Slides.{Leads, Moves, since}
 use Rattle.slides.proofs.Slides.{since-here, since-passed}
 use Rattle.block_seq.specs.PieceLists.{block_pieces}

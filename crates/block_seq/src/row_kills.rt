@@ -57,13 +57,8 @@ fn kill_from(
         return Passed { len, hidden: 0 };
     }
     let at = tree.before(spot.rank);
-    slides.push_reserved(Slide {
-        rev,
-        at,
-        first: block.first,
-        len,
-        shows: false,
-    });
+    let slide = Slide::new(rev, at, block.first, len, false);
+    slides.push_reserved(slide);
     kill(tree, index, spot.rank, rev);
     Passed { len, hidden: len }
 }

@@ -134,11 +134,12 @@ fn count_alive(tree: &WeightTree<Block>, spot: Spot) -> u64
 
 /// How far into a stretch a stamp lies, if it is one of it.
 fn offset_in(slide: &Slide, stamp: Stamp) -> Option<u64> {
-    if slide.first.replica() != stamp.replica() {
+    let first = slide.first();
+    if first.replica() != stamp.replica() {
         return None;
     }
-    let offset = stamp.counter().checked_sub(slide.first.counter())?;
-    if offset < slide.len {
+    let offset = stamp.counter().checked_sub(first.counter())?;
+    if offset < slide.len() {
         Some(offset)
     } else {
         None
@@ -149,8 +150,8 @@ fn offset_in(slide: &Slide, stamp: Stamp) -> Option<u64> {
 /// own run those up to it, before a block that was visible all, and else none.
 fn guess_seam(slide: &Slide, first: Stamp, offset: u64, visible: bool) -> u64 {
     match offset_in(slide, first) {
-        Some(passed) => passed.saturating_add(offset).min(slide.len),
-        None if visible && offset == 0 => slide.len,
+        Some(passed) => passed.saturating_add(offset).min(slide.len()),
+        None if visible && offset == 0 => slide.len(),
         None => 0,
     }
 }
@@ -165,16 +166,16 @@ fn guess_place(tree: &WeightTree<Block>, recent: &[Slide], spot: Spot, alive: u6
     let mut place = alive;
     for i in (0..recent.len()).rev() {
         let slide = recent[i];
-        let behind = place.saturating_sub(slide.at);
-        if slide.shows {
-            place -= behind.min(slide.len);
+        let behind = place.saturating_sub(slide.at());
+        if slide.shows() {
+            place -= behind.min(slide.len());
         } else if behind > 0 {
-            place = place.saturating_add(slide.len);
-        } else if place == slide.at {
+            place = place.saturating_add(slide.len());
+        } else if place == slide.at() {
             place = place.saturating_add(guess_seam(&slide, block.first, spot.offset, visible));
         }
         if offset_in(&slide, block.first).is_some() {
-            visible = !slide.shows;
+            visible = !slide.shows();
         }
     }
     place

@@ -84,8 +84,8 @@ fn add_ranks(
         → Covers slide.now.first slide.now.len b.first → Contains ranks.new.items r) }
 {
     let mut offset = 0;
-    while offset < slide.len {
-        if let Some(spot) = find_block(tree, index, slide.first.plus(offset)) {
+    while offset < slide.len() {
+        if let Some(spot) = find_block(tree, index, slide.first().plus(offset)) {
             ranks.push(spot.rank)?;
             offset += tree.get(spot.rank).len - spot.offset;
         } else {

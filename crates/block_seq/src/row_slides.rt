@@ -1,6 +1,7 @@
 //! Slides of a row of blocks: how many may come, and the one of a run.
 ghost use Rattle.std.specs.Prelude.{◌≡◌, ◌+◌, ◌≤◌, ◌<◌, ◌++◌, ◌∷◌, [], length, min, vec_len, vec_capacity};
-ghost use Rattle.slides.specs.declared.slide.Slide.{Slide as SlideValue};
+ghost use Rattle.pad_model.specs.declared.limits.TheConstants.{MAX_CHARACTERS};
+ghost use Rattle.slides.specs.Slide.{Slide as SlideValue};
 ghost use Rattle.block_seq.specs.RowSlides.{live_blocks, named_len, slide_of};
 
 use blocks::Block;
@@ -29,16 +30,12 @@ pub fn count_kills(tree: &WeightTree<Block>, spans: &[Span]) -> usize
 
 /// Keeps the slide of a run, in room that was made before. It stands behind `at` visible characters.
 pub fn push_shown(slides: &mut Vec<Slide>, rev: u64, at: u64, run: &Run)
-    requires { vec_len slides.old < vec_capacity slides.old }
+    requires room { vec_len slides.old < vec_capacity slides.old }
+    requires small { at + length run.now.text ≤ MAX_CHARACTERS }
     ensures items { slides.new.items ≡ slides.old.items ++ slide_of rev at run.now ∷ [] }
     ensures len { vec_len slides.new ≡ vec_len slides.old + 1 }
     ensures capacity { vec_capacity slides.new ≡ vec_capacity slides.old }
 {
-    slides.push_reserved(Slide {
-        rev,
-        at,
-        first: run.first,
-        len: run.text.len() as u64,
-        shows: true,
-    });
+    let slide = Slide::new(rev, at, run.first, run.text.len() as u64, true);
+    slides.push_reserved(slide);
 }

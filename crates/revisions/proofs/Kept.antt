@@ -1,6 +1,6 @@
 -- The marks of each origin stay those of its operations while a log grows.
-use Rattle.std.proofs.Common.{◌≡◌, ℕ, zero, suc, ◌+◌, ◌<◌, max, Bool, true, false, ◌||◌, List, [], ◌∷◌, ◌++◌, length}
-use Rattle.std.proofs.Common.{get_or, set, map, Some, None, refl, sym, ap, ◌∙◌, arith, eqb, ltb}
+use Rattle.std.proofs.Common.{◌≡◌, ℕ, zero, suc, ◌+◌, ◌<◌, Bool, true, false, ◌||◌, List, [], ◌∷◌, ◌++◌, length}
+use Rattle.std.proofs.Common.{get_or, set, map, Some, None, refl, sym, ap, ◌∙◌, subst, arith, eqb, ltb}
 use Rattle.std.specs.List.{AllByRecursion, list_any, position, position_or_len}
 use Rattle.std.proofs.lemmas.Bool.{eqb-true, ltb-false, ne_eqb, eq-eqb, or_left, or_right, false≢true}
 use Rattle.std.proofs.lemmas.List.Folds.{list_any-append, list_any_none}
@@ -14,36 +14,33 @@ use Rattle.pad_model.specs.declared.op.OpName.{OpName}
 use Rattle.revisions.specs.declared.track.Mark.{Mark}
 use Rattle.revisions.specs.declared.track.Track.{Track}
 use Rattle.revisions.specs.Log.{is_of}
-use Rattle.revisions.specs.Track.{mark_of, marks_from, marks_of, highest_after}
-use Rattle.revisions.specs.Index.{Kept, IsIndex, AreApart, kept, has_origin}
-use Rattle.revisions.proofs.Marks.{each_at}
+use Rattle.revisions.specs.Track.{IsRising, mark_of, marks_from, marks_of, rises_from}
+use Rattle.revisions.specs.Index.{Kept, IsIndex, IsTold, AreApart, kept, has_origin}
+use Rattle.revisions.proofs.Marks.{each_at, marks_rise}
 
 -- an operation of another origin adds no mark
-marks_other : (o p h : ℕ) (ops : List Op) (op : Op) → is_of o op ≡ false → marks_from o p h (ops ++ op ∷ [])
-    ≡ marks_from o p h ops
-marks_other o p h [] op other = rw other refl
-marks_other o p h (x ∷ ops) op other =
+marks_other : (o p : ℕ) (ops : List Op) (op : Op) → is_of o op ≡ false → marks_from o p (ops ++ op ∷ [])
+    ≡ marks_from o p ops
+marks_other o p [] op other = rw other refl
+marks_other o p (x ∷ ops) op other =
     split (is_of o x)
-    (λ e. rw e (ap (λ ms. mark_of (p) (x.name.number) (h) ∷ ms)
-    (marks_other o (p + 1) (max h x.name.number) ops op other)))
-    (λ e. rw e (marks_other o (p + 1) h ops op other))
+    (λ e. rw e (ap (λ ms. mark_of p x.name.number ∷ ms) (marks_other o (p + 1) ops op other)))
+    (λ e. rw e (marks_other o (p + 1) ops op other))
 
 -- one of the origin adds a mark at the end
-marks_own : (o p h place : ℕ) (ops : List Op) (op : Op) → is_of o op ≡ true → place ≡ p + length ops
-    → marks_from o p h (ops ++ op ∷ []) ≡ marks_from o p h ops ++ mark_of (place) (op.name.number)
-    ((highest_after h (marks_from o p h ops))) ∷ []
-marks_own o p h place [] op own at =
+marks_own : (o p place : ℕ) (ops : List Op) (op : Op) → is_of o op ≡ true → place ≡ p + length ops
+    → marks_from o p (ops ++ op ∷ []) ≡ marks_from o p ops ++ mark_of place op.name.number ∷ []
+marks_own o p place [] op own at =
     let same : p ≡ place = omega arith in
-    rw own (ap (λ (k : ℕ). mark_of (k) (op.name.number) (h) ∷ []) same)
-marks_own o p h place (x ∷ ops) op own at =
+    rw own (ap (λ (k : ℕ). mark_of k op.name.number ∷ []) same)
+marks_own o p place (x ∷ ops) op own at =
     split (is_of o x)
-    (λ e. rw e (ap (λ ms. mark_of (p) (x.name.number) (h) ∷ ms)
-    (marks_own o (p + 1) (max h x.name.number) place ops op own (omega arith))))
-    (λ e. rw e (marks_own o (p + 1) h place ops op own (omega arith)))
+    (λ e. rw e (ap (λ ms. mark_of p x.name.number ∷ ms) (marks_own o (p + 1) place ops op own (omega arith))))
+    (λ e. rw e (marks_own o (p + 1) place ops op own (omega arith)))
 
-none_marked : (o p h : ℕ) (ops : List Op) → AllByRecursion (λ op. is_of o op ≡ false) ops → marks_from o p h ops ≡ []
-none_marked o p h [] none = refl
-none_marked o p h (op ∷ ops) none = rw none.0 (none_marked o (p + 1) h ops none.1)
+none_marked : (o p : ℕ) (ops : List Op) → AllByRecursion (λ op. is_of o op ≡ false) ops → marks_from o p ops ≡ []
+none_marked o p [] none = refl
+none_marked o p (op ∷ ops) none = rw none.0 (none_marked o (p + 1) ops none.1)
 
 -- an origin that is not there has no operation
 pub none_of : (o : ℕ) (ks : List Kept) (ops : List Op) → list_any (has_origin o) ks ≡ false →
@@ -97,7 +94,7 @@ marks_set (x ∷ ks) zero d k ops op lt at fits apart marks = (
   fits,
   each-both (λ later. has_origin later.origin x ≡ false) (λ k. k.marks ≡ marks_of k.origin ops)
       (λ k. k.marks ≡ marks_of k.origin (ops ++ op ∷ []))
-      (λ later ne m. m ∙ sym (marks_other later.origin 0 0 ops op
+      (λ later ne m. m ∙ sym (marks_other later.origin 0 ops op
       (ne_eqb op.name.origin later.origin (λ same. iff_other later.origin x.origin op.name.origin ne at same)))) ks
       apart.0 marks.1,
 )
@@ -105,27 +102,27 @@ marks_set (x ∷ ks) zero d k ops op lt at fits apart marks = (
     iff_other : (a b c : ℕ) → eqb a b ≡ false → c ≡ b → c ≡ a → ⊥
     iff_other a b c ne at same = false≢true (sym ne ∙ eq-eqb a b (omega arith))
 marks_set (x ∷ ks) (suc i) d k ops op lt at fits apart marks = (
-  marks.0 ∙ sym (marks_other x.origin 0 0 ops op (ap (λ (q : ℕ). eqb q x.origin) at
+  marks.0 ∙ sym (marks_other x.origin 0 ops op (ap (λ (q : ℕ). eqb q x.origin) at
       ∙ each_at (λ later. has_origin later.origin x ≡ false) ks i d apart.0 (omega arith))),
   marks_set ks i d k ops op (omega arith) at fits apart.1 marks.1,
 )
 
 pub entered_there : (ks : List Kept) (i : ℕ) (d k : Kept) (ops : List Op) (op : Op) → i < length ks → op.name.origin
     ≡ (get_or ks i d).origin → k.origin ≡ op.name.origin
-    → k.marks ≡ (get_or ks i d).marks ++ mark_of (length ops) (op.name.number) ((highest_after 0 (get_or ks i d).marks))
-    ∷ []
-    → IsIndex ks ops → IsIndex (set ks i k) (ops ++ op ∷ [])
-entered_there ks i d k ops op lt at own added index =
+    → k.marks ≡ (get_or ks i d).marks ++ mark_of (length ops) op.name.number ∷ []
+    → IsTold k → IsIndex ks ops → IsIndex (set ks i k) (ops ++ op ∷ [])
+entered_there ks i d k ops op lt at own added told index =
     let o = op.name.origin in
     let had : (get_or ks i d).marks ≡ marks_of o ops =
     each_at (λ k. k.marks ≡ marks_of k.origin ops) ks i d index.marks lt ∙ ap (λ (q : ℕ). marks_of q ops) (sym at) in
     let whole : k.marks ≡ marks_of o (ops ++ op ∷ []) =
-    added ∙ ap (λ (ms : List Mark). ms ++ mark_of (length ops) (op.name.number) ((highest_after 0 ms)) ∷ []) had
-    ∙ sym (marks_own o 0 0 (length ops) ops op (eq-eqb o o refl) (omega arith))
+    added ∙ ap (λ (ms : List Mark). ms ++ mark_of (length ops) op.name.number ∷ []) had
+    ∙ sym (marks_own o 0 (length ops) ops op (eq-eqb o o refl) (omega arith))
     in
     record {
       marks = marks_set ks i d k ops op lt at (whole ∙ ap (λ (q : ℕ). marks_of q (ops ++ op ∷ [])) (sym own))
           index.apart index.marks;
+      told = each_set IsTold ks i k told index.told;
       known = each-append (λ op. list_any (has_origin op.name.origin) (set ks i k) ≡ true) ops (op ∷ [])
           (each-imply (λ op. list_any (has_origin op.name.origin) ks ≡ true)
           (λ op. list_any (has_origin op.name.origin) (set ks i k) ≡ true)
@@ -148,22 +145,23 @@ apart_push (x ∷ ks) k new apart = (
 
 pub entered_new : (ks : List Kept) (k : Kept) (ops : List Op) (op : Op) → list_any (has_origin op.name.origin) ks
     ≡ false → k.origin ≡ op.name.origin
-    → k.marks ≡ mark_of (length ops) (op.name.number) (0) ∷ []
-    → IsIndex ks ops → IsIndex (ks ++ k ∷ []) (ops ++ op ∷ [])
-entered_new ks k ops op absent own only index =
+    → k.marks ≡ mark_of (length ops) op.name.number ∷ []
+    → IsTold k → IsIndex ks ops → IsIndex (ks ++ k ∷ []) (ops ++ op ∷ [])
+entered_new ks k ops op absent own only told index =
     let o = op.name.origin in
     let others = each_fails (has_origin o) ks absent in
-    let before : marks_of o ops ≡ [] = none_marked o 0 0 ops (none_of o ks ops absent index.known) in
+    let before : marks_of o ops ≡ [] = none_marked o 0 ops (none_of o ks ops absent index.known) in
     let whole : k.marks ≡ marks_of o (ops ++ op ∷ []) =
-    only ∙ ap (λ (ms : List Mark). ms ++ mark_of (length ops) (op.name.number) ((highest_after 0 ms)) ∷ []) (sym before)
-    ∙ sym (marks_own o 0 0 (length ops) ops op (eq-eqb o o refl) (omega arith))
+    only ∙ ap (λ (ms : List Mark). ms ++ mark_of (length ops) op.name.number ∷ []) (sym before)
+    ∙ sym (marks_own o 0 (length ops) ops op (eq-eqb o o refl) (omega arith))
     in
     record {
       marks = each-append (λ k. k.marks ≡ marks_of k.origin (ops ++ op ∷ [])) ks (k ∷ [])
           (each-both (λ x. has_origin o x ≡ false) (λ k. k.marks ≡ marks_of k.origin ops)
           (λ k. k.marks ≡ marks_of k.origin (ops ++ op ∷ []))
-          (λ x ne m. m ∙ sym (marks_other x.origin 0 0 ops op ne)) ks others index.marks)
+          (λ x ne m. m ∙ sym (marks_other x.origin 0 ops op ne)) ks others index.marks)
           (whole ∙ ap (λ (q : ℕ). marks_of q (ops ++ op ∷ [])) (sym own), tt);
+      told = each-append IsTold ks (k ∷ []) index.told (told, tt);
       known = each-append (λ op. list_any (has_origin op.name.origin) (ks ++ k ∷ []) ≡ true) ops (op ∷ [])
           (each-imply (λ op. list_any (has_origin op.name.origin) ks ≡ true)
           (λ op. list_any (has_origin op.name.origin) (ks ++ k ∷ []) ≡ true)
@@ -179,11 +177,10 @@ entered_new ks k ops op absent own only index =
 -- ---- the same, of tracks
 pub entered_track : (ts : List Track) (at : ℕ) (t new : Track) (ops : List Op) (op : Op) (name : OpName) (place : ℕ) →
     t ≡ get_or ts at t → position (λ t. has_origin name.origin (kept t)) ts ≡ Some at
-    → new.origin ≡ t.origin → new.marks.items ≡ t.marks.items ++ mark_of (place) (name.number)
-    ((highest_after 0 t.marks.items)) ∷ []
-    → op.name ≡ name → length ops ≡ place → IsIndex (map kept ts) ops → IsIndex (map kept (set ts at new))
-    (ops ++ op ∷ [])
-entered_track ts at t new ops op name place read is origin marks named long index =
+    → new.origin ≡ t.origin → new.marks.items ≡ t.marks.items ++ mark_of place name.number ∷ []
+    → (IsTold (kept t) → IsTold (kept new)) → op.name ≡ name → length ops ≡ place → IsIndex (map kept ts) ops →
+    IsIndex (map kept (set ts at new)) (ops ++ op ∷ [])
+entered_track ts at t new ops op name place read is origin marks tells named long index =
     let found = position-Some (λ t. has_origin name.origin (kept t)) ts at t is in
     let read_kept : get_or (map kept ts) at (kept t) ≡ kept t = get_or-map kept ts at t (kept t) found.0
     ∙ ap kept (sym read) in
@@ -191,14 +188,16 @@ entered_track ts at t new ops op name place read is origin marks named long inde
     ∙ found.1) in
     let number : op.name.number ≡ name.number = ap (λ (n : OpName). n.number) named in
     let from : op.name.origin ≡ name.origin = ap (λ (n : OpName). n.origin) named in
+    let told : IsTold (kept t) = subst IsTold read_kept (each_at IsTold (map kept ts) at (kept t) index.told
+    (omega (arith, found.0, length-map ts kept))) in
     rw map-set
     (entered_there (map kept ts) at (kept t) (kept new) ops op (omega (arith, found.0, length-map ts kept))
     (from ∙ own ∙ sym (ap (λ (k : Kept). k.origin) read_kept)) (origin ∙ sym (from ∙ own))
     (marks ∙ marked t.marks.items (get_or (map kept ts) at (kept t)).marks place (length ops) name.number op.name.number
-    (sym (ap (λ (k : Kept). k.marks) read_kept)) (sym long) (sym number)) index)
+    (sym (ap (λ (k : Kept). k.marks) read_kept)) (sym long) (sym number)) (tells told) index)
   where
     marked : (ms ns : List Mark) (p q m n : ℕ) → ms ≡ ns → p ≡ q → m ≡ n
-        → ms ++ mark_of (p) (m) ((highest_after 0 ms)) ∷ [] ≡ ns ++ mark_of (q) (n) ((highest_after 0 ns)) ∷ []
+        → ms ++ mark_of p m ∷ [] ≡ ns ++ mark_of q n ∷ []
     marked ms ns p q m n e f g = rw (e, f, g) refl
 
 -- where no place is found, nothing passes
@@ -215,39 +214,51 @@ any_kept o (t ∷ ts) = ap (λ b. has_origin o (kept t) || b) (any_kept o ts)
 
 pub entered_first : (ts : List Track) (new : Track) (ops : List Op) (op : Op) (name : OpName) (place : ℕ) →
     position (λ t. has_origin name.origin (kept t)) ts ≡ None
-    → new.origin ≡ name.origin → new.marks.items ≡ mark_of (place) (name.number) (0) ∷ []
-    → op.name ≡ name → length ops ≡ place → IsIndex (map kept ts) ops → IsIndex (map kept (ts ++ new ∷ []))
-    (ops ++ op ∷ [])
-entered_first ts new ops op name place none origin marks named long index =
+    → new.origin ≡ name.origin → new.marks.items ≡ mark_of place name.number ∷ [] → IsTold (kept new) → op.name ≡ name
+    → length ops ≡ place → IsIndex (map kept ts) ops → IsIndex (map kept (ts ++ new ∷ [])) (ops ++ op ∷ [])
+entered_first ts new ops op name place none origin marks told named long index =
     let number : op.name.number ≡ name.number = ap (λ (n : OpName). n.number) named in
     let from : op.name.origin ≡ name.origin = ap (λ (n : OpName). n.origin) named in
     rw map_push
     (entered_new (map kept ts) (kept new) ops op
     (any_kept op.name.origin ts ∙ ap (λ (o : ℕ). list_any (λ t. has_origin o (kept t)) ts) from
     ∙ no_position (λ t. has_origin name.origin (kept t)) ts none)
-    (origin ∙ sym from) (marks ∙ marked place (length ops) name.number op.name.number (sym long) (sym number)) index)
+    (origin ∙ sym from) (marks ∙ marked place (length ops) name.number op.name.number (sym long) (sym number)) told index)
   where
-    marked : (p q m n : ℕ) → p ≡ q → m ≡ n → mark_of (p) (m) (0) ∷ [] ≡ mark_of (q) (n) (0) ∷ []
+    marked : (p q m n : ℕ) → p ≡ q → m ≡ n → mark_of p m ∷ [] ≡ mark_of q n ∷ []
     marked p q m n f g = rw (f, g) refl
 
 -- ---- the marks of an origin
+pub track_fits : (ts : List Track) (i : ℕ) (t : Track) (ops : List Op) → i < length ts → t ≡ get_or ts i t →
+    IsIndex (map kept ts) ops → (t.marks.items ≡ marks_of t.origin ops) × IsTold (kept t)
+track_fits ts i t ops lt read index =
+    let read_kept : get_or (map kept ts) i (kept t) ≡ kept t = get_or-map kept ts i t (kept t) lt
+    ∙ ap kept (sym read) in
+    let within : i < length (map kept ts) = omega (arith, lt, length-map ts kept) in (
+      sym (ap (λ (k : Kept). k.marks) read_kept) ∙ each_at (λ k. k.marks ≡ marks_of k.origin ops)
+          (map kept ts) i (kept t) index.marks within
+          ∙ ap (λ (k : Kept). marks_of k.origin ops) read_kept,
+      subst IsTold read_kept (each_at IsTold (map kept ts) i (kept t) index.told within),
+    )
+
+-- where a track tells that its numbers rise, its marks do
+pub track_rises : (ts : List Track) (i : ℕ) (t : Track) (ops : List Op) → i < length ts → t ≡ get_or ts i t →
+    IsIndex (map kept ts) ops → t.rises ≡ true → IsRising t.marks.items
+track_rises ts i t ops lt read index rises =
+    let fits = track_fits ts i t ops lt read index in
+    subst IsRising (sym fits.0) (marks_rise t.origin 0 0 ops
+    (ap (rises_from 0) (sym fits.0) ∙ sym fits.1 ∙ rises))
+
 pub marks_at : (ts : List Track) (at : ℕ) (t : Track) (o : ℕ) (ops : List Op) → t ≡ get_or ts at t →
     position (λ t. has_origin o (kept t)) ts ≡ Some at → IsIndex (map kept ts) ops
     → t.marks.items ≡ marks_of o ops
 marks_at ts at t o ops read is index =
     let found = position-Some (λ t. has_origin o (kept t)) ts at t is in
     let own : o ≡ t.origin = eqb-true o t.origin (ap (has_origin o) (ap kept read) ∙ found.1) in
-    let read_kept : get_or (map kept ts) at (kept t) ≡ kept t = get_or-map kept ts at t (kept t) found.0
-    ∙ ap kept (sym read) in
-    let fits : (get_or (map kept ts) at (kept t)).marks ≡ marks_of (get_or (map kept ts) at (kept t)).origin ops =
-    each_at (λ k. k.marks ≡ marks_of k.origin ops) (map kept ts) at (kept t) index.marks
-    (omega (arith, found.0, length-map ts kept))
-    in
-    sym (ap (λ (k : Kept). k.marks) read_kept) ∙ fits ∙ ap (λ (k : Kept). marks_of k.origin ops) read_kept
-    ∙ ap (λ (q : ℕ). marks_of q ops) (sym own)
+    (track_fits ts at t ops found.0 read index).0 ∙ ap (λ (q : ℕ). marks_of q ops) (sym own)
 
 pub marks_nowhere : (ts : List Track) (o : ℕ) (ops : List Op) → position (λ t. has_origin o (kept t)) ts ≡ None →
     IsIndex (map kept ts) ops → marks_of o ops ≡ []
 marks_nowhere ts o ops none index =
-    none_marked o 0 0 ops (none_of o (map kept ts) ops (any_kept o ts
+    none_marked o 0 ops (none_of o (map kept ts) ops (any_kept o ts
     ∙ no_position (λ t. has_origin o (kept t)) ts none) index.known)

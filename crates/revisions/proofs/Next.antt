@@ -4,7 +4,7 @@ use Rattle.std.proofs.Common.{length, get_or, take, map, Option, Some, None, opt
 use Rattle.std.proofs.Common.{refl, sym, ap, ◌∙◌, arith, ltb, leb, le-leb, slice_get}
 use Rattle.std.specs.List.{AllByRecursion, find, list_any}
 use Rattle.std.proofs.lemmas.Bool.{eqb-true, and_right, lt-leb}
-use Rattle.std.proofs.lemmas.List.{map_more, get_or-map, length-map}
+use Rattle.std.proofs.lemmas.List.{map_more}
 use Rattle.std.proofs.lemmas.List.Folds.{list_any-append}
 use Rattle.std.proofs.lemmas.Option.{slice_get-get_or}
 use Rattle.pad_model.specs.declared.op.Op.{Op}
@@ -16,7 +16,7 @@ use Rattle.revisions.specs.declared.track.Track.{Track}
 use Rattle.revisions.specs.Log.{is_of, is_missing}
 use Rattle.revisions.specs.Track.{marks_of, is_above}
 use Rattle.revisions.specs.Index.{Kept, IsIndex, kept, has_origin, first_place, earlier, is_missing_in}
-use Rattle.revisions.proofs.Marks.{each_at}
+use Rattle.revisions.proofs.Kept.{track_fits}
 use Rattle.revisions.proofs.Places.{first_marked, first_place_agree, first_place_same, earlier_of_both, picked}
 use Rattle.revisions.proofs.Places.{picked_all, picked_none, picked_some}
 
@@ -42,7 +42,7 @@ next_more seen from ops ks k fits =
     ap (λ ms. earlier (first_place (is_next seen from ks) 0 ops)
     (option_map (λ (m : Mark). m.place) (find (is_above from (count_in seen k.origin)) ms))) fits
     ∙ ap (earlier (first_place (is_next seen from ks) 0 ops))
-    (first_marked (λ place number. leb from place && ltb (count_in seen k.origin) number) k.origin 0 0 ops)
+    (first_marked (λ place number. leb from place && ltb (count_in seen k.origin) number) k.origin 0 ops)
     ∙ earlier_of_both (is_next seen from ks)
     (λ place op. is_of k.origin op && (leb from place && ltb (count_in seen k.origin) op.name.number)) 0 ops
     ∙ first_place_same _ (is_next seen from (ks ++ k ∷ [])) 0 ops
@@ -84,15 +84,6 @@ next_all seen from ops ks known =
     and_true false = refl
 
 -- ---- the same, of tracks
-pub track_fits : (ts : List Track) (i : ℕ) (t : Track) (ops : List Op) → i < length ts → t ≡ get_or ts i t →
-    IsIndex (map kept ts) ops → t.marks.items ≡ marks_of t.origin ops
-track_fits ts i t ops lt read index =
-    let read_kept : get_or (map kept ts) i (kept t) ≡ kept t = get_or-map kept ts i t (kept t) lt
-    ∙ ap kept (sym read) in
-    sym (ap (λ (k : Kept). k.marks) read_kept) ∙ each_at (λ k. k.marks ≡ marks_of k.origin ops)
-    (map kept ts) i (kept t) index.marks (omega (arith, length-map ts kept))
-    ∙ ap (λ (k : Kept). marks_of k.origin ops) read_kept
-
 pub next_step : (seen : List Counted) (from : ℕ) (ops : List Op) (ts : List Track) (i : ℕ) (t : Track)
     (marks : List Mark) (count : ℕ) (next place : Option ℕ) → i < length ts → t ≡ get_or ts i t →
     IsIndex (map kept ts) ops
@@ -103,7 +94,7 @@ pub next_step : (seen : List Counted) (from : ℕ) (ops : List Op) (ts : List Tr
 next_step seen from ops ts i t marks count next place lt read index lent counted before found =
     ap (λ o. earlier o place) before ∙ ap (earlier (first_place (is_next seen from (map kept (take i ts))) 0 ops))
     (found ∙ at_track marks count lent counted)
-    ∙ next_more seen from ops (map kept (take i ts)) (kept t) (track_fits ts i t ops lt read index)
+    ∙ next_more seen from ops (map kept (take i ts)) (kept t) (track_fits ts i t ops lt read index).0
     ∙ ap (λ (ks : List Kept). first_place (is_next seen from ks) 0 ops)
     (ap (λ (x : Track). map kept (take i ts) ++ kept x ∷ []) read ∙ sym (map_more kept ts i t lt))
   where

@@ -1,5 +1,5 @@
 -- The first place that passes a test: among an origin's marks, of two tests, and what a filter has from there on.
-use Rattle.std.proofs.Common.{◌≡◌, ℕ, suc, ◌+◌, ◌≤◌, ◌<◌, max, Bool, ◌&&◌, ◌||◌, cond, List, [], ◌∷◌, length, get_or}
+use Rattle.std.proofs.Common.{◌≡◌, ℕ, suc, ◌+◌, ◌≤◌, ◌<◌, Bool, ◌&&◌, ◌||◌, cond, List, [], ◌∷◌, length, get_or}
 use Rattle.std.proofs.Common.{Some, None, option_map, filter, count_by, refl, ap, ◌∙◌, arith, zero-add, eqb, ltb, leb}
 use Rattle.std.specs.List.{AllByRecursion, find, position, position_or_len}
 use Rattle.std.proofs.lemmas.Bool.{ltb-true, ltb-false, leb-true, lt-ltb, le-ltb, le-leb, lt-leb, and_parts}
@@ -13,28 +13,28 @@ use Rattle.revisions.specs.Track.{marks_from, marks_of}
 use Rattle.revisions.specs.Index.{first_place, earlier}
 
 -- a search among an origin's marks is one among its operations
-pub first_marked : (test : ℕ → ℕ → Bool) (o p h : ℕ) (ops : List Op)
-    → option_map (λ (m : Mark). m.place) (find (λ m. test m.place m.number) (marks_from o p h ops))
+pub first_marked : (test : ℕ → ℕ → Bool) (o p : ℕ) (ops : List Op)
+    → option_map (λ (m : Mark). m.place) (find (λ m. test m.place m.number) (marks_from o p ops))
     ≡ first_place (λ place op. is_of o op && test place op.name.number) p ops
-first_marked test o p h [] = refl
-first_marked test o p h (op ∷ ops) =
+first_marked test o p [] = refl
+first_marked test o p (op ∷ ops) =
     split (is_of o op)
     (λ e. rw e
     (split (test p op.name.number)
     (λ passes. rw passes refl)
-    (λ fails. rw fails (first_marked test o (p + 1) (max h op.name.number) ops))))
-    (λ e. rw e (first_marked test o (p + 1) h ops))
+    (λ fails. rw fails (first_marked test o (p + 1) ops))))
+    (λ e. rw e (first_marked test o (p + 1) ops))
 
 -- an origin has as many marks as operations
-own_count : (o p h : ℕ) (ops : List Op) → length (marks_from o p h ops) ≡ length (filter (is_of o) ops)
-own_count o p h [] = refl
-own_count o p h (op ∷ ops) =
+own_count : (o p : ℕ) (ops : List Op) → length (marks_from o p ops) ≡ length (filter (is_of o) ops)
+own_count o p [] = refl
+own_count o p (op ∷ ops) =
     split (is_of o op)
-    (λ e. rw e (ap suc (own_count o (p + 1) (max h op.name.number) ops)))
-    (λ e. rw e (own_count o (p + 1) h ops))
+    (λ e. rw e (ap suc (own_count o (p + 1) ops)))
+    (λ e. rw e (own_count o (p + 1) ops))
 
-pub marks_count : (o p h : ℕ) (ops : List Op) → length (marks_from o p h ops) ≡ count_by (is_of o) ops
-marks_count o p h ops = own_count o p h ops ∙ length-filter (is_of o) ops
+pub marks_count : (o p : ℕ) (ops : List Op) → length (marks_from o p ops) ≡ count_by (is_of o) ops
+marks_count o p ops = own_count o p ops ∙ length-filter (is_of o) ops
 
 -- tests that agree find the same place
 pub first_place_agree : (f g : ℕ → Op → Bool) (p : ℕ) (ops : List Op) →
@@ -153,6 +153,6 @@ first_position f p (op ∷ ops) =
 pub named_position : (name : OpName) (ops : List Op) → option_map (λ (m : Mark). m.place)
     (find (λ m. eqb m.number name.number) (marks_of name.origin ops)) ≡ position (has_name name) ops
 named_position name ops =
-    first_marked (λ place number. eqb number name.number) name.origin 0 0 ops ∙ first_position (has_name name) 0 ops
+    first_marked (λ place number. eqb number name.number) name.origin 0 ops ∙ first_position (has_name name) 0 ops
     ∙ ap (λ (k : ℕ). cond (ltb (position_or_len (has_name name) ops) (length ops)) (Some k) None)
     (zero-add (position_or_len (has_name name) ops))

@@ -6,18 +6,19 @@ use Rattle.std.specs.Vec.{vec_capacity}
 use Rattle.pad_model.specs.declared.op.Op.{Op}
 use Rattle.pad_model.specs.declared.seen.Counted.{Counted}
 use Rattle.revisions.specs.Log.{is_missing}
-use Rattle.revisions.specs.Track.{marks_of}
+use Rattle.revisions.specs.Track.{marks_of, rises_from}
 use Rattle.revisions.specs.declared.track.Mark.{Mark}
 use Rattle.revisions.specs.declared.track.Track.{Track}
 
--- the marks of an origin
+-- the marks of an origin, and whether their numbers are said to rise
 pub record Kept : Type 0 where
   pub origin : ℕ
+  pub rises : Bool
   pub marks : List Mark
 
 -- what a track keeps
 abbrev pub kept : Track → Kept
-kept track = record { origin = track.origin; marks = track.marks.items }
+kept track = record { origin = track.origin; rises = track.rises; marks = track.marks.items }
 
 -- whether marks are an origin's
 abbrev pub has_origin : ℕ → Kept → Bool
@@ -28,9 +29,14 @@ abbrev pub AreApart : List Kept → Type 0
 AreApart [] = Unit {0}
 AreApart (k ∷ ks) = AllByRecursion (λ later. has_origin later.origin k ≡ false) ks × AreApart ks
 
--- each has the marks of its origin's operations, each operation's origin is there, and no two have one origin
+-- whether the numbers rise is as it is said
+abbrev pub IsTold : Kept → Type 0
+IsTold k = k.rises ≡ rises_from 0 k.marks
+
+-- each has the marks of its origin's operations and tells whether they rise, each origin is there, and only once
 pub record IsIndex (ks : List Kept) (ops : List Op) : Type 0 where
   pub marks : AllByRecursion (λ k. k.marks ≡ marks_of k.origin ops) ks
+  pub told : AllByRecursion IsTold ks
   pub known : AllByRecursion (λ op. list_any (has_origin op.name.origin) ks ≡ true) ops
   pub apart : AreApart ks
 

@@ -2,16 +2,16 @@ ghost use Rattle.std.specs.Prelude.{◌≡◌, ◌<◌, [], ◌∷◌, ◌++◌,
 ghost use Rattle.std.specs.List.{AllByRecursion, position};
 ghost use Rattle.std.specs.Vec.{vec_capacity};
 ghost use Rattle.pad_model.specs.declared.op.Op.{Op};
-ghost use Rattle.revisions.specs.Track.{highest_after, mark_of, marks_of};
-ghost use Rattle.revisions.specs.Index.{IsIndex, HasRoom, kept, has_origin, earlier, places_of};
+ghost use Rattle.revisions.specs.Track.{mark_of, marks_of};
+ghost use Rattle.revisions.specs.Index.{IsIndex, HasRoom, IsTold, kept, has_origin, earlier, places_of};
 
-use crate::track::{Mark, Track, highest_of};
+use crate::track::{Mark, Track, last_of};
 use pad_model::OpName;
 use std::alloc::AllocError;
 use std::mem;
 
 /// The place of an origin's track.
-fn track_of(tracks: &[Track], origin: u16) -> Option<usize>
+pub fn track_of(tracks: &[Track], origin: u16) -> Option<usize>
     ensures { result ≡ position (λ track. has_origin origin (kept track)) tracks.now }
 {
     tracks.iter().position(|track| origin == track.origin)
@@ -51,33 +51,28 @@ pub fn enter(tracks: &mut Vec<Track>, fresh: &mut Vec<Mark>, place: u64, name: O
     ensures empty { fresh.new.items ≡ [] }
 {
     match track_of(tracks, name.origin) {
-        Some(at) => {
-            let track = &mut tracks[at];
-            add_mark(&mut track.marks, place, name.number);
-        }
+        Some(at) => add_mark(&mut tracks[at], place, name.number),
         None => {
             let empty = Vec::new(*fresh.allocator());
-            let mut marks = mem::replace(fresh, empty);
-            add_mark(&mut marks, place, name.number);
-            tracks.push_reserved(Track {
+            let mut track = Track {
                 origin: name.origin,
-                marks,
-            });
+                rises: true,
+                marks: mem::replace(fresh, empty),
+            };
+            add_mark(&mut track, place, name.number);
+            tracks.push_reserved(track);
         }
     }
 }
 
-fn add_mark(marks: &mut Vec<Mark>, place: u64, number: u64)
-    requires { vec_len marks.old < vec_capacity marks.old }
-    ensures { marks.new.items ≡ marks.old.items
-        ++ mark_of place number (highest_after 0 marks.old.items) ∷ [] }
+fn add_mark(track: &mut Track, place: u64, number: u64)
+    requires { HasRoom track.old }
+    ensures origin { track.new.origin ≡ track.old.origin }
+    ensures marks { track.new.marks.items ≡ track.old.marks.items ++ mark_of place number ∷ [] }
+    ensures told { IsTold (kept track.old) → IsTold (kept track.new) }
 {
-    let highest = highest_of(marks).max(number);
-    marks.push_reserved(Mark {
-        place,
-        number,
-        highest,
-    });
+    track.rises = track.rises && last_of(&track.marks) <= number;
+    track.marks.push_reserved(Mark { place, number });
 }
 
 /// The earlier of two places, if any.

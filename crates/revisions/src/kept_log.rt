@@ -9,7 +9,7 @@ ghost use Rattle.revisions.specs.Found.{IsNextMissing};
 ghost use Rattle.revisions.specs.Log.{entries, count_of, has_name, is_missing, is_note, is_unsayable, missing};
 ghost use Rattle.revisions.specs.Index.{first_place, is_missing_in};
 
-use crate::index::{count_between, earlier, enter, marks_of, reserve_marks};
+use crate::index::{count_between, earlier, enter, marks_of, reserve_marks, track_of};
 use crate::track::{Mark, Track, next_above, place_of};
 use packed::OpStore;
 use pad_model::{Op, OpName, Refusal, Row, Seen, op_in_v1};
@@ -254,7 +254,7 @@ impl KeptLog {
     {
         let mut next = None;
         for track in &self.tracks {
-            let place = next_above(&track.marks, from, seen.count(track.origin));
+            let place = next_above(track, from, seen.count(track.origin));
             next = earlier(next, place);
         }
         next
@@ -271,7 +271,10 @@ impl KeptLog {
     pub fn find(&self, name: OpName) -> Option<u64>
         ensures { result ≡ position (has_name name) self.now.operations }
     {
-        place_of(marks_of(&self.tracks, name.origin), name.number)
+        match track_of(&self.tracks, name.origin) {
+            Some(at) => place_of(&self.tracks[at], name.number),
+            None => None,
+        }
     }
 }
 

@@ -5,7 +5,7 @@ use Rattle.std.specs.List.{AllByRecursion, prefix_len}
 use Rattle.std.proofs.lemmas.Bool.Decides.{nat_tests}
 use Rattle.pad_model.specs.Stamp.{Stamp}
 use Rattle.pad_model.proofs.Newer.{split}
-use Rattle.slides.specs.declared.slide.Slide.{Slide}
+use Rattle.slides.specs.Slide.{Slide}
 use Rattle.slides.specs.Slides.{Moves, Leads, IsSorted, since}
 
 -- slides that lead to a moment lead on by a slide from there

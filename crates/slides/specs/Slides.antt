@@ -5,7 +5,7 @@ use Rattle.std.specs.List.{prefix_len}
 use Rattle.pad_model.specs.Operation.{stamps_from}
 use Rattle.pad_model.specs.Stamp.{Stamp}
 use Rattle.pad_model.specs.declared.limits.TheConstants.{MAX_CHARACTERS, MAX_COUNTER}
-use Rattle.slides.specs.declared.slide.Slide.{Slide}
+use Rattle.slides.specs.Slide.{Slide}
 use Rattle.slides.specs.declared.past.Carried.{Carried}
 use Rattle.slides.specs.declared.past.Carried.TheVariants.{At, Hidden}
 

@@ -23,7 +23,7 @@ pub fn since(slides: &[Slide], rev: u64) -> &[Slide]
     let seen = slides.partition_point(
         |slide: &Slide| -> bool
             ensures { result ≡ nat_le slide.now.rev rev }
-        { slide.rev <= rev },
+        { slide.rev() <= rev },
     );
     &slides[seen..]
 }
@@ -37,10 +37,11 @@ pub fn count_before(slides: &[Slide], many: u64) -> u64
     let mut count = many;
     for i in (0..slides.len()).rev() {
         let slide = slides[i];
-        if slide.shows {
-            count -= slide.len;
+        let len = slide.len();
+        if slide.shows() {
+            count -= len;
         } else {
-            count += slide.len;
+            count += len;
         }
     }
     count
@@ -54,15 +55,16 @@ pub fn carry(slides: &[Slide], place: u64) -> Carried
 {
     let mut at = place;
     for slide in slides {
-        if at < slide.at {
+        let (start, len) = (slide.at(), slide.len());
+        if at < start {
             continue;
         }
-        if slide.shows {
-            at += slide.len;
-        } else if at < slide.at + slide.len {
-            return Carried::Hidden(slide.first.plus(at - slide.at));
+        if slide.shows() {
+            at += len;
+        } else if at < start + len {
+            return Carried::Hidden(slide.first().plus(at - start));
         } else {
-            at -= slide.len;
+            at -= len;
         }
     }
     Carried::At(at)

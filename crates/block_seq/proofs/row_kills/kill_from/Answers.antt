@@ -1,6 +1,6 @@
 use Rattle.std.proofs.Common.{◌≡◌, ◌≤◌, false, [], ◌∷◌, ◌++◌, Some, None, refl, sym, ap, ◌∙◌, subst, arith, slice_set}
 use Rattle.std.specs.List.{AllByRecursion}
-use Rattle.slides.specs.declared.slide.Slide.{Slide}
+use Rattle.slides.specs.Slide.{Slide}
 use Rattle.block_seq.specs.Rows.{IsDated}
 use Rattle.block_seq.specs.RowSlides.{IsSlid, live_blocks}
 use Rattle.block_seq.proofs.RowSlides.{slid_killed, fewer_alive, none_of}
@@ -11,6 +11,8 @@ use Rattle.blocks.proofs.Entries.{each_get}
 use Rattle.blocks.proofs.Parts.{holds_here}
 use Rattle.block_seq.proofs.BlockCells.{spot_block}
 use Rattle.block_seq.proofs.RowKills.{none_killed, none_hidden, none_named, edge_behind, edge_behind_none}
+use Rattle.block_seq.proofs.RowPast.{weight_small}
+use Rattle.block_seq.proofs.RowRanks.{block-room}
 use Rattle.block_seq.proofs.RowKills.{no_edge_inside, dead_block, alive_block}
 use Rattle.block_seq.specs.Rows.{span_from}
 use Rattle.block_seq.proofs.row_kills.kill_from.Goals as goal
@@ -125,6 +127,17 @@ returns-clause-whole c = λ k lo hi.
 died : (c : After-kill) → c.get-block.result.now.died ≡ None
 died c = none_of c.get-block.result.now.died (sym c.is_some.ensures ∙ c.if-is_some.false)
 
+pub new-slide-requires-clause-place : goal.new-slide-requires-clause-place
+new-slide-requires-clause-place c =
+    let front = weight_small c.args.tree.now.items c.in-Some.spot.rank in
+    omega (arith, front, c.before-at.ensures.sum, c.requires.kept.listed.small)
+
+pub new-slide-requires-clause-len : goal.new-slide-requires-clause-len
+new-slide-requires-clause-len c =
+    let one = block-room c.args.tree.now.items c.in-Some.spot.rank 0 c.get-block.result.now c.get-block.ensures.item
+    (omega arith) in
+    omega (arith, one, c.requires.kept.listed.small)
+
 pub push_reserved-requires : goal.push_reserved-requires
 push_reserved-requires c =
     let fewer = fewer_alive c.args.tree.now.items c.in-Some.spot.rank c.args.rev c.get-block.result.now
@@ -143,7 +156,8 @@ killed c =
     c.requires.kept.listed.small
     in
     let items = c.kill.ensures.dead b c.get-block.ensures.item in (
-      subst (λ l. IsSlid l c.kill.new.tree.items) (sym c.push_reserved.ensures.items)
+      subst (λ l. IsSlid l c.kill.new.tree.items)
+          (sym (c.push_reserved.ensures.items ∙ ap (λ s. c.args.slides.now.items ++ s ∷ []) c.new-slide.ensures))
           (subst (IsSlid (c.args.slides.now.items ++ s ∷ [])) (sym items) done.0),
       subst (AllByRecursion (IsDated c.args.rev))
           (sym items) done.1,

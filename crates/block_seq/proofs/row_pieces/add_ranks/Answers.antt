@@ -1,4 +1,4 @@
-use Rattle.std.proofs.Common.{◌≡◌, ◌+◌, ◌<◌, ◌∷◌, [], IsSomeAnd, inl, inr, sym, subst, arith, length}
+use Rattle.std.proofs.Common.{◌≡◌, ◌+◌, ◌<◌, ◌∷◌, [], IsSomeAnd, inl, inr, sym, ap, ◌∙◌, subst, arith, length}
 use Rattle.std.specs.Prelude.{Contains}
 use Rattle.std.specs.List.{AllByRecursion}
 use Rattle.std.proofs.lemmas.Bool.{cases_lt}
@@ -29,7 +29,8 @@ loop-offset-preserved-in-Some c =
             | inl less ↦ Contains-append_left old (rank ∷ []) r (inv.there r b e (h.0, h.1, less))
             | inr past ↦
                 let same : r ≡ rank = found-rank c.args.index.now bs r c.loop-offset.offset b c.args.slide.now.first
-                c.plus.result c.requires.kept.listed e c.plus.ensures past rank c.in-Some.spot.offset x
+                c.plus.result c.requires.kept.listed e (c.plus.ensures ∙ ap (λ s. stamp_behind s c.loop-offset.offset) c.first.ensures)
+                past rank c.in-Some.spot.offset x
                 c.in-Some.ensures.sound c.get.ensures.item spot.0 spot.1 h in
                 Contains-append_right old (rank ∷ []) r (0, omega arith, sym same)
           ]);
@@ -45,7 +46,8 @@ loop-offset-preserved c =
           elim (cases_lt b.first.counter (c.args.slide.now.first.counter + c.loop-offset.offset)) [
             | inl less ↦ inv.there r b e (h.0, h.1, less)
             | inr past ↦ absurd (none-here c.args.index.now c.args.tree.now.items r c.loop-offset.offset b
-                c.args.slide.now.first c.plus.result c.requires.kept.listed e c.plus.ensures past
+                c.args.slide.now.first c.plus.result c.requires.kept.listed e
+                (c.plus.ensures ∙ ap (λ s. stamp_behind s c.loop-offset.offset) c.first.ensures) past
                 c.in_default.ensures.spot h)
           ];
     }

@@ -7,13 +7,14 @@ use Rattle.blocks.specs.declared.block.Block.{Block}
 use Rattle.blocks.specs.Blocks.{without_labels}
 use Rattle.blocks.specs.Cells.{author_at, cells_of}
 use Rattle.blocks.proofs.Cells.{same_itself, length-without_labels}
-use Rattle.slides.specs.declared.slide.Slide.{Slide}
+use Rattle.slides.specs.Slide.{Slide}
 use Rattle.block_seq.specs.Rows.{IsBlockSeq, IsDated}
 use Rattle.block_seq.specs.RowSlides.{IsSlid}
 use Rattle.block_seq.proofs.RowNow.{dated_blocks}
 use Rattle.block_seq.proofs.RowSlides.{slid_put, one_more}
 use Rattle.block_seq.proofs.BlockCells.{length-cells}
 use Rattle.block_seq.proofs.RowChange.{run_sized}
+use Rattle.block_seq.proofs.RowPast.{weight_small}
 use Rattle.block_seq.proofs.RowRuns.{remove-insert}
 use Rattle.block_seq.proofs.RowSteps.{run_is_new, run_put}
 use Rattle.block_seq.proofs.run_put.put_run.Goals as goal
@@ -47,6 +48,13 @@ put_block-requires-clause-room c =
     let full = c.requires.row.row.full in
     let all = size (goal.at.put_block-requires-clause-room c).After-len in
     omega (arith, full, all, c.requires.room, c.len.ensures)
+
+pub push_shown-requires-clause-small : goal.push_shown-requires-clause-small
+push_shown-requires-clause-small c =
+    let bs = c.args.tree.now.items in
+    let all = length-cells c.args.batch.now.authors.now c.args.text.now.items bs c.requires.row.row.within in
+    let front = weight_small bs c.find_place-rank.result in
+    omega (arith, all, front, c.before-at.ensures.sum, c.requires.room)
 
 -- the run's block
 abbrev new : (c : After-push_shown) → Block

@@ -11,7 +11,7 @@ pub returns-in_err-reserve-clause-same : goal.returns-in_err-reserve-clause-same
 returns-in_err-reserve-clause-same c =
     let track = get_or c.loop-track.tracks c.loop-track.track-index c.track-item.result in
     map-set_same kept c.loop-track.tracks c.loop-track.track-index _ c.track-item.result
-    (ap (λ (ms : List Mark). let k : Kept = record { origin = track.origin; marks = ms } in
+    (ap (λ (ms : List Mark). let k : Kept = record { origin = track.origin; rises = track.rises; marks = ms } in
     k) c.in_err-reserve.ensures.items)
     ∙ c.loop-track.invariant.same
 
@@ -22,7 +22,7 @@ loop-track-preserved c =
     let lt : c.loop-track.track-index < length c.loop-track.tracks = omega arith in
     record {
       same = map-set_same kept c.loop-track.tracks c.loop-track.track-index _ c.track-item.result
-          (ap (λ (ms : List Mark). let k : Kept = record { origin = track.origin; marks = ms } in
+          (ap (λ (ms : List Mark). let k : Kept = record { origin = track.origin; rises = track.rises; marks = ms } in
           k) c.in_ok-reserve.ensures.items)
           ∙ c.loop-track.invariant.same;
       room = rw take_more_set (each-append HasRoom _ _ c.loop-track.invariant.room (omega arith, tt));

@@ -1,4 +1,4 @@
-use Rattle.std.proofs.Common.{rules, refl, eqb, ltb, ap, ◌∙◌, sym, option_map, List}
+use Rattle.std.proofs.Common.{rules, eqb, ltb, ap, ◌∙◌, sym, option_map, List}
 use Rattle.std.specs.List.{find}
 use Rattle.std.proofs.lemmas.List.{take_rest}
 use Rattle.std.proofs.lemmas.List.Sorted.{IsPartitionPoint-from_clause}
@@ -7,15 +7,16 @@ use Rattle.revisions.proofs.Marks.{partitioned_low, find_behind, passed_numbered
 use Rattle.revisions.proofs.track.place_of.Goals as goal
 
 -- what is found behind the marks that are passed over is found among all
-pub returns : goal.returns
-returns c =
+pub returns-then-track : goal.returns-then-track
+returns-then-track c =
     let number = c.args.number in
-    let marks = c.args.marks.now in
+    let marks = c.as_slice-marks.result.now in
     let start = c.partition_point-start.result in
     let facts = c.partition_point-start.ensures in
-    let parts = IsPartitionPoint-from_clause (λ m. ltb m.highest number) marks start facts.partitioned
-    (partitioned_low marks number c.requires) (λ a r f' called. search rules) in
-    let found = find_behind (λ m. ltb m.highest number) (λ m. eqb m.number number) (λ m. eqb m.number number)
-    (passed_numbered number) (λ m e. refl) marks start c.requires facts.bound parts.0 parts.1 in
+    let parts = IsPartitionPoint-from_clause (λ m. ltb m.number number) marks start facts.partitioned
+    (partitioned_low marks number (rw c.as_slice-marks.ensures.value (c.requires c.if-track.true))) (λ a r f' called. search rules) in
+    let found = find_behind (λ m. ltb m.number number) (λ m. eqb m.number number) (passed_numbered number) marks start
+    facts.bound parts.0 in
     c.first_numbered.ensures ∙ ap (λ (ms : List Mark). option_map (λ (m : Mark). m.place)
     (find (λ m. eqb m.number number) ms)) (take_rest marks start) ∙ ap (option_map (λ (m : Mark). m.place)) (sym found)
+    ∙ ap (λ (ms : List Mark). option_map (λ (m : Mark). m.place) (find (λ m. eqb m.number number) ms)) c.as_slice-marks.ensures.value

@@ -1,4 +1,4 @@
-use Rattle.std.proofs.Common.{◌-◌, arith}
+use Rattle.std.proofs.Common.{◌-◌, sym, ◌∙◌, arith}
 use Rattle.slides.proofs.Carrying.{shown_len, hidden_len}
 use Rattle.slides.proofs.Slides.{counts_next, leads-from}
 use Rattle.slides.proofs.past.count_before.Goals as goal
@@ -10,18 +10,18 @@ overflow_sub-count c =
     let there = leads-from j c.args.slides.now c.requires.old c.requires.new c.requires.leads in
     let step = counts_next c.args.slides.now c.loop-i.i j s c.loop-i.count c.args.many (omega arith) c.index-slides-i.is
     (omega arith) c.loop-i.invariant there.0 c.requires.new there.1 c.requires.size in
-    let size = shown_len s there.0 step.0 step.1 c.if-slide.true in
+    let size = shown_len s there.0 step.0 step.1 (sym c.shows.ensures ∙ c.if-shows.true) in
     let counted = step.2 in
-    omega (arith, size.0, counted)
+    omega (arith, size.0, counted, c.len-len.ensures)
 
-pub loop-i-preserved-then-slide : goal.loop-i-preserved-then-slide
-loop-i-preserved-then-slide c mid new leads size =
+pub loop-i-preserved-then-shows : goal.loop-i-preserved-then-shows
+loop-i-preserved-then-shows c mid new leads size =
     let s = c.index-slides-i.result in
     let step = counts_next c.args.slides.now c.loop-i.i (c.loop-i.i - 1) s c.loop-i.count c.args.many
     (omega arith) c.index-slides-i.is (omega arith) c.loop-i.invariant mid new leads size in
-    let sizes = shown_len s mid step.0 step.1 c.if-slide.true in
+    let sizes = shown_len s mid step.0 step.1 (sym c.shows.ensures ∙ c.if-shows.true) in
     let counted = step.2 in
-    omega (arith, sizes.0, counted)
+    omega (arith, sizes.0, counted, c.len-len.ensures)
 
 pub overflow_add-count : goal.overflow_add-count
 overflow_add-count c =
@@ -30,15 +30,15 @@ overflow_add-count c =
     let there = leads-from j c.args.slides.now c.requires.old c.requires.new c.requires.leads in
     let step = counts_next c.args.slides.now c.loop-i.i j s c.loop-i.count c.args.many (omega arith) c.index-slides-i.is
     (omega arith) c.loop-i.invariant there.0 c.requires.new there.1 c.requires.size in
-    let sizes = hidden_len s there.0 step.0 step.1 c.if-slide.false in
+    let sizes = hidden_len s there.0 step.0 step.1 (sym c.shows.ensures ∙ c.if-shows.false) in
     let counted = step.2 in
-    omega (arith, sizes.0, sizes.2, counted)
+    omega (arith, sizes.0, sizes.2, counted, c.len-len.ensures)
 
 pub loop-i-preserved : goal.loop-i-preserved
 loop-i-preserved c mid new leads size =
     let s = c.index-slides-i.result in
     let step = counts_next c.args.slides.now c.loop-i.i (c.loop-i.i - 1) s c.loop-i.count c.args.many
     (omega arith) c.index-slides-i.is (omega arith) c.loop-i.invariant mid new leads size in
-    let sizes = hidden_len s mid step.0 step.1 c.if-slide.false in
+    let sizes = hidden_len s mid step.0 step.1 (sym c.shows.ensures ∙ c.if-shows.false) in
     let counted = step.2 in
-    omega (arith, sizes.0, counted)
+    omega (arith, sizes.0, counted, c.len-len.ensures)

@@ -5,7 +5,7 @@ use Rattle.std.proofs.lemmas.List.{length-drop}
 use Rattle.std.proofs.lemmas.List.Sorted.{IsPartitionPoint-from_clause, IsPartitionedBy-leb}
 use Rattle.std.proofs.lemmas.List.Sums.{prefix_len_is}
 use Rattle.pad_model.specs.Stamp.{Stamp}
-use Rattle.slides.specs.declared.slide.Slide.{Slide}
+use Rattle.slides.specs.Slide.{Slide}
 use Rattle.slides.proofs.Slides.{rises}
 use Rattle.slides.proofs.past.since.Goals as goal
 

@@ -1,9 +1,9 @@
-use Rattle.std.proofs.Common.{sym, ap, ◌∙◌, List, map}
+use Rattle.std.proofs.Common.{refl, sym, ap, ◌∙◌, List, map}
 use Rattle.std.proofs.lemmas.List.{take_all}
 use Rattle.revisions.specs.declared.track.Track.{Track}
 use Rattle.revisions.specs.Index.{IsIndex, kept, first_place}
-use Rattle.revisions.proofs.Marks.{marks_rise}
-use Rattle.revisions.proofs.Next.{is_next, next_none, next_all, track_fits, next_step}
+use Rattle.revisions.proofs.Kept.{track_rises}
+use Rattle.revisions.proofs.Next.{is_next, next_none, next_all, next_step}
 use Rattle.revisions.proofs.kept_log.KeptLog.search_missing.Goals as goal
 
 pub loop-track-init : goal.loop-track-init
@@ -14,9 +14,8 @@ next_above-place-requires c =
     let ops = c.self.inside.operations.operations in
     let index : IsIndex (map kept c.deref-track-items.result.now) ops =
     rw c.deref-track-items.ensures.value c.self.invariant.index in
-    let fits = track_fits c.deref-track-items.result.now c.loop-track.track-index c.track-item.result ops
-    c.loop-track-test.true c.track-item.is index in
-    rw (c.deref.ensures.value, fits) (marks_rise c.track-item.result.origin 0 0 ops)
+    track_rises c.deref-track-items.result.now c.loop-track.track-index c.track-item.result ops c.loop-track-test.true
+    c.track-item.is index
 
 pub loop-track-preserved : goal.loop-track-preserved
 loop-track-preserved c =
@@ -25,8 +24,8 @@ loop-track-preserved c =
     rw (c.deref-track-items.ensures.value, ← c.self.view_is) c.self.invariant.index in
     c.earlier-next.ensures
     ∙ next_step c.args.seen.now c.args.from ops c.deref-track-items.result.now c.loop-track.track-index
-    c.track-item.result c.deref.result.now c.count.result c.loop-track.next c.next_above-place.result
-    c.loop-track-test.true c.track-item.is index c.deref.ensures.value c.count.ensures c.loop-track.invariant
+    c.track-item.result c.track-item.result.marks.items c.count.result c.loop-track.next c.next_above-place.result
+    c.loop-track-test.true c.track-item.is index refl c.count.ensures c.loop-track.invariant
     c.next_above-place.ensures
 
 pub returns : goal.returns

@@ -1,6 +1,6 @@
 -- The runs of one operation's parts, and what they leave when each is put in its turn.
-use Rattle.std.specs.Prelude.{◌≡◌, ℕ, ◌+◌, ◌≤◌, ◌<◌, true, List, [], ◌∷◌, flat_map, fold, length, sum_by, Option, Some}
-use Rattle.std.specs.Prelude.{None}
+use Rattle.std.specs.Prelude.{◌≡◌, ℕ, ◌+◌, ◌*◌, ◌≤◌, ◌<◌, true, List, [], ◌∷◌, flat_map, fold, length, sum_by, Option}
+use Rattle.std.specs.Prelude.{Some, None, Result, OnOk, OnErr}
 use Rattle.std.specs.List.{AllByRecursion, list_all, remove}
 use Rattle.ident_index.specs.Index.{Index, stamp_behind}
 use Rattle.blocks.specs.Blocks.{IsEdge}
@@ -17,6 +17,7 @@ use Rattle.pad_model.specs.declared.op.Part.{Part}
 use Rattle.pad_model.specs.declared.op.Part.TheVariants.{Insert, Delete, Comment, Resolve}
 use Rattle.pad_model.specs.declared.op.Run.{Run}
 use Rattle.pad_model.specs.declared.who.Author.{Author}
+use Rattle.block_seq.specs.Rows.{CellsInBlocks}
 
 -- the run of an insertion
 abbrev pub part_runs : Part → List Run
@@ -63,6 +64,20 @@ pub record MayPut (rev : ℕ) (author : Author) (cells : List Cell) (m : Index)
 -- its labels
 abbrev pub IsUndone : List Block → ℕ → List Block → ℕ → Type 0
 IsUndone old n new m = (mid : List Block) × Labelled old n mid m × KeepsLabels new mid
+
+-- what so many changes, each a run or a span, did to blocks and their labels
+pub record IsCounted {A E : Type 0} (changes : ℕ) (result : Result A E)
+    (old new : CellsInBlocks) : Type 0 where
+  -- each change adds at most two blocks
+  pub rises : new.blocks ≤ old.blocks + 2 * changes
+  -- after a success, labels changed only where none was free, and each such time was counted
+  pub labelled : OnOk result (Labelled old.tree old.respaced new.tree new.respaced)
+  -- after an error the same holds, though blocks that were put may be gone again
+  pub undone : OnErr result (IsUndone old.tree old.respaced new.tree new.respaced)
+  -- the count of respacings never falls
+  pub counts : old.respaced ≤ new.respaced
+  -- each change respaces at most twice
+  pub few : new.respaced ≤ old.respaced + 2 * changes
 
 -- the items without those at some ranks, the last rank taken first
 abbrev pub without_ranks : {A : Type 0} → List A → List ℕ → List A

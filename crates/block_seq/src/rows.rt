@@ -5,9 +5,9 @@ ghost use Rattle.pad_model.specs.Answers.{Answers};
 ghost use Rattle.pad_model.specs.Cell.{IsBy, character_of, delete_spans as delete_cells, insert_run as insert_cells, is_hidden_by, with_run, without_spans};
 ghost use Rattle.pad_model.specs.Checked.{are_parts, is_edit, is_run, is_span};
 ghost use Rattle.pad_model.specs.Log.{has_spans as holds_spans, run_may_join};
-ghost use Rattle.pad_model.specs.Parts.{apply as apply_parts};
+ghost use Rattle.pad_model.specs.Parts.{AllJoin, apply as apply_parts, with_all};
 ghost use Rattle.pad_model.specs.declared.limits.TheConstants.{MAX_CHARACTERS};
-ghost use Rattle.block_seq.specs.RowParts.{AllJoin, IsCounted, count_changes, with_all};
+ghost use Rattle.block_seq.specs.RowParts.{IsCounted, count_changes};
 
 use crate::authors::place_author;
 use crate::parts::count_inserted;

@@ -5,6 +5,7 @@ use Rattle.std.specs.List.{AllByRecursion}
 use Rattle.std.specs.Result.{IsErrAnd}
 use Rattle.pad_model.specs.Cell.{character_of, is_hidden_by, without_spans, IsBy, IsInOrder}
 use Rattle.pad_model.specs.Log.{has_spans}
+use Rattle.pad_model.specs.Parts.{with_all}
 use Rattle.pad_model.specs.declared.op.Run.{Run}
 use Rattle.pad_model.specs.declared.who.Author.{Author}
 use Rattle.pad_model.proofs.Exits.{answers_memory}
@@ -14,7 +15,7 @@ use Rattle.blocks.specs.Cells.{author_at, cells_of, SameCells}
 use Rattle.blocks.specs.Counts.Labelled.{changed}
 use Rattle.blocks.proofs.Cells.{same_unlabelled, same_then}
 use Rattle.blocks.proofs.Counts.{keeps_listed, labelled_then}
-use Rattle.block_seq.specs.RowParts.{IsCounted, IsCutBehind, MayPut, with_all}
+use Rattle.block_seq.specs.RowParts.{IsCounted, IsCutBehind, MayPut}
 use Rattle.block_seq.specs.Rows.{IsBlockSeq, IsCutOut, cells_in, killed}
 use Rattle.block_seq.specs.RowSlides.{IsAuthoredRow, IsSlid, IsSlidRow}
 use Rattle.block_seq.proofs.RowNow.{dated_blocks}

@@ -3,7 +3,7 @@ use Rattle.std.proofs.Common.{sum_by, sym, ap, ◌∙◌, refl, subst, arith}
 use Rattle.std.proofs.lemmas.List.{length-map}
 use Rattle.std.specs.List.{list_all}
 use Rattle.pad_model.specs.Cell.{IsInOrder, character_of}
-use Rattle.pad_model.specs.Parts.{part_fits}
+use Rattle.pad_model.specs.Parts.{AllJoin, part_fits, with_all}
 use Rattle.pad_model.proofs.Exits.{answers_memory, is_answered}
 use Rattle.block_seq.specs.KeptParts.{inserted_size}
 use Rattle.block_seq.proofs.Applied.{spans_checked, length-inserts_in, apply-fault, apply-full, apply-ok}
@@ -14,7 +14,7 @@ use Rattle.pad_model.specs.Cell.{is_hidden_by, without_spans}
 use Rattle.pad_model.specs.Checked.{is_run}
 use Rattle.pad_model.specs.declared.limits.TheConstants.{MAX_CHARACTERS}
 use Rattle.pad_model.specs.declared.op.Span.{Span}
-use Rattle.block_seq.specs.RowParts.{AllJoin, count_changes, with_all}
+use Rattle.block_seq.specs.RowParts.{count_changes}
 use Rattle.block_seq.proofs.RowChange.{lent_checked, lent_sizes, no_run}
 use Rattle.pad_model.specs.Log.{run_may_join}
 use Rattle.block_seq.proofs.RowRuns.{all_fit, join_before, runs_fit}

@@ -3,32 +3,27 @@ use Rattle.std.proofs.Common.{◌≡◌, ◌⊎◌, ℕ, ◌+◌, ◌<◌, ◌�
 use Rattle.std.proofs.Common.{◌∷◌, ◌++◌, length, Option, Some, None, Result, Ok, Err, refl, sym, ap, ap₂, ◌∙◌, subst}
 use Rattle.std.proofs.Common.{map, fold, flat_map, sum_by, count_by, length-append, arith, eqb-true, le-ltb, lt-ltb}
 use Rattle.std.proofs.lemmas.Bool.{and_parts, and_from}
+use Rattle.std.proofs.lemmas.List.{length-map}
 use Rattle.std.proofs.lemmas.List.Sums.{sum_by-cons}
 use Rattle.std.specs.List.{list_all}
-use Rattle.pad_model.specs.Cell.{Cell, character_of, is_hidden_by, without_spans, IsInOrder}
+use Rattle.pad_model.specs.Cell.{Cell, born_at, character_of, is_hidden_by, without_spans, IsInOrder}
 use Rattle.pad_model.specs.Character.{run_characters}
 use Rattle.pad_model.specs.Checked.{is_part, are_parts}
 use Rattle.pad_model.specs.Log.{run_may_join}
 use Rattle.pad_model.specs.Operation.{part_inserts}
-use Rattle.pad_model.specs.Parts.{part_fits, spans_in, inserts_in, with_parts, apply}
-use Rattle.pad_model.specs.Stamp.{Stamp}
+use Rattle.pad_model.specs.Parts.{AllJoin, part_fits, runs_in, spans_in, inserts_in, with_all, with_parts, apply}
 use Rattle.pad_model.specs.declared.limits.TheConstants.{MAX_CHARACTERS}
 use Rattle.pad_model.specs.declared.op.Part.{Part}
 use Rattle.pad_model.specs.declared.op.Part.TheVariants.{Insert, Delete, Comment, Resolve}
 use Rattle.pad_model.specs.declared.refusal.Refusal.TheVariants.{PeerFault, PadFull}
 use Rattle.pad_model.specs.declared.who.Author.{Author}
+use Rattle.pad_model.proofs.Cells.{length-new_cells}
 use Rattle.pad_model.proofs.Maps.{run_may_join-map}
-use Rattle.pad_model.proofs.Parts.{with_runs, RunsJoin, with_parts-runs, parts_fit-each, part_fits-map, rises_of_parts}
-use Rattle.pad_model.proofs.Parts.{all_same}
+use Rattle.pad_model.proofs.Parts.{all_follow, all_same, with_parts-runs, parts_fit-each, part_fits-map, rises_of_parts}
 use Rattle.block_seq.specs.declared.place.PlainCell.{PlainCell}
 use Rattle.block_seq.specs.KeptParts.{inserted_size, is_part_run, are_part_spans, with_kept_part}
 use Rattle.block_seq.specs.Plain.{author_at, cell_of, cells_of, kept_character, IsPlain, erased_at as kept_erased}
 use Rattle.block_seq.proofs.Kept.{grown, inserted, cells_of-erased, IsPlain-erased}
-
-all_follow : {A : Type 0} (p q : A → Bool) → ((x : A) → p x ≡ true → q x ≡ true) → (xs : List A) → list_all p xs
-    ≡ true → list_all q xs ≡ true
-all_follow p q h [] e = refl
-all_follow p q h (x ∷ xs) e = let both = and_parts _ _ e in and_from _ _ (h x both.0) (all_follow p q h xs both.1)
 
 pub parts_each : (origin : ℕ) (parts : List Part) → are_parts origin parts ≡ true → list_all (is_part origin) parts
     ≡ true
@@ -60,15 +55,9 @@ pub spans_checked : (origin : ℕ) (parts : List Part) → are_parts origin part
 spans_checked origin parts h = all_follow (is_part origin) are_part_spans (part_spans_checked origin) parts
     (parts_each origin parts h)
 
-length-run_characters : (first : Stamp) (p : Option Stamp) (text : List ℕ) (author : Author) →
-    length (run_characters first p text author) ≡ length text
-length-run_characters first p [] author = refl
-length-run_characters first p (c ∷ text) author =
-    ap Rattle.std.proofs.Common.suc (length-run_characters (Rattle.pad_model.specs.Character.next first)
-    (Some first) text author)
-
 part_length : (author : Author) (part : Part) → length (part_inserts author part) ≡ inserted_size part
-part_length author (Insert run) = length-run_characters run.first run.after run.text author
+part_length author (Insert run) = sym (length-map (run_characters run.first run.after run.text author) (born_at 0))
+    ∙ length-new_cells 0 run.first run.after run.text author
 part_length author (Delete spans) = refl
 part_length author (Comment first last text) = refl
 part_length author (Resolve comment) = refl
@@ -95,9 +84,9 @@ parts_fit-view authors cells kept now parts b is same e =
 kept_runs : (authors : List Author) (a : Author) (i rev : ℕ) (kept : List PlainCell) (now : List Cell)
     (parts : List Part) → IsPlain authors kept → cells_of authors kept ≡ now → i < length authors → author_at authors i
     ≡ a →
-    RunsJoin rev a now parts →
+    AllJoin rev a now (runs_in parts) →
     IsPlain authors (fold (with_kept_part i rev) kept parts)
-    × (cells_of authors (fold (with_kept_part i rev) kept parts) ≡ with_runs rev a now parts)
+    × (cells_of authors (fold (with_kept_part i rev) kept parts) ≡ with_all rev a now (runs_in parts))
 kept_runs authors a i rev kept now [] p is h here j = (p, is)
 kept_runs authors a i rev kept now (Insert run ∷ parts) p is h here j =
     let may : run_may_join kept_character kept run.first run.after ≡ true =

@@ -10,21 +10,18 @@ use Rattle.pad_model.specs.Cell.{Cell, IsBy, IsInOrder, born_at, character_of, n
 use Rattle.pad_model.specs.Cell.{without_spans, insert_run, delete_spans}
 use Rattle.pad_model.specs.Checked.{are_parts}
 use Rattle.pad_model.specs.Log.{run_may_join, has_spans}
-use Rattle.pad_model.specs.Parts.{spans_in, inserts_in, parts_fit, with_parts, apply}
+use Rattle.pad_model.specs.Parts.{AllJoin, runs_in, spans_in, inserts_in, parts_fit, with_all, with_parts, apply}
 use Rattle.pad_model.specs.declared.limits.TheConstants.{MAX_CHARACTERS}
 use Rattle.pad_model.specs.declared.op.Run.{Run}
 use Rattle.pad_model.specs.declared.op.Span.{Span}
 use Rattle.pad_model.specs.declared.op.Part.{Part}
-use Rattle.pad_model.specs.declared.op.Part.TheVariants.{Insert, Delete, Comment, Resolve}
 use Rattle.pad_model.specs.declared.refusal.Refusal.{Refusal}
 use Rattle.pad_model.specs.declared.who.Author.{Author}
-use Rattle.pad_model.proofs.Cells.{RunMayJoin-from_test, IsRun-new_cells, IsInOrder-with_run}
+use Rattle.pad_model.proofs.Cells.{IsInOrder-with_run, with_run-permutation}
 use Rattle.pad_model.proofs.Each.{each-append, each-imply, each-permutation}
 use Rattle.pad_model.proofs.Erase.{IsInOrder-without}
-use Rattle.pad_model.proofs.Members.{order-permutation}
 use Rattle.pad_model.proofs.Newer.{split}
-use Rattle.pad_model.proofs.Parts.{with_runs, RunsJoin, with_parts-runs, rises_of_parts}
-use Rattle.pad_model.proofs.Runs.{IsTree-run}
+use Rattle.pad_model.proofs.Parts.{with_parts-runs, rises_of_parts}
 
 new_by : (rev : ℕ) (first : Stamp) (p : Option Stamp) (text : List ℕ) (author : Author) →
     AllByRecursion (IsBy rev) (map (born_at rev) (run_characters first p text author))
@@ -39,21 +36,15 @@ run_by : (rev : ℕ) (run : Run) (author : Author) (cells : List Cell) → IsInO
     AllByRecursion (IsBy rev) (with_run rev run author cells)
 run_by rev run author cells o h joins =
     each-permutation (IsBy rev) (cells ++ new_cells rev run author) (with_run rev run author cells)
-    (order-permutation character_of (cells ++ new_cells rev run author)
-    (IsTree-run character_of cells run.first run.after (new_cells rev run author) o.tree
-    (RunMayJoin-from_test character_of cells run.first run.after joins)
-    (IsRun-new_cells rev run.first run.after run.text author)))
+    (with_run-permutation rev run author cells o joins)
     (each-append (IsBy rev) cells (new_cells rev run author) h (new_by rev run.first run.after run.text author))
 
-runs_by : (rev : ℕ) (author : Author) (cells : List Cell) (parts : List Part) → IsInOrder cells →
-    AllByRecursion (IsBy rev) cells → RunsJoin rev author cells parts →
-    AllByRecursion (IsBy rev) (with_runs rev author cells parts)
+runs_by : (rev : ℕ) (author : Author) (cells : List Cell) (runs : List Run) → IsInOrder cells →
+    AllByRecursion (IsBy rev) cells → AllJoin rev author cells runs →
+    AllByRecursion (IsBy rev) (with_all rev author cells runs)
 runs_by rev author cells [] o h j = h
-runs_by rev author cells (Insert run ∷ parts) o h j = runs_by rev author (with_run rev run author cells) parts
+runs_by rev author cells (run ∷ runs) o h j = runs_by rev author (with_run rev run author cells) runs
     (IsInOrder-with_run rev run author cells o j.0) (run_by rev run author cells o h j.0) j.1
-runs_by rev author cells (Delete spans ∷ parts) o h j = runs_by rev author cells parts o h j
-runs_by rev author cells (Comment first last text ∷ parts) o h j = runs_by rev author cells parts o h j
-runs_by rev author cells (Resolve comment ∷ parts) o h j = runs_by rev author cells parts o h j
 
 erased_by : (rev : ℕ) (spans : List Span) (cells : List Cell) → AllByRecursion (IsBy rev) cells →
     AllByRecursion (IsBy rev) (without_spans rev spans cells)
@@ -93,7 +84,7 @@ applied_by rev parts author cells new result o h checked (inr answer) =
     let runs = with_parts-runs rev author parts cells o (rises_of_parts author.origin parts checked)
     (and_parts _ _ fit).0 in
     subst (AllByRecursion (IsBy rev)) runs.1
-    (runs_by rev author (without_spans rev (spans_in parts) cells) parts
+    (runs_by rev author (without_spans rev (spans_in parts) cells) (runs_in parts)
     (IsInOrder-without rev (spans_in parts) cells o) (erased_by rev (spans_in parts) cells h) runs.0)))
 
 -- what an insertion answers, case by case

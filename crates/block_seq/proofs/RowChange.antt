@@ -5,9 +5,8 @@ use Rattle.std.proofs.Common.{ap₂, ◌∙◌, subst, arith, leb-true, eqb-true
 use Rattle.std.specs.List.{AllByRecursion, list_all}
 use Rattle.std.proofs.lemmas.Bool.{and_parts, or_left, or_right}
 use Rattle.std.proofs.lemmas.List.Folds.{list_any-append}
-use Rattle.std.proofs.lemmas.List.Sums.{sum_by-cons, sum_by-append}
-use Rattle.std.proofs.lemmas.List.Sorted.{sum_by-IsPermutation}
-use Rattle.pad_model.specs.Cell.{Cell, character_of, born_at, new_cells, with_run, is_hidden_by, IsInOrder}
+use Rattle.std.proofs.lemmas.List.Sums.{sum_by-cons}
+use Rattle.pad_model.specs.Cell.{Cell, character_of, new_cells, with_run, is_hidden_by, IsInOrder}
 use Rattle.pad_model.specs.Checked.{is_run, is_span}
 use Rattle.pad_model.specs.Log.{run_may_join, has_spans}
 use Rattle.pad_model.specs.Operation.{span_stamps}
@@ -17,31 +16,27 @@ use Rattle.pad_model.specs.declared.op.Run.{Run}
 use Rattle.pad_model.specs.declared.op.Span.{Span}
 use Rattle.pad_model.specs.declared.limits.TheConstants.{MAX_COUNTER}
 use Rattle.pad_model.specs.declared.who.Author.{Author}
-use Rattle.pad_model.proofs.Cells.{RunMayJoin-from_test, IsRun-new_cells}
+use Rattle.pad_model.proofs.Cells.{RunMayJoin-from_test, length-new_cells, with_run-permutation}
 use Rattle.pad_model.proofs.Each.{found_has}
 use Rattle.pad_model.proofs.Erase.{is_erased-stamps_from}
-use Rattle.pad_model.proofs.Members.{order-permutation}
+use Rattle.pad_model.proofs.InTurn.{spans_fit}
 use Rattle.pad_model.proofs.Newer.{same_stamp-true}
 use Rattle.pad_model.proofs.Pushed.{stamps_there}
-use Rattle.pad_model.proofs.Runs.{IsTree-run}
 use Rattle.ident_index.specs.Index.{Index, Covers, stamp_behind}
 use Rattle.blocks.specs.Blocks.{IsEdge, KeepsEdges}
 use Rattle.block_seq.specs.Rows.{IsCutOut}
 use Rattle.block_seq.proofs.BlockCells.{covers-in_span}
-use Rattle.block_seq.specs.RowParts.{AllJoin, with_all}
 use Rattle.block_seq.proofs.Fronts.{drop-item}
 use Rattle.pad_model.specs.Cell.{without_spans}
 use Rattle.pad_model.specs.Checked.{are_parts}
-use Rattle.pad_model.specs.Parts.{apply, part_fits, spans_in}
+use Rattle.pad_model.specs.Parts.{AllJoin, apply, part_fits, runs_in, spans_in, with_all}
 use Rattle.pad_model.specs.declared.limits.TheConstants.{MAX_CHARACTERS}
 use Rattle.pad_model.specs.declared.op.Part.{Part}
 use Rattle.pad_model.specs.declared.op.Part.TheVariants.{Insert, Delete, Comment, Resolve}
 use Rattle.pad_model.proofs.Parts.{with_parts-runs, rises_of_parts}
 use Rattle.block_seq.specs.KeptParts.{inserted_size}
-use Rattle.block_seq.specs.RowParts.{runs_in}
 use Rattle.block_seq.proofs.Applied.{parts_each, length-inserts_in, apply-ok}
-use Rattle.block_seq.proofs.RowParts.{unnamed, spans_checked_in, spans_fit, runs_checked_in, AllJoin-runs}
-use Rattle.block_seq.proofs.RowParts.{with_all-runs}
+use Rattle.block_seq.proofs.RowParts.{spans_checked_in, runs_checked_in}
 
 -- what spans name that are there is older than a run that may join, where it has its replica
 pub named_below : (spans : List Span) (cells : List Cell) (first : Stamp) (p : Option Stamp) →
@@ -94,23 +89,6 @@ cut_out_kept m n [] keeps cut = tt
 cut_out_kept m n (span ∷ spans) keeps cut =
     ((keeps span.first cut.0.0, keeps (stamp_behind span.first span.len) cut.0.1), cut_out_kept m n spans keeps cut.1)
 
--- the spans hide as much with the run there as without it
-pub hidden_with_run : (rev : ℕ) (spans : List Span) (run : Run) (author : Author) (cells : List Cell) →
-    IsInOrder cells → run_may_join character_of cells run.first run.after ≡ true → has_spans character_of cells spans
-    ≡ true
-    → count_by (is_hidden_by spans) (with_run rev run author cells) ≡ count_by (is_hidden_by spans) cells
-hidden_with_run rev spans run author cells o may named =
-    let new = new_cells rev run author in
-    let joins = RunMayJoin-from_test character_of cells run.first run.after may in
-    let more = IsTree-run character_of cells run.first run.after new o.tree joins
-    (IsRun-new_cells rev run.first run.after run.text author) in
-    let none = (unnamed rev spans cells run.first run.after run.text author named joins.above).1 in
-    sum_by-IsPermutation (λ c. Rattle.std.proofs.Common.cond (is_hidden_by spans c) 1 0) (cells ++ new)
-    (with_run rev run author cells) (order-permutation character_of (cells ++ new) more)
-    ∙ sum_by-append (λ c. Rattle.std.proofs.Common.cond (is_hidden_by spans c) 1 0) cells new
-    ∙ (let sum : count_by (is_hidden_by spans) cells + count_by (is_hidden_by spans) new
-    ≡ count_by (is_hidden_by spans) cells = omega (arith, none) in sum)
-
 -- the block of a run is within the limits
 pub run_sized : (origin start : ℕ) (run : Run) → is_run origin run ≡ true → (1 ≤ length run.text)
     × (run.first.counter + length run.text ≤ MAX_COUNTER + 1)
@@ -128,18 +106,10 @@ pub length-with_run : (rev : ℕ) (run : Run) (author : Author) (cells : List Ce
     + length run.text
 length-with_run rev run author cells o may =
     let new = new_cells rev run author in
-    let more = IsTree-run character_of cells run.first run.after new o.tree
-    (RunMayJoin-from_test character_of cells run.first run.after may)
-    (IsRun-new_cells rev run.first run.after run.text author) in
     Rattle.std.proofs.lemmas.List.Sorted.length_permutation (cells ++ new) (with_run rev run author cells)
-    (order-permutation character_of (cells ++ new) more)
+    (with_run-permutation rev run author cells o may)
     ∙ Rattle.std.proofs.Common.length-append cells new ∙ ap (λ n. length cells + n)
-    (length-new run.first run.after run.text)
-  where
-    length-new : (first : Stamp) (p : Option Stamp) (text : List ℕ) →
-        length (map (born_at rev) (Rattle.pad_model.specs.Character.run_characters first p text author)) ≡ length text
-    length-new first p [] = refl
-    length-new first p (c ∷ text) = ap suc (length-new (Rattle.pad_model.specs.Character.next first) (Some first) text)
+    (length-new_cells rev run.first run.after run.text author)
 
 -- what is left to put when one more run is put
 pub record PutNext (rev origin most : ℕ) (author : Author) (now all : List Cell) (runs : List Run) : Type 0 where
@@ -221,11 +191,11 @@ parts_made rev author parts now spans runs o checked fit room spans_is runs_is =
       checked = spans_checked_in author.origin parts each;
       there = spans_fit now parts fit;
       sized = runs_checked_in author.origin parts each;
-      join = AllJoin-runs rev author (without_spans rev (spans_in parts) now) parts joined.0;
+      join = joined.0;
       room = omega (arith, room, sizes);
       made = apply-ok rev parts author now checked fit (omega (arith, room, inserts))
           ∙ ap (λ l. (Ok (count_by (is_hidden_by (spans_in parts)) now), l))
-          (sym joined.1 ∙ sym (with_all-runs rev author (without_spans rev (spans_in parts) now) parts));
+          (sym joined.1);
     }))
 
 -- lists of lent runs of no item and of one

@@ -1,17 +1,14 @@
 -- Runs that are put one after the other, and taken out again.
 use Rattle.std.proofs.Common.{◌≡◌, ℕ, zero, suc, ◌+◌, ◌≤◌, ◌<◌, true, List, [], ◌∷◌, ◌++◌, length, map, take, sum_by}
-use Rattle.std.proofs.Common.{count_by, Option, Some, None, refl, sym, ap, ◌∙◌, subst, arith, get_or, flat_map}
+use Rattle.std.proofs.Common.{count_by, Option, Some, None, refl, sym, ap, ◌∙◌, subst, arith, get_or}
 use Rattle.std.specs.List.{AllByRecursion, insert, remove, list_all}
-use Rattle.std.proofs.lemmas.Bool.{and_from, and_parts, false≢true, or_left}
-use Rattle.std.proofs.lemmas.List.Folds.{list_any-append}
-use Rattle.std.proofs.lemmas.List.Sorted.{list_any-IsPermutation}
-use Rattle.pad_model.specs.Cell.{Cell, character_of, new_cells, with_run, is_hidden_by, without_spans, IsInOrder}
+use Rattle.std.proofs.lemmas.Bool.{and_from, and_parts, false≢true}
+use Rattle.pad_model.specs.Cell.{Cell, character_of, with_run, is_hidden_by, without_spans, IsInOrder}
 use Rattle.std.proofs.lemmas.List.Sums.{sum_by-cons}
 use Rattle.pad_model.specs.Checked.{is_run}
 use Rattle.pad_model.specs.Legal.{has_stamp, has_parent, counter_of}
 use Rattle.pad_model.specs.Log.{run_may_join, has_spans}
-use Rattle.pad_model.specs.Operation.{span_stamps}
-use Rattle.pad_model.specs.Parts.{part_fits}
+use Rattle.pad_model.specs.Parts.{AllJoin, part_fits, runs_in, with_all}
 use Rattle.pad_model.specs.Stamp.{Stamp, same_stamp}
 use Rattle.pad_model.specs.declared.limits.TheConstants.{MAX_CHARACTERS}
 use Rattle.pad_model.specs.declared.op.Part.{Part}
@@ -19,21 +16,19 @@ use Rattle.pad_model.specs.declared.op.Part.TheVariants.{Insert, Delete, Comment
 use Rattle.pad_model.specs.declared.op.Run.{Run}
 use Rattle.pad_model.specs.declared.op.Span.{Span}
 use Rattle.pad_model.specs.declared.who.Author.{Author}
-use Rattle.pad_model.proofs.Cells.{RunMayJoin-from_test, IsRun-new_cells, IsInOrder-with_run}
+use Rattle.pad_model.proofs.Cells.{RunMayJoin-from_test, IsInOrder-with_run}
 use Rattle.pad_model.proofs.Each.{found_has}
-use Rattle.pad_model.proofs.Members.{order-permutation}
+use Rattle.pad_model.proofs.InTurn.{commute, has_spans-with_run, has_stamp-with_run, hidden-with_run}
 use Rattle.pad_model.proofs.Newer.{same_stamp-true}
 use Rattle.pad_model.proofs.Parts.{part_fits-erased}
-use Rattle.pad_model.proofs.Runs.{IsTree-run}
 use Rattle.ident_index.specs.Index.{Index, Covers, stamp_behind}
 use Rattle.ident_index.proofs.Order.{same_stamps}
 use Rattle.std.proofs.lemmas.List.{take_more}
 use Rattle.blocks.specs.declared.block.Block.{Block}
 use Rattle.blocks.specs.Blocks.{IsEdge, KeepsEdges, unlabelled, without_labels}
 use Rattle.blocks.proofs.Cells.{length-without_labels}
-use Rattle.block_seq.specs.RowParts.{AllJoin, AreRanks, IsCutBehind, MayPut, runs_in, with_all, without_ranks}
-use Rattle.block_seq.proofs.RowChange.{PutNext, put_next, hidden_with_run, run_sized}
-use Rattle.block_seq.proofs.RowParts.{commute}
+use Rattle.block_seq.specs.RowParts.{AreRanks, IsCutBehind, MayPut, without_ranks}
+use Rattle.block_seq.proofs.RowChange.{PutNext, put_next, run_sized}
 
 -- one more item of a list that a loop has passed
 pub all_more : {X : Type 0} (P Q : X → Type 0) (xs : List X) (i j : ℕ) (x : X) → i < length xs → x ≡ get_or xs i x →
@@ -64,38 +59,11 @@ take_front (x ∷ xs) ys zero e = absurd (omega arith)
 take_front (x ∷ xs) ys (suc n) e = ap (λ l. x ∷ l) (take_front xs ys n (omega arith))
 
 -- ---- what was there is there with a run
-pub stamp_stays : (rev : ℕ) (run : Run) (author : Author) (cells : List Cell) (s : Stamp) → IsInOrder cells →
-    run_may_join character_of cells run.first run.after ≡ true → has_stamp character_of cells s ≡ true
-    → has_stamp character_of (with_run rev run author cells) s ≡ true
-stamp_stays rev run author cells s o may h =
-    let new = new_cells rev run author in
-    let more = IsTree-run character_of cells run.first run.after new o.tree
-    (RunMayJoin-from_test character_of cells run.first run.after may)
-    (IsRun-new_cells rev run.first run.after run.text author) in
-    sym (list_any-IsPermutation (λ (c : Cell). same_stamp c.stamp s) (cells ++ new) (with_run rev run author cells)
-    (order-permutation character_of (cells ++ new) more))
-    ∙ list_any-append (λ (c : Cell). same_stamp c.stamp s) cells new ∙ or_left _ _ h
-
-stamps_stay : (rev : ℕ) (run : Run) (author : Author) (cells : List Cell) (stamps : List Stamp) → IsInOrder cells →
-    run_may_join character_of cells run.first run.after ≡ true → list_all (λ s. has_stamp character_of cells s) stamps
-    ≡ true
-    → list_all (λ s. has_stamp character_of (with_run rev run author cells) s) stamps ≡ true
-stamps_stay rev run author cells [] o may h = refl
-stamps_stay rev run author cells (s ∷ stamps) o may h =
-    let both = and_parts _ _ h in
-    and_from _ _ (stamp_stays rev run author cells s o may both.0)
-    (stamps_stay rev run author cells stamps o may both.1)
-
-pub spans_stay : (rev : ℕ) (run : Run) (author : Author) (cells : List Cell) (spans : List Span) → IsInOrder cells →
-    run_may_join character_of cells run.first run.after ≡ true → has_spans character_of cells spans ≡ true
-    → has_spans character_of (with_run rev run author cells) spans ≡ true
-spans_stay rev run author cells spans o may h = stamps_stay rev run author cells (flat_map span_stamps spans) o may h
-
 parent_stays : (rev : ℕ) (run : Run) (author : Author) (cells : List Cell) (p : Option Stamp) → IsInOrder cells →
     run_may_join character_of cells run.first run.after ≡ true → has_parent character_of cells p ≡ true
     → has_parent character_of (with_run rev run author cells) p ≡ true
 parent_stays rev run author cells None o may h = refl
-parent_stays rev run author cells (Some p) o may h = stamp_stays rev run author cells p o may h
+parent_stays rev run author cells (Some p) o may h = has_stamp-with_run rev run author cells p o may h
 
 parents_stay : (rev : ℕ) (run : Run) (author : Author) (cells : List Cell) (runs : List Run) → IsInOrder cells →
     run_may_join character_of cells run.first run.after ≡ true →
@@ -170,7 +138,7 @@ pub all_commute : (rev : ℕ) (spans : List Span) (author : Author) (cells : Lis
 all_commute rev spans author cells [] o j h = refl
 all_commute rev spans author cells (run ∷ runs) o j h =
     all_commute rev spans author (with_run rev run author cells) runs (IsInOrder-with_run rev run author cells o j.0)
-    j.1 (spans_stay rev run author cells spans o j.0 h)
+    j.1 (has_spans-with_run rev run author cells spans o j.0 h)
     ∙ ap (λ l. with_all rev author l runs) (commute rev spans run author cells j.0 h)
 
 pub all_hidden : (rev : ℕ) (spans : List Span) (author : Author) (cells : List Cell) (runs : List Run) →
@@ -179,8 +147,8 @@ pub all_hidden : (rev : ℕ) (spans : List Span) (author : Author) (cells : List
 all_hidden rev spans author cells [] o j h = refl
 all_hidden rev spans author cells (run ∷ runs) o j h =
     all_hidden rev spans author (with_run rev run author cells) runs (IsInOrder-with_run rev run author cells o j.0) j.1
-    (spans_stay rev run author cells spans o j.0 h)
-    ∙ hidden_with_run rev spans run author cells o j.0 h
+    (has_spans-with_run rev run author cells spans o j.0 h)
+    ∙ hidden-with_run rev spans run author cells o j.0 h
 
 -- runs that join what a deletion leaves join what was there before it
 pub join_before : (rev : ℕ) (spans : List Span) (author : Author) (cells : List Cell) (runs : List Run) →
@@ -192,7 +160,7 @@ join_before rev spans author cells (run ∷ runs) o h j =
     sym (part_fits-erased rev spans cells (Insert run)) ∙ j.0 in (
       here,
       join_before rev spans author (with_run rev run author cells) runs (IsInOrder-with_run rev run author cells o here)
-          (spans_stay rev run author cells spans o here h)
+          (has_spans-with_run rev run author cells spans o here h)
           (subst (λ l. AllJoin rev author l runs) (sym (commute rev spans run author cells here h)) j.1),
     )
 

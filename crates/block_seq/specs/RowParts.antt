@@ -1,6 +1,6 @@
--- The runs of one operation's parts, and what they leave when each is put in its turn.
-use Rattle.std.specs.Prelude.{◌≡◌, ℕ, ◌+◌, ◌≤◌, ◌<◌, true, List, [], ◌∷◌, flat_map, fold, length, sum_by, Option, Some}
-use Rattle.std.specs.Prelude.{None}
+-- The runs of one operation among blocks, and what they do to the blocks and their labels.
+use Rattle.std.specs.Prelude.{◌≡◌, ℕ, ◌+◌, ◌*◌, ◌≤◌, ◌<◌, true, List, [], ◌∷◌, length, sum_by, Option, Some, None}
+use Rattle.std.specs.Prelude.{Result, OnOk, OnErr}
 use Rattle.std.specs.List.{AllByRecursion, list_all, remove}
 use Rattle.ident_index.specs.Index.{Index, stamp_behind}
 use Rattle.blocks.specs.Blocks.{IsEdge}
@@ -10,38 +10,16 @@ use Rattle.pad_model.specs.Checked.{is_run}
 use Rattle.pad_model.specs.Legal.{has_parent}
 use Rattle.pad_model.specs.Stamp.{Stamp}
 use Rattle.pad_model.specs.declared.limits.TheConstants.{MAX_CHARACTERS}
-use Rattle.pad_model.specs.Cell.{Cell, character_of, with_run}
-use Rattle.pad_model.specs.Log.{run_may_join}
-use Rattle.pad_model.specs.Parts.{spans_in}
+use Rattle.pad_model.specs.Cell.{Cell, character_of}
+use Rattle.pad_model.specs.Parts.{AllJoin, runs_in, spans_in}
 use Rattle.pad_model.specs.declared.op.Part.{Part}
-use Rattle.pad_model.specs.declared.op.Part.TheVariants.{Insert, Delete, Comment, Resolve}
 use Rattle.pad_model.specs.declared.op.Run.{Run}
 use Rattle.pad_model.specs.declared.who.Author.{Author}
-
--- the run of an insertion
-abbrev pub part_runs : Part → List Run
-part_runs (Insert run) = run ∷ []
-part_runs (Delete spans) = []
-part_runs (Comment first last text) = []
-part_runs (Resolve comment) = []
-
--- the runs that the parts insert, in turn
-abbrev pub runs_in : List Part → List Run
-runs_in parts = flat_map part_runs parts
+use Rattle.block_seq.specs.Rows.{CellsInBlocks}
 
 -- how many runs the parts insert, and how many spans they erase, together
 abbrev pub count_changes : List Part → ℕ
 count_changes parts = length (runs_in parts) + length (spans_in parts)
-
--- the cells with the runs, each put in its turn
-abbrev pub with_all : ℕ → Author → List Cell → List Run → List Cell
-with_all rev author cells runs = fold (λ cells run. with_run rev run author cells) cells runs
-
--- each run may join the cells when its turn comes
-abbrev pub AllJoin : ℕ → Author → List Cell → List Run → Type 0
-AllJoin rev author cells [] = Unit {0}
-AllJoin rev author cells (run ∷ runs) = (run_may_join character_of cells run.first run.after ≡ true)
-    × AllJoin rev author (with_run rev run author cells) runs
 
 -- no block reaches over the place behind a run's parent
 abbrev pub IsCutBehind : Index → Option Stamp → Type 0
@@ -63,6 +41,20 @@ pub record MayPut (rev : ℕ) (author : Author) (cells : List Cell) (m : Index)
 -- its labels
 abbrev pub IsUndone : List Block → ℕ → List Block → ℕ → Type 0
 IsUndone old n new m = (mid : List Block) × Labelled old n mid m × KeepsLabels new mid
+
+-- what so many changes, each a run or a span, did to blocks and their labels
+pub record IsCounted {A E : Type 0} (changes : ℕ) (result : Result A E)
+    (old new : CellsInBlocks) : Type 0 where
+  -- each change adds at most two blocks
+  pub rises : new.blocks ≤ old.blocks + 2 * changes
+  -- after a success, labels changed only where none was free, and each such time was counted
+  pub labelled : OnOk result (Labelled old.tree old.respaced new.tree new.respaced)
+  -- after an error the same holds, though blocks that were put may be gone again
+  pub undone : OnErr result (IsUndone old.tree old.respaced new.tree new.respaced)
+  -- the count of respacings never falls
+  pub counts : old.respaced ≤ new.respaced
+  -- each change respaces at most twice
+  pub few : new.respaced ≤ old.respaced + 2 * changes
 
 -- the items without those at some ranks, the last rank taken first
 abbrev pub without_ranks : {A : Type 0} → List A → List ℕ → List A

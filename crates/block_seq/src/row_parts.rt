@@ -2,13 +2,12 @@
 ghost use Rattle.std.specs.Prelude.{◌≡◌, ℕ, ◌≤◌, List, IsTrue, length, map, sum_by, IfOk, OnOk, ◌++◌};
 ghost use Rattle.std.specs.List.{AllByRecursion, list_all};
 ghost use Rattle.pad_model.specs.Cell.{character_of};
-ghost use Rattle.pad_model.specs.Parts.{part_fits, part_spans, spans_in};
+ghost use Rattle.pad_model.specs.Parts.{part_fits, part_runs, part_spans, runs_in, spans_in};
 ghost use Rattle.pad_model.specs.declared.limits.TheConstants.{MAX_CHARACTERS};
 ghost use Rattle.pad_model.specs.declared.who.Author.{Author as AuthorValue};
 ghost use Rattle.blocks.specs.Blocks.{IsKept};
 ghost use Rattle.blocks.specs.Cells.{cells_of, IsWithin};
 ghost use Rattle.block_seq.specs.KeptParts.{are_part_spans};
-ghost use Rattle.block_seq.specs.RowParts.{part_runs, runs_in};
 
 use crate::row_erase::has_spans;
 use crate::run_place::run_fits;

@@ -1,14 +1,13 @@
 //! The sequence of blocks: a balanced tree of them, an index of their stamps, and one text that they only add to.
-ghost use Rattle.std.specs.Prelude.{◌≡◌, ◌+◌, ◌*◌, ◌≤◌, [], IsTrue, IfErr, MatchResult, Ok, OnOk, OnErr, IfOk, count_by, length, map, sum_by};
+ghost use Rattle.std.specs.Prelude.{◌≡◌, ◌+◌, ◌≤◌, [], IsTrue, MatchResult, Ok, IfOk, count_by, length, map, sum_by};
 ghost use Rattle.std.specs.List.{AllByRecursion, list_all};
 ghost use Rattle.pad_model.specs.Answers.{Answers};
 ghost use Rattle.pad_model.specs.Cell.{IsBy, character_of, delete_spans as delete_cells, insert_run as insert_cells, is_hidden_by, with_run, without_spans};
 ghost use Rattle.pad_model.specs.Checked.{are_parts, is_edit, is_run, is_span};
 ghost use Rattle.pad_model.specs.Log.{has_spans as holds_spans, run_may_join};
-ghost use Rattle.pad_model.specs.Parts.{apply as apply_parts};
+ghost use Rattle.pad_model.specs.Parts.{AllJoin, apply as apply_parts, with_all};
 ghost use Rattle.pad_model.specs.declared.limits.TheConstants.{MAX_CHARACTERS};
-ghost use Rattle.blocks.specs.Counts.{Labelled};
-ghost use Rattle.block_seq.specs.RowParts.{AllJoin, IsUndone, count_changes, with_all};
+ghost use Rattle.block_seq.specs.RowParts.{IsCounted, count_changes};
 
 use crate::authors::place_author;
 use crate::parts::count_inserted;
@@ -88,15 +87,7 @@ impl BlockSeq {
           with_all rev author.now (without_spans rev spans.now self.old.cells)
               (map (λ run. run.now) runs.now),
         ) result self.new.cells }
-        ensures rises { self.new.blocks ≤ self.old.blocks
-            + 2 * (length runs.now + length spans.now) }
-        ensures labelled { OnOk result (Labelled self.old.tree self.old.respaced self.new.tree
-            self.new.respaced) }
-        ensures undone { OnErr result (IsUndone self.old.tree self.old.respaced self.new.tree
-            self.new.respaced) }
-        ensures counts { self.old.respaced ≤ self.new.respaced }
-        ensures few { self.new.respaced ≤ self.old.respaced
-            + 2 * (length runs.now + length spans.now) }
+        ensures counted { IsCounted (length runs.now + length spans.now) result self.old self.new }
     {
         let counted = &mut self.respaced;
         cut_spans(alloc, &mut self.tree, &mut self.index, counted, spans)?;
@@ -136,13 +127,7 @@ impl BlockSeq {
         requires latest { AllByRecursion (IsBy rev) self.old.cells }
         ensures answers { Answers self.old.cells
             (Ok tt, with_run rev run.now author.now self.old.cells) result self.new.cells }
-        ensures rises { self.new.blocks ≤ self.old.blocks + 2 }
-        ensures labelled { OnOk result (Labelled self.old.tree self.old.respaced self.new.tree
-            self.new.respaced) }
-        ensures undone { OnErr result (IsUndone self.old.tree self.old.respaced self.new.tree
-            self.new.respaced) }
-        ensures counts { self.old.respaced ≤ self.new.respaced }
-        ensures few { self.new.respaced ≤ self.old.respaced + 2 }
+        ensures counted { IsCounted 1 result self.old self.new }
     {
         self.change(alloc, &[], &[run], author, rev)?;
         Ok(())
@@ -157,13 +142,7 @@ impl BlockSeq {
           Ok (count_by (is_hidden_by spans.now) self.old.cells),
           without_spans rev spans.now self.old.cells,
         ) result self.new.cells }
-        ensures rises { self.new.blocks ≤ self.old.blocks + 2 * length spans.now }
-        ensures labelled { OnOk result (Labelled self.old.tree self.old.respaced self.new.tree
-            self.new.respaced) }
-        ensures undone { OnErr result (IsUndone self.old.tree self.old.respaced self.new.tree
-            self.new.respaced) }
-        ensures counts { self.old.respaced ≤ self.new.respaced }
-        ensures few { self.new.respaced ≤ self.old.respaced + 2 * length spans.now }
+        ensures counted { IsCounted (length spans.now) result self.old self.new }
     {
         let counted = &mut self.respaced;
         cut_spans(alloc, &mut self.tree, &mut self.index, counted, spans)?;
@@ -205,13 +184,7 @@ impl Sequence for BlockSeq {
         requires latest { AllByRecursion (IsBy rev) self.old.cells }
         ensures answers { Answers self.old.cells
             (insert_cells rev run.now author.now self.old.cells) result self.new.cells }
-        ensures rises { self.new.blocks ≤ self.old.blocks + 2 }
-        ensures labelled { OnOk result (Labelled self.old.tree self.old.respaced self.new.tree
-            self.new.respaced) }
-        ensures undone { OnErr result (IsUndone self.old.tree self.old.respaced self.new.tree
-            self.new.respaced) }
-        ensures counts { self.old.respaced ≤ self.new.respaced }
-        ensures few { self.new.respaced ≤ self.old.respaced + 2 }
+        ensures counted { IsCounted 1 result self.old self.new }
     {
         if !run_fits(&self.tree, &self.index, run.first, run.after) {
             return Err(Refusal::PeerFault);
@@ -227,13 +200,7 @@ impl Sequence for BlockSeq {
         requires latest { AllByRecursion (IsBy rev) self.old.cells }
         ensures answers { Answers self.old.cells (delete_cells rev spans.now self.old.cells) result
             self.new.cells }
-        ensures rises { self.new.blocks ≤ self.old.blocks + 2 * length spans.now }
-        ensures labelled { OnOk result (Labelled self.old.tree self.old.respaced self.new.tree
-            self.new.respaced) }
-        ensures undone { OnErr result (IsUndone self.old.tree self.old.respaced self.new.tree
-            self.new.respaced) }
-        ensures counts { self.old.respaced ≤ self.new.respaced }
-        ensures few { self.new.respaced ≤ self.old.respaced + 2 * length spans.now }
+        ensures counted { IsCounted (length spans.now) result self.old self.new }
     {
         if !has_spans(&self.tree, &self.index, spans) {
             return Err(Refusal::PeerFault);
@@ -254,13 +221,7 @@ impl Sequence for BlockSeq {
         requires latest { AllByRecursion (IsBy rev) self.old.cells }
         ensures answers { Answers self.old.cells
             (apply_parts rev parts.now author.now self.old.cells) result self.new.cells }
-        ensures rises { self.new.blocks ≤ self.old.blocks + 2 * count_changes parts.now }
-        ensures labelled { OnOk result (Labelled self.old.tree self.old.respaced self.new.tree
-            self.new.respaced) }
-        ensures undone { OnErr result (IsUndone self.old.tree self.old.respaced self.new.tree
-            self.new.respaced) }
-        ensures counts { self.old.respaced ≤ self.new.respaced }
-        ensures few { self.new.respaced ≤ self.old.respaced + 2 * count_changes parts.now }
+        ensures counted { IsCounted (count_changes parts.now) result self.old self.new }
     {
         if !parts_fit(&self.tree, &self.index, parts) {
             return Err(Refusal::PeerFault);

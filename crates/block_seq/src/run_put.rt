@@ -4,6 +4,7 @@ ghost use Rattle.std.specs.List.{AllByRecursion, list_all, remove};
 ghost use Rattle.pad_model.specs.Cell.{character_of, with_run};
 ghost use Rattle.pad_model.specs.Checked.{is_run, is_span};
 ghost use Rattle.pad_model.specs.Log.{has_spans as holds_spans, run_may_join};
+ghost use Rattle.pad_model.specs.Parts.{with_all};
 ghost use Rattle.pad_model.specs.Stamp.{Stamp as StampValue};
 ghost use Rattle.pad_model.specs.declared.limits.TheConstants.{MAX_CHARACTERS};
 ghost use Rattle.pad_model.specs.declared.op.Span.{Span as SpanValue};
@@ -11,7 +12,7 @@ ghost use Rattle.ident_index.specs.Index.{Covers};
 ghost use Rattle.blocks.specs.Blocks.{IsEdge, IsKept, without_labels};
 ghost use Rattle.blocks.specs.Counts.{KeepsLabels, Labelled};
 ghost use Rattle.blocks.specs.Cells.{author_at, cells_of};
-ghost use Rattle.block_seq.specs.RowParts.{AreRanks, IsCutBehind, IsUndone, MayPut, with_all, without_ranks};
+ghost use Rattle.block_seq.specs.RowParts.{AreRanks, IsCutBehind, IsUndone, MayPut, without_ranks};
 ghost use Rattle.block_seq.specs.Rows.{IsCutOut};
 ghost use Rattle.block_seq.specs.RowSlides.{IsSlidRow, live_blocks};
 

@@ -73,17 +73,27 @@ with_run-put rev run author cells o h =
     (IsRun-new_cells rev run.first run.after run.text author)
     ∙ ap (λ c. put character_of run.after run.first (new_cells rev run author) c) o.is
 
--- and the cells stay in order
+-- and the cells are those that there were and the new ones, in order
+IsTree-with_run : (rev : ℕ) (run : Run) (author : Author) (cells : List Cell) → IsInOrder cells →
+    run_may_join character_of cells run.first run.after ≡ true → IsTree character_of (cells ++ new_cells rev run author)
+IsTree-with_run rev run author cells o h =
+    IsTree-run character_of cells run.first run.after (new_cells rev run author) o.tree
+    (RunMayJoin-from_test character_of cells run.first run.after h)
+    (IsRun-new_cells rev run.first run.after run.text author)
+
+pub with_run-permutation : (rev : ℕ) (run : Run) (author : Author) (cells : List Cell) → IsInOrder cells →
+    run_may_join character_of cells run.first run.after ≡ true →
+    IsPermutation (cells ++ new_cells rev run author) (with_run rev run author cells)
+with_run-permutation rev run author cells o h =
+    order-permutation character_of (cells ++ new_cells rev run author) (IsTree-with_run rev run author cells o h)
+
 pub IsInOrder-with_run : (rev : ℕ) (run : Run) (author : Author) (cells : List Cell) → IsInOrder cells →
     run_may_join character_of cells run.first run.after ≡ true → IsInOrder (with_run rev run author cells)
 IsInOrder-with_run rev run author cells o h =
-    let more : IsTree character_of (cells ++ new_cells rev run author) =
-    IsTree-run character_of cells run.first run.after (new_cells rev run author) o.tree
-    (RunMayJoin-from_test character_of cells run.first run.after h)
-    (IsRun-new_cells rev run.first run.after run.text author) in
+    let more = IsTree-with_run rev run author cells o h in
     record {
       tree = IsTree-permutation character_of (cells ++ new_cells rev run author) (with_run rev run author cells)
-          (order-permutation character_of (cells ++ new_cells rev run author) more) more;
+          (with_run-permutation rev run author cells o h) more;
       is = order-order character_of (cells ++ new_cells rev run author) more;
     }
 

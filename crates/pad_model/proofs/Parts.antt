@@ -15,7 +15,7 @@ use Rattle.pad_model.specs.Legal.{has_stamp, has_parent, counter_of, IsTree, Run
 use Rattle.pad_model.specs.Log.{run_may_join, all_differ}
 use Rattle.pad_model.specs.Operation.{span_stamps}
 use Rattle.pad_model.specs.Order.{order}
-use Rattle.pad_model.specs.Parts.{part_fits, spans_in, inserts_in, parts_fit, with_parts}
+use Rattle.pad_model.specs.Parts.{AllJoin, part_fits, runs_in, spans_in, inserts_in, parts_fit, with_all, with_parts}
 use Rattle.pad_model.specs.declared.who.Author.{Author}
 use Rattle.pad_model.specs.declared.op.Run.{Run}
 use Rattle.pad_model.specs.declared.op.Span.{Span}
@@ -30,23 +30,6 @@ use Rattle.pad_model.proofs.Maps.{list_any-map, run_may_join-map}
 use Rattle.pad_model.proofs.Members.{order-permutation}
 use Rattle.pad_model.proofs.Pushed.{order-permuted}
 use Rattle.pad_model.proofs.Runs.{IsTree-run, has_parent-append}
-
--- the cells with the runs of the parts, each put in its turn
-abbrev pub with_runs : ℕ → Author → List Cell → List Part → List Cell
-with_runs rev author cells [] = cells
-with_runs rev author cells (Insert run ∷ parts) = with_runs rev author (with_run rev run author cells) parts
-with_runs rev author cells (Delete spans ∷ parts) = with_runs rev author cells parts
-with_runs rev author cells (Comment first last text ∷ parts) = with_runs rev author cells parts
-with_runs rev author cells (Resolve comment ∷ parts) = with_runs rev author cells parts
-
--- each run of the parts may join the cells when its turn comes
-abbrev pub RunsJoin : ℕ → Author → List Cell → List Part → Type 0
-RunsJoin rev author cells [] = Unit {0}
-RunsJoin rev author cells (Insert run ∷ parts) = (run_may_join character_of cells run.first run.after ≡ true)
-    × RunsJoin rev author (with_run rev run author cells) parts
-RunsJoin rev author cells (Delete spans ∷ parts) = RunsJoin rev author cells parts
-RunsJoin rev author cells (Comment first last text ∷ parts) = RunsJoin rev author cells parts
-RunsJoin rev author cells (Resolve comment ∷ parts) = RunsJoin rev author cells parts
 
 -- a run that may join passes the test
 pub RunMayJoin-to_test : {A : Type 0} (at : A → Character) (items : List A) (first : Stamp) (p : Option Stamp) →
@@ -98,8 +81,8 @@ pub runs_join : (rev : ℕ) (author : Author) (base mine : List Cell) (floor : �
     IsTree character_of (base ++ mine) →
     AllByRecursion (λ c. c.stamp.counter < floor) mine → counters_rise floor parts ≡ true →
     list_all (part_fits character_of base) parts ≡ true →
-    RunsJoin rev author (order character_of (base ++ mine)) parts
-    × (with_runs rev author (order character_of (base ++ mine)) parts
+    AllJoin rev author (order character_of (base ++ mine)) (runs_in parts)
+    × (with_all rev author (order character_of (base ++ mine)) (runs_in parts)
     ≡ order character_of (base ++ (mine ++ map (born_at rev) (inserts_in author parts))))
 runs_join rev author base mine floor [] t below rise fit =
     (tt, ap (λ l. order character_of (base ++ l)) (sym (append-nil mine)))
@@ -128,9 +111,9 @@ runs_join rev author base mine floor (Insert run ∷ parts) t below rise fit =
         sym (run_may_join-permutation character_of (base ++ mine) (order character_of (base ++ mine)) run.first
             run.after (order-permutation character_of (base ++ mine) t))
             ∙ RunMayJoin-to_test character_of (base ++ mine) run.first run.after joins,
-        subst (λ l. RunsJoin rev author l parts) (sym after) rest.0,
+        subst (λ l. AllJoin rev author l (runs_in parts)) (sym after) rest.0,
       ),
-      ap (λ l. with_runs rev author l parts) after ∙ rest.1
+      ap (λ l. with_all rev author l (runs_in parts)) after ∙ rest.1
           ∙ ap (λ l. order character_of (base ++ l))
           (append_assoc mine new (map (born_at rev) (inserts_in author parts))
           ∙ ap (λ l. mine ++ l) (sym (map-append (born_at rev) (run_characters run.first run.after run.text author)
@@ -232,6 +215,11 @@ pub all_same : {A : Type 0} (p q : A → Bool) → ((x : A) → p x ≡ q x) →
 all_same p q h [] = refl
 all_same p q h (x ∷ xs) = ap₂ (λ a b. a && b) (h x) (all_same p q h xs)
 
+pub all_follow : {A : Type 0} (p q : A → Bool) → ((x : A) → p x ≡ true → q x ≡ true) → (xs : List A) → list_all p xs
+    ≡ true → list_all q xs ≡ true
+all_follow p q h [] e = refl
+all_follow p q h (x ∷ xs) e = let both = and_parts _ _ e in and_from _ _ (h x both.0) (all_follow p q h xs both.1)
+
 -- a part fits items exactly if it fits others that carry the same characters
 part_fits-same : {A : Type 0} (at to : A → Character) → ((x : A) → at x ≡ to x) → (xs : List A) (part : Part) →
     part_fits at xs part ≡ part_fits to xs part
@@ -270,8 +258,8 @@ parts_fit-erased rev spans cells parts = all_same (part_fits character_of (witho
 -- what the parts leave is what their runs leave, put in turn among the cells that are marked already
 pub with_parts-runs : (rev : ℕ) (author : Author) (parts : List Part) (cells : List Cell) → IsInOrder cells →
     counters_rise 0 parts ≡ true → list_all (part_fits character_of cells) parts ≡ true →
-    RunsJoin rev author (without_spans rev (spans_in parts) cells) parts
-    × (with_runs rev author (without_spans rev (spans_in parts) cells) parts ≡ with_parts rev parts author cells)
+    AllJoin rev author (without_spans rev (spans_in parts) cells) (runs_in parts)
+    × (with_all rev author (without_spans rev (spans_in parts) cells) (runs_in parts) ≡ with_parts rev parts author cells)
 with_parts-runs rev author parts cells o rise fit =
     let base = without_spans rev (spans_in parts) cells in
     let marked = IsInOrder-without rev (spans_in parts) cells o in
@@ -279,6 +267,6 @@ with_parts-runs rev author parts cells o rise fit =
     let walked : order character_of (base ++ []) ≡ base = ap (order character_of) alone ∙ marked.is in
     let done = runs_join rev author base [] 0 parts (subst (IsTree character_of) (sym alone) marked.tree) tt rise
     (parts_fit-erased rev (spans_in parts) cells parts ∙ fit) in (
-      subst (λ l. RunsJoin rev author l parts) walked done.0,
-      ap (λ l. with_runs rev author l parts) (sym walked) ∙ done.1,
+      subst (λ l. AllJoin rev author l (runs_in parts)) walked done.0,
+      ap (λ l. with_all rev author l (runs_in parts)) (sym walked) ∙ done.1,
     )

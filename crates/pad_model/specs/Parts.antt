@@ -1,6 +1,6 @@
 -- The insertions and deletions of one operation, made at once.
-use Rattle.std.specs.Prelude.{ℕ, ◌+◌, Bool, false, not, ◌&&◌, nat_lt, if◌then◌else◌, List, [], ◌++◌, length, Result, Ok}
-use Rattle.std.specs.Prelude.{Err, map, flat_map, count_by, fold}
+use Rattle.std.specs.Prelude.{◌≡◌, ℕ, ◌+◌, Bool, true, false, not, ◌&&◌, nat_lt, if◌then◌else◌, List, [], ◌∷◌, ◌++◌}
+use Rattle.std.specs.Prelude.{length, Result, Ok, Err, map, flat_map, count_by, fold}
 use Rattle.std.specs.List.{list_all}
 use Rattle.pad_model.specs.Cell.{Cell, character_of, born_at, is_hidden_by, without_spans, with_run}
 use Rattle.pad_model.specs.Character.{Character}
@@ -10,6 +10,7 @@ use Rattle.pad_model.specs.Order.{order}
 use Rattle.pad_model.specs.declared.limits.TheConstants.{MAX_CHARACTERS}
 use Rattle.pad_model.specs.declared.op.Part.{Part}
 use Rattle.pad_model.specs.declared.op.Part.TheVariants.{Insert, Delete, Comment, Resolve}
+use Rattle.pad_model.specs.declared.op.Run.{Run}
 use Rattle.pad_model.specs.declared.op.Span.{Span}
 use Rattle.pad_model.specs.declared.refusal.Refusal.{Refusal}
 use Rattle.pad_model.specs.declared.refusal.Refusal.TheVariants.{PeerFault, PadFull}
@@ -33,6 +34,17 @@ part_spans (Resolve comment) = []
 abbrev pub spans_in : List Part → List Span
 spans_in parts = flat_map part_spans parts
 
+-- the run of an insertion
+abbrev pub part_runs : Part → List Run
+part_runs (Insert run) = run ∷ []
+part_runs (Delete spans) = []
+part_runs (Comment first last text) = []
+part_runs (Resolve comment) = []
+
+-- the runs that the parts insert, in turn
+abbrev pub runs_in : List Part → List Run
+runs_in parts = flat_map part_runs parts
+
 -- the characters that the parts insert together
 abbrev pub inserts_in : Author → List Part → List Character
 inserts_in author parts = flat_map (part_inserts author) parts
@@ -55,6 +67,16 @@ apply rev parts author cells =
     else if nat_lt MAX_CHARACTERS (length cells + length (inserts_in author parts))
     then (Err PadFull, cells)
     else (Ok (count_by (is_hidden_by (spans_in parts)) cells), with_parts rev parts author cells)
+
+-- the cells with the runs, each put in its turn
+abbrev pub with_all : ℕ → Author → List Cell → List Run → List Cell
+with_all rev author cells runs = fold (λ cells run. with_run rev run author cells) cells runs
+
+-- each run may join the cells when its turn comes
+abbrev pub AllJoin : ℕ → Author → List Cell → List Run → Type 0
+AllJoin rev author cells [] = Unit {0}
+AllJoin rev author cells (run ∷ runs) = (run_may_join character_of cells run.first run.after ≡ true)
+    × AllJoin rev author (with_run rev run author cells) runs
 
 -- the cells after a single part
 abbrev pub with_part : ℕ → Author → List Cell → Part → List Cell

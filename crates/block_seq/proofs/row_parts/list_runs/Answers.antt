@@ -1,5 +1,5 @@
 use Rattle.std.proofs.Common.{◌++◌, ap, sym, ◌∙◌}
-use Rattle.block_seq.specs.RowParts.{part_runs}
+use Rattle.pad_model.specs.Parts.{part_runs}
 use Rattle.block_seq.proofs.RowParts.{flat_more}
 use Rattle.block_seq.proofs.row_parts.list_runs.Goals as goal
 

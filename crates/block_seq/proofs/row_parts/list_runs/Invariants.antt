@@ -1,6 +1,6 @@
 -- The loop of `list_runs`: the runs of the parts passed so far are listed.
 use Rattle.std.proofs.Common.{◌≡◌, take, map}
-use Rattle.block_seq.specs.RowParts.{runs_in}
+use Rattle.pad_model.specs.Parts.{runs_in}
 use Rattle.block_seq.proofs.row_parts.list_runs.Given as goal
 
 -- the runs of the parts so far

@@ -11,11 +11,13 @@ use Rattle.blocks.specs.Cells.{author_at, cells_of}
 use Rattle.blocks.specs.Counts.Labelled.{begins}
 use Rattle.blocks.proofs.Cells.{length-without_labels}
 use Rattle.blocks.proofs.Counts.{labelled_then}
-use Rattle.block_seq.specs.RowParts.{AreRanks, MayPut, with_all, without_ranks}
+use Rattle.block_seq.specs.RowParts.{AreRanks, MayPut, without_ranks}
+use Rattle.pad_model.specs.Parts.{with_all}
 use Rattle.block_seq.specs.RowSlides.{IsSlidRow}
 use Rattle.block_seq.proofs.RowCounts.{on_error, undone_nothing}
 use Rattle.block_seq.proofs.RowChange.{cut_out_put, lent_from, lent_sizes, named_below, run_sized}
-use Rattle.block_seq.proofs.RowRuns.{front_of_front, may_put_next, one_rank_more, spans_stay, take_front}
+use Rattle.block_seq.proofs.RowRuns.{front_of_front, may_put_next, one_rank_more, take_front}
+use Rattle.pad_model.proofs.InTurn.{has_spans-with_run}
 use Rattle.block_seq.proofs.RowRuns.{without_ranks-last}
 use Rattle.block_seq.proofs.run_put.put_runs.Goals as goal
 use Rattle.block_seq.proofs.run_put.put_runs.Goals.{After-run-item}
@@ -196,7 +198,7 @@ loop-run-preserved c =
       all = ap (λ l. with_all rev author l (rest g)) made ∙ ap (with_all rev author (cells g)) (sym (from g)) ∙ inv.all;
       cut = λ spans there checked cut. (let so = inv.cut spans there checked cut in (
         subst (λ l. has_spans character_of l spans ≡ true) (sym made)
-            (spans_stay rev run author (cells g) spans order here.join.0 so.0),
+            (has_spans-with_run rev run author (cells g) spans order here.join.0 so.0),
         cut_out_put c.loop-run.index c.put_run.new.index spans run.first (length run.text) edges
             (named_below spans (cells g) run.first run.after so.0 here.join.0) checked so.1,
       ));

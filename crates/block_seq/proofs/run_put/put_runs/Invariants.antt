@@ -8,7 +8,8 @@ use Rattle.pad_model.specs.declared.op.Span.{Span}
 use Rattle.blocks.specs.Blocks.{without_labels}
 use Rattle.blocks.specs.Counts.{Labelled}
 use Rattle.blocks.specs.Cells.{author_at, cells_of}
-use Rattle.block_seq.specs.RowParts.{AreRanks, MayPut, with_all, without_ranks}
+use Rattle.block_seq.specs.RowParts.{AreRanks, MayPut, without_ranks}
+use Rattle.pad_model.specs.Parts.{with_all}
 use Rattle.block_seq.specs.Rows.{IsCutOut}
 use Rattle.block_seq.specs.RowSlides.{IsSlidRow, live_blocks}
 use Rattle.block_seq.proofs.run_put.put_runs.Given as goal

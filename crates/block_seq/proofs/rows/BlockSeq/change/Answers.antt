@@ -1,19 +1,22 @@
-use Rattle.std.proofs.Common.{◌≡◌, max, true, inr, Ok, List, map, sym, ap, ap₂, ◌∙◌, refl, subst, arith, count_by}
+use Rattle.std.proofs.Common.{◌≡◌, ℕ, ◌+◌, max, true, inr, Result, Ok, List, length, map, sym, ap, ap₂, ◌∙◌}
+use Rattle.std.proofs.Common.{refl, subst, arith, count_by}
+use Rattle.std.proofs.lemmas.List.{length-map}
 use Rattle.std.specs.List.{AllByRecursion}
 use Rattle.std.specs.Result.{IsErrAnd}
 use Rattle.pad_model.specs.Cell.{character_of, is_hidden_by, without_spans, IsBy, IsInOrder}
 use Rattle.pad_model.specs.Log.{has_spans}
+use Rattle.pad_model.specs.Parts.{with_all}
 use Rattle.pad_model.specs.declared.op.Run.{Run}
+use Rattle.pad_model.specs.declared.who.Author.{Author}
 use Rattle.pad_model.proofs.Exits.{answers_memory}
 use Rattle.ident_index.specs.Index.{Index}
 use Rattle.blocks.specs.Blocks.{IsKept}
 use Rattle.blocks.specs.Cells.{author_at, cells_of, SameCells}
-use Rattle.blocks.specs.Counts.{Labelled}
 use Rattle.blocks.specs.Counts.Labelled.{changed}
 use Rattle.blocks.proofs.Cells.{same_unlabelled, same_then}
 use Rattle.blocks.proofs.Counts.{keeps_listed, labelled_then}
-use Rattle.block_seq.specs.RowParts.{IsCutBehind, MayPut, with_all}
-use Rattle.block_seq.specs.Rows.{IsBlockSeq, IsCutOut}
+use Rattle.block_seq.specs.RowParts.{IsCounted, IsCutBehind, MayPut}
+use Rattle.block_seq.specs.Rows.{IsBlockSeq, IsCutOut, cells_in, killed}
 use Rattle.block_seq.specs.RowSlides.{IsAuthoredRow, IsSlid, IsSlidRow}
 use Rattle.block_seq.proofs.RowNow.{dated_blocks}
 use Rattle.block_seq.proofs.RowSlides.{slid_cut, blocks_small}
@@ -21,7 +24,7 @@ use Rattle.block_seq.proofs.RowChange.{cut_out_kept, lent_checked, lent_sizes}
 use Rattle.block_seq.proofs.RowErase.{all_aligned, killed_count, row_killed}
 use Rattle.block_seq.proofs.RowRuns.{all_commute, all_hidden, all_later, all_lent, all_rooted, few_runs}
 use Rattle.block_seq.proofs.RowSteps.{unchanged, same_cells_kept}
-use Rattle.block_seq.proofs.RowCounts.{cells_seen, labelled_seen, on_error, undone_seen}
+use Rattle.block_seq.proofs.RowCounts.{cells_seen, counted_by, counted_undone}
 use Rattle.block_seq.proofs.rows.BlockSeq.change.Goals as goal
 use Rattle.block_seq.proofs.rows.BlockSeq.change.Goals.{After-cut_parents, After-place_author, After-as_slice}
 use Rattle.block_seq.proofs.rows.BlockSeq.change.Goals.{In_ok-clock, After-kill_named-hidden}
@@ -314,55 +317,65 @@ returns-clause-answers c =
     let d = done g.After-kill_named-hidden (still_cut g.In_ok-clock same) same (who g.After-as_slice) in
     inr (ap₂ (λ n l. (Ok n, l)) (sym d.1) (sym d.0.1))
 
-pub returns-in_err-cut_spans-clause-undone : goal.returns-in_err-cut_spans-clause-undone
-returns-in_err-cut_spans-clause-undone c =
-    on_error c.from_residual.result (undone_seen c.self.view_is c.cut_spans.new.tree.items c.cut_spans.new.respacings
-    c.cut_spans.ensures.labelled)
+pub returns-in_err-cut_spans-clause-counted : goal.returns-in_err-cut_spans-clause-counted
+returns-in_err-cut_spans-clause-counted c =
+    counted_by c.self.view_is (length c.args.runs.now + length c.args.spans.now) c.from_residual.result _
+    c.cut_spans.ensures.labelled (omega (arith, c.cut_spans.ensures.more)) c.cut_spans.ensures.counts
+    (omega (arith, c.cut_spans.ensures.few))
 
--- how the blocks came about when they are cut
-when_cut : (c : After-cut_parents) → Labelled c.self.inside.tree.items c.self.inside.respaced
-    c.cut_parents.new.tree.items c.cut_parents.new.respacings
-when_cut c = labelled_then c.cut_spans.ensures.labelled c.cut_parents.ensures.labelled
+-- what the cuts did
+when_cut : (c : After-cut_parents) {A E : Type 0} (r : Result A E) (authors : List Author) (text : List ℕ) →
+    IsCounted (length c.args.runs.now + length c.args.spans.now) r c.args.self.now
+    (cells_in authors text c.cut_parents.new.tree.items c.cut_parents.new.respacings)
+when_cut c r authors text =
+    counted_by c.self.view_is (length c.args.runs.now + length c.args.spans.now) r _
+    (labelled_then c.cut_spans.ensures.labelled c.cut_parents.ensures.labelled)
+    (omega (arith, c.cut_spans.ensures.more, c.cut_parents.ensures.more))
+    (omega (arith, c.cut_spans.ensures.counts, c.cut_parents.ensures.counts))
+    (omega (arith, c.cut_spans.ensures.few, c.cut_parents.ensures.few))
 
-pub returns-in_err-cut_parents-clause-undone : goal.returns-in_err-cut_parents-clause-undone
-returns-in_err-cut_parents-clause-undone c =
-    on_error c.from_residual-in_err-cut_parents.result
-    (undone_seen c.self.view_is c.cut_parents.new.tree.items c.cut_parents.new.respacings
-    (when_cut (goal.at.returns-in_err-cut_parents-clause-undone c).After-cut_parents))
+pub returns-in_err-cut_parents-clause-counted : goal.returns-in_err-cut_parents-clause-counted
+returns-in_err-cut_parents-clause-counted c =
+    when_cut (goal.at.returns-in_err-cut_parents-clause-counted c).After-cut_parents
+    c.from_residual-in_err-cut_parents.result _ _
 
-pub returns-in_err-author-clause-undone : goal.returns-in_err-author-clause-undone
-returns-in_err-author-clause-undone c =
-    on_error c.from_residual-in_err-author.result
-    (undone_seen c.self.view_is c.cut_parents.new.tree.items c.cut_parents.new.respacings
-    (when_cut (goal.at.returns-in_err-author-clause-undone c).After-cut_parents))
+pub returns-in_err-author-clause-counted : goal.returns-in_err-author-clause-counted
+returns-in_err-author-clause-counted c =
+    when_cut (goal.at.returns-in_err-author-clause-counted c).After-cut_parents
+    c.from_residual-in_err-author.result _ _
 
-pub returns-in_err-reserve-clause-undone : goal.returns-in_err-reserve-clause-undone
-returns-in_err-reserve-clause-undone c =
-    on_error c.from_residual-in_err-reserve.result
-    (undone_seen c.self.view_is c.cut_parents.new.tree.items c.cut_parents.new.respacings
-    (when_cut (goal.at.returns-in_err-reserve-clause-undone c).After-cut_parents))
+pub returns-in_err-reserve-clause-counted : goal.returns-in_err-reserve-clause-counted
+returns-in_err-reserve-clause-counted c =
+    when_cut (goal.at.returns-in_err-reserve-clause-counted c).After-cut_parents
+    c.from_residual-in_err-reserve.result _ _
 
-pub returns-in_err-reserve-2-clause-undone : goal.returns-in_err-reserve-2-clause-undone
-returns-in_err-reserve-2-clause-undone c =
-    on_error c.from_residual-in_err-reserve-2.result
-    (undone_seen c.self.view_is c.cut_parents.new.tree.items c.cut_parents.new.respacings
-    (when_cut (goal.at.returns-in_err-reserve-2-clause-undone c).After-cut_parents))
+pub returns-in_err-reserve-2-clause-counted : goal.returns-in_err-reserve-2-clause-counted
+returns-in_err-reserve-2-clause-counted c =
+    when_cut (goal.at.returns-in_err-reserve-2-clause-counted c).After-cut_parents
+    c.from_residual-in_err-reserve-2.result _ _
 
-pub returns-in_err-clock-clause-undone : goal.returns-in_err-clock-clause-undone
-returns-in_err-clock-clause-undone c =
+pub returns-in_err-clock-clause-counted : goal.returns-in_err-clock-clause-counted
+returns-in_err-clock-clause-counted c =
     let undone = c.in_err-clock.ensures.undone in
-    let made = labelled_then (when_cut (goal.at.returns-in_err-clock-clause-undone c).After-cut_parents) undone.1 in
-    on_error c.from_residual-in_err-clock.result (
+    counted_undone _ c.self.view_is (length c.args.runs.now + length c.args.spans.now)
+    c.from_residual-in_err-clock.result _ c.from_residual-in_err-clock.ensures.1 (
       undone.0,
-      labelled_seen c.self.view_is undone.0 c.put_runs.new.respacings made,
+      labelled_then (labelled_then c.cut_spans.ensures.labelled c.cut_parents.ensures.labelled) undone.1,
       undone.2,
     )
+    (omega (arith, c.cut_spans.ensures.more, c.cut_parents.ensures.more, c.put_runs.ensures.more))
+    (omega (arith, c.cut_spans.ensures.counts, c.cut_parents.ensures.counts, c.put_runs.ensures.counts))
+    (omega (arith, c.cut_spans.ensures.few, c.cut_parents.ensures.few, c.put_runs.ensures.few))
 
-pub returns-clause-labelled : goal.returns-clause-labelled
-returns-clause-labelled c =
-    let made = labelled_then (when_cut (goal.at.returns-clause-labelled c).After-cut_parents)
-    c.in_ok-clock.ensures.labelled in
-    changed c.put_runs.new.tree.items c.kill_named-hidden.new.tree.items c.put_runs.new.respacings
-    (labelled_seen c.self.view_is c.put_runs.new.tree.items c.put_runs.new.respacings made)
-    (keeps_listed c.put_runs.new.index c.put_runs.new.tree.items c.kill_named-hidden.new.tree.items
-    c.put_runs.ensures.kept.listed c.kill_named-hidden.ensures.kept.listed)
+pub returns-clause-counted : goal.returns-clause-counted
+returns-clause-counted c =
+    let size = ap length c.kill_named-hidden.ensures.items
+    ∙ length-map c.put_runs.new.tree.items (killed c.args.rev c.args.spans.now) in
+    counted_by c.self.view_is (length c.args.runs.now + length c.args.spans.now) _ _
+    (changed c.put_runs.new.tree.items c.kill_named-hidden.new.tree.items c.put_runs.new.respacings
+    (labelled_then (labelled_then c.cut_spans.ensures.labelled c.cut_parents.ensures.labelled)
+    c.in_ok-clock.ensures.labelled) (keeps_listed c.put_runs.new.index c.put_runs.new.tree.items
+    c.kill_named-hidden.new.tree.items c.put_runs.ensures.kept.listed c.kill_named-hidden.ensures.kept.listed))
+    (omega (arith, size, c.cut_spans.ensures.more, c.cut_parents.ensures.more, c.put_runs.ensures.more))
+    (omega (arith, c.cut_spans.ensures.counts, c.cut_parents.ensures.counts, c.put_runs.ensures.counts))
+    (omega (arith, c.cut_spans.ensures.few, c.cut_parents.ensures.few, c.put_runs.ensures.few))

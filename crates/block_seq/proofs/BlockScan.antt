@@ -193,12 +193,6 @@ passes_none first (x ∷ bs) zero b e h =
     rw here refl
 passes_none first (x ∷ bs) (suc i) b e h = passes_none first bs i b e h
 
-pub passes_end : (first : Stamp) (bs : List Block) (i : ℕ) → i ≡ length bs → passes first (drop i bs) ≡ 0
-passes_end first [] zero e = refl
-passes_end first [] (suc i) e = absurd (omega arith)
-passes_end first (x ∷ bs) zero e = absurd (omega arith)
-passes_end first (x ∷ bs) (suc i) e = passes_end first bs i (omega arith)
-
 -- where the stamp behind is an edge, a block ends
 pub last_in_block : (m : Index) (bs : List Block) (p q : Stamp) (at : ℕ) (b : Block) → IsListed m bs → slice_get bs at
     ≡ Some b → Covers b.first b.len p → IsEdge m q → q.counter ≡ p.counter + 1 → q.replica ≡ p.replica

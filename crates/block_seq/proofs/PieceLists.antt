@@ -1,5 +1,5 @@
 -- Changes that grow at their end are the fewest of all so far.
-use Rattle.std.proofs.Common.{◌≡◌, ℕ, ◌+◌, ◌≤◌, true, false, List, [], ◌∷◌, ◌++◌, refl, sym, ap}
+use Rattle.std.proofs.Common.{◌≡◌, ℕ, ◌+◌, true, false, List, [], ◌∷◌, ◌++◌, refl, sym, ap}
 use Rattle.std.proofs.Common.{flat_map, ◌∙◌, arith, sum_by, Some, None, append_assoc, append-nil}
 use Rattle.pad_model.specs.Pieces.{are_alike, fewest, join_piece, together, old_len}
 use Rattle.pad_model.specs.declared.piece.Piece.{Piece}
@@ -62,11 +62,6 @@ pub with-apart : (front : List Piece) (last c : Piece) → are_alike last c ≡ 
 with-apart [] last c h = rw h refl
 with-apart (x ∷ []) last c h = ap (λ l. x ∷ l) (with-apart [] last c h)
 with-apart (x ∷ y ∷ front) last c h = ap (λ l. x ∷ l) (with-apart (y ∷ front) last c h)
-
-pub sum-last : (front : List Piece) (last : Piece) → old_len last ≤ sum_by old_len (front ++ last ∷ [])
-sum-last [] last = rw (sum_by-cons old_len last []) (omega arith)
-sum-last (x ∷ front) last = let rest = sum-last front last in
-    rw (sum_by-cons old_len x (front ++ last ∷ [])) (omega (arith, rest))
 
 -- ---- what kind a piece is of
 pub kept-some : (x : Piece) (n len : ℕ) → kept_in x ≡ Some n → x ≡ Keep n

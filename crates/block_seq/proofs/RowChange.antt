@@ -1,13 +1,14 @@
 -- A run and a deletion that are made together.
-use Rattle.std.proofs.Common.{◌≡◌, ℕ, zero, suc, ◌+◌, ◌-◌, ◌≤◌, ◌<◌, inl, inr, Bool, true, false, ◌&&◌, ◌||◌, List, []}
-use Rattle.std.proofs.Common.{◌∷◌, ◌++◌, length, map, flat_map, sum_by, count_by, Option, Some, None, refl, sym, ap}
-use Rattle.std.proofs.Common.{ap₂, ◌∙◌, subst, arith, leb-true, eqb-true, get_or, drop, Ok}
+use Rattle.std.proofs.Common.{◌≡◌, ℕ, suc, ◌+◌, ◌-◌, ◌≤◌, ◌<◌, inl, inr, Bool, true, false, ◌&&◌, ◌||◌, List, []}
+use Rattle.std.proofs.Common.{◌∷◌, ◌++◌, length, map, flat_map, sum_by, count_by, Option, None, refl, sym, ap}
+use Rattle.std.proofs.Common.{◌∙◌, subst, arith, leb-true, eqb-true, get_or, drop, Ok}
 use Rattle.std.specs.List.{AllByRecursion, list_all}
 use Rattle.std.proofs.lemmas.Bool.{and_parts, or_left, or_right}
 use Rattle.std.proofs.lemmas.List.Folds.{list_any-append}
 use Rattle.std.proofs.lemmas.List.Sums.{sum_by-cons}
 use Rattle.pad_model.specs.Cell.{Cell, character_of, new_cells, with_run, is_hidden_by, IsInOrder}
 use Rattle.pad_model.specs.Checked.{is_run, is_span}
+use Rattle.pad_model.specs.Legal.{has_stamp}
 use Rattle.pad_model.specs.Log.{run_may_join, has_spans}
 use Rattle.pad_model.specs.Operation.{span_stamps}
 use Rattle.pad_model.specs.Stamp.{Stamp, same_stamp}
@@ -38,13 +39,10 @@ use Rattle.block_seq.specs.KeptParts.{inserted_size}
 use Rattle.block_seq.proofs.Applied.{parts_each, length-inserts_in, apply-ok}
 use Rattle.block_seq.proofs.RowParts.{spans_checked_in, runs_checked_in}
 
--- what spans name that are there is older than a run that may join, where it has its replica
-pub named_below : (spans : List Span) (cells : List Cell) (first : Stamp) (p : Option Stamp) →
-    has_spans character_of cells spans ≡ true → run_may_join character_of cells first p ≡ true
-    → (s : Stamp) → is_erased (flat_map span_stamps spans) s ≡ true → s.replica ≡ first.replica → s.counter
-    < first.counter
-named_below spans cells first p named may s e replica =
-    let there = stamps_there character_of (flat_map span_stamps spans) cells s named e in
+-- what is there is older than a run that may join, where it has its replica
+pub older : (cells : List Cell) (first : Stamp) (p : Option Stamp) (s : Stamp) → run_may_join character_of cells first p
+    ≡ true → has_stamp character_of cells s ≡ true → s.replica ≡ first.replica → s.counter < first.counter
+older cells first p s may there replica =
     let joins = RunMayJoin-from_test character_of cells first p may in
     let found = found_has (λ (x : Cell). same_stamp x.stamp s) (λ x. x.stamp.replica ≡ first.replica → x.stamp.counter
     < first.counter) cells there joins.above in
@@ -52,6 +50,14 @@ named_below spans cells first p named may s e replica =
     let counter = ap (λ (x : Stamp). x.counter) same in
     let less = found.1.1 (ap (λ (x : Stamp). x.replica) same ∙ replica) in
     omega arith
+
+-- what spans name that are there is older than a run that may join, where it has its replica
+pub named_below : (spans : List Span) (cells : List Cell) (first : Stamp) (p : Option Stamp) →
+    has_spans character_of cells spans ≡ true → run_may_join character_of cells first p ≡ true
+    → (s : Stamp) → is_erased (flat_map span_stamps spans) s ≡ true → s.replica ≡ first.replica → s.counter
+    < first.counter
+named_below spans cells first p named may s e replica =
+    older cells first p s may (stamps_there character_of (flat_map span_stamps spans) cells s named e) replica
 
 -- spans that are cut out stay so when a run's block is put
 pub cut_out_put : (m n : Index) (spans : List Span) (first : Stamp) (len : ℕ) →

@@ -2,7 +2,7 @@
 use Rattle.std.proofs.Common.{◌≡◌, ℕ, zero, suc, ◌+◌, ◌-◌, ◌≤◌, ◌<◌, inl, inr, Bool, true, false, cond, ◌&&◌, List, []}
 use Rattle.std.proofs.Common.{◌∷◌, ◌++◌, length, take, drop, map, filter, flat_map, sum_by, Option, Some, refl, sym, ap}
 use Rattle.std.proofs.Common.{ap₂, ◌∙◌, subst, arith, slice_get, option_map, length-append, nat_le, lt-ltb, le-ltb}
-use Rattle.std.proofs.Common.{fold, max, get_or, drop-cons, add-one}
+use Rattle.std.proofs.Common.{get_or, drop-cons, add-one}
 use Rattle.std.specs.List.{AllByRecursion, list_all}
 use Rattle.std.proofs.lemmas.Bool.{cases_lt}
 use Rattle.std.proofs.lemmas.List.{map-append}
@@ -17,7 +17,6 @@ use Rattle.pad_model.proofs.Newer.{split, same_stamp-refl, same_stamp-true}
 use Rattle.ident_index.specs.Index.{Covers, stamp_behind}
 use Rattle.ident_index.proofs.Order.{same_stamps}
 use Rattle.blocks.specs.declared.block.Block.{Block}
-use Rattle.blocks.specs.Blocks.{IsSized}
 use Rattle.blocks.specs.Cells.{author_at, run_cells, stretch, block_cells, cells_of, IsWithin}
 use Rattle.slides.proofs.Carrying.{get_front, get_back}
 use Rattle.block_seq.specs.Rows.{shows, shown_len, shown_stretch, stamp_in}
@@ -137,39 +136,6 @@ stamp-at rev authors text bs i w = ap (λ l. option_map (λ c. c.stamp) (slice_g
               (i - shown_len rev b) (omega (arith, size)))
               ∙ places bs (i - shown_len rev b) w.1 ∙ sym (rw (le-ltb i (shown_len rev b) past) refl)
         ]
-
--- ---- the greatest counter
-most_of_run : (author : Author) (born : ℕ) (died : Option ℕ) (first : Stamp) (p : Option Stamp) (x : ℕ) (xs : List ℕ)
-    (low : ℕ) (rest : List Cell)
-    → fold (λ most c. max most c.stamp.counter) low (run_cells author born died first p (x ∷ xs) ++ rest)
-    ≡ fold (λ most c. max most c.stamp.counter) (max low (first.counter + length xs)) rest
-most_of_run author born died first p x [] low rest = ap (λ n. fold (λ most (c : Cell). max most c.stamp.counter) n rest)
-    (let same : max low first.counter ≡ max low (first.counter + 0) = omega arith in same)
-most_of_run author born died first p x (y ∷ ys) low rest =
-    most_of_run author born died (next first) (Some first) y ys (max low first.counter) rest
-    ∙ ap (λ n. fold (λ most (c : Cell). max most c.stamp.counter) n rest)
-    (let same : max (max low first.counter) (first.counter + 1 + length ys)
-    ≡ max low (first.counter + suc (length ys)) = omega arith in same)
-
-most_of : (author : Author) (born : ℕ) (died : Option ℕ) (first : Stamp) (p : Option Stamp) (text : List ℕ) (n low : ℕ)
-    (rest : List Cell) → length text ≡ n → 1 ≤ n
-    → fold (λ most c. max most c.stamp.counter) low (run_cells author born died first p text ++ rest)
-    ≡ fold (λ most c. max most c.stamp.counter) (max low (first.counter + (n - 1))) rest
-most_of author born died first p [] n low rest l h = absurd (omega arith)
-most_of author born died first p (x ∷ xs) n low rest l h =
-    most_of_run author born died first p x xs low rest
-    ∙ ap (λ k. fold (λ most (c : Cell). max most c.stamp.counter) (max low (first.counter + k)) rest)
-    (let same : length xs ≡ n - 1 = omega arith in same)
-
-pub clock-blocks : (authors : List Author) (text : List ℕ) (bs : List Block) (low : ℕ) →
-    AllByRecursion (IsWithin (length authors) (length text)) bs → AllByRecursion IsSized bs
-    → fold (λ most c. max most c.stamp.counter) low (cells_of authors text bs)
-    ≡ fold (λ most b. max most (b.first.counter + (b.len - 1))) low bs
-clock-blocks authors text [] low w z = refl
-clock-blocks authors text (b ∷ bs) low w z =
-    most_of (author_at authors b.author) b.born b.died b.first b.parent (stretch text b) b.len low
-    (cells_of authors text bs) (length-stretch text b w.0.1) z.0.0
-    ∙ clock-blocks authors text bs (max low (b.first.counter + (b.len - 1))) w.1 z.1
 
 -- ---- a loop over a slice that has passed one more item
 pub passes_one : {A : Type 0} (f : A → Bool) (xs : List A) (i : ℕ) (x : A) → i < length xs → x ≡ get_or xs i x →

@@ -6,10 +6,10 @@ use Rattle.std.proofs.lemmas.Bool.{and_from, and_parts, false≢true}
 use Rattle.pad_model.specs.Cell.{Cell, character_of, with_run, is_hidden_by, without_spans, IsInOrder}
 use Rattle.std.proofs.lemmas.List.Sums.{sum_by-cons}
 use Rattle.pad_model.specs.Checked.{is_run}
-use Rattle.pad_model.specs.Legal.{has_stamp, has_parent, counter_of}
+use Rattle.pad_model.specs.Legal.{has_parent, counter_of}
 use Rattle.pad_model.specs.Log.{run_may_join, has_spans}
 use Rattle.pad_model.specs.Parts.{AllJoin, part_fits, runs_in, with_all}
-use Rattle.pad_model.specs.Stamp.{Stamp, same_stamp}
+use Rattle.pad_model.specs.Stamp.{Stamp}
 use Rattle.pad_model.specs.declared.limits.TheConstants.{MAX_CHARACTERS}
 use Rattle.pad_model.specs.declared.op.Part.{Part}
 use Rattle.pad_model.specs.declared.op.Part.TheVariants.{Insert, Delete, Comment, Resolve}
@@ -17,9 +17,7 @@ use Rattle.pad_model.specs.declared.op.Run.{Run}
 use Rattle.pad_model.specs.declared.op.Span.{Span}
 use Rattle.pad_model.specs.declared.who.Author.{Author}
 use Rattle.pad_model.proofs.Cells.{RunMayJoin-from_test, IsInOrder-with_run}
-use Rattle.pad_model.proofs.Each.{found_has}
 use Rattle.pad_model.proofs.InTurn.{commute, has_spans-with_run, has_stamp-with_run, hidden-with_run}
-use Rattle.pad_model.proofs.Newer.{same_stamp-true}
 use Rattle.pad_model.proofs.Parts.{part_fits-erased}
 use Rattle.ident_index.specs.Index.{Index, Covers, stamp_behind}
 use Rattle.ident_index.proofs.Order.{same_stamps}
@@ -28,7 +26,7 @@ use Rattle.blocks.specs.declared.block.Block.{Block}
 use Rattle.blocks.specs.Blocks.{IsEdge, KeepsEdges, unlabelled, without_labels}
 use Rattle.blocks.proofs.Cells.{length-without_labels}
 use Rattle.block_seq.specs.RowParts.{AreRanks, IsCutBehind, MayPut, without_ranks}
-use Rattle.block_seq.proofs.RowChange.{PutNext, put_next, run_sized}
+use Rattle.block_seq.proofs.RowChange.{PutNext, older, put_next, run_sized}
 
 -- one more item of a list that a loop has passed
 pub all_more : {X : Type 0} (P Q : X → Type 0) (xs : List X) (i j : ℕ) (x : X) → i < length xs → x ≡ get_or xs i x →
@@ -76,18 +74,6 @@ parents_stay rev run author cells (r ∷ runs) o may h =
     (parents_stay rev run author cells runs o may both.1)
 
 -- ---- the blocks stay cut behind the parents
--- what is there is older than a run that may join, where it has its replica
-older : (cells : List Cell) (first : Stamp) (p : Option Stamp) (s : Stamp) → run_may_join character_of cells first p
-    ≡ true → has_stamp character_of cells s ≡ true → s.replica ≡ first.replica → s.counter < first.counter
-older cells first p s may there replica =
-    let joins = RunMayJoin-from_test character_of cells first p may in
-    let found = found_has (λ (x : Cell). same_stamp x.stamp s) (λ x. x.stamp.replica ≡ first.replica → x.stamp.counter
-    < first.counter) cells there joins.above in
-    let same = same_stamp-true found.0.stamp s found.1.0 in
-    let counter = ap (λ (x : Stamp). x.counter) same in
-    let less = found.1.1 (ap (λ (x : Stamp). x.replica) same ∙ replica) in
-    omega arith
-
 cut_stays : (m n : Index) (cells : List Cell) (first : Stamp) (p q : Option Stamp) (len : ℕ) →
     ((s : Stamp) → IsEdge m s → (Covers first len s → first ≡ s) → IsEdge n s)
     → run_may_join character_of cells first p ≡ true → has_parent character_of cells q ≡ true → IsCutBehind m q →

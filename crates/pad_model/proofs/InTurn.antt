@@ -17,7 +17,8 @@ use Rattle.pad_model.specs.Legal.{has_stamp}
 use Rattle.pad_model.specs.Log.{run_may_join, has_spans}
 use Rattle.pad_model.specs.Operation.{span_stamps}
 use Rattle.pad_model.specs.Order.{order}
-use Rattle.pad_model.specs.Parts.{AllJoin, part_fits, runs_in, spans_in, parts_fit, with_all, with_parts, with_each_part}
+use Rattle.pad_model.specs.Parts.{AllJoin, part_fits, runs_in, spans_in, parts_fit, with_all, with_parts}
+use Rattle.pad_model.specs.Parts.{with_each_part}
 use Rattle.pad_model.specs.Visible.{is_erased}
 use Rattle.pad_model.specs.declared.who.Author.{Author}
 use Rattle.pad_model.specs.declared.op.Run.{Run}
@@ -110,9 +111,10 @@ has_spans-with_run rev run author cells spans o may named =
 
 -- the parts made one after another leave what their runs leave among the cells already marked as dead
 in_turn : (rev : ℕ) (author : Author) (cells : List Cell) (parts : List Part) → IsInOrder cells →
-    AllJoin rev author (without_spans rev (spans_in parts) cells) (runs_in parts) → has_spans character_of cells (spans_in parts)
-    ≡ true →
-    with_each_part rev author cells parts ≡ with_all rev author (without_spans rev (spans_in parts) cells) (runs_in parts)
+    AllJoin rev author (without_spans rev (spans_in parts) cells) (runs_in parts) →
+    has_spans character_of cells (spans_in parts) ≡ true →
+    with_each_part rev author cells parts
+    ≡ with_all rev author (without_spans rev (spans_in parts) cells) (runs_in parts)
 in_turn rev author cells [] o j named = sym (without_none rev cells)
 in_turn rev author cells (Insert run ∷ parts) o j named =
     let spans = spans_in parts in

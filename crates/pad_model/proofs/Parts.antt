@@ -259,7 +259,8 @@ parts_fit-erased rev spans cells parts = all_same (part_fits character_of (witho
 pub with_parts-runs : (rev : ℕ) (author : Author) (parts : List Part) (cells : List Cell) → IsInOrder cells →
     counters_rise 0 parts ≡ true → list_all (part_fits character_of cells) parts ≡ true →
     AllJoin rev author (without_spans rev (spans_in parts) cells) (runs_in parts)
-    × (with_all rev author (without_spans rev (spans_in parts) cells) (runs_in parts) ≡ with_parts rev parts author cells)
+    × (with_all rev author (without_spans rev (spans_in parts) cells) (runs_in parts)
+    ≡ with_parts rev parts author cells)
 with_parts-runs rev author parts cells o rise fit =
     let base = without_spans rev (spans_in parts) cells in
     let marked = IsInOrder-without rev (spans_in parts) cells o in

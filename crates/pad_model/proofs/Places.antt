@@ -33,11 +33,6 @@ abbrev pub place_in : {A : Type 0} → (A → Character) → Option Stamp → St
 place_in at None first xs = passed at first xs
 place_in at (Some p) first xs = up_to at p xs + passed at first (drop (up_to at p xs) xs)
 
-pub up_to-le-length : {A : Type 0} (at : A → Character) (p : Stamp) (xs : List A) → up_to at p xs ≤ length xs
-up_to-le-length at p [] = omega arith
-up_to-le-length at p (x ∷ xs) = split (same_stamp (at x).stamp p) (λ e. rw e (omega arith))
-    (λ e. rw e (omega (arith, up_to-le-length at p xs)))
-
 scan_behind-spliced : {A : Type 0} (at : A → Character) (p first : Stamp) (block xs : List A) →
     scan_behind at p first block xs ≡ spliced (place_in at (Some p) first xs) block xs
 scan_behind-spliced at p first block [] = sym (Rattle.std.proofs.Common.append-nil block)

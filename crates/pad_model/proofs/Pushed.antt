@@ -1,38 +1,32 @@
 -- The cells of a log that one more insertion ends.
 use Rattle.std.proofs.Common.{◌≡◌, ℕ, zero, suc, ◌+◌, ◌<◌, ◌≤◌, ◌⊎◌, inl, inr, Bool, true, false, not, ◌&&◌, ◌||◌, cond}
-use Rattle.std.proofs.Common.{List, [], ◌∷◌, ◌++◌, length, Option, Some, None, refl, sym, ap, ap₂, ◌∙◌, subst, map}
+use Rattle.std.proofs.Common.{List, [], ◌∷◌, ◌++◌, length, Option, Some, None, refl, sym, ap, ◌∙◌, subst, map}
 use Rattle.std.proofs.Common.{flat_map, IsPermutation, arith, append-nil, append_assoc}
-use Rattle.std.proofs.lemmas.Bool.{and_parts, both_ways, or_cases, false≢true}
-use Rattle.std.proofs.lemmas.List.{map-append}
+use Rattle.std.proofs.lemmas.Bool.{and_parts, or_cases, false≢true}
 use Rattle.std.proofs.lemmas.List.Concat.{flat_map-append}
 use Rattle.std.proofs.lemmas.List.Folds.{list_any-append}
-use Rattle.std.proofs.lemmas.List.Sorted.{IsPermutation-sym, IsPermutation-append_left}
+use Rattle.std.proofs.lemmas.List.Sorted.{IsPermutation-sym}
 use Rattle.std.specs.List.{AllByRecursion, list_all}
 use Rattle.pad_model.specs.Stamp.{Stamp, same_stamp}
-use Rattle.pad_model.specs.Character.{Character, next, run_characters}
-use Rattle.pad_model.specs.Cell.{Cell, born_at, character_of, new_cells, with_run, IsBy}
-use Rattle.pad_model.specs.Checked.{is_checked}
+use Rattle.pad_model.specs.Character.{Character}
+use Rattle.pad_model.specs.Cell.{Cell, born_at, character_of, IsBy}
 use Rattle.pad_model.specs.History.{births, death_in, dated, cells_of, IsHistory, Continues}
 use Rattle.pad_model.specs.Laws.{itself}
 use Rattle.pad_model.specs.Legal.{has_stamp, IsTree}
-use Rattle.pad_model.specs.Log.{run_may_join, part_is_valid, is_valid}
-use Rattle.pad_model.specs.Operation.{author_of, inserted_by, erased_by, part_erases, span_stamps, characters_in}
+use Rattle.pad_model.specs.Log.{part_is_valid}
+use Rattle.pad_model.specs.Operation.{inserted_by, erased_by, part_erases, span_stamps, characters_in}
 use Rattle.pad_model.specs.Order.{order}
 use Rattle.pad_model.specs.Visible.{is_erased}
-use Rattle.pad_model.specs.declared.who.Author.{Author}
-use Rattle.pad_model.specs.declared.op.Run.{Run}
 use Rattle.pad_model.specs.declared.op.Part.{Part}
 use Rattle.pad_model.specs.declared.op.Part.TheVariants.{Insert, Delete, Comment, Resolve}
 use Rattle.pad_model.specs.declared.op.Op.{Op}
 use Rattle.pad_model.proofs.Newer.{split, same_stamp-true}
 use Rattle.pad_model.proofs.Each.{each-append, each-imply, each-permutation}
-use Rattle.pad_model.proofs.Cells.{RunMayJoin-from_test}
-use Rattle.pad_model.proofs.Growth.{IsTree-history, tree_grows}
+use Rattle.pad_model.proofs.Growth.{IsTree-history}
 use Rattle.pad_model.proofs.History.{dated-characters}
 use Rattle.pad_model.proofs.Maps.{each-map, IsTree-of_map}
 use Rattle.pad_model.proofs.Members.{order-permutation}
 use Rattle.pad_model.proofs.Rising.{distinct-permutation}
-use Rattle.pad_model.proofs.Runs.{run_fresh}
 use Rattle.pad_model.proofs.Sets.{Has-permutation, set_law}
 
 -- the same items have one order, in whatever sequence they are listed
@@ -49,13 +43,6 @@ births-append rev (op ∷ xs) ys =
     (births-append (suc rev) xs ys ∙ ap (λ n. births (suc rev) xs ++ births n ys) (let e : suc rev + length xs ≡ rev
     + suc (length xs) = omega arith in e))
     ∙ sym (append_assoc (map (born_at rev) (inserted_by op)) (births (suc rev) xs) (births (rev + suc (length xs)) ys))
-
--- an operation that erases nothing gives no death
-death_in-push : (rev : ℕ) (log : List Op) (op : Op) (s : Stamp) → erased_by op ≡ [] → death_in rev (log ++ op ∷ []) s
-    ≡ death_in rev log s
-death_in-push rev [] op s e = rw e refl
-death_in-push rev (one ∷ log) op s e = split (is_erased (erased_by one) s) (λ h. rw h refl)
-    (λ h. rw h (death_in-push (suc rev) log op s e))
 
 -- what is not erased has no death
 pub death_none : (rev : ℕ) (log : List Op) (s : Stamp) → is_erased (flat_map erased_by log) s ≡ false →
@@ -117,28 +104,6 @@ erased_there before (op ∷ more) s k c e =
 pub erased-inserted : (log : List Op) (s : Stamp) → IsHistory log → is_erased (characters_in log).erased s ≡ true →
     has_stamp itself (characters_in log).inserted s ≡ true
 erased-inserted log s h e = erased_there [] log s (λ f. absurd (false≢true f)) h e
-
--- the cells of a run that may join a history are as they were born
-run_undated : (log : List Op) (rev : ℕ) (first : Stamp) (p : Option Stamp) (text : List ℕ) (author : Author) →
-    IsHistory log →
-    AllByRecursion (λ x. x.stamp.replica ≡ first.replica → x.stamp.counter < first.counter)
-    (characters_in log).inserted →
-    map (dated log) (map (born_at rev) (run_characters first p text author)) ≡ map (born_at rev)
-    (run_characters first p text author)
-run_undated log rev first p [] author h a = refl
-run_undated log rev first p (c ∷ text) author h a =
-    let fresh = run_fresh itself (characters_in log).inserted first a in
-    let kept : is_erased (characters_in log).erased first ≡ false =
-    split (is_erased (characters_in log).erased first) (λ e. absurd (both_ways _ fresh (erased-inserted log first h e)))
-    (λ e. e)
-    in
-    ap₂ (λ (x : Cell) l. x ∷ l)
-    (ap (λ d. let it : Cell = record { stamp = first; parent = p; character = c; author = author; born = rev; died = d }
-    in it) (death_none 1 log first kept))
-    (run_undated log rev (next first) (Some first) text author h
-    (each-imply (λ x. x.stamp.replica ≡ first.replica → x.stamp.counter < first.counter)
-    (λ x. x.stamp.replica ≡ first.replica → x.stamp.counter < first.counter + 1) (λ x k e. let l : x.stamp.counter
-    < first.counter = k e in omega arith) (characters_in log).inserted a))
 
 born_before : (rev : ℕ) (cs : List Character) (most : ℕ) → rev < most → AllByRecursion (λ (c : Cell). c.born < most)
     (map (born_at rev) cs)

@@ -28,5 +28,5 @@ returns-clause-counted c = counted_ok 1 c.in_ok-change.field-0 _ c.args.self.now
     c.in_ok-change.ensures.counted
 
 pub returns-in_err-change-clause-counted : goal.returns-in_err-change-clause-counted
-returns-in_err-change-clause-counted c = counted_err _ 1 c.in_err-change.field-0.0 c.from_residual.result c.args.self.now
-    c.change.new.self c.from_residual.ensures.1 c.in_err-change.ensures.counted
+returns-in_err-change-clause-counted c = counted_err _ 1 c.in_err-change.field-0.0 c.from_residual.result
+    c.args.self.now c.change.new.self c.from_residual.ensures.1 c.in_err-change.ensures.counted

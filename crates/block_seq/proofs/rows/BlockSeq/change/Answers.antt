@@ -14,7 +14,9 @@ use Rattle.blocks.proofs.Cells.{same_unlabelled, same_then}
 use Rattle.blocks.proofs.Counts.{keeps_listed, labelled_then}
 use Rattle.block_seq.specs.RowParts.{IsCutBehind, MayPut, with_all}
 use Rattle.block_seq.specs.Rows.{IsBlockSeq, IsCutOut}
-use Rattle.block_seq.specs.RowSlides.{IsAuthoredRow, IsSlid, IsSlidRow}
+use Rattle.block_seq.specs.RowAuthors.{IsAuthoredRow, live_authors}
+use Rattle.block_seq.specs.RowSlides.{IsSlid, IsSlidRow}
+use Rattle.block_seq.proofs.RowAuthors.{hidden_from, relabelled, same_live, shown_from}
 use Rattle.block_seq.proofs.RowNow.{dated_blocks}
 use Rattle.block_seq.proofs.RowSlides.{slid_cut, blocks_small}
 use Rattle.block_seq.proofs.RowChange.{cut_out_kept, lent_checked, lent_sizes}

@@ -1,4 +1,4 @@
-use Rattle.std.proofs.Common.{◌≡◌, max, true, inr, Ok, List, map, sym, ap, ap₂, ◌∙◌, refl, subst, arith, count_by}
+use Rattle.std.proofs.Common.{◌≡◌, max, drop, true, inr, Ok, List, map, sym, ap, ap₂, ◌∙◌, refl, subst, arith, count_by}
 use Rattle.std.specs.List.{AllByRecursion}
 use Rattle.std.specs.Result.{IsErrAnd}
 use Rattle.pad_model.specs.Cell.{character_of, is_hidden_by, without_spans, IsBy, IsInOrder}
@@ -14,7 +14,8 @@ use Rattle.blocks.proofs.Cells.{same_unlabelled, same_then}
 use Rattle.blocks.proofs.Counts.{keeps_listed, labelled_then}
 use Rattle.block_seq.specs.RowParts.{IsCutBehind, MayPut, with_all}
 use Rattle.block_seq.specs.Rows.{IsBlockSeq, IsCutOut}
-use Rattle.block_seq.specs.RowAuthors.{IsAuthoredRow, live_authors}
+use Rattle.block_seq.specs.RowAuthors.{Goes, IsAuthoredRow, MayHide, MayShow, live_authors, with_shown}
+use Rattle.block_seq.specs.RowAuthors.{without_hidden}
 use Rattle.block_seq.specs.RowSlides.{IsSlid, IsSlidRow}
 use Rattle.block_seq.proofs.RowAuthors.{hidden_from, relabelled, same_live, shown_from}
 use Rattle.block_seq.proofs.RowNow.{dated_blocks}
@@ -26,7 +27,7 @@ use Rattle.block_seq.proofs.RowSteps.{unchanged, same_cells_kept}
 use Rattle.block_seq.proofs.RowCounts.{cells_seen, labelled_seen, on_error, undone_seen}
 use Rattle.block_seq.proofs.rows.BlockSeq.change.Goals as goal
 use Rattle.block_seq.proofs.rows.BlockSeq.change.Goals.{After-cut_parents, After-place_author, After-as_slice}
-use Rattle.block_seq.proofs.rows.BlockSeq.change.Goals.{In_ok-clock, After-kill_named-hidden}
+use Rattle.block_seq.proofs.rows.BlockSeq.change.Goals.{In_ok-clock, After-kill_named-hidden, After-as_slice-2, After-as_slice-3}
 
 -- what a cut, one more author or other labels leave
 moved : (c : After-place_author) (text : _) (n : Index) (after : _) → text ≡ c.self.inside.text.items → IsKept n after →
@@ -55,16 +56,25 @@ whole c text slides n after text_is slides_is kept same = record {
 }
 
 -- and of the table of authors
-authored : (c : After-place_author) (text : _) (slides : _) (n : Index) (after : _)
-    → IsSlidRow c.self.inside.latest c.self.inside.clock c.place_author.new.authors.items text slides n after
-    → IsAuthoredRow c.self.inside.latest c.self.inside.clock c.place_author.new.authors.items text slides n after
-authored c text slides n after w =
-    record { row = w.row; slid = w.slid; once = c.place_author.ensures.once c.self.invariant.once }
+authored : (c : After-place_author) (text : _) (slides : _) (n : Index) (after places : _)
+    → IsSlidRow c.self.inside.latest c.self.inside.clock c.place_author.new.authors.items text slides n after →
+    places ≡ live_authors after →
+    IsAuthoredRow c.self.inside.latest c.self.inside.clock c.place_author.new.authors.items text slides n after places
+authored c text slides n after places w runs =
+    record { row = w.row; slid = w.slid; once = c.place_author.ensures.once c.self.invariant.once; runs = runs }
 
 -- the row that is cut
 cut : (c : After-cut_parents) → SameCells c.self.inside.tree.items c.cut_parents.new.tree.items
 cut c = same_then c.self.inside.tree.items c.cut_spans.new.tree.items c.cut_parents.new.tree.items
     c.cut_spans.ensures.cells c.cut_parents.ensures.cells
+
+-- and whose its visible characters are
+places : (c : After-cut_parents) → c.self.inside.runs.places ≡ live_authors c.cut_parents.new.tree.items
+places c =
+    c.self.invariant.runs
+    ∙ sym (same_live c.self.inside.authors.items c.self.inside.text.items c.self.inside.index c.cut_parents.new.index
+    c.self.inside.tree.items c.cut_parents.new.tree.items c.self.invariant.row c.cut_parents.ensures.kept (cut c)
+    c.self.invariant.once)
 
 pub cut_parents-requires-clause-later : goal.cut_parents-requires-clause-later
 cut_parents-requires-clause-later c = all_later (λ run. run.now) c.args.self.now.cells c.args.runs.now c.requires.fit
@@ -79,6 +89,10 @@ invariant_of-self c = record {
       c.cut_spans.ensures.kept c.cut_spans.ensures.cells
       c.self.invariant.slid;
   once = c.self.invariant.once;
+  runs = c.self.invariant.runs
+      ∙ sym (same_live c.self.inside.authors.items c.self.inside.text.items c.self.inside.index c.cut_spans.new.index
+      c.self.inside.tree.items c.cut_spans.new.tree.items c.self.invariant.row c.cut_spans.ensures.kept
+      c.cut_spans.ensures.cells c.self.invariant.once);
 }
 
 pub invariant_of-self-in_err-cut_parents : goal.invariant_of-self-in_err-cut_parents
@@ -91,15 +105,17 @@ invariant_of-self-in_err-cut_parents c =
           c.self.inside.index c.cut_parents.new.index c.self.inside.tree.items c.cut_parents.new.tree.items
           c.self.invariant.row c.cut_parents.ensures.kept same c.self.invariant.slid;
       once = c.self.invariant.once;
+      runs = places (goal.at.invariant_of-self-in_err-cut_parents c).After-cut_parents;
     }
 
 pub invariant_of-self-in_err-author : goal.invariant_of-self-in_err-author
 invariant_of-self-in_err-author c =
     let g = goal.at.invariant_of-self-in_err-author c in
     authored g.After-place_author c.self.inside.text.items c.self.inside.slides.items c.cut_parents.new.index
-    c.cut_parents.new.tree.items
+    c.cut_parents.new.tree.items c.self.inside.runs.places
     (whole g.After-place_author c.self.inside.text.items c.self.inside.slides.items c.cut_parents.new.index
     c.cut_parents.new.tree.items refl refl c.cut_parents.ensures.kept (cut g.After-cut_parents))
+    (places g.After-cut_parents)
 
 pub returns-in_err-author-clause-answers : goal.returns-in_err-author-clause-answers
 returns-in_err-author-clause-answers c =
@@ -112,9 +128,10 @@ pub invariant_of-self-in_err-reserve : goal.invariant_of-self-in_err-reserve
 invariant_of-self-in_err-reserve c =
     let g = goal.at.invariant_of-self-in_err-reserve c in
     authored g.After-place_author c.reserve.new.self.items c.self.inside.slides.items c.cut_parents.new.index
-    c.cut_parents.new.tree.items
+    c.cut_parents.new.tree.items c.self.inside.runs.places
     (whole g.After-place_author c.reserve.new.self.items c.self.inside.slides.items c.cut_parents.new.index
     c.cut_parents.new.tree.items c.reserve.ensures.items refl c.cut_parents.ensures.kept (cut g.After-cut_parents))
+    (places g.After-cut_parents)
 
 pub returns-in_err-reserve-clause-answers : goal.returns-in_err-reserve-clause-answers
 returns-in_err-reserve-clause-answers c =
@@ -127,15 +144,33 @@ pub invariant_of-self-in_err-reserve-2 : goal.invariant_of-self-in_err-reserve-2
 invariant_of-self-in_err-reserve-2 c =
     let g = goal.at.invariant_of-self-in_err-reserve-2 c in
     authored g.After-place_author c.reserve.new.self.items c.reserve-2.new.self.items c.cut_parents.new.index
-    c.cut_parents.new.tree.items
+    c.cut_parents.new.tree.items c.self.inside.runs.places
     (whole g.After-place_author c.reserve.new.self.items c.reserve-2.new.self.items c.cut_parents.new.index
     c.cut_parents.new.tree.items c.reserve.ensures.items c.reserve-2.ensures.items c.cut_parents.ensures.kept
     (cut g.After-cut_parents))
+    (places g.After-cut_parents)
 
 pub returns-in_err-reserve-2-clause-answers : goal.returns-in_err-reserve-2-clause-answers
 returns-in_err-reserve-2-clause-answers c =
     let g = goal.at.returns-in_err-reserve-2-clause-answers c in
     answers_memory c.from_residual-in_err-reserve-2.result c.from_residual-in_err-reserve-2.ensures.1
+    (moved g.After-place_author c.reserve.new.self.items c.cut_parents.new.index c.cut_parents.new.tree.items
+    c.reserve.ensures.items c.cut_parents.ensures.kept (cut g.After-cut_parents)).1 refl
+
+pub invariant_of-self-in_err-reserve-3 : goal.invariant_of-self-in_err-reserve-3
+invariant_of-self-in_err-reserve-3 c =
+    let g = goal.at.invariant_of-self-in_err-reserve-3 c in
+    authored g.After-place_author c.reserve.new.self.items c.reserve-2.new.self.items c.cut_parents.new.index
+    c.cut_parents.new.tree.items c.reserve-3.new.self.places
+    (whole g.After-place_author c.reserve.new.self.items c.reserve-2.new.self.items c.cut_parents.new.index
+    c.cut_parents.new.tree.items c.reserve.ensures.items c.reserve-2.ensures.items c.cut_parents.ensures.kept
+    (cut g.After-cut_parents))
+    (c.reserve-3.ensures.places ∙ places g.After-cut_parents)
+
+pub returns-in_err-reserve-3-clause-answers : goal.returns-in_err-reserve-3-clause-answers
+returns-in_err-reserve-3-clause-answers c =
+    let g = goal.at.returns-in_err-reserve-3-clause-answers c in
+    answers_memory c.from_residual-in_err-reserve-3.result c.from_residual-in_err-reserve-3.ensures.1
     (moved g.After-place_author c.reserve.new.self.items c.cut_parents.new.index c.cut_parents.new.tree.items
     c.reserve.ensures.items c.cut_parents.ensures.kept (cut g.After-cut_parents)).1 refl
 
@@ -214,12 +249,14 @@ pub invariant_of-self-in_err-clock : goal.invariant_of-self-in_err-clock
 invariant_of-self-in_err-clock c =
     let g = goal.at.invariant_of-self-in_err-clock c in
     authored g.After-place_author c.put_runs.new.text.items c.put_runs.new.slides.items c.put_runs.new.index
-    c.put_runs.new.tree.items
+    c.put_runs.new.tree.items c.reserve-3.new.self.places
     (whole g.After-place_author c.put_runs.new.text.items c.put_runs.new.slides.items c.put_runs.new.index
     c.put_runs.new.tree.items (c.in_err-clock.ensures.same_text ∙ c.reserve.ensures.items)
     (c.in_err-clock.ensures.same_slides ∙ c.reserve-2.ensures.items) c.put_runs.ensures.kept
     (same_then c.self.inside.tree.items c.cut_parents.new.tree.items c.put_runs.new.tree.items (cut g.After-cut_parents)
     (same_unlabelled c.cut_parents.new.tree.items c.put_runs.new.tree.items c.in_err-clock.ensures.same_blocks)))
+    (c.reserve-3.ensures.places ∙ places g.After-cut_parents
+    ∙ sym (relabelled c.cut_parents.new.tree.items c.put_runs.new.tree.items c.in_err-clock.ensures.same_blocks))
 
 pub returns-in_err-clock-clause-answers : goal.returns-in_err-clock-clause-answers
 returns-in_err-clock-clause-answers c =
@@ -295,6 +332,48 @@ done c cut seen who =
           (runs c) order c.requires.join c.requires.there,
     )
 
+-- what the slides of the runs do to the places
+shows : (c : After-as_slice-2) → c.self.inside.runs.places ≡ live_authors c.cut_parents.new.tree.items →
+    Goes (with_shown c.in_ok-author.author) MayShow c.reserve-3.new.self.places
+    (drop c.len-known.result c.as_slice-2.result.now) (live_authors c.put_runs.new.tree.items)
+shows c is =
+    let author = c.in_ok-author.author in
+    let after = live_authors c.put_runs.new.tree.items in
+    let known = c.len-known.result in
+    subst (λ ps. Goes (with_shown author) MayShow ps (drop known c.as_slice-2.result.now) after)
+    (sym (c.reserve-3.ensures.places ∙ is))
+    (subst (λ l. Goes (with_shown author) MayShow (live_authors c.cut_parents.new.tree.items) (drop known l) after)
+    (sym c.as_slice-2.ensures.value)
+    (shown_from author c.reserve-2.new.self.items c.put_runs.new.slides.items c.cut_parents.new.tree.items
+    c.put_runs.new.tree.items known (c.len-known.ensures ∙ c.reserve-2.new.self.ok.0) c.in_ok-clock.ensures.authors))
+
+pub follow_shown-requires-clause-goes : goal.follow_shown-requires-clause-goes
+follow_shown-requires-clause-goes c =
+    let g = goal.at.follow_shown-requires-clause-goes c in
+    (live_authors c.put_runs.new.tree.items, shows g.After-as_slice-2 (places g.After-cut_parents))
+
+-- and those of the deaths
+hides : (c : After-as_slice-3) → c.follow_shown.new.runs.places ≡ live_authors c.put_runs.new.tree.items →
+    Goes without_hidden MayHide c.follow_shown.new.runs.places (drop c.len-known-2.result c.as_slice-3.result.now)
+    (live_authors c.kill_named-hidden.new.tree.items)
+hides c is =
+    let after = live_authors c.kill_named-hidden.new.tree.items in
+    let known = c.len-known-2.result in
+    subst (λ ps. Goes without_hidden MayHide ps (drop known c.as_slice-3.result.now) after) (sym is)
+    (subst (λ l. Goes without_hidden MayHide (live_authors c.put_runs.new.tree.items) (drop known l) after)
+    (sym c.as_slice-3.ensures.value)
+    (hidden_from c.put_runs.new.slides.items c.kill_named-hidden.new.slides.items c.put_runs.new.tree.items
+    c.kill_named-hidden.new.tree.items known (c.len-known-2.ensures ∙ c.put_runs.new.slides.ok.0)
+    c.kill_named-hidden.ensures.authors))
+
+pub follow_hidden-requires-clause-goes : goal.follow_hidden-requires-clause-goes
+follow_hidden-requires-clause-goes c =
+    let g = goal.at.follow_hidden-requires-clause-goes c in (
+      live_authors c.kill_named-hidden.new.tree.items,
+      hides g.After-as_slice-3 (c.follow_shown.ensures (live_authors c.put_runs.new.tree.items)
+          (shows g.After-as_slice-2 (places g.After-cut_parents))),
+    )
+
 pub invariant_of-self-2 : goal.invariant_of-self-2
 invariant_of-self-2 c =
     let g = goal.at.invariant_of-self-2 c in
@@ -306,6 +385,9 @@ invariant_of-self-2 c =
           c.put_runs.new.index c.kill_named-hidden.new.tree.items) (sym c.max-self-inside.ensures) left;
       slid = c.kill_named-hidden.ensures.slid;
       once = c.place_author.ensures.once c.self.invariant.once;
+      runs = c.follow_hidden.ensures (live_authors c.kill_named-hidden.new.tree.items)
+          (hides g.After-as_slice-3 (c.follow_shown.ensures (live_authors c.put_runs.new.tree.items)
+          (shows g.After-as_slice-2 (places g.After-cut_parents))));
     }
 
 pub returns-clause-answers : goal.returns-clause-answers
@@ -349,6 +431,12 @@ returns-in_err-reserve-2-clause-undone c =
     on_error c.from_residual-in_err-reserve-2.result
     (undone_seen c.self.view_is c.cut_parents.new.tree.items c.cut_parents.new.respacings
     (when_cut (goal.at.returns-in_err-reserve-2-clause-undone c).After-cut_parents))
+
+pub returns-in_err-reserve-3-clause-undone : goal.returns-in_err-reserve-3-clause-undone
+returns-in_err-reserve-3-clause-undone c =
+    on_error c.from_residual-in_err-reserve-3.result
+    (undone_seen c.self.view_is c.cut_parents.new.tree.items c.cut_parents.new.respacings
+    (when_cut (goal.at.returns-in_err-reserve-3-clause-undone c).After-cut_parents))
 
 pub returns-in_err-clock-clause-undone : goal.returns-in_err-clock-clause-undone
 returns-in_err-clock-clause-undone c =

@@ -22,10 +22,10 @@ use Rattle.authorship.specs.Kept.{author_in, IsOnce}
 use Rattle.block_seq.specs.Rows.{IsBlockSeq, IsDated, shows}
 use Rattle.block_seq.specs.RowLists.{shown_by}
 use Rattle.block_seq.specs.RowAuthors.{live_by, live_authors, with_shown, without_hidden, MayShow, MayHide, Goes}
-use Rattle.block_seq.specs.RowAuthors.{Shows, Hides}
+use Rattle.block_seq.specs.RowAuthors.{Shows, Hides, IsAuthoredRow}
 use Rattle.block_seq.proofs.RowLists.{authors-at}
 use Rattle.block_seq.proofs.RowNow.{dated_blocks}
-use Rattle.block_seq.proofs.RowSlides.{list_now, alive_small, length-alive, parted, put_parts}
+use Rattle.block_seq.proofs.RowSlides.{list_now, alive_small, length-alive, parted, put_parts, slid_cut}
 use Rattle.block_seq.proofs.RowSteps.{same_cells_kept}
 
 -- ---- how many there are, and that labels change none
@@ -78,18 +78,21 @@ drop_known : (known more slides : List Slide) (n : ℕ) → n ≡ length known �
     drop n slides ≡ more
 drop_known known more slides n e is = ap₂ drop e is ∙ drop-append_seam known more
 
-pub shown_from : (author : ℕ) (known slides : List Slide) (old new : List Block) (n : ℕ) → n ≡ length known →
-    Shows author known slides old new
-    → Goes (with_shown author) MayShow (live_authors old) (drop n slides) (live_authors new)
-shown_from author known slides old new n e s =
-    subst (λ l. Goes (with_shown author) MayShow (live_authors old) l (live_authors new))
-    (sym (drop_known known s.0 slides n e s.1)) s.2
+pub shown_from : (author : ℕ) (known slides lent : List Slide) (old new : List Block) (ps : List ℕ) (n : ℕ) →
+    ps ≡ live_authors old → lent ≡ slides → n ≡ length known → Shows author known slides old new
+    → Goes (with_shown author) MayShow ps (drop n lent) (live_authors new)
+shown_from author known slides lent old new ps n is lends e s =
+    subst (λ x. Goes (with_shown author) MayShow x (drop n lent) (live_authors new)) (sym is)
+    (subst (λ l. Goes (with_shown author) MayShow (live_authors old) l (live_authors new))
+    (sym (drop_known known s.0 lent n e (lends ∙ s.1))) s.2)
 
-pub hidden_from : (known slides : List Slide) (old new : List Block) (n : ℕ) → n ≡ length known →
-    Hides known slides old new → Goes without_hidden MayHide (live_authors old) (drop n slides) (live_authors new)
-hidden_from known slides old new n e s =
-    subst (λ l. Goes without_hidden MayHide (live_authors old) l (live_authors new))
-    (sym (drop_known known s.0 slides n e s.1)) s.2
+pub hidden_from : (known slides lent : List Slide) (old new : List Block) (ps : List ℕ) (n : ℕ) →
+    ps ≡ live_authors old → lent ≡ slides → n ≡ length known → Hides known slides old new
+    → Goes without_hidden MayHide ps (drop n lent) (live_authors new)
+hidden_from known slides lent old new ps n is lends e s =
+    subst (λ x. Goes without_hidden MayHide x (drop n lent) (live_authors new)) (sym is)
+    (subst (λ l. Goes without_hidden MayHide (live_authors old) l (live_authors new))
+    (sym (drop_known known s.0 lent n e (lends ∙ s.1))) s.2)
 
 -- ---- a block that comes, and one that dies
 seam : (front back : List ℕ) (n : ℕ) → n ≡ length front → (take n (front ++ back) ≡ front)
@@ -219,7 +222,7 @@ same_places table (p ∷ ps) (q ∷ qs) once k l e =
     ap₂ (λ x xs. x ∷ xs) (once p q k.0 l.0 (cc)) (same_places table ps qs once k.1 l.1 (cc))
 
 -- ---- where no character changes
-pub same_live : {latest clock : ℕ} (authors : List Author) (text : List ℕ) (m n : Index) (bs after : List Block) →
+same_live : {latest clock : ℕ} (authors : List Author) (text : List ℕ) (m n : Index) (bs after : List Block) →
     IsBlockSeq latest clock authors text m bs → IsKept n after → SameCells bs after → IsDistinct same_author authors
     → live_authors after ≡ live_authors bs
 same_live {latest} authors text m n bs after row kept same distinct =
@@ -232,3 +235,13 @@ same_live {latest} authors text m n bs after row kept same distinct =
     (authors_now latest authors after new_dated ∙ sym (authors-at latest authors text after new.0.within)
     ∙ ap (λ l. map (λ c. c.author) (Rattle.pad_model.specs.Cell.cells_at latest l)) new.1
     ∙ authors-at latest authors text bs row.within ∙ sym (authors_now latest authors bs old_dated))
+
+pub authored_cut : {latest clock : ℕ} (authors : List Author) (text : List ℕ) (slides : List Slide) (m n : Index)
+    (bs after : List Block) (places : List ℕ) → IsAuthoredRow latest clock authors text slides m bs places →
+    IsKept n after → SameCells bs after → IsAuthoredRow latest clock authors text slides n after places
+authored_cut authors text slides m n bs after places whole kept same = record {
+  row = (same_cells_kept authors text m n bs after whole.row kept same).0;
+  slid = slid_cut slides authors text m n bs after whole.row kept same whole.slid;
+  once = whole.once;
+  runs = whole.runs ∙ sym (same_live authors text m n bs after whole.row kept same whole.once);
+}

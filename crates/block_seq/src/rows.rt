@@ -102,6 +102,7 @@ impl BlockSeq {
         ensures few { self.new.respaced ≤ self.old.respaced
             + 2 * (length runs.now + length spans.now) }
     {
+        self.runs.reserve(alloc, runs.len() as u64)?;
         let counted = &mut self.respaced;
         cut_spans(alloc, &mut self.tree, &mut self.index, counted, spans)?;
         let counted = &mut self.respaced;
@@ -110,7 +111,6 @@ impl BlockSeq {
         self.text.reserve(count_text(runs))?;
         let kills = count_kills(&self.tree, spans);
         self.slides.reserve(kills + 2 * runs.len())?;
-        self.runs.reserve(alloc, runs.len() as u64)?;
         let known = self.slides.len();
         let batch = Batch {
             authors: self.authors.as_slice(),

@@ -228,7 +228,7 @@ loop-run-preserved c =
       slides_room = c.put_run.ensures.slides_capacity ∙ inv.slides_room;
       authors = shows_then c.args.batch.now.author c.args.slides.now.items c.loop-run.slides.items
           c.put_run.new.slides.items c.args.tree.now.items c.loop-run.tree.items c.put_run.new.tree.items inv.authors
-           c.in-Ok.ensures.authors;
+          c.in-Ok.ensures.authors;
       live = omega (arith, inv.live, c.in-Ok.ensures.live);
       more = omega (arith, inv.more, fewer, before, new_size, old_size);
       labelled = labelled_then inv.labelled c.put_run.ensures.labelled;

@@ -5,11 +5,10 @@ use Rattle.blocks.specs.Cells.{cells_of}
 use Rattle.blocks.specs.Counts.Labelled.{changed}
 use Rattle.blocks.proofs.Counts.{keeps_listed}
 use Rattle.block_seq.specs.Rows.{IsBlockSeq}
-use Rattle.block_seq.specs.RowAuthors.{Goes, MayHide, live_authors, without_hidden}
+use Rattle.block_seq.specs.RowAuthors.{Goes, IsAuthoredRow, MayHide, live_authors, without_hidden}
 use Rattle.block_seq.specs.RowSlides.{IsSlid}
-use Rattle.block_seq.proofs.RowAuthors.{hidden_from, same_live}
+use Rattle.block_seq.proofs.RowAuthors.{authored_cut, hidden_from}
 use Rattle.block_seq.proofs.RowNow.{dated_blocks}
-use Rattle.block_seq.proofs.RowSlides.{slid_cut}
 use Rattle.block_seq.proofs.RowErase.{all_aligned, killed_count, row_killed}
 use Rattle.block_seq.proofs.RowSteps.{same_cells_kept}
 use Rattle.block_seq.proofs.RowCounts.{cells_seen, labelled_seen, on_error, undone_seen}
@@ -17,43 +16,29 @@ use Rattle.block_seq.proofs.rows.BlockSeq.erase.Goals as goal
 use Rattle.block_seq.proofs.rows.BlockSeq.erase.Goals.{After-cut_spans, After-kill_named-hidden, After-as_slice}
 
 -- what the cuts leave
-row : (c : After-cut_spans) → IsBlockSeq c.self.inside.latest c.self.inside.clock c.self.inside.authors.items
-    c.self.inside.text.items c.cut_spans.new.index c.cut_spans.new.tree.items
-row c = (same_cells_kept c.self.inside.authors.items c.self.inside.text.items c.self.inside.index c.cut_spans.new.index
-    c.self.inside.tree.items c.cut_spans.new.tree.items c.self.invariant.row c.cut_spans.ensures.kept
-    c.cut_spans.ensures.cells).0
-
-slid : (c : After-cut_spans) → IsSlid c.self.inside.slides.items c.cut_spans.new.tree.items
-slid c =
-    slid_cut c.self.inside.slides.items c.self.inside.authors.items c.self.inside.text.items c.self.inside.index
-    c.cut_spans.new.index c.self.inside.tree.items c.cut_spans.new.tree.items c.self.invariant.row
+row : (c : After-cut_spans) → IsAuthoredRow c.self.inside.latest c.self.inside.clock c.self.inside.authors.items
+    c.self.inside.text.items c.self.inside.slides.items c.cut_spans.new.index c.cut_spans.new.tree.items
+    c.self.inside.runs.places
+row c = authored_cut c.self.inside.authors.items c.self.inside.text.items c.self.inside.slides.items c.self.inside.index
+    c.cut_spans.new.index c.self.inside.tree.items c.cut_spans.new.tree.items c.self.inside.runs.places c.self.invariant
     c.cut_spans.ensures.kept c.cut_spans.ensures.cells
-    c.self.invariant.slid
-
-places : (c : After-cut_spans) → c.self.inside.runs.places ≡ live_authors c.cut_spans.new.tree.items
-places c =
-    c.self.invariant.runs
-    ∙ sym (same_live c.self.inside.authors.items c.self.inside.text.items c.self.inside.index c.cut_spans.new.index
-    c.self.inside.tree.items c.cut_spans.new.tree.items c.self.invariant.row c.cut_spans.ensures.kept
-    c.cut_spans.ensures.cells c.self.invariant.once)
 
 pub invariant_of-self : goal.invariant_of-self
-invariant_of-self c = let g = goal.at.invariant_of-self c in
-    record { row = row g.After-cut_spans; slid = slid g.After-cut_spans; once = c.self.invariant.once; runs = places g.After-cut_spans }
+invariant_of-self c = row (goal.at.invariant_of-self c).After-cut_spans
 
 pub invariant_of-self-in_err-reserve : goal.invariant_of-self-in_err-reserve
 invariant_of-self-in_err-reserve c =
-    let g = goal.at.invariant_of-self-in_err-reserve c in
-    record { row = row g.After-cut_spans; slid = subst (λ l. IsSlid l c.cut_spans.new.tree.items) (sym c.reserve.ensures.items) (slid g.After-cut_spans); once = c.self.invariant.once; runs = places g.After-cut_spans }
+    let cut = row (goal.at.invariant_of-self-in_err-reserve c).After-cut_spans in
+    record { row = cut.row; slid = subst (λ l. IsSlid l c.cut_spans.new.tree.items) (sym c.reserve.ensures.items) cut.slid; once = cut.once; runs = cut.runs }
 
 pub kill_named-hidden-requires-clause-slid : goal.kill_named-hidden-requires-clause-slid
 kill_named-hidden-requires-clause-slid c =
     subst (λ l. IsSlid l c.cut_spans.new.tree.items) (sym c.reserve.ensures.items)
-    (slid (goal.at.kill_named-hidden-requires-clause-slid c).After-cut_spans)
+    (row (goal.at.kill_named-hidden-requires-clause-slid c).After-cut_spans).slid
 
 pub kill_named-hidden-requires-clause-dated : goal.kill_named-hidden-requires-clause-dated
 kill_named-hidden-requires-clause-dated c =
-    let cut = row (goal.at.kill_named-hidden-requires-clause-dated c).After-cut_spans in
+    let cut = (row (goal.at.kill_named-hidden-requires-clause-dated c).After-cut_spans).row in
     let cells = c.cut_spans.ensures.cells.cells c.self.inside.authors.items c.self.inside.text.items
     c.self.invariant.row.within ∙ (cells_seen c.self.view_is) in
     dated_blocks c.args.rev c.self.inside.authors.items c.self.inside.text.items c.cut_spans.new.tree.items cut.within
@@ -86,19 +71,14 @@ hides : (c : After-as_slice) → c.self.inside.runs.places ≡ live_authors c.cu
     Goes without_hidden MayHide c.self.inside.runs.places (drop c.len-known.result c.as_slice.result.now)
     (live_authors c.kill_named-hidden.new.tree.items)
 hides c is =
-    let after = live_authors c.kill_named-hidden.new.tree.items in
-    let known = c.len-known.result in
-    subst (λ ps. Goes without_hidden MayHide ps (drop known c.as_slice.result.now) after) (sym is)
-    (subst (λ l. Goes without_hidden MayHide (live_authors c.cut_spans.new.tree.items) (drop known l) after)
-    (sym c.as_slice.ensures.value)
-    (hidden_from c.reserve.new.self.items c.kill_named-hidden.new.slides.items c.cut_spans.new.tree.items
-    c.kill_named-hidden.new.tree.items known (c.len-known.ensures ∙ c.reserve.new.self.ok.0)
-    c.kill_named-hidden.ensures.authors))
+    hidden_from c.reserve.new.self.items c.kill_named-hidden.new.slides.items c.as_slice.result.now
+    c.cut_spans.new.tree.items c.kill_named-hidden.new.tree.items c.self.inside.runs.places c.len-known.result is
+    c.as_slice.ensures.value (c.len-known.ensures ∙ c.reserve.new.self.ok.0) c.kill_named-hidden.ensures.authors
 
 pub follow_hidden-requires-clause-goes : goal.follow_hidden-requires-clause-goes
 follow_hidden-requires-clause-goes c =
     let g = goal.at.follow_hidden-requires-clause-goes c in
-    (live_authors c.kill_named-hidden.new.tree.items, hides g.After-as_slice (places g.After-cut_spans))
+    (live_authors c.kill_named-hidden.new.tree.items, hides g.After-as_slice (row g.After-cut_spans).runs)
 
 pub invariant_of-self-2 : goal.invariant_of-self-2
 invariant_of-self-2 c = let g = goal.at.invariant_of-self-2 c in record {
@@ -108,7 +88,7 @@ invariant_of-self-2 c = let g = goal.at.invariant_of-self-2 c in record {
   slid = c.kill_named-hidden.ensures.slid;
   once = c.self.invariant.once;
   runs = c.follow_hidden.ensures (live_authors c.kill_named-hidden.new.tree.items)
-      (hides g.After-as_slice (places g.After-cut_spans));
+      (hides g.After-as_slice (row g.After-cut_spans).runs);
 }
 
 pub returns-clause-answers : goal.returns-clause-answers

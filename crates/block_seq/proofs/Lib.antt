@@ -9,6 +9,7 @@ pub mod RowTouched
 pub mod RowGaps
 pub mod RowRanks
 pub mod RowPieces
+pub mod RowAuthors
 pub mod RowCell
 pub mod RowCounts
 pub mod RowErase

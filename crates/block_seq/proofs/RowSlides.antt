@@ -39,7 +39,7 @@ abbrev alive : List Block → List Stamp
 alive bs = flat_map live_stamps bs
 
 -- ---- what is alive is what the last revision shows
-list_now : {A : Type 0} (born rev : ℕ) (died : Option ℕ) (xs : List A) → born ≤ rev →
+pub list_now : {A : Type 0} (born rev : ℕ) (died : Option ℕ) (xs : List A) → born ≤ rev →
     ((d : ℕ) → died ≡ Some d → d ≤ rev) → cond (nat_le born rev && is_after rev died) xs [] ≡ cond (is_none died) xs []
 list_now born rev None xs b d = rw (le-leb born rev b) refl
 list_now born rev (Some x) xs b d =
@@ -71,7 +71,7 @@ small_weight : (n : ℕ) (died : Option ℕ) → cond (is_none died) n 0 ≤ n
 small_weight n None = omega arith
 small_weight n (Some x) = omega arith
 
-alive_small : (bs : List Block) → length (alive bs) ≤ sum_by (λ b. b.len) bs
+pub alive_small : (bs : List Block) → length (alive bs) ≤ sum_by (λ b. b.len) bs
 alive_small [] = omega arith
 alive_small (b ∷ bs) =
     let sum = sum_by-cons (λ (x : Block). x.len) b bs in
@@ -241,7 +241,7 @@ slid_hidden slides s front back b is dated died at first len shows sized small =
     )))
 
 -- ---- a block that dies at its rank
-parted : (bs : List Block) (rank : ℕ) (b x : Block) → slice_get bs rank ≡ Some b →
+pub parted : (bs : List Block) (rank : ℕ) (b x : Block) → slice_get bs rank ≡ Some b →
     (bs ≡ take rank bs ++ b ∷ drop (suc rank) bs) × (slice_set bs rank x ≡ take rank bs ++ x ∷ drop (suc rank) bs)
 parted [] rank b x e = absurd (cc)
 parted (y ∷ bs) zero b x e = let same : y ≡ b = cc in (ap (λ z. z ∷ bs) same, refl)
@@ -328,6 +328,13 @@ slid_cut {latest} slides authors text m n bs after row kept same is =
     ∙ stamps_now latest bs (dated latest new)) dated
 
 -- ---- a block that comes at its rank, with new labels
+-- the blocks with one more, without their labels
+pub put_parts : (mid after : List Block) (k : ℕ) (b : Block) → without_labels after
+    ≡ insert (without_labels mid) k (unlabelled b) → without_labels after
+    ≡ without_labels (take k mid ++ b ∷ drop k mid)
+put_parts mid after k b put = put ∙ ap₂ (λ x y. x ++ unlabelled b ∷ y) (take-map unlabelled k mid)
+    (drop-map unlabelled k mid) ∙ sym (map-append unlabelled (take k mid) (b ∷ drop k mid))
+
 pub slid_put : (slides : List Slide) (s : Slide) (mid after : List Block) (k : ℕ) (b : Block) → without_labels after
     ≡ insert (without_labels mid) k (unlabelled b) → IsSlid slides mid → AllByRecursion (IsDated s.rev) mid →
     b.born ≡ s.rev → b.died ≡ None
@@ -338,9 +345,7 @@ slid_put slides s mid after k b put is dated born died at first len shows sized 
     let front = take k mid in
     let back = drop k mid in
     let whole : front ++ back ≡ mid = take-append-drop k mid in
-    let same : without_labels after ≡ without_labels (front ++ b ∷ back) =
-    put ∙ ap₂ (λ x y. x ++ unlabelled b ∷ y) (take-map unlabelled k mid) (drop-map unlabelled k mid)
-    ∙ sym (map-append unlabelled front (b ∷ back)) in
+    let same = put_parts mid after k b put in
     let dates = subst (AllByRecursion (IsDated s.rev)) (sym whole) dated in
     let parts = each_part (IsDated s.rev) front back dates in
     let all = each-append (IsDated s.rev) front (b ∷ back) parts.0 (
@@ -360,9 +365,7 @@ pub one_more : (mid after : List Block) (k : ℕ) (b : Block) → without_labels
 one_more mid after k b put =
     let front = take k mid in
     let back = drop k mid in
-    let same : without_labels after ≡ without_labels (front ++ b ∷ back) =
-    put ∙ ap₂ (λ x y. x ++ unlabelled b ∷ y) (take-map unlabelled k mid) (drop-map unlabelled k mid)
-    ∙ sym (map-append unlabelled front (b ∷ back)) in
+    let same = put_parts mid after k b put in
     let count : live_blocks after ≡ live_blocks (front ++ b ∷ back) = sym (live_unlabelled after) ∙ ap live_blocks same
     ∙ live_unlabelled (front ++ b ∷ back) in
     let split_mid : live_blocks mid ≡ live_blocks front + live_blocks back =

@@ -1,9 +1,8 @@
 -- The slides of a row of blocks: what came and went at each revision.
 use Rattle.std.specs.Prelude.{ℕ, ◌≤◌, true, List, [], length, flat_map, count_by, sum_by, is_none, if◌then◌else◌}
-use Rattle.std.specs.List.{AllByRecursion, IsDistinct}
+use Rattle.std.specs.List.{AllByRecursion}
 use Rattle.pad_model.specs.Operation.{stamps_from}
 use Rattle.pad_model.specs.Stamp.{Stamp}
-use Rattle.pad_model.specs.Visible.{same_author}
 use Rattle.pad_model.specs.declared.op.Run.{Run}
 use Rattle.pad_model.specs.declared.op.Span.{Span}
 use Rattle.pad_model.specs.declared.who.Author.{Author}
@@ -49,11 +48,3 @@ pub record IsSlidRow (latest clock : ℕ) (authors : List Author) (text : List �
     (bs : List Block) : Type 0 where
   pub row : IsBlockSeq latest clock authors text m bs
   pub slid : IsSlid slides bs
-
--- the same, and the table of authors has none twice
-pub record IsAuthoredRow (latest clock : ℕ) (authors : List Author) (text : List ℕ)
-    (slides : List Slide) (m : Index)
-    (bs : List Block) : Type 0 where
-  pub row : IsBlockSeq latest clock authors text m bs
-  pub slid : IsSlid slides bs
-  pub once : IsDistinct same_author authors

@@ -11,6 +11,7 @@ mod place;
 mod plain;
 mod put;
 mod readers;
+mod row_authors;
 mod row_erase;
 mod row_kills;
 mod row_lists;

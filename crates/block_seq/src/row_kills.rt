@@ -4,6 +4,7 @@ ghost use Rattle.std.specs.List.{AllByRecursion, list_all};
 ghost use Rattle.pad_model.specs.Checked.{is_span};
 ghost use Rattle.ident_index.specs.Index.{stamp_behind};
 ghost use Rattle.blocks.specs.Blocks.{IsKept, IsEdge};
+ghost use Rattle.block_seq.specs.RowAuthors.{Hides};
 ghost use Rattle.block_seq.specs.RowSlides.{IsSlid, live_blocks, named_len};
 ghost use Rattle.block_seq.specs.Rows.{IsCutOut, IsDated, killed, hidden_len, span_from};
 
@@ -36,6 +37,7 @@ fn kill_from(
     requires room { 0 < live_blocks tree.old.items → vec_len slides.old < vec_capacity slides.old }
     ensures kept { IsKept index.now tree.new.items }
     ensures slid { IsSlid slides.new.items tree.new.items }
+    ensures authors { Hides slides.old.items slides.new.items tree.old.items tree.new.items }
     ensures dated { AllByRecursion (IsDated rev) tree.new.items }
     ensures spent { vec_len slides.new + live_blocks tree.new.items
         ≡ vec_len slides.old + live_blocks tree.old.items }
@@ -80,6 +82,7 @@ fn kill_span(
         ≤ vec_capacity slides.old }
     ensures kept { IsKept index.now tree.new.items }
     ensures slid { IsSlid slides.new.items tree.new.items }
+    ensures authors { Hides slides.old.items slides.new.items tree.old.items tree.new.items }
     ensures dated { AllByRecursion (IsDated rev) tree.new.items }
     ensures spent { vec_len slides.new + live_blocks tree.new.items
         ≡ vec_len slides.old + live_blocks tree.old.items }
@@ -119,6 +122,7 @@ pub fn kill_named(
         ≤ vec_capacity slides.old }
     ensures kept { IsKept index.now tree.new.items }
     ensures slid { IsSlid slides.new.items tree.new.items }
+    ensures authors { Hides slides.old.items slides.new.items tree.old.items tree.new.items }
     ensures items { tree.new.items ≡ map (killed rev spans.now) tree.old.items }
     ensures hidden { result ≡ sum_by (hidden_len spans.now) tree.old.items }
 {

@@ -11,6 +11,7 @@ ghost use Rattle.block_seq.specs.RowParts.{IsCounted, count_changes};
 
 use crate::authors::place_author;
 use crate::parts::count_inserted;
+use crate::row_authors::{follow_hidden, follow_shown};
 use crate::row_erase::{cut_spans, has_spans};
 use crate::row_kills::kill_named;
 use crate::row_lists::{find_cell, read_authors};
@@ -22,6 +23,7 @@ use crate::row_slides::count_kills;
 use crate::row_view::KeptRow;
 use crate::run_place::{cut_parents, has_character, run_fits};
 use crate::run_put::{Batch, put_runs};
+use authorship::RunTree;
 use blocks::{Block, Spot, find_block};
 use ident_index::IdentIndex;
 use pad_model::{
@@ -36,6 +38,8 @@ use weight_tree::WeightTree;
 /// A text in blocks.
 #[derive(Drop)]
 pub struct BlockSeq {
+    /// Whose the visible characters are. It stands first, since behind the tree no proof of `Send` is found.
+    runs: RunTree,
     pub(crate) tree: WeightTree<Block>,
     pub(crate) index: IdentIndex,
     pub(crate) text: Vec<char>,
@@ -55,12 +59,12 @@ impl Model for BlockSeq {
 
     ghost Value = { CellsInBlocks };
 
-    ghost use Rattle.block_seq.specs.RowSlides.{IsAuthoredRow};
+    ghost use Rattle.block_seq.specs.RowAuthors.{IsAuthoredRow};
 
     ghost view = { λ s. cells_in s.authors.items s.text.items s.tree.items s.respaced };
 
     ghost invariant = { λ s. IsAuthoredRow s.latest s.clock s.authors.items s.text.items
-        s.slides.items s.index s.tree.items };
+        s.slides.items s.index s.tree.items s.runs.places };
 }
 
 impl BlockSeq {
@@ -89,6 +93,7 @@ impl BlockSeq {
         ) result self.new.cells }
         ensures counted { IsCounted (length runs.now + length spans.now) result self.old self.new }
     {
+        self.runs.reserve(alloc, runs.len() as u64)?;
         let counted = &mut self.respaced;
         cut_spans(alloc, &mut self.tree, &mut self.index, counted, spans)?;
         let counted = &mut self.respaced;
@@ -97,6 +102,7 @@ impl BlockSeq {
         self.text.reserve(count_text(runs))?;
         let kills = count_kills(&self.tree, spans);
         self.slides.reserve(kills + 2 * runs.len())?;
+        let known = self.slides.len();
         let batch = Batch {
             authors: self.authors.as_slice(),
             author,
@@ -112,7 +118,10 @@ impl BlockSeq {
             runs,
             &batch,
         )?;
+        follow_shown(&mut self.runs, self.slides.as_slice(), known, author);
+        let known = self.slides.len();
         let hidden = kill_named(&mut self.tree, &self.index, &mut self.slides, spans, rev);
+        follow_hidden(&mut self.runs, self.slides.as_slice(), known);
         self.clock = clock;
         self.latest = self.latest.max(rev);
         Ok(hidden)
@@ -148,7 +157,9 @@ impl BlockSeq {
         cut_spans(alloc, &mut self.tree, &mut self.index, counted, spans)?;
         let kills = count_kills(&self.tree, spans);
         self.slides.reserve(kills)?;
+        let known = self.slides.len();
         let hidden = kill_named(&mut self.tree, &self.index, &mut self.slides, spans, rev);
+        follow_hidden(&mut self.runs, self.slides.as_slice(), known);
         self.latest = self.latest.max(rev);
         Ok(hidden)
     }
@@ -170,6 +181,7 @@ impl Sequence for BlockSeq {
             latest: 0,
             clock: 0,
             respaced: 0,
+            runs: RunTree::new(alloc),
         })
     }
 
@@ -260,6 +272,9 @@ impl Sequence for BlockSeq {
 
     fn authors_at(&self, alloc: Global, rev: u64) -> Result<Row<AuthorRun>, Refusal> {
         let authors = self.authors.as_slice();
+        if self.latest <= rev {
+            return Ok(Row::from_vec(self.runs.author_runs(alloc, authors)?));
+        }
         Ok(Row::from_vec(read_authors(alloc, &self.tree, authors, self.text.len(), rev)?))
     }
 

@@ -13,6 +13,7 @@ ghost use Rattle.blocks.specs.Blocks.{IsEdge, IsKept, without_labels};
 ghost use Rattle.blocks.specs.Counts.{KeepsLabels, Labelled};
 ghost use Rattle.blocks.specs.Cells.{author_at, cells_of};
 ghost use Rattle.block_seq.specs.RowParts.{AreRanks, IsCutBehind, IsUndone, MayPut, without_ranks};
+ghost use Rattle.block_seq.specs.RowAuthors.{Shows};
 ghost use Rattle.block_seq.specs.Rows.{IsCutOut};
 ghost use Rattle.block_seq.specs.RowSlides.{IsSlidRow, live_blocks};
 
@@ -77,6 +78,8 @@ fn put_run(
     ensures one_slide { OnOk result (vec_len slides.new ≡ vec_len slides.old + 1) }
     ensures slides_capacity { vec_capacity slides.new ≡ vec_capacity slides.old }
     ensures live { OnOk result (live_blocks tree.new.items ≤ live_blocks tree.old.items + 1) }
+    ensures authors { OnOk result (Shows batch.now.author slides.old.items slides.new.items
+        tree.old.items tree.new.items) }
     ensures kept { IsKept index.new tree.new.items }
     ensures same_blocks { OnErr result
         (without_labels tree.new.items ≡ without_labels tree.old.items) }
@@ -156,6 +159,8 @@ pub fn put_runs(
     ensures capacity { vec_capacity slides.new ≡ vec_capacity slides.old }
     ensures live { OnOk result (live_blocks tree.new.items
         ≤ live_blocks tree.old.items + length runs.now) }
+    ensures authors { OnOk result (Shows batch.now.author slides.old.items slides.new.items
+        tree.old.items tree.new.items) }
     ensures more { length tree.new.items ≤ length tree.old.items + length runs.now }
     ensures kept { IsKept index.new tree.new.items }
     ensures same_blocks { OnErr result

@@ -3,6 +3,7 @@ use Rattle.std.specs.List.{AllByRecursion}
 use Rattle.slides.specs.Slide.{Slide}
 use Rattle.block_seq.specs.Rows.{IsDated}
 use Rattle.block_seq.specs.RowSlides.{IsSlid, live_blocks}
+use Rattle.block_seq.proofs.RowAuthors.{hidden_killed, hides_nothing}
 use Rattle.block_seq.proofs.RowSlides.{slid_killed, fewer_alive, none_of}
 use Rattle.std.proofs.lemmas.Option.{slice_get_within}
 use Rattle.blocks.specs.Blocks.{IsSized}
@@ -180,3 +181,17 @@ returns-clause-spent c =
     ≡ live_blocks (slice_set bs rank (record b { died = Some c.args.rev })) =
     ap live_blocks (c.kill.ensures.dead b c.get-block.ensures.item) in
     omega (arith, fewer, same, c.push_reserved.ensures.len)
+
+pub returns-in_default-clause-authors : goal.returns-in_default-clause-authors
+returns-in_default-clause-authors c = hides_nothing c.args.slides.now.items c.args.tree.now.items
+
+pub returns-then-is_some-clause-authors : goal.returns-then-is_some-clause-authors
+returns-then-is_some-clause-authors c = hides_nothing c.args.slides.now.items c.args.tree.now.items
+
+pub returns-clause-authors : goal.returns-clause-authors
+returns-clause-authors c =
+    let b = c.get-block.result.now in
+    let s : Slide = record { rev = c.args.rev; at = c.before-at.result; first = b.first; len = b.len; shows = false } in
+    hidden_killed c.args.slides.now.items c.push_reserved.new.self.items s c.args.tree.now.items c.kill.new.tree.items
+    c.in-Some.spot.rank b c.get-block.ensures.item (died (goal.at.returns-clause-authors c).After-kill)
+    c.before-at.ensures.sum refl (c.kill.ensures.dead b c.get-block.ensures.item) c.push_reserved.ensures.items

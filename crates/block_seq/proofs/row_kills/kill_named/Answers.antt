@@ -1,6 +1,7 @@
 use Rattle.std.proofs.Common.{◌+◌, ◌<◌, ◌∙◌, length, take, [], arith, refl}
 use Rattle.std.proofs.lemmas.List.Sums.{sum_by-take-le}
 use Rattle.pad_model.specs.declared.op.Span.{Span}
+use Rattle.block_seq.proofs.RowAuthors.{hides_nothing, hides_then}
 use Rattle.block_seq.proofs.RowKills.{next_len, none_killed, none_hidden, spans_step, spans_step_hidden, hidden_all}
 use Rattle.block_seq.proofs.row_kills.kill_named.Goals as goal
 
@@ -8,6 +9,7 @@ pub loop-span-init : goal.loop-span-init
 loop-span-init c = record {
   kept = c.requires.kept;
   slid = c.requires.slid;
+  authors = hides_nothing c.args.slides.now.items c.args.tree.now.items;
   dated = c.requires.dated;
   spent = refl;
   few = omega arith;
@@ -40,6 +42,9 @@ pub loop-span-preserved : goal.loop-span-preserved
 loop-span-preserved c = record {
   kept = c.kill_span-hidden.ensures.kept;
   slid = c.kill_span-hidden.ensures.slid;
+  authors = hides_then c.args.slides.now.items c.loop-span.slides.items c.kill_span-hidden.new.slides.items
+      c.args.tree.now.items c.loop-span.tree.items c.kill_span-hidden.new.tree.items c.loop-span.invariant.authors
+      c.kill_span-hidden.ensures.authors;
   dated = c.kill_span-hidden.ensures.dated;
   spent = c.kill_span-hidden.ensures.spent ∙ c.loop-span.invariant.spent;
   few = (let more = next_len c.args.spans.now c.loop-span.span-index c.span-item.result c.loop-span-test.true c.span-item.is in

@@ -4,6 +4,7 @@ use Rattle.pad_model.specs.declared.limits.TheConstants.{MAX_COUNTER}
 use Rattle.blocks.specs.Blocks.{IsEdge}
 use Rattle.block_seq.specs.Rows.{killed, hidden_len, span_from}
 use Rattle.block_seq.proofs.RowErase.{behind_none}
+use Rattle.block_seq.proofs.RowAuthors.{hides_nothing, hides_then}
 use Rattle.block_seq.proofs.RowKills.{none_killed, none_hidden, nothing_named, span_step, span_step_hidden, step_ends}
 use Rattle.block_seq.proofs.RowKills.{step_within, hidden_all}
 use Rattle.block_seq.proofs.row_kills.kill_span.Goals as goal
@@ -18,6 +19,7 @@ loop-done-init c =
       within = omega arith;
       begins = subst (IsEdge c.args.index.now) (sym (behind_none first)) c.requires.cut.0;
       slid = c.requires.slid;
+      authors = hides_nothing c.args.slides.now.items c.args.tree.now.items;
       dated = c.requires.dated;
       spent = refl;
       few = omega arith;
@@ -73,6 +75,9 @@ loop-done-preserved c =
           (step_ends c.args.span.now.first c.plus.result c.loop-done.done c.kill_from-passed.result.len c.plus.ensures)
           c.kill_from-passed.ensures.ends;
       slid = c.kill_from-passed.ensures.slid;
+      authors = hides_then c.args.slides.now.items c.loop-done.slides.items c.kill_from-passed.new.slides.items
+          c.args.tree.now.items c.loop-done.tree.items c.kill_from-passed.new.tree.items c.loop-done.invariant.authors
+          c.kill_from-passed.ensures.authors;
       dated = c.kill_from-passed.ensures.dated;
       spent = c.kill_from-passed.ensures.spent ∙ c.loop-done.invariant.spent;
       few = omega (arith, c.loop-done.invariant.few, c.kill_from-passed.ensures.one, c.kill_from-passed.ensures.some);

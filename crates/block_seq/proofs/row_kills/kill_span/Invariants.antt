@@ -4,6 +4,7 @@ use Rattle.ident_index.specs.Index.{stamp_behind}
 use Rattle.blocks.specs.Blocks.{IsKept, IsEdge}
 use Rattle.std.specs.List.{AllByRecursion}
 use Rattle.std.specs.Prelude.{◌+◌, vec_len, vec_capacity}
+use Rattle.block_seq.specs.RowAuthors.{Hides}
 use Rattle.block_seq.specs.RowSlides.{IsSlid, live_blocks}
 use Rattle.block_seq.specs.Rows.{IsDated, killed, hidden_len, span_from}
 use Rattle.block_seq.proofs.row_kills.kill_span.Given as goal
@@ -15,6 +16,7 @@ invariant-loop-done l = record {
   within : l.done ≤ l.span.len;
   begins : IsEdge l.index (stamp_behind l.span.first l.done);
   slid : IsSlid l.slides.items l.tree.items;
+  authors : Hides l.initial.slides.items l.slides.items l.initial.tree.items l.tree.items;
   dated : AllByRecursion (IsDated l.rev) l.tree.items;
   spent : vec_len l.slides + live_blocks l.tree.items ≡ vec_len l.initial.slides + live_blocks l.initial.tree.items;
   few : vec_len l.slides ≤ vec_len l.initial.slides + l.done;

@@ -10,6 +10,7 @@ use Rattle.blocks.proofs.Cells.{same_itself, length-without_labels}
 use Rattle.slides.specs.Slide.{Slide}
 use Rattle.block_seq.specs.Rows.{IsBlockSeq, IsDated}
 use Rattle.block_seq.specs.RowSlides.{IsSlid}
+use Rattle.block_seq.proofs.RowAuthors.{shown_put}
 use Rattle.block_seq.proofs.RowNow.{dated_blocks}
 use Rattle.block_seq.proofs.RowSlides.{slid_put, one_more}
 use Rattle.block_seq.proofs.BlockCells.{length-cells}
@@ -135,3 +136,13 @@ returns-clause-block c =
 pub returns-clause-live : goal.returns-clause-live
 returns-clause-live c = one_more c.args.tree.now.items c.put_block.new.tree.items c.find_place-rank.result
     (new (goal.at.returns-clause-live c).After-push_shown) c.in_ok-put_block.ensures.ok
+
+pub returns-clause-authors : goal.returns-clause-authors
+returns-clause-authors c =
+    let mid = c.args.tree.now.items in
+    let s : Slide = record { rev = c.args.batch.now.rev; at = c.before-at.result; first = c.args.run.now.first; len = length c.args.run.now.text; shows = true } in
+    let all = length-cells c.args.batch.now.authors.now c.args.text.now.items mid c.requires.row.row.within in
+    shown_put c.args.batch.now.author c.args.slides.now.items c.push_shown.new.slides.items s mid
+    c.put_block.new.tree.items c.find_place-rank.result (new (goal.at.returns-clause-authors c).After-push_shown)
+    c.in_ok-put_block.ensures.ok refl refl c.before-at.ensures.sum (sym c.len.ensures)
+    (omega (arith, all, c.requires.room, c.len.ensures)) c.push_shown.ensures.items

@@ -14,6 +14,7 @@ use Rattle.blocks.proofs.Counts.{labelled_then}
 use Rattle.block_seq.specs.RowParts.{AreRanks, MayPut, without_ranks}
 use Rattle.pad_model.specs.Parts.{with_all}
 use Rattle.block_seq.specs.RowSlides.{IsSlidRow}
+use Rattle.block_seq.proofs.RowAuthors.{shows_nothing, shows_then}
 use Rattle.block_seq.proofs.RowCounts.{on_error, undone_nothing}
 use Rattle.block_seq.proofs.RowChange.{cut_out_put, lent_from, lent_sizes, named_below, run_sized}
 use Rattle.block_seq.proofs.RowRuns.{front_of_front, may_put_next, one_rank_more, take_front}
@@ -39,6 +40,7 @@ loop-run-init c =
       slides = take_all c.args.slides.now.items;
       slides_len = omega arith;
       slides_room = refl;
+      authors = shows_nothing c.args.batch.now.author c.args.slides.now.items c.args.tree.now.items;
       live = omega arith;
       more = omega arith;
       labelled = begins;
@@ -226,6 +228,9 @@ loop-run-preserved c =
           c.in-Ok.ensures.slide;
       slides_len = omega (arith, inv.slides_len, c.in-Ok.ensures.one_slide);
       slides_room = c.put_run.ensures.slides_capacity ∙ inv.slides_room;
+      authors = shows_then c.args.batch.now.author c.args.slides.now.items c.loop-run.slides.items
+          c.put_run.new.slides.items c.args.tree.now.items c.loop-run.tree.items c.put_run.new.tree.items inv.authors
+          c.in-Ok.ensures.authors;
       live = omega (arith, inv.live, c.in-Ok.ensures.live);
       more = omega (arith, inv.more, fewer, before, new_size, old_size);
       labelled = labelled_then inv.labelled c.put_run.ensures.labelled;
@@ -252,6 +257,9 @@ returns-clause-slides c = omega (
   c.loop-run-test.false,
   c.loop-run.auto.run-index-end,
 )
+
+pub returns-clause-authors : goal.returns-clause-authors
+returns-clause-authors c = c.loop-run.invariant.authors
 
 pub returns-clause-live : goal.returns-clause-live
 returns-clause-live c = omega (arith, c.loop-run.invariant.live, c.loop-run.auto.run-index-end)

@@ -10,6 +10,7 @@ use Rattle.blocks.specs.Counts.{Labelled}
 use Rattle.blocks.specs.Cells.{author_at, cells_of}
 use Rattle.block_seq.specs.RowParts.{AreRanks, MayPut, without_ranks}
 use Rattle.pad_model.specs.Parts.{with_all}
+use Rattle.block_seq.specs.RowAuthors.{Shows}
 use Rattle.block_seq.specs.Rows.{IsCutOut}
 use Rattle.block_seq.specs.RowSlides.{IsSlidRow, live_blocks}
 use Rattle.block_seq.proofs.run_put.put_runs.Given as goal
@@ -37,6 +38,7 @@ invariant-loop-run l =
       slides : take (length l.initial.slides.items) l.slides.items ≡ l.initial.slides.items;
       slides_len : vec_len l.slides ≡ vec_len l.initial.slides + l.run-index;
       slides_room : vec_capacity l.slides ≡ vec_capacity l.initial.slides;
+      authors : Shows l.batch.author l.initial.slides.items l.slides.items l.initial.tree.items l.tree.items;
       live : live_blocks l.tree.items ≤ live_blocks l.initial.tree.items + l.run-index;
       more : length l.tree.items ≤ length l.initial.tree.items + l.run-index;
       labelled : Labelled l.initial.tree.items l.initial.respacings l.tree.items l.respacings;

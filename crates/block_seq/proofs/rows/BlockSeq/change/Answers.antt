@@ -1,4 +1,4 @@
-use Rattle.std.proofs.Common.{◌≡◌, ℕ, ◌+◌, max, true, inr, Result, Ok, List, length, map, sym, ap, ap₂, ◌∙◌}
+use Rattle.std.proofs.Common.{◌≡◌, ℕ, ◌+◌, max, drop, true, inr, Result, Ok, List, length, map, sym, ap, ap₂, ◌∙◌}
 use Rattle.std.proofs.Common.{refl, subst, arith, count_by}
 use Rattle.std.proofs.lemmas.List.{length-map}
 use Rattle.std.specs.List.{AllByRecursion}
@@ -12,12 +12,15 @@ use Rattle.pad_model.proofs.Exits.{answers_memory}
 use Rattle.ident_index.specs.Index.{Index}
 use Rattle.blocks.specs.Blocks.{IsKept}
 use Rattle.blocks.specs.Cells.{author_at, cells_of, SameCells}
-use Rattle.blocks.specs.Counts.Labelled.{changed}
+use Rattle.blocks.specs.Counts.Labelled.{begins, changed}
 use Rattle.blocks.proofs.Cells.{same_unlabelled, same_then}
 use Rattle.blocks.proofs.Counts.{keeps_listed, labelled_then}
 use Rattle.block_seq.specs.RowParts.{IsCounted, IsCutBehind, MayPut}
 use Rattle.block_seq.specs.Rows.{IsBlockSeq, IsCutOut, cells_in, killed}
-use Rattle.block_seq.specs.RowSlides.{IsAuthoredRow, IsSlid, IsSlidRow}
+use Rattle.block_seq.specs.RowAuthors.{Goes, IsAuthoredRow, MayHide, MayShow, live_authors, with_shown}
+use Rattle.block_seq.specs.RowAuthors.{without_hidden}
+use Rattle.block_seq.specs.RowSlides.{IsSlid, IsSlidRow}
+use Rattle.block_seq.proofs.RowAuthors.{authored_cut, hidden_from, relabelled, shown_from}
 use Rattle.block_seq.proofs.RowNow.{dated_blocks}
 use Rattle.block_seq.proofs.RowSlides.{slid_cut, blocks_small}
 use Rattle.block_seq.proofs.RowChange.{cut_out_kept, lent_checked, lent_sizes}
@@ -27,7 +30,7 @@ use Rattle.block_seq.proofs.RowSteps.{unchanged, same_cells_kept}
 use Rattle.block_seq.proofs.RowCounts.{cells_seen, counted_by, counted_undone}
 use Rattle.block_seq.proofs.rows.BlockSeq.change.Goals as goal
 use Rattle.block_seq.proofs.rows.BlockSeq.change.Goals.{After-cut_parents, After-place_author, After-as_slice}
-use Rattle.block_seq.proofs.rows.BlockSeq.change.Goals.{In_ok-clock, After-kill_named-hidden}
+use Rattle.block_seq.proofs.rows.BlockSeq.change.Goals.{In_ok-clock, After-kill_named-hidden, After-as_slice-2, After-as_slice-3}
 
 -- what a cut, one more author or other labels leave
 moved : (c : After-place_author) (text : _) (n : Index) (after : _) → text ≡ c.self.inside.text.items → IsKept n after →
@@ -44,101 +47,100 @@ moved c text n after is kept same =
           ∙ (cells_seen c.self.view_is),
     )
 
--- and of the slides
+-- the cells stay
+stays : (c : After-place_author) (text : _) → text ≡ c.self.inside.text.items → SameCells c.self.inside.tree.items
+    c.cut_parents.new.tree.items
+    → cells_of c.place_author.new.authors.items text c.cut_parents.new.tree.items ≡ c.args.self.now.cells
+stays c text is same =
+    (moved c text c.cut_parents.new.index c.cut_parents.new.tree.items is c.cut_parents.ensures.kept same).1
+
+-- and of the slides, of the table of authors and of the places of the visible characters' authors
 whole : (c : After-place_author) (text : _) (slides : _) (n : Index) (after : _) → text ≡ c.self.inside.text.items →
     slides ≡ c.self.inside.slides.items → IsKept n after → SameCells c.self.inside.tree.items after
-    → IsSlidRow c.self.inside.latest c.self.inside.clock c.place_author.new.authors.items text slides n after
-whole c text slides n after text_is slides_is kept same = record {
+    → c.reserve.new.self.places ≡ live_authors after → IsAuthoredRow c.self.inside.latest c.self.inside.clock
+    c.place_author.new.authors.items text slides n after c.reserve.new.self.places
+whole c text slides n after text_is slides_is kept same runs = record {
   row = (moved c text n after text_is kept same).0;
   slid = subst (λ l. IsSlid l after) (sym slides_is)
       (slid_cut c.self.inside.slides.items c.self.inside.authors.items c.self.inside.text.items c.self.inside.index n
       c.self.inside.tree.items after c.self.invariant.row kept same c.self.invariant.slid);
+  once = c.place_author.ensures.once c.self.invariant.once;
+  runs = runs;
 }
-
--- and of the table of authors
-authored : (c : After-place_author) (text : _) (slides : _) (n : Index) (after : _)
-    → IsSlidRow c.self.inside.latest c.self.inside.clock c.place_author.new.authors.items text slides n after
-    → IsAuthoredRow c.self.inside.latest c.self.inside.clock c.place_author.new.authors.items text slides n after
-authored c text slides n after w =
-    record { row = w.row; slid = w.slid; once = c.place_author.ensures.once c.self.invariant.once }
 
 -- the row that is cut
 cut : (c : After-cut_parents) → SameCells c.self.inside.tree.items c.cut_parents.new.tree.items
 cut c = same_then c.self.inside.tree.items c.cut_spans.new.tree.items c.cut_parents.new.tree.items
     c.cut_spans.ensures.cells c.cut_parents.ensures.cells
 
+-- what it keeps
+cut_row : (c : After-cut_parents) → IsAuthoredRow c.self.inside.latest c.self.inside.clock c.self.inside.authors.items
+    c.self.inside.text.items c.self.inside.slides.items c.cut_parents.new.index c.cut_parents.new.tree.items
+    c.reserve.new.self.places
+cut_row c =
+    let old = c.self.invariant in
+    authored_cut c.self.inside.authors.items c.self.inside.text.items c.self.inside.slides.items c.self.inside.index
+    c.cut_parents.new.index c.self.inside.tree.items c.cut_parents.new.tree.items c.reserve.new.self.places
+    (record { row = old.row; slid = old.slid; once = old.once; runs = c.reserve.ensures.places ∙ old.runs })
+    c.cut_parents.ensures.kept (cut c)
+
 pub cut_parents-requires-clause-later : goal.cut_parents-requires-clause-later
 cut_parents-requires-clause-later c = all_later (λ run. run.now) c.args.self.now.cells c.args.runs.now c.requires.fit
 
 pub invariant_of-self : goal.invariant_of-self
-invariant_of-self c = record {
-  row = (same_cells_kept c.self.inside.authors.items c.self.inside.text.items c.self.inside.index c.cut_spans.new.index
-      c.self.inside.tree.items c.cut_spans.new.tree.items c.self.invariant.row c.cut_spans.ensures.kept
-      c.cut_spans.ensures.cells).0;
-  slid = slid_cut c.self.inside.slides.items c.self.inside.authors.items c.self.inside.text.items c.self.inside.index
-      c.cut_spans.new.index c.self.inside.tree.items c.cut_spans.new.tree.items c.self.invariant.row
-      c.cut_spans.ensures.kept c.cut_spans.ensures.cells
-      c.self.invariant.slid;
-  once = c.self.invariant.once;
-}
+invariant_of-self c =
+    let old = c.self.invariant in
+    record { row = old.row; slid = old.slid; once = old.once; runs = c.reserve.ensures.places ∙ old.runs }
+
+pub invariant_of-self-in_err-cut_spans : goal.invariant_of-self-in_err-cut_spans
+invariant_of-self-in_err-cut_spans c =
+    let old = c.self.invariant in
+    authored_cut c.self.inside.authors.items c.self.inside.text.items c.self.inside.slides.items c.self.inside.index
+    c.cut_spans.new.index c.self.inside.tree.items c.cut_spans.new.tree.items c.reserve.new.self.places
+    (record { row = old.row; slid = old.slid; once = old.once; runs = c.reserve.ensures.places ∙ old.runs })
+    c.cut_spans.ensures.kept c.cut_spans.ensures.cells
 
 pub invariant_of-self-in_err-cut_parents : goal.invariant_of-self-in_err-cut_parents
-invariant_of-self-in_err-cut_parents c =
-    let same = cut (goal.at.invariant_of-self-in_err-cut_parents c).After-cut_parents in record {
-      row = (same_cells_kept c.self.inside.authors.items c.self.inside.text.items c.self.inside.index
-          c.cut_parents.new.index c.self.inside.tree.items c.cut_parents.new.tree.items c.self.invariant.row
-          c.cut_parents.ensures.kept same).0;
-      slid = slid_cut c.self.inside.slides.items c.self.inside.authors.items c.self.inside.text.items
-          c.self.inside.index c.cut_parents.new.index c.self.inside.tree.items c.cut_parents.new.tree.items
-          c.self.invariant.row c.cut_parents.ensures.kept same c.self.invariant.slid;
-      once = c.self.invariant.once;
-    }
+invariant_of-self-in_err-cut_parents c = cut_row (goal.at.invariant_of-self-in_err-cut_parents c).After-cut_parents
 
 pub invariant_of-self-in_err-author : goal.invariant_of-self-in_err-author
 invariant_of-self-in_err-author c =
     let g = goal.at.invariant_of-self-in_err-author c in
-    authored g.After-place_author c.self.inside.text.items c.self.inside.slides.items c.cut_parents.new.index
-    c.cut_parents.new.tree.items
-    (whole g.After-place_author c.self.inside.text.items c.self.inside.slides.items c.cut_parents.new.index
-    c.cut_parents.new.tree.items refl refl c.cut_parents.ensures.kept (cut g.After-cut_parents))
+    whole g.After-place_author c.self.inside.text.items c.self.inside.slides.items c.cut_parents.new.index
+    c.cut_parents.new.tree.items refl refl c.cut_parents.ensures.kept
+    (cut g.After-cut_parents) (cut_row g.After-cut_parents).runs
 
 pub returns-in_err-author-clause-answers : goal.returns-in_err-author-clause-answers
 returns-in_err-author-clause-answers c =
     let g = goal.at.returns-in_err-author-clause-answers c in
     answers_memory c.from_residual-in_err-author.result c.from_residual-in_err-author.ensures.1
-    (moved g.After-place_author c.self.inside.text.items c.cut_parents.new.index c.cut_parents.new.tree.items refl
-    c.cut_parents.ensures.kept (cut g.After-cut_parents)).1 refl
-
-pub invariant_of-self-in_err-reserve : goal.invariant_of-self-in_err-reserve
-invariant_of-self-in_err-reserve c =
-    let g = goal.at.invariant_of-self-in_err-reserve c in
-    authored g.After-place_author c.reserve.new.self.items c.self.inside.slides.items c.cut_parents.new.index
-    c.cut_parents.new.tree.items
-    (whole g.After-place_author c.reserve.new.self.items c.self.inside.slides.items c.cut_parents.new.index
-    c.cut_parents.new.tree.items c.reserve.ensures.items refl c.cut_parents.ensures.kept (cut g.After-cut_parents))
-
-pub returns-in_err-reserve-clause-answers : goal.returns-in_err-reserve-clause-answers
-returns-in_err-reserve-clause-answers c =
-    let g = goal.at.returns-in_err-reserve-clause-answers c in
-    answers_memory c.from_residual-in_err-reserve.result c.from_residual-in_err-reserve.ensures.1
-    (moved g.After-place_author c.reserve.new.self.items c.cut_parents.new.index c.cut_parents.new.tree.items
-    c.reserve.ensures.items c.cut_parents.ensures.kept (cut g.After-cut_parents)).1 refl
+    (stays g.After-place_author c.self.inside.text.items refl (cut g.After-cut_parents)) refl
 
 pub invariant_of-self-in_err-reserve-2 : goal.invariant_of-self-in_err-reserve-2
 invariant_of-self-in_err-reserve-2 c =
     let g = goal.at.invariant_of-self-in_err-reserve-2 c in
-    authored g.After-place_author c.reserve.new.self.items c.reserve-2.new.self.items c.cut_parents.new.index
-    c.cut_parents.new.tree.items
-    (whole g.After-place_author c.reserve.new.self.items c.reserve-2.new.self.items c.cut_parents.new.index
-    c.cut_parents.new.tree.items c.reserve.ensures.items c.reserve-2.ensures.items c.cut_parents.ensures.kept
-    (cut g.After-cut_parents))
+    whole g.After-place_author c.reserve-2.new.self.items c.self.inside.slides.items c.cut_parents.new.index
+    c.cut_parents.new.tree.items c.reserve-2.ensures.items refl
+    c.cut_parents.ensures.kept (cut g.After-cut_parents) (cut_row g.After-cut_parents).runs
 
 pub returns-in_err-reserve-2-clause-answers : goal.returns-in_err-reserve-2-clause-answers
 returns-in_err-reserve-2-clause-answers c =
     let g = goal.at.returns-in_err-reserve-2-clause-answers c in
     answers_memory c.from_residual-in_err-reserve-2.result c.from_residual-in_err-reserve-2.ensures.1
-    (moved g.After-place_author c.reserve.new.self.items c.cut_parents.new.index c.cut_parents.new.tree.items
-    c.reserve.ensures.items c.cut_parents.ensures.kept (cut g.After-cut_parents)).1 refl
+    (stays g.After-place_author c.reserve-2.new.self.items c.reserve-2.ensures.items (cut g.After-cut_parents)) refl
+
+pub invariant_of-self-in_err-reserve-3 : goal.invariant_of-self-in_err-reserve-3
+invariant_of-self-in_err-reserve-3 c =
+    let g = goal.at.invariant_of-self-in_err-reserve-3 c in
+    whole g.After-place_author c.reserve-2.new.self.items c.reserve-3.new.self.items c.cut_parents.new.index
+    c.cut_parents.new.tree.items c.reserve-2.ensures.items c.reserve-3.ensures.items
+    c.cut_parents.ensures.kept (cut g.After-cut_parents) (cut_row g.After-cut_parents).runs
+
+pub returns-in_err-reserve-3-clause-answers : goal.returns-in_err-reserve-3-clause-answers
+returns-in_err-reserve-3-clause-answers c =
+    let g = goal.at.returns-in_err-reserve-3-clause-answers c in
+    answers_memory c.from_residual-in_err-reserve-3.result c.from_residual-in_err-reserve-3.ensures.1
+    (stays g.After-place_author c.reserve-2.new.self.items c.reserve-2.ensures.items (cut g.After-cut_parents)) refl
 
 pub returns-in_err-cut_parents-clause-answers : goal.returns-in_err-cut_parents-clause-answers
 returns-in_err-cut_parents-clause-answers c =
@@ -158,14 +160,14 @@ overflow_add-kills c =
     omega (arith, small, listed.small, c.count_kills-kills.ensures.few, few, c.requires.room)
 
 -- the row before the runs
-ready : (c : After-as_slice) → SameCells c.self.inside.tree.items c.cut_parents.new.tree.items →
-    (whole_row : IsSlidRow c.self.inside.latest c.self.inside.clock c.place_author.new.authors.items
-    c.reserve.new.self.items c.reserve-2.new.self.items c.cut_parents.new.index c.cut_parents.new.tree.items) →
-    (cells_of c.place_author.new.authors.items c.reserve.new.self.items c.cut_parents.new.tree.items
-    ≡ c.args.self.now.cells) → IsSlidRow c.args.rev c.self.inside.clock c.as_slice.result.now c.reserve.new.self.items
-    c.reserve-2.new.self.items c.cut_parents.new.index c.cut_parents.new.tree.items
-ready c same w seen =
-    subst (λ l. IsSlidRow c.args.rev c.self.inside.clock l c.reserve.new.self.items c.reserve-2.new.self.items
+ready : (c : After-as_slice) →
+    (whole_row : IsAuthoredRow c.self.inside.latest c.self.inside.clock c.place_author.new.authors.items
+    c.reserve-2.new.self.items c.reserve-3.new.self.items c.cut_parents.new.index c.cut_parents.new.tree.items
+    c.reserve.new.self.places) → (cells_of c.place_author.new.authors.items c.reserve-2.new.self.items c.cut_parents.new.tree.items
+    ≡ c.args.self.now.cells) → IsSlidRow c.args.rev c.self.inside.clock c.as_slice.result.now c.reserve-2.new.self.items
+    c.reserve-3.new.self.items c.cut_parents.new.index c.cut_parents.new.tree.items
+ready c w seen =
+    subst (λ l. IsSlidRow c.args.rev c.self.inside.clock l c.reserve-2.new.self.items c.reserve-3.new.self.items
     c.cut_parents.new.index c.cut_parents.new.tree.items) (sym c.as_slice.ensures.value)
     (record {
       row = record { kept = w.row.kept; within = w.row.within; full = w.row.full; order = w.row.order; dated = subst (AllByRecursion (IsBy c.args.rev)) (sym seen) c.requires.latest; newest = w.row.newest };
@@ -173,10 +175,10 @@ ready c same w seen =
     })
 
 -- its cells, and the author of the runs
-seen : (c : After-as_slice) → cells_of c.place_author.new.authors.items c.reserve.new.self.items
+seen : (c : After-as_slice) → cells_of c.place_author.new.authors.items c.reserve-2.new.self.items
     c.cut_parents.new.tree.items ≡ c.args.self.now.cells →
-    cells_of c.as_slice.result.now c.reserve.new.self.items c.cut_parents.new.tree.items ≡ c.args.self.now.cells
-seen c same = ap (λ l. cells_of l c.reserve.new.self.items c.cut_parents.new.tree.items) c.as_slice.ensures.value ∙ same
+    cells_of c.as_slice.result.now c.reserve-2.new.self.items c.cut_parents.new.tree.items ≡ c.args.self.now.cells
+seen c same = ap (λ l. cells_of l c.reserve-2.new.self.items c.cut_parents.new.tree.items) c.as_slice.ensures.value ∙ same
 
 who : (c : After-as_slice) → author_at c.as_slice.result.now c.in_ok-author.author ≡ c.args.author.now
 who c = ap (λ l. author_at l c.in_ok-author.author) c.as_slice.ensures.value ∙ c.in_ok-author.ensures.place.1
@@ -184,18 +186,16 @@ who c = ap (λ l. author_at l c.in_ok-author.author) c.as_slice.ensures.value �
 pub put_runs-requires-clause-row : goal.put_runs-requires-clause-row
 put_runs-requires-clause-row c =
     let g = goal.at.put_runs-requires-clause-row c in
-    ready g.After-as_slice (cut g.After-cut_parents)
-    (whole g.After-place_author c.reserve.new.self.items c.reserve-2.new.self.items c.cut_parents.new.index
-    c.cut_parents.new.tree.items c.reserve.ensures.items c.reserve-2.ensures.items c.cut_parents.ensures.kept
-    (cut g.After-cut_parents))
-    (moved g.After-place_author c.reserve.new.self.items c.cut_parents.new.index c.cut_parents.new.tree.items
-    c.reserve.ensures.items c.cut_parents.ensures.kept (cut g.After-cut_parents)).1
+    ready g.After-as_slice
+    (whole g.After-place_author c.reserve-2.new.self.items c.reserve-3.new.self.items c.cut_parents.new.index
+    c.cut_parents.new.tree.items c.reserve-2.ensures.items c.reserve-3.ensures.items c.cut_parents.ensures.kept
+    (cut g.After-cut_parents) (cut_row g.After-cut_parents).runs)
+    (stays g.After-place_author c.reserve-2.new.self.items c.reserve-2.ensures.items (cut g.After-cut_parents))
 
 pub put_runs-requires-clause-runs : goal.put_runs-requires-clause-runs
 put_runs-requires-clause-runs c =
     let g = goal.at.put_runs-requires-clause-runs c in
-    let same = seen g.After-as_slice (moved g.After-place_author c.reserve.new.self.items c.cut_parents.new.index
-    c.cut_parents.new.tree.items c.reserve.ensures.items c.cut_parents.ensures.kept (cut g.After-cut_parents)).1 in
+    let same = seen g.After-as_slice (stays g.After-place_author c.reserve-2.new.self.items c.reserve-2.ensures.items (cut g.After-cut_parents)) in
     let runs = map (λ run. run.now) c.args.runs.now in
     let sizes = lent_sizes (λ run. run.now) c.args.runs.now in
     let room = c.requires.room in
@@ -207,20 +207,20 @@ put_runs-requires-clause-runs c =
           c.in_ok-cut_parents.ensures.cut;
       room = omega (arith, sizes, room);
     } in
-    subst (λ x. MayPut c.args.rev x (cells_of c.as_slice.result.now c.reserve.new.self.items
+    subst (λ x. MayPut c.args.rev x (cells_of c.as_slice.result.now c.reserve-2.new.self.items
     c.cut_parents.new.tree.items) c.cut_parents.new.index runs) (sym (who g.After-as_slice))
     (subst (λ l. MayPut c.args.rev c.args.author.now l c.cut_parents.new.index runs) (sym same) base)
 
 pub invariant_of-self-in_err-clock : goal.invariant_of-self-in_err-clock
 invariant_of-self-in_err-clock c =
     let g = goal.at.invariant_of-self-in_err-clock c in
-    authored g.After-place_author c.put_runs.new.text.items c.put_runs.new.slides.items c.put_runs.new.index
-    c.put_runs.new.tree.items
-    (whole g.After-place_author c.put_runs.new.text.items c.put_runs.new.slides.items c.put_runs.new.index
-    c.put_runs.new.tree.items (c.in_err-clock.ensures.same_text ∙ c.reserve.ensures.items)
-    (c.in_err-clock.ensures.same_slides ∙ c.reserve-2.ensures.items) c.put_runs.ensures.kept
+    whole g.After-place_author c.put_runs.new.text.items c.put_runs.new.slides.items c.put_runs.new.index
+    c.put_runs.new.tree.items (c.in_err-clock.ensures.same_text ∙ c.reserve-2.ensures.items)
+    (c.in_err-clock.ensures.same_slides ∙ c.reserve-3.ensures.items) c.put_runs.ensures.kept
     (same_then c.self.inside.tree.items c.cut_parents.new.tree.items c.put_runs.new.tree.items (cut g.After-cut_parents)
-    (same_unlabelled c.cut_parents.new.tree.items c.put_runs.new.tree.items c.in_err-clock.ensures.same_blocks)))
+    (same_unlabelled c.cut_parents.new.tree.items c.put_runs.new.tree.items c.in_err-clock.ensures.same_blocks))
+    ((cut_row g.After-cut_parents).runs
+    ∙ sym (relabelled c.cut_parents.new.tree.items c.put_runs.new.tree.items c.in_err-clock.ensures.same_blocks))
 
 pub returns-in_err-clock-clause-answers : goal.returns-in_err-clock-clause-answers
 returns-in_err-clock-clause-answers c =
@@ -229,12 +229,12 @@ returns-in_err-clock-clause-answers c =
     (subst (λ m. IsErrAnd c.from_residual-in_err-clock.result (λ e. e ≡ m)) c.in_err-clock.ensures.memory
     c.from_residual-in_err-clock.ensures.1)
     (moved g.After-place_author c.put_runs.new.text.items c.put_runs.new.index c.put_runs.new.tree.items
-    (c.in_err-clock.ensures.same_text ∙ c.reserve.ensures.items) c.put_runs.ensures.kept
+    (c.in_err-clock.ensures.same_text ∙ c.reserve-2.ensures.items) c.put_runs.ensures.kept
     (same_then c.self.inside.tree.items c.cut_parents.new.tree.items c.put_runs.new.tree.items (cut g.After-cut_parents)
     (same_unlabelled c.cut_parents.new.tree.items c.put_runs.new.tree.items c.in_err-clock.ensures.same_blocks))).1 refl
 
 -- the spans are still cut out of the row with the runs
-still_cut : (c : In_ok-clock) → cells_of c.as_slice.result.now c.reserve.new.self.items c.cut_parents.new.tree.items
+still_cut : (c : In_ok-clock) → cells_of c.as_slice.result.now c.reserve-2.new.self.items c.cut_parents.new.tree.items
     ≡ c.args.self.now.cells → AllByRecursion (IsCutOut c.put_runs.new.index) c.args.spans.now
 still_cut c seen =
     c.in_ok-clock.ensures.cut c.args.spans.now (subst (λ l. has_spans character_of l c.args.spans.now ≡ true)
@@ -246,8 +246,7 @@ pub kill_named-hidden-requires-clause-cut : goal.kill_named-hidden-requires-clau
 kill_named-hidden-requires-clause-cut c =
     let g = goal.at.kill_named-hidden-requires-clause-cut c in
     still_cut g.In_ok-clock (seen g.After-as_slice
-    (moved g.After-place_author c.reserve.new.self.items c.cut_parents.new.index c.cut_parents.new.tree.items
-    c.reserve.ensures.items c.cut_parents.ensures.kept (cut g.After-cut_parents)).1)
+    (stays g.After-place_author c.reserve-2.new.self.items c.reserve-2.ensures.items (cut g.After-cut_parents)))
 
 pub kill_named-hidden-requires-clause-dated : goal.kill_named-hidden-requires-clause-dated
 kill_named-hidden-requires-clause-dated c =
@@ -261,7 +260,7 @@ runs c = map (λ run. run.now) c.args.runs.now
 
 -- the row with the runs and without what the spans name
 done : (c : After-kill_named-hidden) → AllByRecursion (IsCutOut c.put_runs.new.index) c.args.spans.now →
-    cells_of c.as_slice.result.now c.reserve.new.self.items c.cut_parents.new.tree.items ≡ c.args.self.now.cells →
+    cells_of c.as_slice.result.now c.reserve-2.new.self.items c.cut_parents.new.tree.items ≡ c.args.self.now.cells →
     author_at c.as_slice.result.now c.in_ok-author.author ≡ c.args.author.now
     → (IsBlockSeq (max c.self.inside.latest c.args.rev) c.in_ok-clock.clock c.place_author.new.authors.items
     c.put_runs.new.text.items c.put_runs.new.index c.kill_named-hidden.new.tree.items
@@ -296,31 +295,68 @@ done c cut seen who =
           (runs c) order c.requires.join c.requires.there,
     )
 
+-- what the slides of the runs do to the places
+shows : (c : After-as_slice-2) → c.reserve.new.self.places ≡ live_authors c.cut_parents.new.tree.items →
+    Goes (with_shown c.in_ok-author.author) MayShow c.reserve.new.self.places
+    (drop c.len-known.result c.as_slice-2.result.now) (live_authors c.put_runs.new.tree.items)
+shows c is =
+    shown_from c.in_ok-author.author c.reserve-3.new.self.items c.put_runs.new.slides.items c.as_slice-2.result.now
+    c.cut_parents.new.tree.items c.put_runs.new.tree.items c.reserve.new.self.places c.len-known.result is
+    c.as_slice-2.ensures.value (c.len-known.ensures ∙ c.reserve-3.new.self.ok.0) c.in_ok-clock.ensures.authors
+
+pub follow_shown-requires-clause-goes : goal.follow_shown-requires-clause-goes
+follow_shown-requires-clause-goes c =
+    let g = goal.at.follow_shown-requires-clause-goes c in
+    (live_authors c.put_runs.new.tree.items, shows g.After-as_slice-2 (cut_row g.After-cut_parents).runs)
+
+-- and those of the deaths
+hides : (c : After-as_slice-3) → c.follow_shown.new.runs.places ≡ live_authors c.put_runs.new.tree.items →
+    Goes without_hidden MayHide c.follow_shown.new.runs.places (drop c.len-known-2.result c.as_slice-3.result.now)
+    (live_authors c.kill_named-hidden.new.tree.items)
+hides c is =
+    hidden_from c.put_runs.new.slides.items c.kill_named-hidden.new.slides.items c.as_slice-3.result.now
+    c.put_runs.new.tree.items c.kill_named-hidden.new.tree.items c.follow_shown.new.runs.places c.len-known-2.result is
+    c.as_slice-3.ensures.value (c.len-known-2.ensures ∙ c.put_runs.new.slides.ok.0) c.kill_named-hidden.ensures.authors
+
+pub follow_hidden-requires-clause-goes : goal.follow_hidden-requires-clause-goes
+follow_hidden-requires-clause-goes c =
+    let g = goal.at.follow_hidden-requires-clause-goes c in (
+      live_authors c.kill_named-hidden.new.tree.items,
+      hides g.After-as_slice-3 (c.follow_shown.ensures (live_authors c.put_runs.new.tree.items)
+          (shows g.After-as_slice-2 (cut_row g.After-cut_parents).runs)),
+    )
+
 pub invariant_of-self-2 : goal.invariant_of-self-2
 invariant_of-self-2 c =
     let g = goal.at.invariant_of-self-2 c in
-    let same = seen g.After-as_slice (moved g.After-place_author c.reserve.new.self.items c.cut_parents.new.index
-    c.cut_parents.new.tree.items c.reserve.ensures.items c.cut_parents.ensures.kept (cut g.After-cut_parents)).1 in
+    let same = seen g.After-as_slice (stays g.After-place_author c.reserve-2.new.self.items c.reserve-2.ensures.items (cut g.After-cut_parents)) in
     let left = (done g.After-kill_named-hidden (still_cut g.In_ok-clock same) same (who g.After-as_slice)).0.0 in
     record {
       row = subst (λ n. IsBlockSeq n c.in_ok-clock.clock c.place_author.new.authors.items c.put_runs.new.text.items
           c.put_runs.new.index c.kill_named-hidden.new.tree.items) (sym c.max-self-inside.ensures) left;
       slid = c.kill_named-hidden.ensures.slid;
       once = c.place_author.ensures.once c.self.invariant.once;
+      runs = c.follow_hidden.ensures (live_authors c.kill_named-hidden.new.tree.items)
+          (hides g.After-as_slice-3 (c.follow_shown.ensures (live_authors c.put_runs.new.tree.items)
+          (shows g.After-as_slice-2 (cut_row g.After-cut_parents).runs)));
     }
 
 pub returns-clause-answers : goal.returns-clause-answers
 returns-clause-answers c =
     let g = goal.at.returns-clause-answers c in
-    let same = seen g.After-as_slice (moved g.After-place_author c.reserve.new.self.items c.cut_parents.new.index
-    c.cut_parents.new.tree.items c.reserve.ensures.items c.cut_parents.ensures.kept (cut g.After-cut_parents)).1 in
+    let same = seen g.After-as_slice (stays g.After-place_author c.reserve-2.new.self.items c.reserve-2.ensures.items (cut g.After-cut_parents)) in
     let d = done g.After-kill_named-hidden (still_cut g.In_ok-clock same) same (who g.After-as_slice) in
     inr (ap₂ (λ n l. (Ok n, l)) (sym d.1) (sym d.0.1))
 
+pub returns-in_err-reserve-clause-counted : goal.returns-in_err-reserve-clause-counted
+returns-in_err-reserve-clause-counted c =
+    counted_by c.self.view_is (length c.args.runs.now + length c.args.spans.now) c.from_residual.result _ begins
+    (omega arith) (omega arith) (omega arith)
+
 pub returns-in_err-cut_spans-clause-counted : goal.returns-in_err-cut_spans-clause-counted
 returns-in_err-cut_spans-clause-counted c =
-    counted_by c.self.view_is (length c.args.runs.now + length c.args.spans.now) c.from_residual.result _
-    c.cut_spans.ensures.labelled (omega (arith, c.cut_spans.ensures.more)) c.cut_spans.ensures.counts
+    counted_by c.self.view_is (length c.args.runs.now + length c.args.spans.now) c.from_residual-in_err-cut_spans.result
+    _ c.cut_spans.ensures.labelled (omega (arith, c.cut_spans.ensures.more)) c.cut_spans.ensures.counts
     (omega (arith, c.cut_spans.ensures.few))
 
 -- what the cuts did
@@ -344,15 +380,15 @@ returns-in_err-author-clause-counted c =
     when_cut (goal.at.returns-in_err-author-clause-counted c).After-cut_parents
     c.from_residual-in_err-author.result _ _
 
-pub returns-in_err-reserve-clause-counted : goal.returns-in_err-reserve-clause-counted
-returns-in_err-reserve-clause-counted c =
-    when_cut (goal.at.returns-in_err-reserve-clause-counted c).After-cut_parents
-    c.from_residual-in_err-reserve.result _ _
-
 pub returns-in_err-reserve-2-clause-counted : goal.returns-in_err-reserve-2-clause-counted
 returns-in_err-reserve-2-clause-counted c =
     when_cut (goal.at.returns-in_err-reserve-2-clause-counted c).After-cut_parents
     c.from_residual-in_err-reserve-2.result _ _
+
+pub returns-in_err-reserve-3-clause-counted : goal.returns-in_err-reserve-3-clause-counted
+returns-in_err-reserve-3-clause-counted c =
+    when_cut (goal.at.returns-in_err-reserve-3-clause-counted c).After-cut_parents
+    c.from_residual-in_err-reserve-3.result _ _
 
 pub returns-in_err-clock-clause-counted : goal.returns-in_err-clock-clause-counted
 returns-in_err-clock-clause-counted c =

@@ -1,4 +1,4 @@
-use Rattle.std.proofs.Common.{max, arith, ◌≡◌, inr, Ok, length, sym, ap, ap₂, ◌∙◌, subst, count_by}
+use Rattle.std.proofs.Common.{max, drop, arith, ◌≡◌, inr, Ok, length, sym, ap, ap₂, ◌∙◌, subst, count_by}
 use Rattle.std.proofs.lemmas.List.{length-map}
 use Rattle.std.specs.List.{AllByRecursion}
 use Rattle.pad_model.specs.Cell.{IsBy, is_hidden_by, without_spans}
@@ -6,46 +6,40 @@ use Rattle.blocks.specs.Cells.{cells_of}
 use Rattle.blocks.specs.Counts.Labelled.{changed}
 use Rattle.blocks.proofs.Counts.{keeps_listed}
 use Rattle.block_seq.specs.Rows.{IsBlockSeq, killed}
+use Rattle.block_seq.specs.RowAuthors.{Goes, IsAuthoredRow, MayHide, live_authors, without_hidden}
 use Rattle.block_seq.specs.RowSlides.{IsSlid}
+use Rattle.block_seq.proofs.RowAuthors.{authored_cut, hidden_from}
 use Rattle.block_seq.proofs.RowNow.{dated_blocks}
-use Rattle.block_seq.proofs.RowSlides.{slid_cut}
 use Rattle.block_seq.proofs.RowErase.{all_aligned, killed_count, row_killed}
 use Rattle.block_seq.proofs.RowSteps.{same_cells_kept}
 use Rattle.block_seq.proofs.RowCounts.{cells_seen, counted_by}
 use Rattle.block_seq.proofs.rows.BlockSeq.erase.Goals as goal
-use Rattle.block_seq.proofs.rows.BlockSeq.erase.Goals.{After-cut_spans, After-kill_named-hidden}
+use Rattle.block_seq.proofs.rows.BlockSeq.erase.Goals.{After-cut_spans, After-kill_named-hidden, After-as_slice}
 
 -- what the cuts leave
-row : (c : After-cut_spans) → IsBlockSeq c.self.inside.latest c.self.inside.clock c.self.inside.authors.items
-    c.self.inside.text.items c.cut_spans.new.index c.cut_spans.new.tree.items
-row c = (same_cells_kept c.self.inside.authors.items c.self.inside.text.items c.self.inside.index c.cut_spans.new.index
-    c.self.inside.tree.items c.cut_spans.new.tree.items c.self.invariant.row c.cut_spans.ensures.kept
-    c.cut_spans.ensures.cells).0
-
-slid : (c : After-cut_spans) → IsSlid c.self.inside.slides.items c.cut_spans.new.tree.items
-slid c =
-    slid_cut c.self.inside.slides.items c.self.inside.authors.items c.self.inside.text.items c.self.inside.index
-    c.cut_spans.new.index c.self.inside.tree.items c.cut_spans.new.tree.items c.self.invariant.row
+row : (c : After-cut_spans) → IsAuthoredRow c.self.inside.latest c.self.inside.clock c.self.inside.authors.items
+    c.self.inside.text.items c.self.inside.slides.items c.cut_spans.new.index c.cut_spans.new.tree.items
+    c.self.inside.runs.places
+row c = authored_cut c.self.inside.authors.items c.self.inside.text.items c.self.inside.slides.items c.self.inside.index
+    c.cut_spans.new.index c.self.inside.tree.items c.cut_spans.new.tree.items c.self.inside.runs.places c.self.invariant
     c.cut_spans.ensures.kept c.cut_spans.ensures.cells
-    c.self.invariant.slid
 
 pub invariant_of-self : goal.invariant_of-self
-invariant_of-self c = let g = goal.at.invariant_of-self c in
-    record { row = row g.After-cut_spans; slid = slid g.After-cut_spans; once = c.self.invariant.once }
+invariant_of-self c = row (goal.at.invariant_of-self c).After-cut_spans
 
 pub invariant_of-self-in_err-reserve : goal.invariant_of-self-in_err-reserve
 invariant_of-self-in_err-reserve c =
-    let g = goal.at.invariant_of-self-in_err-reserve c in
-    record { row = row g.After-cut_spans; slid = subst (λ l. IsSlid l c.cut_spans.new.tree.items) (sym c.reserve.ensures.items) (slid g.After-cut_spans); once = c.self.invariant.once }
+    let cut = row (goal.at.invariant_of-self-in_err-reserve c).After-cut_spans in
+    record { row = cut.row; slid = subst (λ l. IsSlid l c.cut_spans.new.tree.items) (sym c.reserve.ensures.items) cut.slid; once = cut.once; runs = cut.runs }
 
 pub kill_named-hidden-requires-clause-slid : goal.kill_named-hidden-requires-clause-slid
 kill_named-hidden-requires-clause-slid c =
     subst (λ l. IsSlid l c.cut_spans.new.tree.items) (sym c.reserve.ensures.items)
-    (slid (goal.at.kill_named-hidden-requires-clause-slid c).After-cut_spans)
+    (row (goal.at.kill_named-hidden-requires-clause-slid c).After-cut_spans).slid
 
 pub kill_named-hidden-requires-clause-dated : goal.kill_named-hidden-requires-clause-dated
 kill_named-hidden-requires-clause-dated c =
-    let cut = row (goal.at.kill_named-hidden-requires-clause-dated c).After-cut_spans in
+    let cut = (row (goal.at.kill_named-hidden-requires-clause-dated c).After-cut_spans).row in
     let cells = c.cut_spans.ensures.cells.cells c.self.inside.authors.items c.self.inside.text.items
     c.self.invariant.row.within ∙ (cells_seen c.self.view_is) in
     dated_blocks c.args.rev c.self.inside.authors.items c.self.inside.text.items c.cut_spans.new.tree.items cut.within
@@ -73,13 +67,29 @@ done c =
           ∙ ap (count_by (is_hidden_by c.args.spans.now)) is,
     )
 
+-- what the slides of the deaths do to the places
+hides : (c : After-as_slice) → c.self.inside.runs.places ≡ live_authors c.cut_spans.new.tree.items →
+    Goes without_hidden MayHide c.self.inside.runs.places (drop c.len-known.result c.as_slice.result.now)
+    (live_authors c.kill_named-hidden.new.tree.items)
+hides c is =
+    hidden_from c.reserve.new.self.items c.kill_named-hidden.new.slides.items c.as_slice.result.now
+    c.cut_spans.new.tree.items c.kill_named-hidden.new.tree.items c.self.inside.runs.places c.len-known.result is
+    c.as_slice.ensures.value (c.len-known.ensures ∙ c.reserve.new.self.ok.0) c.kill_named-hidden.ensures.authors
+
+pub follow_hidden-requires-clause-goes : goal.follow_hidden-requires-clause-goes
+follow_hidden-requires-clause-goes c =
+    let g = goal.at.follow_hidden-requires-clause-goes c in
+    (live_authors c.kill_named-hidden.new.tree.items, hides g.After-as_slice (row g.After-cut_spans).runs)
+
 pub invariant_of-self-2 : goal.invariant_of-self-2
-invariant_of-self-2 c = record {
+invariant_of-self-2 c = let g = goal.at.invariant_of-self-2 c in record {
   row = subst (λ n. IsBlockSeq n c.self.inside.clock c.self.inside.authors.items c.self.inside.text.items
       c.cut_spans.new.index c.kill_named-hidden.new.tree.items) (sym c.max-self-inside.ensures)
-      (done (goal.at.invariant_of-self-2 c).After-kill_named-hidden).0.0;
+      (done g.After-kill_named-hidden).0.0;
   slid = c.kill_named-hidden.ensures.slid;
   once = c.self.invariant.once;
+  runs = c.follow_hidden.ensures (live_authors c.kill_named-hidden.new.tree.items)
+      (hides g.After-as_slice (row g.After-cut_spans).runs);
 }
 
 pub returns-clause-answers : goal.returns-clause-answers

@@ -36,7 +36,8 @@ abbrev pub MayHide : List ℕ → Slide → Type 0
 MayHide ps s = s.at + s.len ≤ length ps
 
 -- places become others by slides, one after the other, each of which may do its step
-abbrev pub Goes : (List ℕ → Slide → List ℕ) → (List ℕ → Slide → Type 0) → List ℕ → List Slide → List ℕ → Type 0
+abbrev pub Goes : (List ℕ → Slide → List ℕ) → (List ℕ → Slide → Type 0) → List ℕ → List Slide
+    → List ℕ → Type 0
 Goes step May old [] new = old ≡ new
 Goes step May old (s ∷ slides) new = May old s × Goes step May (step old s) slides new
 
@@ -50,10 +51,10 @@ abbrev pub Hides : List Slide → List Slide → List Block → List Block → T
 Hides known slides old new = (more : List Slide) × (slides ≡ known ++ more)
     × Goes without_hidden MayHide (live_authors old) more (live_authors new)
 
--- what a row keeps, its slides and the places of the visible characters' authors, and the table of authors has none twice
+-- what a row keeps, its slides and the places of the visible characters' authors, and the table of authors has none
+-- twice
 pub record IsAuthoredRow (latest clock : ℕ) (authors : List Author) (text : List ℕ)
-    (slides : List Slide) (m : Index)
-    (bs : List Block) (places : List ℕ) : Type 0 where
+    (slides : List Slide) (m : Index) (bs : List Block) (places : List ℕ) : Type 0 where
   pub row : IsBlockSeq latest clock authors text m bs
   pub slid : IsSlid slides bs
   pub once : IsDistinct same_author authors

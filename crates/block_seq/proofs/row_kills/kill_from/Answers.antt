@@ -194,4 +194,5 @@ returns-clause-authors c =
     let s : Slide = record { rev = c.args.rev; at = c.before-at.result; first = b.first; len = b.len; shows = false } in
     hidden_killed c.args.slides.now.items c.push_reserved.new.self.items s c.args.tree.now.items c.kill.new.tree.items
     c.in-Some.spot.rank b c.get-block.ensures.item (died (goal.at.returns-clause-authors c).After-kill)
-    c.before-at.ensures.sum refl (c.kill.ensures.dead b c.get-block.ensures.item) c.push_reserved.ensures.items
+    c.before-at.ensures.sum refl (c.kill.ensures.dead b c.get-block.ensures.item)
+    (c.push_reserved.ensures.items ∙ ap (λ s. c.args.slides.now.items ++ s ∷ []) c.new-slide.ensures)

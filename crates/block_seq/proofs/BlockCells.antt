@@ -2,7 +2,9 @@
 use Rattle.std.proofs.Common.{◌≡◌, ℕ, zero, suc, ◌+◌, ◌≤◌, ◌<◌, inl, inr, Bool, true, false, not, cond, ◌&&◌, ◌||◌, eqb}
 use Rattle.std.proofs.Common.{ltb, List, [], ◌∷◌, ◌++◌, length, take, drop, map, sum_by, Option, Some, None, refl, sym}
 use Rattle.std.proofs.Common.{ap, ap₂, ◌∙◌, arith, slice_get, length-append, length-take, length-drop, eq-eqb, le-leb}
-use Rattle.std.proofs.Common.{le-ltb, lt-ltb, leb-true, is_some, MatchOption, fold, max, ltb-true, eqb-true}
+use Rattle.std.proofs.Common.{le-ltb, lt-ltb, leb-true, is_some, MatchOption, fold, max, ltb-true, eqb-true, subst}
+use Rattle.std.specs.FinMap.{get}
+use Rattle.std.specs.Option.{IsSomeAnd}
 use Rattle.std.specs.List.{AllByRecursion, list_any, list_all}
 use Rattle.std.proofs.lemmas.Bool.{and_parts, and_from, cases_lt}
 use Rattle.std.proofs.lemmas.List.Folds.{list_any-append}
@@ -17,7 +19,9 @@ use Rattle.pad_model.specs.Visible.{is_erased}
 use Rattle.pad_model.specs.declared.who.Author.{Author}
 use Rattle.pad_model.proofs.Newer.{split}
 use Rattle.pad_model.proofs.Erase.{in_span, is_erased-stamps_from}
-use Rattle.ident_index.specs.Index.{Index, Covers, Holds, HoldsNone, stamp_behind}
+use Rattle.ident_index.specs.Index.{Index, Covers, Holds, HoldsNone, IsPlace, stamp_behind}
+use Rattle.ident_index.specs.declared.place.Place.{Place}
+use Rattle.ident_index.proofs.Sound.{some_entry}
 use Rattle.blocks.specs.declared.block.Block.{Block}
 use Rattle.blocks.specs.declared.find.Spot.{Spot}
 use Rattle.blocks.specs.Blocks.{IsListed, IsSpot}
@@ -204,6 +208,21 @@ found_has authors text m bs s None k w h = sym (none_held authors text m bs s k 
 found_has authors text m bs s (Some spot) k w h =
     let found = spot_block bs s spot.rank spot.offset h in
     sym (held_cell authors text m bs s found.0.first k w (holds_here m bs spot.rank found.0 s k found.1 found.2))
+
+-- the same, where the index alone was asked
+pub located_has : (authors : List Author) (text : List ℕ) (m : Index) (bs : List Block) (s : Stamp) (o : Option Place) →
+    IsListed m bs → AllByRecursion (IsWithin (length authors) (length text)) bs
+    → MatchOption o (HoldsNone m s) (IsPlace m s) → is_some o ≡ has_stamp character_of (cells_of authors text bs) s
+located_has authors text m bs s None k w h = sym (none_held authors text m bs s k w h)
+located_has authors text m bs s (Some place) k w h =
+    let some = some_entry (get m place.first) (λ e. (place.offset < e.len) × (place.label ≡ e.label)) h.block in
+    let inside = some.2.0 in
+    let counter = ap (λ (x : Stamp). x.counter) h.stamp in
+    let covers : Covers place.first some.0.len s =
+        (sym (ap (λ (x : Stamp). x.replica) h.stamp), omega arith, omega arith) in
+    let holds : Holds m place.first s =
+        subst (λ o. IsSomeAnd o (λ e. Covers place.first e.len s)) (sym some.1) covers in
+    sym (held_cell authors text m bs s place.first k w holds)
 
 -- the test of a stamp against those of its replica, by the greatest of them
 above_here : (first : Stamp) (last : ℕ) (s : Stamp) → last < first.counter →

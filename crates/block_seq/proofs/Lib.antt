@@ -28,3 +28,4 @@ pub mod Kept
 pub mod PartSteps
 pub mod Spans
 pub mod RowRuns
+pub mod Sends

@@ -18,14 +18,15 @@ use pad_model::{Refusal, Run, Stamp};
 use std::alloc::Global;
 use weight_tree::WeightTree;
 
-/// Whether a character is there.
+/// Whether a character is there. The index alone tells: no block is looked up.
 pub fn has_character(tree: &WeightTree<Block>, index: &IdentIndex, stamp: Stamp) -> bool
     requires { IsKept index.now tree.now.items }
     ensures { (authors : List AuthorValue) (text : List ℕ)
         → AllByRecursion (IsWithin (length authors) (length text)) tree.now.items
         → result ≡ has_stamp character_of (cells_of authors text tree.now.items) stamp }
 {
-    find_block(tree, index, stamp).is_some()
+    let _kept = tree.len();
+    index.locate(stamp).is_some()
 }
 
 /// Whether a parent is there, or the root, and has a smaller counter.

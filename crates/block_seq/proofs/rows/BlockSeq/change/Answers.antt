@@ -1,3 +1,5 @@
+mod Steps
+
 use Rattle.std.proofs.Common.{◌≡◌, ℕ, ◌+◌, max, drop, true, inr, Result, Ok, List, length, map, sym, ap, ap₂, ◌∙◌}
 use Rattle.std.proofs.Common.{refl, subst, arith, count_by}
 use Rattle.std.proofs.lemmas.List.{length-map}
@@ -9,9 +11,7 @@ use Rattle.pad_model.specs.Parts.{with_all}
 use Rattle.pad_model.specs.declared.op.Run.{Run}
 use Rattle.pad_model.specs.declared.who.Author.{Author}
 use Rattle.pad_model.proofs.Exits.{answers_memory}
-use Rattle.ident_index.specs.Index.{Index}
-use Rattle.blocks.specs.Blocks.{IsKept}
-use Rattle.blocks.specs.Cells.{author_at, cells_of, SameCells}
+use Rattle.blocks.specs.Cells.{author_at, cells_of}
 use Rattle.blocks.specs.Counts.Labelled.{begins, changed}
 use Rattle.blocks.proofs.Cells.{same_unlabelled, same_then}
 use Rattle.blocks.proofs.Counts.{keeps_listed, labelled_then}
@@ -19,70 +19,19 @@ use Rattle.block_seq.specs.RowParts.{IsCounted, IsCutBehind, MayPut}
 use Rattle.block_seq.specs.Rows.{IsBlockSeq, IsCutOut, cells_in, killed}
 use Rattle.block_seq.specs.RowAuthors.{Goes, IsAuthoredRow, MayHide, MayShow, live_authors, with_shown}
 use Rattle.block_seq.specs.RowAuthors.{without_hidden}
-use Rattle.block_seq.specs.RowSlides.{IsSlid, IsSlidRow}
+use Rattle.block_seq.specs.RowSlides.{IsSlidRow}
 use Rattle.block_seq.proofs.RowAuthors.{authored_cut, hidden_from, relabelled, shown_from}
 use Rattle.block_seq.proofs.RowNow.{dated_blocks}
-use Rattle.block_seq.proofs.RowSlides.{slid_cut, blocks_small}
+use Rattle.block_seq.proofs.RowSlides.{blocks_small}
 use Rattle.block_seq.proofs.RowChange.{cut_out_kept, lent_checked, lent_sizes}
 use Rattle.block_seq.proofs.RowErase.{all_aligned, killed_count, row_killed}
 use Rattle.block_seq.proofs.RowRuns.{all_commute, all_hidden, all_later, all_lent, all_rooted, few_runs}
-use Rattle.block_seq.proofs.RowSteps.{unchanged, same_cells_kept}
+use Rattle.block_seq.proofs.RowSteps.{same_cells_kept}
 use Rattle.block_seq.proofs.RowCounts.{cells_seen, counted_by, counted_undone}
+use Rattle.block_seq.proofs.rows.BlockSeq.change.Answers.Steps.{moved, stays, whole, cut, cut_row}
 use Rattle.block_seq.proofs.rows.BlockSeq.change.Goals as goal
-use Rattle.block_seq.proofs.rows.BlockSeq.change.Goals.{After-cut_parents, After-place_author, After-as_slice}
+use Rattle.block_seq.proofs.rows.BlockSeq.change.Goals.{After-cut_parents, After-as_slice}
 use Rattle.block_seq.proofs.rows.BlockSeq.change.Goals.{In_ok-clock, After-kill_named-hidden, After-as_slice-2, After-as_slice-3}
-
--- what a cut, one more author or other labels leave
-moved : (c : After-place_author) (text : _) (n : Index) (after : _) → text ≡ c.self.inside.text.items → IsKept n after →
-    SameCells c.self.inside.tree.items after →
-    IsBlockSeq c.self.inside.latest c.self.inside.clock c.place_author.new.authors.items text n after
-    × (cells_of c.place_author.new.authors.items text after ≡ c.args.self.now.cells)
-moved c text n after is kept same =
-    let done = unchanged c.self.inside.authors.items c.place_author.new.authors.items c.args.author.now
-    c.self.inside.text.items c.self.inside.index n c.self.inside.tree.items after c.self.invariant.row
-    c.place_author.ensures.more kept same in (
-      subst (λ t. IsBlockSeq c.self.inside.latest c.self.inside.clock c.place_author.new.authors.items t n after)
-          (sym is) done.0,
-      ap (λ t. cells_of c.place_author.new.authors.items t after) is ∙ done.1
-          ∙ (cells_seen c.self.view_is),
-    )
-
--- the cells stay
-stays : (c : After-place_author) (text : _) → text ≡ c.self.inside.text.items → SameCells c.self.inside.tree.items
-    c.cut_parents.new.tree.items
-    → cells_of c.place_author.new.authors.items text c.cut_parents.new.tree.items ≡ c.args.self.now.cells
-stays c text is same =
-    (moved c text c.cut_parents.new.index c.cut_parents.new.tree.items is c.cut_parents.ensures.kept same).1
-
--- and of the slides, of the table of authors and of the places of the visible characters' authors
-whole : (c : After-place_author) (text : _) (slides : _) (n : Index) (after : _) → text ≡ c.self.inside.text.items →
-    slides ≡ c.self.inside.slides.items → IsKept n after → SameCells c.self.inside.tree.items after
-    → c.reserve.new.self.places ≡ live_authors after → IsAuthoredRow c.self.inside.latest c.self.inside.clock
-    c.place_author.new.authors.items text slides n after c.reserve.new.self.places
-whole c text slides n after text_is slides_is kept same runs = record {
-  row = (moved c text n after text_is kept same).0;
-  slid = subst (λ l. IsSlid l after) (sym slides_is)
-      (slid_cut c.self.inside.slides.items c.self.inside.authors.items c.self.inside.text.items c.self.inside.index n
-      c.self.inside.tree.items after c.self.invariant.row kept same c.self.invariant.slid);
-  once = c.place_author.ensures.once c.self.invariant.once;
-  runs = runs;
-}
-
--- the row that is cut
-cut : (c : After-cut_parents) → SameCells c.self.inside.tree.items c.cut_parents.new.tree.items
-cut c = same_then c.self.inside.tree.items c.cut_spans.new.tree.items c.cut_parents.new.tree.items
-    c.cut_spans.ensures.cells c.cut_parents.ensures.cells
-
--- what it keeps
-cut_row : (c : After-cut_parents) → IsAuthoredRow c.self.inside.latest c.self.inside.clock c.self.inside.authors.items
-    c.self.inside.text.items c.self.inside.slides.items c.cut_parents.new.index c.cut_parents.new.tree.items
-    c.reserve.new.self.places
-cut_row c =
-    let old = c.self.invariant in
-    authored_cut c.self.inside.authors.items c.self.inside.text.items c.self.inside.slides.items c.self.inside.index
-    c.cut_parents.new.index c.self.inside.tree.items c.cut_parents.new.tree.items c.reserve.new.self.places
-    (record { row = old.row; slid = old.slid; once = old.once; runs = c.reserve.ensures.places ∙ old.runs })
-    c.cut_parents.ensures.kept (cut c)
 
 pub cut_parents-requires-clause-later : goal.cut_parents-requires-clause-later
 cut_parents-requires-clause-later c = all_later (λ run. run.now) c.args.self.now.cells c.args.runs.now c.requires.fit

@@ -2,7 +2,7 @@ use denote.Param.Send.{sendable}
 use Rattle.std.proofs.Crossing.{crosses}
 use Rattle.std.proofs.MapsCrossing as maps
 use Rattle.weight_tree.proofs.tree.WeightTree.TheLaws.TheKnot as TheKnot
-use Rattle.serving.proofs.Sends.{BlockSeq-send, IdentIndex-send, RunTree-send}
+use Rattle.block_seq.proofs.Sends.{BlockSeq-send, IdentIndex-send, RunTree-send}
 use Rattle.serving.proofs.listen.fn.serve.scope.Goals as goal
 
 pub serve_all-requires-send-S : goal.serve_all-requires-send-S

@@ -1,2 +1,0 @@
--- The lemmas, by topic.
-pub mod Sends

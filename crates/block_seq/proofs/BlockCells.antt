@@ -219,9 +219,9 @@ located_has authors text m bs s (Some place) k w h =
     let inside = some.2.0 in
     let counter = ap (λ (x : Stamp). x.counter) h.stamp in
     let covers : Covers place.first some.0.len s =
-        (sym (ap (λ (x : Stamp). x.replica) h.stamp), omega arith, omega arith) in
+    (sym (ap (λ (x : Stamp). x.replica) h.stamp), omega arith, omega arith) in
     let holds : Holds m place.first s =
-        subst (λ o. IsSomeAnd o (λ e. Covers place.first e.len s)) (sym some.1) covers in
+    subst (λ o. IsSomeAnd o (λ e. Covers place.first e.len s)) (sym some.1) covers in
     sym (held_cell authors text m bs s place.first k w holds)
 
 -- the test of a stamp against those of its replica, by the greatest of them

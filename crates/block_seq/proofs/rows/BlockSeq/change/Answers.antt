@@ -1,5 +1,4 @@
 mod Steps
-
 use Rattle.std.proofs.Common.{◌≡◌, ℕ, ◌+◌, max, drop, true, inr, Result, Ok, List, length, map, sym, ap, ap₂, ◌∙◌}
 use Rattle.std.proofs.Common.{refl, subst, arith, count_by}
 use Rattle.std.proofs.lemmas.List.{length-map}

@@ -19,6 +19,10 @@ SIZES = [10_000, 100_000]
 # multiple of the twin's own.
 RATE_AIM, GROWTH_AIM = 1 / 3, 1.3
 
+# So many insertions of four characters leave about twice as many blocks. Then so many requests are timed, whose revision is the
+# present or lies so far behind, and of an insertion at most so many times the time of a `revs` is aimed at.
+TYPED, BEHIND, REVS_AIM = 50_000, {"at the present": (0, 3.0), "4 behind": (4, 3.5)}
+
 
 def insert(rev, at, text):
     return f'{{"at":{at},"do":"insert","pad":"p","rev":{rev},"text":"{text}"}}\n'
@@ -42,6 +46,37 @@ def requests(trace, size):
             line, grown = insert(seen, dice.randrange(lengths[seen] + 1), "text"), 4
         yield line
         lengths.append(length + grown)
+
+
+def typed(dice):
+    """The lines of a pad of some 100,000 blocks."""
+    yield '{"do":"create","pad":"p"}\n'
+    for rev in range(TYPED):
+        yield insert(rev, dice.randrange(4 * rev + 1), "text")
+
+
+def more(dice, behind):
+    """The lines of as many insertions of a character there."""
+    for count in range(TYPED):
+        seen = max(count - behind, 0)
+        yield insert(TYPED + seen, dice.randrange(4 * TYPED + seen + 1), "x")
+
+
+def beside_revs(folder, rounds):
+    """What an insertion among 100,000 blocks takes, in times of a `revs` in the same run: both without what the typing takes."""
+    path, dice = Path(folder, "lines"), random.Random(2)
+    front = "".join(typed(dice))
+    works = {"typing": "", "revs": '{"do":"revs","pad":"p"}\n' * TYPED}
+    works |= {name: "".join(more(dice, behind)) for name, (behind, _) in BEHIND.items()}
+    taken = {name: [] for name in works}
+    for _ in range(rounds):
+        for name, lines in works.items():
+            path.write_text(front + lines)
+            taken[name].append(run("pad_server", path, Path(folder, "replies"))[0])
+    median = {name: statistics.median(times) for name, times in taken.items()}
+    each = {name: (time - median["typing"]) / TYPED for name, time in median.items()}
+    for name, (_, aim) in BEHIND.items():
+        print(f"an insertion among 100,000 blocks, {name}: {each[name] * 1e6:.1f} us, {each[name] / each['revs']:.2f} revs (aim: {aim})")
 
 
 def run(program, path, replies):
@@ -88,4 +123,5 @@ def measure(flags, rounds):
                 each.append((ours / size, twin / size))
                 growth = f"{each[1][0] / each[0][0] / (each[1][1] / each[0][1]):8.2f}" if len(each) == 2 else f"{'':>8}"
                 print(f"{trace:<10}{size:>8}{twin:>9.3f}{ours:>9.3f}{twin / ours:>8.2f}{growth}{least:>10}{most:>10}", flush=True)
+        beside_revs(folder, rounds)
     print(f"aims: a rate of {RATE_AIM:.2f} of the twin's at least, growth of {GROWTH_AIM} times the twin's at most")

@@ -1,5 +1,6 @@
 //! A list of weighed items in a weight-balanced tree of boxes, with the balance of `crates/weight_tree`: the size and
-//! one of no side is more than three times that of its sibling.
+//! one of no side is more than three times that of its sibling. As there, a node has the sums of its left side too, so
+//! that a descent reads no node off its path.
 use crate::dice::Dice;
 use std::mem;
 
@@ -13,18 +14,31 @@ pub struct Tree<T> {
 
 pub struct Branch<T> {
     item: T,
-    size: usize,
-    weight: u64,
-    height: usize,
+    left_size: usize,
     left: Tree<T>,
     right: Tree<T>,
+    left_weight: u64,
+    size: usize,
+    weight: u64,
+    height: u8,
+    left_height: u8,
+    right_height: u8,
 }
 
 impl<T: Weigh> Branch<T> {
+    /// All sums, from both sides.
     fn sum_up(&mut self) {
-        self.size = self.left.len() + self.right.len() + 1;
-        self.weight = self.left.weight() + self.item.weight() + self.right.weight();
-        self.height = self.left.height().max(self.right.height()) + 1;
+        self.left_size = self.left.len();
+        self.left_weight = self.left.weight();
+        self.left_height = self.left.height();
+        self.right_height = self.right.height();
+        self.size = self.left_size + self.right.len() + 1;
+        self.weight = self.left_weight + self.item.weight() + self.right.weight();
+        self.sum_heights();
+    }
+
+    fn sum_heights(&mut self) {
+        self.height = self.left_height.max(self.right_height) + 1;
     }
 }
 
@@ -41,13 +55,13 @@ impl<T: Weigh> Tree<T> {
         self.root.as_ref().map_or(0, |branch| branch.weight)
     }
 
-    fn height(&self) -> usize {
+    fn height(&self) -> u8 {
         self.root.as_ref().map_or(0, |branch| branch.height)
     }
 
     pub fn get(&self, rank: usize) -> &T {
         let branch = self.root.as_ref().expect("the rank is in range");
-        let left = branch.left.len();
+        let left = branch.left_size;
         if rank < left {
             branch.left.get(rank)
         } else if rank == left {
@@ -58,25 +72,36 @@ impl<T: Weigh> Tree<T> {
     }
 
     pub fn insert(&mut self, rank: usize, item: T) {
+        let weight = item.weight();
         match &mut self.root {
             None => {
-                let weight = item.weight();
                 self.root = Some(Box::new(Branch {
                     item,
+                    left_size: 0,
+                    left: Tree::new(),
+                    right: Tree::new(),
+                    left_weight: 0,
                     size: 1,
                     weight,
                     height: 1,
-                    left: Tree::new(),
-                    right: Tree::new(),
+                    left_height: 0,
+                    right_height: 0,
                 }));
             }
             Some(branch) => {
-                let left = branch.left.len();
+                let left = branch.left_size;
+                branch.size += 1;
+                branch.weight += weight;
                 if rank <= left {
+                    branch.left_size += 1;
+                    branch.left_weight += weight;
                     branch.left.insert(rank, item);
+                    branch.left_height = branch.left.height();
                 } else {
                     branch.right.insert(rank - left - 1, item);
+                    branch.right_height = branch.right.height();
                 }
+                branch.sum_heights();
                 self.rebalance();
             }
         }
@@ -85,21 +110,26 @@ impl<T: Weigh> Tree<T> {
     /// Puts an item in the place of the one at a rank.
     pub fn replace(&mut self, rank: usize, item: T) {
         let branch = self.root.as_mut().expect("the rank is in range");
-        let left = branch.left.len();
+        let left = branch.left_size;
         if rank < left {
             branch.left.replace(rank, item);
+            let weight = branch.left.weight();
+            branch.weight = branch.weight - branch.left_weight + weight;
+            branch.left_weight = weight;
         } else if rank == left {
+            branch.weight = branch.weight - branch.item.weight() + item.weight();
             branch.item = item;
         } else {
+            let before = branch.right.weight();
             branch.right.replace(rank - left - 1, item);
+            branch.weight = branch.weight - before + branch.right.weight();
         }
-        branch.weight = branch.left.weight() + branch.item.weight() + branch.right.weight();
     }
 
     /// The item that a number falls in, and how far.
     pub fn find(&self, number: u64) -> Option<(&T, u64)> {
         let branch = self.root.as_ref()?;
-        let left = branch.left.weight();
+        let left = branch.left_weight;
         if number < left {
             return branch.left.find(number);
         }
@@ -113,11 +143,11 @@ impl<T: Weigh> Tree<T> {
     /// The weight of the items before a rank.
     pub fn before(&self, rank: usize) -> u64 {
         let Some(branch) = &self.root else { return 0 };
-        let left = branch.left.len();
+        let left = branch.left_size;
         if rank <= left {
             branch.left.before(rank)
         } else {
-            branch.left.weight() + branch.item.weight() + branch.right.before(rank - left - 1)
+            branch.left_weight + branch.item.weight() + branch.right.before(rank - left - 1)
         }
     }
 
@@ -125,7 +155,7 @@ impl<T: Weigh> Tree<T> {
     pub fn rank_by(&self, below: impl Fn(&T) -> bool + Copy) -> usize {
         let Some(branch) = &self.root else { return 0 };
         if below(&branch.item) {
-            branch.left.len() + 1 + branch.right.rank_by(below)
+            branch.left_size + 1 + branch.right.rank_by(below)
         } else {
             branch.left.rank_by(below)
         }
@@ -133,8 +163,8 @@ impl<T: Weigh> Tree<T> {
 
     fn rebalance(&mut self) {
         let Some(branch) = &mut self.root else { return };
-        let left = branch.left.len() + 1;
-        let right = branch.right.len() + 1;
+        let left = branch.left_size + 1;
+        let right = branch.size - branch.left_size;
         if left > 3 * right {
             if branch.left.inner_is_heavy(|side| (&side.left, &side.right)) {
                 branch.left.rotate_left();
@@ -148,8 +178,6 @@ impl<T: Weigh> Tree<T> {
                 branch.right.rotate_right();
             }
             self.rotate_left();
-        } else {
-            branch.sum_up();
         }
     }
 
@@ -191,7 +219,7 @@ impl<T: Weigh> Tree<T> {
 
     pub fn iter(&self) -> Iter<'_, T> {
         let mut iter = Iter {
-            waiting: Vec::with_capacity(self.height()),
+            waiting: Vec::with_capacity(self.height().into()),
         };
         iter.descend(self);
         iter
@@ -250,7 +278,7 @@ pub fn insert(size: u32, times: u32) -> String {
     for _ in 0..times {
         let tree = grown(&mut dice, size);
         weight += tree.weight();
-        levels += tree.height();
+        levels += usize::from(tree.height());
         if size == 0 {
             continue;
         }

@@ -57,9 +57,9 @@ pub fn serve<R: Source, W: Sink>(
     Ok(serve_connection(alloc, &mut pads, reader, writer, 0, &Open))
 }
 
-const CREATE: &str = concat!(r#"{"do":"create","pad":"p"}"#, "\n");
+pub const CREATE: &str = concat!(r#"{"do":"create","pad":"p"}"#, "\n");
 
-const CREATED: &str = concat!(r#"{"now":0,"ok":true,"visit":1}"#, "\n");
+pub const CREATED: &str = concat!(r#"{"now":0,"ok":true,"visit":1}"#, "\n");
 
 const NOBODY: &str = concat!(r#"{"code":200,"error":"NoSession","ok":false}"#, "\n");
 
@@ -314,7 +314,7 @@ fn written_by_two(alloc: Global, pads: &mut Alone<BlockSeq>) -> Result<Output, F
 }
 
 // Whether this is exactly these two lines.
-fn are_both(written: &[u8], first: &str, second: &str) -> bool {
+pub fn are_both(written: &[u8], first: &str, second: &str) -> bool {
     written.strip_prefix(first.as_bytes()) == Some(second.as_bytes())
 }
 
@@ -347,56 +347,4 @@ fn the_session_is_ended(rt: HostRuntime) -> Result<(), Fail> {
     assert!(rt; pads.cells() == 64, "{} cells", pads.cells());
     is_named(&rt, rt.alloc(), &mut pads, 0, "p")?;
     is_named(&rt, rt.alloc(), &mut pads, 1, "no name")
-}
-
-const REVS: &str = r#"{"do":"revs","pad":"p"}"#;
-
-// The creation of a pad, then a request for its length followed by this many spaces, and then that request without
-// them.
-fn with_spaces(alloc: Global, spaces: usize) -> Result<Vec<u8>, Fail> {
-    let mut lines = CREATE.as_bytes().to_vec(alloc)?;
-    lines.extend_from_slice(REVS.as_bytes())?;
-    let long = lines.len().saturating_add(spaces);
-    lines.resize(long, b' ')?;
-    lines.push(b'\n')?;
-    lines.extend_from_slice(REVS.as_bytes())?;
-    Ok(lines)
-}
-
-// Asserts that these bytes are answered with a new pad's visit, and then with this.
-fn is_answered(rt: &impl Abort, alloc: Global, lines: &[u8], answer: &str) -> Result<(), Fail> {
-    let mut reader = Input::new(lines);
-    let mut writer = Output::new(alloc);
-    let served = serve(alloc, &mut reader, &mut writer)?;
-    assert!(rt; served.is_ok(), "came {served:?}");
-    assert!(rt;
-        are_both(writer.bytes(), CREATED, answer),
-        "wanted {CREATED}{answer}, came {}",
-        text_of(writer.bytes())
-    );
-    Ok(())
-}
-
-// A line that is too long is refused, and nothing after it is served.
-#[test]
-fn a_line_that_is_too_long(rt: HostRuntime) -> Result<(), Fail> {
-    for (spaces, answer) in [
-        (
-            8_388_608 - REVS.len(),
-            concat!(
-                r#"{"cells":0,"length":0,"now":0,"ok":true}"#,
-                "\n",
-                r#"{"cells":0,"length":0,"now":0,"ok":true}"#,
-                "\n"
-            ),
-        ),
-        (
-            8_388_609 - REVS.len(),
-            concat!(r#"{"code":100,"error":"TooLong","ok":false}"#, "\n"),
-        ),
-    ] {
-        let lines = with_spaces(rt.alloc(), spaces)?;
-        is_answered(&rt, rt.alloc(), lines.as_slice(), answer)?;
-    }
-    Ok(())
 }

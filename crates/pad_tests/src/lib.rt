@@ -10,9 +10,13 @@ mod connection;
 #[cfg(test)]
 mod expected;
 #[cfg(test)]
+mod long_line;
+#[cfg(test)]
 mod page;
 #[cfg(test)]
 mod runs;
+#[cfg(test)]
+mod same;
 #[cfg(test)]
 mod scan;
 #[cfg(test)]

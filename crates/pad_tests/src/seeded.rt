@@ -2,6 +2,7 @@
 use crate::choice::Choice;
 use crate::expected::{comments_line, runs_line, text_line};
 use crate::page::Page;
+use crate::same::are_all_same;
 use dice::Dice;
 use pad_model::Refusal;
 use rig::{ANN, PEER, Rig, between, is_refusal, number_behind, op_of, ops_in, text_len};
@@ -337,32 +338,6 @@ fn happen_somewhere(
     if dice.roll(25) == 0 {
         exchange(alloc, one, two)?;
     }
-    Ok(())
-}
-
-/// Readings of the present revision.
-const READINGS: &[&str] = &[
-    r#"{"do":"text","pad":"p"}"#,
-    r#"{"do":"runs","pad":"p"}"#,
-    r#"{"do":"comments","pad":"p"}"#,
-    r#"{"do":"revs","pad":"p"}"#,
-];
-
-/// They are the same on two servers.
-fn are_all_same(rt: &impl Abort, one: &mut Rig, two: &mut Rig) -> Result<(), Refusal> {
-    for line in READINGS {
-        are_same(rt, one, two, line)?;
-    }
-    Ok(())
-}
-
-fn are_same(rt: &impl Abort, one: &mut Rig, two: &mut Rig, line: &str) -> Result<(), Refusal> {
-    let first = one.say(ANN, line)?;
-    let second = two.say(ANN, line)?;
-    assert!(rt;
-        first.as_str() == second.as_str(),
-        "{line}: came {first} and {second}"
-    );
     Ok(())
 }
 

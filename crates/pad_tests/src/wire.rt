@@ -5,3 +5,4 @@ mod operations;
 mod pieces;
 mod replies;
 mod requests;
+mod samples;

@@ -8,6 +8,8 @@ mod compared;
 #[cfg(test)]
 mod converge;
 #[cfg(test)]
+mod deletions;
+#[cfg(test)]
 mod forty_texts;
 #[cfg(test)]
 mod labels;

@@ -1,4 +1,6 @@
 //! The gate of the pads: what else the server does with each answer.
+ghost use Rattle.std.specs.Prelude.{◌≡◌, is_some, Ok, None};
+
 use event_loop::Hub;
 use pad_core::Request;
 use pad_files::Keeper;
@@ -52,11 +54,15 @@ impl<R: Wait> Gate for PadGate<'_, R> {
         }
     }
 
-    fn reads_operations(&self) -> bool {
+    fn reads_operations(&self) -> bool
+        ensures with_a_store { result ≡ is_some self.now.keeper }
+    {
         self.keeper.is_some()
     }
 
-    fn keeps(&self, alloc: Global, request: &Request) -> Result<(), Refusal> {
+    fn keeps(&self, alloc: Global, request: &Request) -> Result<(), Refusal>
+        ensures without_a_store { self.now.keeper ≡ None → result ≡ Ok tt }
+    {
         match self.keeper {
             Some(keeper) => keeper.keeps(self.rt, alloc, request),
             None => Ok(()),

@@ -199,6 +199,23 @@ def unproved_serves_until_it_is_ended():
     raise Failed("the server goes on")
 
 
+def unproved_looks_at_its_addresses_first():
+    variables, _ = fresh_machine()
+    with socket.socket() as taken:
+        taken.bind(("127.0.0.1", 0))
+        taken.listen()
+        other = f"127.0.0.1:{taken.getsockname()[1]}"
+        for address, status, part in [
+            (other, 1, f"serve: something listens on {other} already: stop it, or name another address with --listen"),
+            ("7878", 2, "serve: --unproved needs HOST:PORT in --listen, with a port of 1 to 65535"),
+            ("127.0.0.1:80000", 2, "serve: --unproved needs HOST:PORT in --listen, with a port of 1 to 65535"),
+            ("127.0.0.1:0", 2, "serve: --unproved needs HOST:PORT in --listen, with a port of 1 to 65535"),
+        ]:
+            command = ["./serve", "--unproved", "--listen", address]
+            done = subprocess.run(command, env=variables, capture_output=True, text=True)
+            want((done.returncode, done.stderr.splitlines()[-1]), (status, part), f"the status and the message of {address}")
+
+
 def words_are_refused():
     for words, status, part in [
         (["--all"], 2, "serve: unknown word: --all"),
@@ -219,5 +236,6 @@ TESTS = [
     Test("serve: everything is proved, lowest first", everything_is_proved_lowest_first),
     Test("serve: a failing proof ends it", a_failing_proof_ends_it),
     Test("serve: --unproved serves until it is ended", unproved_serves_until_it_is_ended),
+    Test("serve: --unproved looks at its addresses first", unproved_looks_at_its_addresses_first),
     Test("serve: wrong words", words_are_refused),
 ]

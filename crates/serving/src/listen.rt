@@ -127,11 +127,13 @@ where
     serve(&service, acceptor, workers, others)
 }
 
-/// The origins of the settings, which are separated by commas.
+/// The origins of the settings, which are separated by commas. A slash at the end, as browsers show an address, is dropped.
 fn origins_of(alloc: Global, asked: Settings<'_>) -> Result<Vec<String>, AllocError> {
     let mut origins = Vec::new(alloc);
     for origin in asked.web_origins.unwrap_or_default().split(',') {
-        origins.push(String::from_str(alloc, origin.trim())?)?;
+        let origin = origin.trim();
+        let origin = origin.strip_suffix("/").unwrap_or(origin);
+        origins.push(String::from_str(alloc, origin)?)?;
     }
     Ok(origins)
 }

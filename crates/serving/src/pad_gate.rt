@@ -1,5 +1,5 @@
 //! The gate of the pads: what else the server does with each answer.
-ghost use Rattle.std.specs.Prelude.{◌≡◌, is_some, Ok, None};
+ghost use Rattle.std.specs.Prelude.{◌≡◌, ◌⊎◌, is_some, Ok, None, IfErr};
 
 use event_loop::Hub;
 use pad_core::Request;
@@ -61,6 +61,7 @@ impl<R: Wait> Gate for PadGate<'_, R> {
     }
 
     fn keeps(&self, alloc: Global, request: &Request) -> Result<(), Refusal>
+        ensures refused { IfErr result (λ e. (e ≡ Refusal.StoreFull) ⊎ (e ≡ Refusal.Memory)) }
         ensures without_a_store { self.now.keeper ≡ None → result ≡ Ok tt }
     {
         match self.keeper {

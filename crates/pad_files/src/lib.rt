@@ -9,6 +9,9 @@ mod handle;
 mod keeper;
 mod owner;
 mod pad_file;
+#[cfg(test)]
+mod piece_tests;
+mod pieces;
 mod progress;
 mod reading;
 mod reserve;

@@ -1,5 +1,6 @@
 //! A pad's file at the start of the server.
 use crate::owner::Owner;
+use crate::pieces::load_pieces;
 use crate::store_error::StoreError;
 use journal::Journal;
 use log::warn;
@@ -9,7 +10,7 @@ use std::alloc::Global;
 use std::fs::{File, OpenOptions};
 use std::io::{ErrorKind, Write};
 use std::{fs, io};
-use store::{Damage, Header, Loaded, header_text, link, load};
+use store::{Damage, Header, Loaded, header_text, link};
 
 /// How many files of one pad's name may be moved aside.
 const MOST_ASIDE: u32 = 1_000;
@@ -61,17 +62,9 @@ pub fn load_file<S: Sequence>(
     name: &str,
     owner: &Owner,
 ) -> Result<Option<PadFile<S>>, Unloaded> {
-    let alloc = files.alloc();
-    let path = path_of(alloc, folder, name)?;
-    let bytes = fs::read(files, path.as_str())?;
+    let path = path_of(files.alloc(), folder, name)?;
     let pad = name.strip_suffix(".pad").unwrap_or(name);
-    match load(
-        alloc,
-        owner.replica(),
-        owner.present(),
-        pad,
-        bytes.as_slice(),
-    ) {
+    match load_pieces(files, path.as_str(), pad, owner)? {
         Ok(loaded) => {
             check_owner(owner, &loaded)?;
             let opened = open_loaded(files, path.as_str(), owner.replica(), loaded)?;

@@ -1,19 +1,17 @@
 -- The whole lines of a file are found by their line feeds, and one more line is read.
 use Rattle.std.proofs.Common.{◌≡◌, ◌⊎◌, inl, inr, ℕ, suc, ◌+◌, ◌-◌, ◌≤◌, ◌<◌, nat_le, nat_lt, Bool, true, false, List}
-use Rattle.std.proofs.Common.{[], ◌∷◌, length, take, drop, Option, Some, None, Result, Ok, Err, refl, sym, ap, ◌∙◌}
+use Rattle.std.proofs.Common.{[], ◌∷◌, ◌++◌, length, take, drop, Option, Some, None, Result, Ok, Err, refl, sym, ap, ◌∙◌}
 use Rattle.std.proofs.Common.{subst, arith, cond, option_map, ◌||◌}
 use Rattle.std.proofs.lemmas.Bool.{cond-true, cond-false, le-ltb, lt-ltb}
 use Rattle.std.proofs.lemmas.Bool.Decides.{leb_tells}
 use Rattle.std.proofs.lemmas.List.{length-drop, length-take-le, take_rest}
 use Rattle.std.specs.List.{list_any, position, position_or_len}
-use Rattle.records.specs.Records.{unnamed}
 use Rattle.store.specs.Batches.{begins_batch}
-use Rattle.store.specs.Files.{Read, behind_line, by_text, file_read, first_read, if_named, lines_read, pad_read}
-use Rattle.store.specs.Files.{read_lines, read_on, so_far, text_read, torn_at, unbegun}
+use Rattle.store.specs.Files.{Read, behind_line, by_text, read_lines, read_on, text_read, torn_at}
 use Rattle.store.specs.Lines.{is_feed, sum_after, text_behind, whole_lines, with_byte}
+use Rattle.store.specs.Pieces.{unless_begun}
 use Rattle.store.specs.declared.reader.Damage.{Damage}
 use Rattle.store.specs.declared.reader.Damage.TheVariants.{Memory}
-use Rattle.store.specs.declared.reader.Tail.{Tail}
 
 -- the index of the first line feed, by cases
 counted_on : (p n : ℕ) → cond (nat_lt (1 + p) (suc n)) (Some (1 + p)) None
@@ -108,40 +106,42 @@ line_there before bytes end w text sum is linked long =
     at : length (take end bytes) ≡ end → w ≡ before.whole + suc (length (take end bytes))
     at h = omega (arith, h, long)
 
--- what lines lead to, from what the first one leads to
-one_more : (number : ℕ) (name : List ℕ) (before : Read) (bytes text : List ℕ) (end : ℕ) (found : Result Read Damage) →
-    Some end ≡ position is_feed bytes → text_behind before.sum (take end bytes) ≡ Some text →
+-- what lines lead to, whatever lines come later, from what the first one leads to
+one_more : (number : ℕ) (name : List ℕ) (before : Read) (bytes text : List ℕ) (end : ℕ) (later : List (List ℕ))
+    (found : Result Read Damage) → Some end ≡ position is_feed bytes →
+    text_behind before.sum (take end bytes) ≡ Some text →
     text_read number name (behind_line before (take end bytes) text) text ≡ found →
-    read_lines number name before (whole_lines bytes)
-    ≡ read_on (λ next. read_lines (suc number) name next (whole_lines (drop (suc end) bytes))) found
-one_more number name before bytes text end found is linked leads =
-    ap (read_lines number name before) (first_whole bytes end (sym is))
-    ∙ ap (by_text (torn_at number before (take end bytes ∷ whole_lines (drop (suc end) bytes)))
-    (λ t. read_on (λ next. read_lines (suc number) name next (whole_lines (drop (suc end) bytes)))
+    read_lines number name before (whole_lines bytes ++ later)
+    ≡ read_on (λ next. read_lines (suc number) name next (whole_lines (drop (suc end) bytes) ++ later)) found
+one_more number name before bytes text end later found is linked leads =
+    ap (λ (ls : List (List ℕ)). read_lines number name before (ls ++ later)) (first_whole bytes end (sym is))
+    ∙ ap (by_text (torn_at number before (take end bytes ∷ (whole_lines (drop (suc end) bytes) ++ later)))
+    (λ t. read_on (λ next. read_lines (suc number) name next (whole_lines (drop (suc end) bytes) ++ later))
     (text_read number name (behind_line before (take end bytes) t) t))) linked
-    ∙ ap (read_on (λ next. read_lines (suc number) name next (whole_lines (drop (suc end) bytes)))) leads
+    ∙ ap (read_on (λ next. read_lines (suc number) name next (whole_lines (drop (suc end) bytes) ++ later))) leads
 
 -- what lines lead to whose first one is not linked
-torn_lines : (number : ℕ) (name : List ℕ) (before : Read) (bytes : List ℕ) (end : ℕ) →
+torn_lines : (number : ℕ) (name : List ℕ) (before : Read) (bytes : List ℕ) (end : ℕ) (later : List (List ℕ)) →
     Some end ≡ position is_feed bytes → text_behind before.sum (take end bytes) ≡ None →
-    read_lines number name before (whole_lines bytes) ≡ torn_at number before (whole_lines bytes)
-torn_lines number name before bytes end is unlinked =
-    ap (read_lines number name before) (first_whole bytes end (sym is))
-    ∙ (ap (by_text (torn_at number before (take end bytes ∷ whole_lines (drop (suc end) bytes)))
-    (λ t. read_on (λ next. read_lines (suc number) name next (whole_lines (drop (suc end) bytes)))
+    read_lines number name before (whole_lines bytes ++ later) ≡ torn_at number before (whole_lines bytes ++ later)
+torn_lines number name before bytes end later is unlinked =
+    ap (λ (ls : List (List ℕ)). read_lines number name before (ls ++ later)) (first_whole bytes end (sym is))
+    ∙ (ap (by_text (torn_at number before (take end bytes ∷ (whole_lines (drop (suc end) bytes) ++ later)))
+    (λ t. read_on (λ next. read_lines (suc number) name next (whole_lines (drop (suc end) bytes) ++ later))
     (text_read number name (behind_line before (take end bytes) t) t))) unlinked
-    ∙ ap (torn_at number before) (sym (first_whole bytes end (sym is))))
+    ∙ ap (λ (ls : List (List ℕ)). torn_at number before (ls ++ later)) (sym (first_whole bytes end (sym is))))
 
--- the invariant of a loop over the lines: what they lead to, how many bytes there are, and how many lines there may be
-abbrev pub Kept : ℕ → List ℕ → Read → List ℕ → Result Read Damage → ℕ → ℕ → Type 0
+-- the invariant of a loop over lines: what they lead to, whatever lines come later, how many bytes there are, and how
+-- many lines there may be
+abbrev pub Kept : ℕ → List ℕ → Read → List ℕ → (List (List ℕ) → Result Read Damage) → ℕ → ℕ → Type 0
 Kept number name before bytes all total limit =
-    (read_lines (suc number) name before (whole_lines bytes) ≡ all) × (before.whole + length bytes ≡ total)
-    × (number + length bytes ≤ limit)
+    ((later : List (List ℕ)) → read_lines (suc number) name before (whole_lines bytes ++ later) ≡ all later)
+    × (before.whole + length bytes ≡ total) × (number + length bytes ≤ limit)
 
 -- one more line keeps it
 pub goes_on : (number count : ℕ) (name : List ℕ) (before next : Read) (bytes rest text sum : List ℕ) (end k w : ℕ)
-    (all : Result Read Damage) (total limit : ℕ) → count ≡ suc number → k ≡ suc end → w ≡ before.whole + end + 1 →
-    take (length bytes - k) (drop k bytes) ≡ rest → Some end ≡ position is_feed bytes →
+    (all : List (List ℕ) → Result Read Damage) (total limit : ℕ) → count ≡ suc number → k ≡ suc end →
+    w ≡ before.whole + end + 1 → take (length bytes - k) (drop k bytes) ≡ rest → Some end ≡ position is_feed bytes →
     text_behind before.sum (take end bytes) ≡ Some text → sum ≡ sum_after before.sum text →
     text_read count name (record before { sum = sum; whole = w }) text ≡ Ok next → next.whole ≡ w →
     Kept number name before bytes all total limit → Kept count name next rest all total limit
@@ -150,9 +150,9 @@ goes_on number count name before next bytes rest text sum end k w all total limi
     subst (λ n. Kept n name next rest all total limit) (sym more)
     (subst (λ bs. Kept (suc number) name next bs all total limit) (ap (λ i. drop i bytes) (sym behind)
     ∙ (sym (take_rest bytes k) ∙ left)) (
-      sym (one_more (suc number) name before bytes text end (Ok next) is linked
+      λ later. sym (one_more (suc number) name before bytes text end later (Ok next) is linked
           (ap (λ (r : Read). text_read (suc number) name r text) (sym (line_there before bytes end w text sum is summed long))
-          ∙ subst (λ n. text_read n name (record before { sum = sum; whole = w }) text ≡ Ok next) more leads)) ∙ so,
+          ∙ subst (λ n. text_read n name (record before { sum = sum; whole = w }) text ≡ Ok next) more leads)) ∙ so later,
       counts (length-drop (suc end) bytes) (feed_low bytes end (sym is)),
       fewer (length-drop (suc end) bytes) (feed_low bytes end (sym is)),
     ))
@@ -167,89 +167,50 @@ goes_on number count name before next bytes rest text sum end k w all total limi
 
 -- damage of the next line is the result of all
 pub fails : (number count : ℕ) (name : List ℕ) (before : Read) (bytes text sum : List ℕ) (end w : ℕ) (damage : Damage)
-    (all : Result Read Damage) → count ≡ suc number → w ≡ before.whole + end + 1 → Some end ≡ position is_feed bytes →
-    text_behind before.sum (take end bytes) ≡ Some text → sum ≡ sum_after before.sum text →
+    (all : List (List ℕ) → Result Read Damage) → count ≡ suc number → w ≡ before.whole + end + 1 →
+    Some end ≡ position is_feed bytes → text_behind before.sum (take end bytes) ≡ Some text →
+    sum ≡ sum_after before.sum text →
     (damage ≡ Memory) ⊎ (text_read count name (record before { sum = sum; whole = w }) text ≡ Err damage) →
-    read_lines (suc number) name before (whole_lines bytes) ≡ all → (damage ≡ Memory) ⊎ (all ≡ Err damage)
+    ((later : List (List ℕ)) → read_lines (suc number) name before (whole_lines bytes ++ later) ≡ all later) →
+    (damage ≡ Memory) ⊎ ((later : List (List ℕ)) → all later ≡ Err damage)
 fails number count name before bytes text sum end w damage all next long is linked summed (inl memory) so = inl memory
 fails number count name before bytes text sum end w damage all next long is linked summed (inr wrong) so =
-    inr (sym so ∙ one_more (suc number) name before bytes text end (Err damage) is linked
+    inr (λ later. sym (so later) ∙ one_more (suc number) name before bytes text end later (Err damage) is linked
     (ap (λ (r : Read). text_read (suc number) name r text) (sym (line_there before bytes end w text sum is summed long))
     ∙ subst (λ n. text_read n name (record before { sum = sum; whole = w }) text ≡ Err damage) next wrong))
 
--- if a line is not linked, the alternative is the result
+-- if a line is not linked, and none from it on begins a batch so far, the later lines decide
 pub torn_ends : (number count : ℕ) (name : List ℕ) (before : Read) (bytes : List ℕ) (end : ℕ)
-    (all found : Result Read Damage) → count ≡ suc number → Some end ≡ position is_feed bytes →
-    text_behind before.sum (take end bytes) ≡ None → torn_at count before (whole_lines bytes) ≡ found →
-    read_lines (suc number) name before (whole_lines bytes) ≡ all → all ≡ found
-torn_ends number count name before bytes end all found next is unlinked wrong so =
-    sym so ∙ (torn_lines (suc number) name before bytes end is unlinked
-    ∙ subst (λ n. torn_at n before (whole_lines bytes) ≡ found) next wrong)
-
-pub torn_fails : (number count : ℕ) (name : List ℕ) (before : Read) (bytes : List ℕ) (end : ℕ) (damage : Damage)
-    (all : Result Read Damage) → count ≡ suc number → Some end ≡ position is_feed bytes →
+    (all : List (List ℕ) → Result Read Damage) → count ≡ suc number → Some end ≡ position is_feed bytes →
     text_behind before.sum (take end bytes) ≡ None →
-    (damage ≡ Memory) ⊎ ((read : Read) → torn_at count read (whole_lines bytes) ≡ Err damage) →
-    read_lines (suc number) name before (whole_lines bytes) ≡ all → (damage ≡ Memory) ⊎ (all ≡ Err damage)
+    ((later : List (List ℕ)) → torn_at count before (whole_lines bytes ++ later) ≡ torn_at count before later) →
+    ((later : List (List ℕ)) → read_lines (suc number) name before (whole_lines bytes ++ later) ≡ all later) →
+    (later : List (List ℕ)) → all later ≡ torn_at count before later
+torn_ends number count name before bytes end all next is unlinked passed so later =
+    sym (so later) ∙ (torn_lines (suc number) name before bytes end later is unlinked
+    ∙ subst (λ n. torn_at n before (whole_lines bytes ++ later) ≡ torn_at count before later) next (passed later))
+
+-- and if one does, this is the damage
+pub torn_fails : (number count : ℕ) (name : List ℕ) (before : Read) (bytes : List ℕ) (end : ℕ) (damage : Damage)
+    (all : List (List ℕ) → Result Read Damage) → count ≡ suc number → Some end ≡ position is_feed bytes →
+    text_behind before.sum (take end bytes) ≡ None →
+    (damage ≡ Memory) ⊎ ((found : Result Read Damage) (later : List (List ℕ)) →
+    unless_begun count found (whole_lines bytes ++ later) ≡ Err damage) →
+    ((later : List (List ℕ)) → read_lines (suc number) name before (whole_lines bytes ++ later) ≡ all later) →
+    (damage ≡ Memory) ⊎ ((later : List (List ℕ)) → all later ≡ Err damage)
 torn_fails number count name before bytes end damage all next is unlinked (inl memory) so = inl memory
 torn_fails number count name before bytes end damage all next is unlinked (inr wrong) so =
-    inr (torn_ends number count name before bytes end all (Err damage) next is unlinked (wrong before) so)
+    inr (λ later. sym (so later) ∙ (torn_lines (suc number) name before bytes end later is unlinked
+    ∙ subst (λ n. torn_at n before (whole_lines bytes ++ later) ≡ Err damage) next (wrong (Ok before) later)))
 
--- no line is left, so this is what all lead to
-pub ends : (number : ℕ) (name : List ℕ) (before : Read) (bytes : List ℕ) (all : Result Read Damage) →
-    None ≡ position is_feed bytes → read_lines (suc number) name before (whole_lines bytes) ≡ all → all ≡ Ok before
-ends number name before bytes all is so =
-    sym so ∙ ap (read_lines (suc number) name before) (none_whole bytes (sym is))
-
--- a file without a whole line
-pub unread : (replica present : ℕ) (name bytes : List ℕ) (damage : Damage) → None ≡ position is_feed bytes →
-    damage ≡ unbegun bytes → pad_read replica present name bytes ≡ Err damage
-unread replica present name bytes damage is so = ap (lines_read replica present name bytes) (none_whole bytes (sym is))
-    ∙ ap Err (sym so)
-
--- the lines of a file with whole lines are read, if its pad has the name
-pub lines_there : (replica present : ℕ) (name bytes : List ℕ) (end : ℕ) → Some end ≡ position is_feed bytes →
-    pad_read replica present name bytes ≡ read_on (if_named name) (file_read replica present name (whole_lines bytes))
-lines_there replica present name bytes end is =
-    subst (λ lines. lines_read replica present name bytes lines ≡ read_on (if_named name) (file_read replica present name lines))
-    (sym (first_whole bytes end (sym is))) refl
-
--- what the file leads to, from what the first line leads to
-begins_so : (replica present : ℕ) (name bytes : List ℕ) (end : ℕ) (found : Result Read Damage) →
-    Some end ≡ position is_feed bytes → first_read replica present name (take end bytes) (whole_lines bytes) ≡ found →
-    file_read replica present name (whole_lines bytes)
-    ≡ read_on (λ before. read_lines 2 name before (whole_lines (drop (suc end) bytes))) found
-begins_so replica present name bytes end found is leads =
-    ap (file_read replica present name) (first_whole bytes end (sym is))
-    ∙ ap (read_on (λ before. read_lines 2 name before (whole_lines (drop (suc end) bytes))))
-    (ap (first_read replica present name (take end bytes)) (sym (first_whole bytes end (sym is))) ∙ leads)
-
--- damage of the first line is the result of the file
-pub begin_fails : (replica present : ℕ) (name bytes : List ℕ) (end : ℕ) (damage : Damage) → Some end ≡ position is_feed bytes →
-    (damage ≡ Memory)
-    ⊎ ((number most : ℕ) → first_read number most name (take end bytes) (whole_lines bytes) ≡ Err damage) →
-    (damage ≡ Memory) ⊎ (file_read replica present name (whole_lines bytes) ≡ Err damage)
-begin_fails replica present name bytes end damage is (inl memory) = inl memory
-begin_fails replica present name bytes end damage is (inr wrong) =
-    inr (begins_so replica present name bytes end (Err damage) is (wrong replica present))
-
--- after the first line
-pub begins : (replica present : ℕ) (name bytes rest : List ℕ) (end k : ℕ) (first : Tail) → k ≡ suc end →
-    take (length bytes - k) (drop k bytes) ≡ rest → Some end ≡ position is_feed bytes →
-    ((number most : ℕ) → first_read number most name (take end bytes) (whole_lines bytes)
-    ≡ Ok (so_far (unnamed number most) first)) →
-    file_read replica present name (whole_lines bytes)
-    ≡ read_lines 2 name (so_far (unnamed replica present) first) (whole_lines rest)
-begins replica present name bytes rest end k first behind left is leads =
-    subst (λ bs. file_read replica present name (whole_lines bytes) ≡ read_lines 2 name (so_far (unnamed replica present) first)
-    (whole_lines bs)) (ap (λ i. drop i bytes) (sym behind) ∙ (sym (take_rest bytes k) ∙ left))
-    (begins_so replica present name bytes end (Ok (so_far (unnamed replica present) first)) is (leads replica present))
-
--- what holds for one result holds for an equal one
-pub moved : (damage : Damage) (from to : Result Read Damage) → to ≡ from → (damage ≡ Memory) ⊎ (from ≡ Err damage) →
-    (damage ≡ Memory) ⊎ (to ≡ Err damage)
-moved damage from to same (inl memory) = inl memory
-moved damage from to same (inr wrong) = inr (same ∙ wrong)
+-- no line is left, so the later lines decide
+pub ends : (number : ℕ) (name : List ℕ) (before : Read) (bytes : List ℕ) (all : List (List ℕ) → Result Read Damage) →
+    None ≡ position is_feed bytes →
+    ((later : List (List ℕ)) → read_lines (suc number) name before (whole_lines bytes ++ later) ≡ all later) →
+    (later : List (List ℕ)) → all later ≡ read_lines (suc number) name before later
+ends number name before bytes all is so later =
+    sym (so later)
+    ∙ ap (λ (ls : List (List ℕ)). read_lines (suc number) name before (ls ++ later)) (none_whole bytes (sym is))
 
 -- whether a line begins a batch is decided by the first line or by those after it
 pub begins_here : (bytes : List ℕ) (end : ℕ) → Some end ≡ position is_feed bytes → begins_batch (take end bytes) ≡ true →

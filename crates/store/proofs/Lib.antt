@@ -1,7 +1,9 @@
 -- The lemmas, by topic.
+pub mod Begins
 pub mod Crashes
 pub mod Feeds
 pub mod Frames
 pub mod Fronts
 pub mod Names
+pub mod Pieces
 pub mod Texts

@@ -13,7 +13,6 @@ use Rattle.records.specs.Records.{rebuilt, replay, replay_all, replayed, unless_
 use Rattle.records.specs.declared.kept_record.Record.{Record}
 use Rattle.records.specs.declared.kept_record.Record.TheVariants.{Named, Granted, Visited, Delivered}
 use Rattle.store.specs.Files.{Read, if_called, if_named}
-use Rattle.store.specs.declared.reader.Damage.{Damage}
 use Rattle.store.specs.declared.reader.Damage.TheVariants.{Empty, OtherPad}
 
 refused_stays : (records : List Record) (e : Refusal) → fold replayed (Err e) records ≡ Err e

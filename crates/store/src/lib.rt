@@ -7,10 +7,12 @@ mod form;
 mod header;
 pub mod laws;
 mod line;
+mod loading;
 mod reader;
 
 pub use entry::{Entry, read_entry};
 pub use form::{read_record, record_value};
 pub use header::{FORMAT, Header, header_text, read_header};
 pub use line::{Linked, link, text_of};
+pub use loading::Loading;
 pub use reader::{Damage, Loaded, load, record_text};

@@ -1,22 +1,21 @@
 //! Loads a pad from the bytes of its file.
-ghost use Rattle.std.specs.Prelude.{◌≡◌, ◌⊎◌, ◌≤◌, ◌<◌, ◌+◌, ℕ, [], length, true, false, bytes_eq, string_bytes, IfOk, MatchResult, Some, None, Ok, Err};
-ghost use Rattle.std.specs.List.{position};
+ghost use Rattle.std.specs.Prelude.{◌≡◌, ◌⊎◌, ◌≤◌, ◌+◌, ℕ, List, [], length, true, false, bytes_eq, string_bytes, IfOk, IfSome, MatchOption, MatchResult, Some, None, Ok, Err};
 ghost use Rattle.pad_model.specs.declared.refusal.Refusal.{Refusal};
 ghost use Rattle.pad_core.specs.Machine.{name_of};
 ghost use Rattle.records.specs.Records.{replay as replayed, unnamed};
 ghost use Rattle.wire_json.specs.Lines.{value_of as value_in};
 ghost use Rattle.store.specs.Entries.{entry_said};
-ghost use Rattle.store.specs.Files.{Read, file_read, first_read, if_called, if_named, pad_read, read_lines, read_on, said_at, so_far, text_read, torn_at, torn_front, unbegun};
+ghost use Rattle.store.specs.Files.{Read, first_read, if_called, pad_read, said_at, so_far, text_read, unbegun};
 ghost use Rattle.store.specs.Forms.{IsSayableRecord, record_data};
 ghost use Rattle.store.specs.Laws.{Tells};
-ghost use Rattle.store.specs.Lines.{is_feed, whole_lines};
+ghost use Rattle.store.specs.Lines.{text_behind};
 ghost use Rattle.store.specs.declared.reader.Damage.TheVariants.{Memory};
 
-use crate::batch::has_beginning;
 use crate::entry::{Entry, read_entry, value_of};
 use crate::form::record_value;
 use crate::header::Header;
-use crate::line::{find_feed, text_of};
+use crate::line::text_of;
+use crate::loading::Loading;
 use pad_core::Pad;
 use pad_model::{Refusal, Sequence};
 use records::{Record, replay};
@@ -57,12 +56,12 @@ pub struct Loaded<S: Sequence> {
     pub cut: u64,
 }
 
-// What the next line follows: the last header, the sum of the last line, and the number of bytes of the lines.
+/// What the next line follows: the last header, the sum of the last line, and the number of bytes of the lines.
 #[derive(Drop)]
-struct Tail {
-    header: Header,
-    sum: String,
-    whole: usize,
+pub struct Tail {
+    pub header: Header,
+    pub sum: String,
+    pub whole: u64,
 }
 
 /// The text of a record's line. `at` is the time in seconds since 1970, and `together` tells whether it is written
@@ -102,45 +101,12 @@ pub fn load<S: Sequence>(
         ⊎ (pad_read replica present name.now bytes.now ≡ Err e)) }
     ensures cut { IfOk result (λ loaded. loaded.whole + loaded.cut ≡ length bytes.now) }
 {
-    let Some(end) = find_feed(bytes) else {
-        return Err(damage_of_front(bytes));
-    };
-    let (pad, last) = load_named(alloc, replica, present, name, bytes, end)?;
-    let Tail { header, sum, whole } = last;
-    Ok(Loaded {
-        pad,
-        header,
-        sum,
-        whole: whole as u64,
-        cut: (bytes.len() - whole) as u64,
-    })
+    let loading = Loading::new(alloc, replica, present)?;
+    loading.finish(alloc, name, bytes)
 }
 
-// Loads the pad with this name from the lines of a file, whose first line ends at `end`. Also returns the tail of its
-// lines.
-fn load_named<S: Sequence>(
-    alloc: Global,
-    replica: u16,
-    present: u64,
-    name: &str,
-    bytes: &[u8],
-    end: usize,
-) -> Result<(Pad<S>, Tail), Damage>
-    requires numbered { 1 ≤ replica }
-    requires feed { Some end ≡ position is_feed bytes.now }
-    ensures read { MatchResult result (λ done. read_on (if_named name.now)
-        (file_read replica present name.now (whole_lines bytes.now)) ≡ Ok (so_far done.0 done.1))
-        (λ e. (e ≡ Damage.Memory) ⊎ (read_on (if_named name.now)
-        (file_read replica present name.now (whole_lines bytes.now)) ≡ Err e)) }
-    ensures within { IfOk result (λ done. done.1.whole ≤ length bytes.now) }
-{
-    let done: (Pad<S>, Tail) = load_lines(alloc, replica, present, name, bytes, end)?;
-    check_name(&done.0, name)?;
-    Ok(done)
-}
-
-// Whether a pad has this name.
-fn check_name<S: Sequence>(pad: &Pad<S>, name: &str) -> Result<(), Damage>
+/// Whether a pad has this name.
+pub fn check_name<S: Sequence>(pad: &Pad<S>, name: &str) -> Result<(), Damage>
     ensures { MatchResult result (λ _. (read : Read)
         → if_called name.now read (name_of pad.now.owned) ≡ Ok read)
         (λ e. (read : Read) → if_called name.now read (name_of pad.now.owned) ≡ Err e) }
@@ -152,106 +118,8 @@ fn check_name<S: Sequence>(pad: &Pad<S>, name: &str) -> Result<(), Damage>
     }
 }
 
-// Loads the pad from the lines of a file, whose first line ends at `end`. Also returns the tail of its lines.
-fn load_lines<S: Sequence>(
-    alloc: Global,
-    replica: u16,
-    present: u64,
-    name: &str,
-    bytes: &[u8],
-    end: usize,
-) -> Result<(Pad<S>, Tail), Damage>
-    requires numbered { 1 ≤ replica }
-    requires feed { Some end ≡ position is_feed bytes.now }
-    ensures read { MatchResult result (λ done. file_read replica present name.now
-        (whole_lines bytes.now) ≡ Ok (so_far done.0 done.1))
-        (λ e. (e ≡ Damage.Memory) ⊎ (file_read replica present name.now (whole_lines bytes.now)
-        ≡ Err e)) }
-    ensures within { IfOk result (λ done. done.1.whole ≤ length bytes.now) }
-{
-    let first = first_line(alloc, name, &bytes[..end], bytes)?;
-    load_behind(alloc, replica, present, name, first, &bytes[end + 1..])
-}
-
-// Loads the pad of a file whose first line was read, from the bytes after it.
-fn load_behind<S: Sequence>(
-    alloc: Global,
-    replica: u16,
-    present: u64,
-    name: &str,
-    first: Tail,
-    bytes: &[u8],
-) -> Result<(Pad<S>, Tail), Damage>
-    requires numbered { 1 ≤ replica }
-    requires room { first.whole + length bytes.now ≤ 18446744073709551615 }
-    ensures read { MatchResult result (λ done. read_lines 2 name.now
-        (so_far (unnamed replica present) first) (whole_lines bytes.now)
-        ≡ Ok (so_far done.0 done.1)) (λ e. (e ≡ Damage.Memory)
-        ⊎ (read_lines 2 name.now (so_far (unnamed replica present) first) (whole_lines bytes.now)
-        ≡ Err e)) }
-    ensures within { IfOk result (λ done. done.1.whole ≤ first.whole + length bytes.now) }
-{
-    let mut pad = match Pad::new(alloc, replica, present) {
-        Ok(pad) => pad,
-        Err(_) => return Err(Damage::Memory),
-    };
-    let last = replay_lines(alloc, &mut pad, name, first, bytes)?;
-    Ok((pad, last))
-}
-
-// Replays the lines after the first one, up to the first that is not linked, and returns the tail of those that were
-// replayed.
-fn replay_lines<S: Sequence>(
-    alloc: Global,
-    pad: &mut Pad<S>,
-    name: &str,
-    first: Tail,
-    bytes: &[u8],
-) -> Result<Tail, Damage>
-    requires { first.whole + length bytes.now ≤ 18446744073709551615 }
-    ensures read { MatchResult result (λ last. read_lines 2 name.now (so_far pad.old first)
-        (whole_lines bytes.now) ≡ Ok (so_far pad.new last))
-        (λ e. (e ≡ Damage.Memory) ⊎ (read_lines 2 name.now (so_far pad.old first)
-        (whole_lines bytes.now) ≡ Err e)) }
-    ensures within { IfOk result (λ last. last.whole ≤ first.whole + length bytes.now) }
-{
-    let mut last = first;
-    let mut rest = bytes;
-    let mut number: u64 = 1;
-    while let Some(end) = find_feed(rest) {
-        number += 1;
-        let Some((text, sum)) = text_of(alloc, last.sum.as_str(), &rest[..end])? else {
-            check_torn(alloc, rest, number)?;
-            return Ok(last);
-        };
-        let behind = Tail {
-            header: last.header,
-            sum,
-            whole: last.whole + end + 1,
-        };
-        last = enter(alloc, pad, name, behind, text, number)?;
-        rest = &rest[end + 1..];
-    }
-    Ok(last)
-}
-
-// Checks that the bytes after a line are what a crash left of lines that were never synced. The line with this number
-// is the first that is not linked.
-fn check_torn(alloc: Global, bytes: &[u8], number: u64) -> Result<(), Damage>
-    ensures { MatchResult result (λ _. (before : Read)
-        → torn_at number before (whole_lines bytes.now) ≡ Ok before)
-        (λ e. (e ≡ Damage.Memory) ⊎ ((before : Read)
-        → torn_at number before (whole_lines bytes.now) ≡ Err e)) }
-{
-    if has_beginning(alloc, bytes)? {
-        Err(Damage::Unlinked { line: number })
-    } else {
-        Ok(())
-    }
-}
-
-// Applies what the text of one more line says.
-fn enter<S: Sequence>(
+/// Applies what the text of one more line says.
+pub fn enter<S: Sequence>(
     alloc: Global,
     pad: &mut Pad<S>,
     name: &str,
@@ -278,26 +146,15 @@ fn enter<S: Sequence>(
     }
 }
 
-// The damage of a file that does not begin with a whole line of a pad: its first write was lost, or it was never a
-// pad's.
-fn damage_of_front(bytes: &[u8]) -> Damage
+/// The damage of a file that does not begin with a whole line of a pad: its first write was lost, or it was never a
+/// pad's.
+pub fn damage_of_front(bytes: &[u8]) -> Damage
     ensures { result ≡ unbegun bytes.now }
 {
     if bytes.starts_with(BEGINNING) || BEGINNING.starts_with(bytes) || bytes.starts_with(&[0]) {
         Damage::Empty
     } else {
         Damage::Unlinked { line: 1 }
-    }
-}
-
-// The damage of a file whose first line is not linked.
-fn damage_of_first(alloc: Global, line: &[u8], bytes: &[u8]) -> Damage
-    ensures { (result ≡ Damage.Memory) ⊎ (result ≡ torn_front line.now (whole_lines bytes.now)) }
-{
-    match has_beginning(alloc, bytes) {
-        Ok(true) => Damage::Unlinked { line: 1 },
-        Ok(false) => damage_of_front(line),
-        Err(_) => Damage::Memory,
     }
 }
 
@@ -313,25 +170,26 @@ fn checked(header: Header, name: &str) -> Result<Header, Damage>
     }
 }
 
-// Reads the first line of these bytes, which is a header.
-fn first_line(alloc: Global, name: &str, line: &[u8], bytes: &[u8]) -> Result<Tail, Damage>
-    requires { length line.now < length bytes.now }
-    ensures read { MatchResult result (λ first. (replica present : ℕ)
-        → first_read replica present name.now line.now (whole_lines bytes.now)
-        ≡ Ok (so_far (unnamed replica present) first))
-        (λ e. (e ≡ Damage.Memory) ⊎ ((replica present : ℕ)
-        → first_read replica present name.now line.now (whole_lines bytes.now) ≡ Err e)) }
-    ensures within { IfOk result (λ first. first.whole ≡ length line.now + 1) }
+/// Reads the first line, which is a header. None: it is not linked.
+pub fn first_line(alloc: Global, name: &str, line: &[u8]) -> Result<Option<Tail>, Damage>
+    ensures read { MatchResult result (λ found. MatchOption found (text_behind [] line.now ≡ None)
+        (λ first. (replica present : ℕ) (lines : List (List ℕ)) →
+        first_read replica present name.now line.now lines
+        ≡ Ok (so_far (unnamed replica present) first)))
+        (λ e. (e ≡ Damage.Memory) ⊎ ((replica present : ℕ) (lines : List (List ℕ)) →
+        first_read replica present name.now line.now lines ≡ Err e)) }
+    ensures within { IfOk result (λ found. IfSome found
+        (λ first. first.whole ≡ length line.now + 1)) }
 {
     let Some((text, sum)) = text_of(alloc, "", line)? else {
-        return Err(damage_of_first(alloc, line, bytes));
+        return Ok(None);
     };
     match entry_of(alloc, text, 1)? {
-        Entry::Header(header) => Ok(Tail {
+        Entry::Header(header) => Ok(Some(Tail {
             header: checked(header, name)?,
             sum,
-            whole: line.len() + 1,
-        }),
+            whole: line.len() as u64 + 1,
+        })),
         Entry::Record(_) => Err(Damage::Unknown { line: 1 }),
     }
 }

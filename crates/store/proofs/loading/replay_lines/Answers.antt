@@ -2,7 +2,7 @@ use Rattle.std.proofs.Common.{rules, ◌+◌, refl, arith, string_bytes}
 use Rattle.pad_core.proofs.Exits.{passed_on}
 use Rattle.store.specs.Files.{so_far}
 use Rattle.store.proofs.Feeds.{ends, fails, goes_on, torn_ends, torn_fails}
-use Rattle.store.proofs.reader.replay_lines.Goals as goal
+use Rattle.store.proofs.loading.replay_lines.Goals as goal
 
 pub returns-in_err-check_torn-clause-read : goal.returns-in_err-check_torn-clause-read
 returns-in_err-check_torn-clause-read g c =
@@ -14,8 +14,8 @@ returns-in_err-check_torn-clause-read g c =
 pub returns-in_default-2-clause-read : goal.returns-in_default-2-clause-read
 returns-in_default-2-clause-read g c =
     torn_ends c.loop-end.number _ c.args.name.now (so_far c.loop-end.pad c.loop-end.last) c.loop-end.rest.now
-    c.in-Some.end _ _ (omega arith) c.in-Some.ensures (search rules)
-    (c.in_ok-check_torn.ensures (so_far c.loop-end.pad c.loop-end.last)) c.loop-end.invariant.0
+    c.in-Some.end _ (omega arith) c.in-Some.ensures (search rules)
+    (c.in_ok-check_torn.ensures _) c.loop-end.invariant.0
 
 pub returns-in_err-last-clause-read : goal.returns-in_err-last-clause-read
 returns-in_err-last-clause-read g c =

@@ -150,6 +150,7 @@ export class Desk {
     say($("state"), text);
     document.body.classList.toggle("is-offline", state === "over" || state === "lost");
     if (state === "saved") this.notice.takeBack(WORDS.unsaved, WORDS.unsavedChange);
+    else if (this.notice.canClose) this.showUnsaved();
     this.showSteps();
     $("state").className = ["over", "lost", "held"].includes(state) ? "is-bad" : `is-${state}`;
   }

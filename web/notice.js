@@ -5,7 +5,7 @@ import { LABELS, WORDS } from "./words.js";
 export class Notice {
   // `onGoOn` opens the dialog for a new pad, and `onClose` closes the pad though words are not sent.
   constructor({ onGoOn, onClose }) {
-    Object.assign(this, { text: "", kept: "" });
+    Object.assign(this, { text: "", kept: "", canClose: false });
     $("notice-dismiss").addEventListener("click", () => this.hide());
     $("notice-go-on").addEventListener("click", () => onGoOn());
     $("notice-close").addEventListener("click", () => onClose());
@@ -23,13 +23,13 @@ export class Notice {
     if (words) this.kept = this.kept ? `${this.kept}\n${words}` : words;
     const shown = [this.kept, unsent].filter(Boolean).join("\n");
     $("notice").hidden = false;
-    $("notice-words").textContent = shown;
+    say($("notice-words"), shown);
     $("notice-words").hidden = $("notice-copy").hidden = !shown;
     say($("notice-copy"), LABELS.copy);
     $("notice-go-on").hidden = !canGoOn;
     $("notice-close").hidden = !canClose;
     say($("notice-text"), shown && !canClose ? `${text} ${WORDS.kept}`.trim() : text);
-    this.text = text;
+    Object.assign(this, { text, canClose });
   }
 
   // Takes back these texts, once they do not hold any more. Words that are kept stay.
@@ -41,6 +41,6 @@ export class Notice {
   hide() {
     $("notice").hidden = true;
     $("notice-words").textContent = "";
-    Object.assign(this, { text: "", kept: "" });
+    Object.assign(this, { text: "", kept: "", canClose: false });
   }
 }

@@ -77,9 +77,11 @@ def unanswered(test, line):
         ann.click("close")
         check("words that are not sent keep a pad open", says(ann, "not saved yet") and ann.get("text").is_displayed(), ann.get("notice-text").text)
         check("and are shown", "fourth" in ann.get("notice-words").text, ann.get("notice-words").text)
+        ann.type("!", units(ann.text))
+        check("also those that are typed meanwhile", until(lambda: "fourth!" in ann.get("notice-words").text.replace("\n", "")), ann.get("notice-words").text)
         test.shot(ann, "not-saved")
     check("until the server answers", ann.is_saved() and until(lambda: not ann.get("notice").is_displayed()))
-    check("with all words", line.ask(do="text", pad="drafts")["text"].endswith(" fourth"), line.ask(do="text", pad="drafts"))
+    check("with all words", line.ask(do="text", pad="drafts")["text"].endswith(" fourth!"), line.ask(do="text", pad="drafts"))
     with Stopped(test.server):
         ann.click("close")
         ann.select(0)

@@ -251,7 +251,10 @@ export class Desk {
   }
 
   showComments() {
-    const { past, session } = this, all = past.shown?.comments ?? session.comments.list;
+    const { past, session } = this;
+    if (!this.isOpen || !session.pad) return;
+    this.giveColours();
+    const all = past.shown?.comments ?? session.comments.list;
     const resolved = all.filter(({ isResolved }) => isResolved).length, { comments } = this;
     $("resolved").hidden = !resolved;
     say($("resolved"), (this.showsResolved ? WORDS.hideResolved : WORDS.showResolved)(resolved));

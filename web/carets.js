@@ -1,4 +1,5 @@
 // Others' carets over the text, each with a name that fades a while after it was moved.
+import { named } from "./authors.js";
 import { colourOf } from "./colours.js";
 
 const NAME_ROOM = 90; // pixels to the right of a caret that its name may need
@@ -19,6 +20,7 @@ export class Carets {
       const caret = known?.moves === person.moves ? known : this.make(person, known);
       const place = `translate(${Math.round(left - home.left)}px, ${Math.round(top - home.top)}px)`;
       if (caret.place !== place) { caret.place = place; caret.node.style.transform = place; }
+      if (!caret.node.classList.contains(colourOf(person.author))) caret.node.className = `caret ${colourOf(person.author)}`;
       caret.node.classList.toggle("is-flipped", left - home.left > home.width - NAME_ROOM);
       if (caret.height !== height) { caret.height = height; caret.node.style.height = `${height}px`; }
     }
@@ -30,7 +32,7 @@ export class Carets {
     const node = document.createElement("div"), name = document.createElement("span");
     node.className = `caret ${colourOf(author)}`;
     node.dataset.author = author;
-    name.textContent = author.split("@")[0];
+    name.textContent = named(author);
     node.append(name);
     this.layer.append(node);
     const caret = { node, moves, place: "", height: 0 };

@@ -1,21 +1,29 @@
-// Each author's colour, one of the twelve in style.css. Authors with a right get them in the order in which the server lists
-// the rights, which is the same for all windows; authors of other servers get the next free ones, in the order of their names.
+// Each author's colour, one of the twelve in style.css. It depends on who the authors are and on nothing that happened before,
+// so it is the same in all windows: authors with a right have colours in the order in which the server lists the rights, and
+// the others who wrote or commented come after them, in the order of their names.
 const COLOURS = 12;
-const given = new Map();
+let given = new Map();
 
-export function forgetColours() { given.clear(); }
-
-// Gives colours to authors that have none, in this order.
+// Gives these authors their colours, in this order. The answer is whether any author's colour is another one now.
 export function giveColours(authors) {
-  for (const author of authors) {
-    if (given.has(author)) continue;
-    const counts = new Array(COLOURS).fill(0);
-    for (const colour of given.values()) counts[colour]++;
-    given.set(author, counts.indexOf(Math.min(...counts)));
-  }
+  const next = new Map([...new Set(authors)].map((author, k) => [author, k % COLOURS]));
+  const isOther = next.size !== given.size || [...next].some(([author, colour]) => given.get(author) !== colour);
+  given = next;
+  return isOther;
 }
 
-export function colourOf(author) {
-  giveColours([author]);
-  return `colour-${given.get(author)}`;
+// Who is not among them, such as an author of an earlier revision, has a colour by the name alone.
+export function colourOf(author) { return `colour-${given.get(author) ?? ofName(author)}`; }
+
+function ofName(author) {
+  let sum = 0;
+  for (const character of author) sum = (sum * 31 + character.codePointAt(0)) % 65521;
+  return sum % COLOURS;
+}
+
+// All who have to have a colour of their own on a pad.
+export function authorsOf({ me, pad, comments, rights }) {
+  const origin = me.slice(me.indexOf("@"));
+  const others = new Set([...pad.runs.map(([author]) => author), ...comments.list.map(({ author }) => author)]);
+  return [...rights.map(([name]) => name + origin), ...[...others].sort()];
 }

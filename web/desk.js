@@ -1,25 +1,24 @@
 // An open pad: its text, who is here, comments, the slider, and what the buttons do.
+import { named } from "./authors.js";
 import { Carets } from "./carets.js";
-import { colourOf, forgetColours, giveColours } from "./colours.js";
+import { authorsOf, colourOf, giveColours } from "./colours.js";
 import { Editor } from "./editor.js";
 import { reason } from "./enter.js";
 import { save, toMarkdown } from "./exports.js";
 import { Margin } from "./margin.js";
 import { Notice } from "./notice.js";
-import { $, element, gather, say } from "./page.js";
+import { $, element, fill, gather, say } from "./page.js";
 import { Past } from "./past.js";
 import { RightsBox } from "./rights.js";
-import { LANGUAGE, WORDS, refusal } from "./words.js";
+import { WORDS, refusal } from "./words.js";
 
 const NEARLY_FULL = 0.9, LISTED = 300;
 // Refusals that say that a pad can take no more.
-const FULL = [314, 324, 325, 327, 328];
-
-const short = (author) => author.split("@")[0];
+const FULL = [314, 324, 325, 327, 328], DENIED = 312;
 
 export class Desk {
   constructor(session, onClose) {
-    Object.assign(this, { session, onClose, isOpen: false, litId: null, showsResolved: false, percent: 0 });
+    Object.assign(this, { session, onClose, isOpen: false, isShutOut: false, litId: null, showsResolved: false, percent: 0 });
     this.place = gather(() => this.placeAll());
     this.list = gather(() => this.listAuthors(), (act) => setTimeout(act, LISTED));
     this.editor = new Editor($("text"), {
@@ -34,7 +33,7 @@ export class Desk {
     });
     this.carets = new Carets($("carets"));
     this.past = new Past(session, () => { this.showEditable(); this.showComments(); this.place(); this.list(); });
-    this.notice = new Notice(() => this.askName());
+    this.notice = new Notice({ onGoOn: () => this.askName(), onClose: () => this.close(true) });
     this.rights = new RightsBox(session, (text) => say($("news"), text));
     this.listen();
   }
@@ -76,12 +75,13 @@ export class Desk {
     say($("pad-name"), pad.name);
     for (const id of ["enter", "log-out"]) $(id).hidden = true;
     for (const id of ["work", "tools", "here", "pad-name"]) $(id).hidden = false;
-    forgetColours();
-    this.giveColours();
+    // What was drawn of another pad can look the same by its key.
+    Object.assign(this, { litId: null, percent: 0, peopleKey: null, authorsKey: null, isShutOut: false });
+    this.margin.forget();
     this.carets.clear();
     this.past.start(pad);
     this.notice.hide();
-    Object.assign(this, { litId: null, percent: 0 });
+    giveColours(authorsOf(this.session));
     this.editor.show(pad.text);
     this.showAll();
     this.warnWhenFull();
@@ -90,10 +90,16 @@ export class Desk {
     this.editor.select(0);
   }
 
+  // Where authors have other colours than before, everything is drawn in them. Who has lost the right sees no rights, and
+  // the colours stay as they were.
   giveColours() {
-    const { me, pad, presence, rights } = this.session, origin = me.slice(me.indexOf("@"));
-    giveColours(rights.map(([name]) => name + origin));
-    giveColours([...pad.runs.map(([author]) => author), ...presence.people.map(({ author }) => author)].sort());
+    const { pad, rights } = this.session;
+    if (!pad || !rights.length || !giveColours(authorsOf(this.session))) return;
+    this.editor.lines.recolour();
+    this.past.lines.recolour();
+    this.showPeople();
+    this.showComments();
+    this.listAuthors();
   }
 
   showAll() {
@@ -104,13 +110,32 @@ export class Desk {
     this.showState();
   }
 
-  async close() {
+  // Closes the pad once everything is sent. Words that cannot be sent in some seconds keep it open, unless the author has
+  // decided to lose them. Resolves to whether the pad is closed.
+  async close(isForced = false) {
+    const { session } = this, { pad } = session, isSettled = isForced || await session.settle();
+    if (pad !== session.pad) return false;
+    if (!isSettled) { this.showUnsaved(); return false; }
+    await this.leave();
+    this.onClose();
+    return true;
+  }
+
+  // From here on nothing can be typed, also while the server takes its time.
+  async leave() {
     if (this.past.isOpen) this.past.close();
     this.isOpen = false;
+    $("work").hidden = $("tools").hidden = true;
+    document.body.classList.remove("is-offline");
+    this.notice.hide();
     await this.session.leave();
     history.replaceState(null, "", location.pathname);
-    this.notice.hide();
-    this.onClose();
+  }
+
+  showUnsaved() {
+    const { isOver, pad } = this.session, unsent = pad.unsentWords;
+    const text = isOver ? WORDS.unsavedForGood : unsent ? WORDS.unsaved : WORDS.unsavedChange;
+    this.notice.show(text, { unsent, canClose: true });
   }
 
   // ---- what the session tells
@@ -120,14 +145,23 @@ export class Desk {
     if (!this.isOpen) return;
     const idle = session.mayWrite ? WORDS.saved : WORDS.reading(session.right);
     const held = session.heldBy && WORDS.held(refusal(session.heldBy));
-    const text = { over: WORDS.over, lost: WORDS.lost, held, saving: WORDS.saving, saved: idle }[state];
+    const lost = session.mayWrite ? WORDS.lost : WORDS.lostReading;
+    const text = { over: WORDS.over, lost, held, saving: WORDS.saving, saved: idle }[state];
     say($("state"), text);
+    document.body.classList.toggle("is-offline", state === "over" || state === "lost");
+    if (state === "saved") this.notice.takeBack(WORDS.unsaved, WORDS.unsavedChange);
+    else if (this.notice.canClose) this.showUnsaved();
+    this.showSteps();
     $("state").className = ["over", "lost", "held"].includes(state) ? "is-bad" : `is-${state}`;
   }
 
   showRights() {
     const { session } = this;
     if (!this.isOpen) return;
+    if (session.right !== "none") {
+      this.isShutOut = false;
+      this.notice.takeBack(WORDS.shutOut);
+    }
     this.giveColours();
     this.showEditable();
     this.rights.draw();
@@ -138,8 +172,16 @@ export class Desk {
   showEditable() {
     const { session } = this, isEditable = session.mayWrite && !this.past.isOpen;
     this.editor.isEditable = isEditable;
-    $("undo").disabled = $("redo").disabled = !isEditable;
+    this.showSteps();
     $("comment").disabled = !session.mayComment || this.past.isOpen;
+  }
+
+  // Whether there is something to undo and to redo. A button that has done its last step leaves the keyboard to the text.
+  showSteps() {
+    const undo = this.session.pad?.undo, { isEditable } = this.editor, { activeElement } = document;
+    $("undo").disabled = !isEditable || !undo?.canUndo;
+    $("redo").disabled = !isEditable || !undo?.canRedo;
+    if (activeElement?.disabled && ["undo", "redo"].includes(activeElement.id)) $("text").focus();
   }
 
   receive(delta) { this.editor.receive(delta); }
@@ -150,32 +192,42 @@ export class Desk {
   }
 
   showPeople() {
-    const { presence } = this.session;
+    const { me, presence } = this.session;
     this.giveColours();
-    const authors = new Map(presence.people.map((person) => [person.author, person]));
-    const key = JSON.stringify([...authors.keys()]);
+    const authors = [...new Set(presence.people.map(({ author }) => author))];
+    const key = JSON.stringify(authors.map((author) => [author, colourOf(author)]));
     if (key !== this.peopleKey) {
       this.peopleKey = key;
-      $("here").replaceChildren(...[...authors.values()].map(({ author, isMe }) => {
-        const title = isMe ? WORDS.you(author) : author;
-        return element("li", { className: colourOf(author), textContent: short(author), title });
+      $("here").replaceChildren(...authors.map((author) => {
+        const isMe = author === me, title = isMe ? WORDS.you(named(author)) : named(author);
+        return element("li", { className: `${colourOf(author)}${isMe ? " is-me" : ""}`, textContent: named(author), title });
       }));
     }
     this.place();
   }
 
-  came(author) { say($("news"), WORDS.came(short(author))); }
-  went(author) { say($("news"), WORDS.went(short(author))); }
+  came(author) { say($("news"), WORDS.came(named(author))); }
+  went(author) { say($("news"), WORDS.went(named(author))); }
 
   // The session cannot go on. What was typed and not sent is shown, to be copied.
   over(text) {
     this.session.right = "none";
     this.showEditable();
-    this.notice.show(text, { words: this.session.pad.unsentWords });
+    this.notice.show(text, { unsent: this.session.pad.unsentWords });
     this.showState();
   }
 
-  refused(reply, words) { this.notice.show(refusal(reply), { words, canGoOn: FULL.includes(reply.code) }); }
+  refused(reply, words) {
+    if (reply.code === DENIED && !words) { this.shutOut(); return; }
+    this.notice.show(refusal(reply), { words, canGoOn: FULL.includes(reply.code) });
+  }
+
+  // The page asks on, and is refused again and again. It says so once.
+  shutOut() {
+    if (!this.isShutOut) this.notice.show(WORDS.shutOut);
+    this.isShutOut = true;
+  }
+
   warnWhenFull() {
     const { used, left } = this.session.room, percent = Math.floor(used * 100);
     if (used < NEARLY_FULL || percent === this.percent) return;
@@ -199,11 +251,13 @@ export class Desk {
   }
 
   showComments() {
-    const { past, session } = this, all = past.shown?.comments ?? session.comments.list;
+    const { past, session } = this;
+    if (!this.isOpen || !session.pad) return;
+    this.giveColours();
+    const all = past.shown?.comments ?? session.comments.list;
     const resolved = all.filter(({ isResolved }) => isResolved).length, { comments } = this;
     $("resolved").hidden = !resolved;
-    $("resolved").setAttribute("aria-pressed", String(this.showsResolved));
-    say($("resolved"), WORDS.resolvedCount(resolved));
+    say($("resolved"), (this.showsResolved ? WORDS.hideResolved : WORDS.showResolved)(resolved));
     this.margin.draw(comments, past.shown ? past.shown.text : session.pad.text, session.mayComment && !past.isOpen);
     if (!past.shown) this.editor.setMarks(this.marks);
     this.place();
@@ -231,6 +285,7 @@ export class Desk {
     const selected = this.editor.selection(), { session } = this;
     if ($("comment").disabled) return;
     if (!selected || selected.from === selected.to) { this.notice.show(WORDS.selectFirst); return; }
+    this.notice.takeBack(WORDS.selectFirst);
     session.comments.asked = { id: "asked", from: selected.from, to: selected.to, isLit: true };
     this.showComments();
     say($("comment-words"), session.pad.text.slice(selected.from, selected.to));
@@ -267,24 +322,26 @@ export class Desk {
   // The legend: who wrote how much of the shown text.
   listAuthors() {
     const { past, session } = this;
-    if (!this.isOpen) return;
+    if (!this.isOpen || !session.pad) return;
+    this.giveColours();
     const shown = past.shown ?? session.pad, sizes = new Map();
     for (const [author, units] of shown.runs) sizes.set(author, (sizes.get(author) ?? 0) + units);
     const list = [...sizes].sort((a, b) => b[1] - a[1]), whole = shown.text.length;
-    const key = JSON.stringify(list.map(([author, units]) => [author, Math.round((100 * units) / whole)]));
+    const key = JSON.stringify(list.map(([author, units]) => [author, colourOf(author), Math.round((100 * units) / whole)]));
     if (key === this.authorsKey) return;
     this.authorsKey = key;
     $("authors").replaceChildren(...list.map(([author, units]) =>
-      element("li", { className: colourOf(author), textContent: WORDS.share(author, Math.round((100 * units) / whole)) })));
+      element("li", { className: colourOf(author), textContent: WORDS.share(named(author), Math.round((100 * units) / whole)) })));
     if (!list.length) $("authors").append(element("li", { className: "quiet", textContent: WORDS.emptyPad }));
   }
 
   // Colour alone does not say to everybody who wrote the words at the caret.
   sayWriter(at) {
     let end = 0;
-    for (const [author, units] of this.session.pad.runs) {
+    // The browser can tell of the caret once more after the pad was closed.
+    for (const [author, units] of this.session.pad?.runs ?? []) {
       end += units;
-      if (at <= end) { say($("writer"), WORDS.atCaret(author)); return; }
+      if (at <= end) { say($("writer"), WORDS.atCaret(named(author))); return; }
     }
   }
 
@@ -313,16 +370,16 @@ export class Desk {
   }
 
   preparePrint() {
-    if (!this.session.pad) return;
+    if (!this.isOpen) return;
     const { name, rev } = this.revision;
-    say($("print-head"), WORDS.printed(name, rev, new Intl.DateTimeFormat(LANGUAGE, { dateStyle: "long" }).format(new Date())));
+    say($("print-head"), WORDS.printed(name, rev, new Intl.DateTimeFormat(undefined, { dateStyle: "long" }).format(new Date())));
   }
 
   // ---- a new pad for a full one
 
   askName() {
     const [, stem, last] = this.session.pad.name.match(/^(.*?)(?:-(\d+))?$/);
-    $("go-on-name").value = `${stem.slice(0, 28)}-${Number(last ?? 1) + 1}`;
+    fill($("go-on-name"), `${stem.slice(0, 28)}-${Number(last ?? 1) + 1}`);
     say($("go-on-error"), "");
     $("go-on-box").showModal();
   }

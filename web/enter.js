@@ -1,9 +1,11 @@
 // The way in: log in, then choose a pad or create one.
-import { $, element, say } from "./page.js";
+import { named, setOrigin } from "./authors.js";
+import { $, element, fill, say } from "./page.js";
 import { Lost } from "./wire.js";
 import { WORDS, refusal } from "./words.js";
 
 export const NAME = /^[a-z0-9-]{1,32}$/;
+const DENIED = 312;
 
 // What an error means, in words.
 export function reason(error) {
@@ -16,7 +18,7 @@ export function reason(error) {
 export class Enter {
   // `onPad` is called once a pad is open, and `onLeave` closes it.
   constructor(session, { onPad, onLeave }) {
-    Object.assign(this, { session, onPad, onLeave });
+    Object.assign(this, { session, onPad, onLeave, wasLost: false });
     $("log-in").addEventListener("submit", (event) => { event.preventDefault(); this.logIn(); });
     $("open").addEventListener("submit", (event) => { event.preventDefault(); this.enter("join", $("pad").value); });
     $("create").addEventListener("click", () => { if ($("open").reportValidity()) this.enter("create", $("pad").value); });
@@ -46,9 +48,29 @@ export class Enter {
     for (const id of ["enter", "choose", "log-out"]) $(id).hidden = false;
     document.title = WORDS.unnamed;
     $("state").className = "";
-    say($("state"), WORDS.loggedIn(this.session.me));
-    try { this.list(await this.session.pads()); } catch (error) { say($("open-error"), reason(error)); }
+    setOrigin(this.session.me);
+    $("no-pads").hidden = true;
+    await this.read();
     $("pad").focus();
+  }
+
+  // Reads the list of pads. If it cannot be read, nothing is said of it but that.
+  async read() {
+    say($("state"), this.session.isLost ? WORDS.over : WORDS.loggedIn(named(this.session.me)));
+    try {
+      this.list(await this.session.pads());
+      say($("open-error"), "");
+    } catch (error) {
+      $("no-pads").hidden = true;
+      say($("open-error"), reason(error));
+    }
+  }
+
+  // Where the connection was lost or is there again, the list is read again.
+  showState() {
+    const { isLost, login } = this.session, isOther = isLost !== this.wasLost;
+    this.wasLost = isLost;
+    if (isOther && login && !$("enter").hidden) this.read();
   }
 
   list(pads) {
@@ -65,15 +87,18 @@ export class Enter {
   enterNamed() {
     const name = location.hash.slice(1);
     if (!NAME.test(name)) return;
-    $("pad").value = name;
+    fill($("pad"), name);
     this.enter("join", name);
   }
 
-  // The address names another pad now.
+  // The address names another pad now. If the open one has words that cannot be sent, it stays.
   async follow() {
     const { login, pad } = this.session, { hash } = location;
     if (!login || hash.slice(1) === pad?.name) return;
-    if (pad) await this.onLeave();
+    if (pad && !(await this.onLeave()) && pad === this.session.pad) {
+      history.replaceState(null, "", `#${pad.name}`);
+      return;
+    }
     location.hash = hash;
     this.enterNamed();
   }
@@ -81,7 +106,7 @@ export class Enter {
   async enter(how, name) {
     say($("open-error"), "");
     try { await this.session[how](name); } catch (error) {
-      say($("open-error"), reason(error));
+      say($("open-error"), error.reply?.code === DENIED ? WORDS.noRight : reason(error));
       return;
     }
     this.onPad();

@@ -122,6 +122,15 @@ export class Lines {
     this.root.insertBefore(blocks, next);
   }
 
+  // Authors have other colours now.
+  recolour() {
+    for (const node of this.root.querySelectorAll(".run")) {
+      const colour = colourOf(node.dataset.author);
+      if (node.classList.contains(colour)) continue;
+      node.className = node.className.replace(/\bcolour-\d+/, colour);
+    }
+  }
+
   // Makes the lines of other marks again.
   setMarks(marks) {
     const key = (mark) => `${mark.id} ${mark.from} ${mark.to} ${Boolean(mark.isLit)}`;

@@ -9,13 +9,16 @@ import { WORDS } from "./words.js";
 
 label();
 
-let desk = null;
+let desk = null, enter = null;
 const whenOpen = (act) => (...given) => { if (desk?.isOpen) act(...given); };
 
 const session = new Session({
   open: webSocket(`${location.protocol === "https:" ? "wss" : "ws"}://${location.host}/socket`),
   view: {
-    onState: whenOpen(() => desk.showState()),
+    onState: () => {
+      enter?.showState();
+      if (desk?.isOpen) desk.showState();
+    },
     onReceive: whenOpen((delta) => desk.receive(delta)),
     onMove: whenOpen((step) => desk.moved(step)),
     onPeople: whenOpen(() => desk.showPeople()),
@@ -28,7 +31,7 @@ const session = new Session({
   },
 });
 
-const enter = new Enter(session, { onPad: () => desk.open(), onLeave: () => desk.close() });
+enter = new Enter(session, { onPad: () => desk.open(), onLeave: () => desk.close() });
 desk = new Desk(session, () => enter.show());
 
 document.addEventListener("visibilitychange", () => {

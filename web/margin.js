@@ -1,4 +1,5 @@
 // The comments beside their words.
+import { named } from "./authors.js";
 import { colourOf } from "./colours.js";
 import { WORDS } from "./words.js";
 import { element } from "./page.js";
@@ -16,7 +17,8 @@ export class Margin {
   // Draws the cards of comments over a text. Where nothing differs they stay, so that a pressed button is not lost.
   draw(comments, text, mayResolve) {
     const shown = comments.slice(0, MOST_CARDS).sort((a, b) => a.from - b.from);
-    const key = ({ id, isResolved, from, to }) => [id, isResolved, text.slice(from, to)];
+    const key = ({ id, author, text: words, isResolved, from, to }) =>
+      [id, author, colourOf(author), words, isResolved, text.slice(from, to)];
     const keys = JSON.stringify([mayResolve, shown.map(key)]);
     if (keys === this.keys) return;
     this.keys = keys;
@@ -26,12 +28,19 @@ export class Margin {
     if (active) document.getElementById(active)?.focus();
   }
 
+  // Forgets the cards: those of another pad have the same ids.
+  forget() {
+    this.cards = new Map();
+    this.keys = "";
+    this.root.replaceChildren();
+  }
+
   card({ id, name, author, text: words, isResolved, from, to }, text, mayResolve) {
     const quote = text.slice(from, to).replace(/\s+/g, " ");
     const short = quote.length > LONGEST_QUOTE ? `${quote.slice(0, LONGEST_QUOTE)}…` : quote;
     const card = element("article", { id, tabIndex: 0, className: `card ${colourOf(author)}` });
-    card.setAttribute("aria-label", WORDS.commentOn(author, short, isResolved));
-    const head = element("p", { className: "card-head" }, element("b", { textContent: author }));
+    card.setAttribute("aria-label", WORDS.commentOn(named(author), short, isResolved));
+    const head = element("p", { className: "card-head" }, element("b", { textContent: named(author) }));
     if (isResolved) head.append(element("span", { className: "quiet", textContent: WORDS.resolved }));
     else if (mayResolve) {
       const button = element("button", { type: "button", className: "small", textContent: WORDS.resolve });

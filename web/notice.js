@@ -3,11 +3,12 @@ import { $, say } from "./page.js";
 import { LABELS, WORDS } from "./words.js";
 
 export class Notice {
-  // `onGoOn` opens the dialog for a new pad.
-  constructor(onGoOn) {
-    this.text = "";
+  // `onGoOn` opens the dialog for a new pad, and `onClose` closes the pad though words are not sent.
+  constructor({ onGoOn, onClose }) {
+    Object.assign(this, { text: "", kept: "", canClose: false });
     $("notice-dismiss").addEventListener("click", () => this.hide());
     $("notice-go-on").addEventListener("click", () => onGoOn());
+    $("notice-close").addEventListener("click", () => onClose());
     $("notice-copy").addEventListener("click", async () => {
       const words = $("notice-words");
       getSelection().selectAllChildren(words);
@@ -16,22 +17,30 @@ export class Notice {
     });
   }
 
-  // `words` are the author's own, which would be lost otherwise. They stay until the author dismisses them.
-  show(text, { words = "", canGoOn = false } = {}) {
-    const kept = $("notice-words").textContent;
-    if (words) $("notice-words").textContent = kept && !$("notice").hidden ? `${kept}\n${words}` : words;
-    const hasWords = Boolean(words) || (Boolean(kept) && !$("notice").hidden);
+  // `words` are the author's own, which would be lost otherwise. They stay until the author dismisses them. `unsent` words
+  // are still in the pad, and are shown with this text only.
+  show(text, { words = "", unsent = "", canGoOn = false, canClose = false } = {}) {
+    if (words) this.kept = this.kept ? `${this.kept}\n${words}` : words;
+    const shown = [this.kept, unsent].filter(Boolean).join("\n");
     $("notice").hidden = false;
-    $("notice-words").hidden = $("notice-copy").hidden = !hasWords;
+    say($("notice-words"), shown);
+    $("notice-words").hidden = $("notice-copy").hidden = !shown;
     say($("notice-copy"), LABELS.copy);
     $("notice-go-on").hidden = !canGoOn;
-    say($("notice-text"), hasWords ? `${text} ${WORDS.kept}` : text);
-    this.text = text;
+    $("notice-close").hidden = !canClose;
+    say($("notice-text"), shown && !canClose ? `${text} ${WORDS.kept}`.trim() : text);
+    Object.assign(this, { text, canClose });
+  }
+
+  // Takes back these texts, once they do not hold any more. Words that are kept stay.
+  takeBack(...texts) {
+    if (!texts.includes(this.text)) return;
+    if (this.kept) this.show(""); else this.hide();
   }
 
   hide() {
     $("notice").hidden = true;
     $("notice-words").textContent = "";
-    this.text = "";
+    Object.assign(this, { text: "", kept: "", canClose: false });
   }
 }

@@ -19,6 +19,19 @@ export function label() {
   for (const node of document.querySelectorAll("[data-text]")) node.textContent = LABELS[node.dataset.text];
   for (const node of document.querySelectorAll("[data-label]")) node.setAttribute("aria-label", LABELS[node.dataset.label]);
   for (const node of document.querySelectorAll("[data-hint]")) node.title = LABELS[node.dataset.hint];
+  document.querySelectorAll("input[pattern]").forEach(explain);
+}
+
+// Gives a field a value that keeps its rule.
+export function fill(field, value) {
+  field.value = value;
+  field.setCustomValidity("");
+}
+
+// A field that is filled in against its rule says the rule, where a browser would speak of a format.
+function explain(field) {
+  field.addEventListener("invalid", () => { if (field.validity.patternMismatch) field.setCustomValidity(field.title); });
+  field.addEventListener("input", () => field.setCustomValidity(""));
 }
 
 // Runs an act soon, and once for all calls until then.

@@ -1,21 +1,22 @@
 // The slider: earlier revisions, who made them and when this page saw them, and what differs between two of them.
+import { named } from "./authors.js";
 import { placed } from "./comments.js";
 import { reason } from "./enter.js";
 import { History } from "./history.js";
 import { Lines } from "./lines.js";
 import { $, say } from "./page.js";
 import { pause } from "./clock.js";
-import { LANGUAGE, LABELS, WORDS } from "./words.js";
+import { LABELS, WORDS } from "./words.js";
 
 const STEP = 90, MOST_STEPS = 300, SAVE_EVERY = 5000;
 
-const clockTime = new Intl.DateTimeFormat(LANGUAGE, { dateStyle: "medium", timeStyle: "short" });
+const clockTime = new Intl.DateTimeFormat(undefined, { dateStyle: "medium", timeStyle: "short" });
 
 export class Past {
   // `onShow` is called when another revision is shown, or none.
   constructor(session, onShow) {
     Object.assign(this, { session, onShow, lines: new Lines($("past")) });
-    Object.assign(this, { shown: null, compared: null, wanted: null, isPlaying: false, isOpen: false });
+    Object.assign(this, { shown: null, compared: null, wanted: null, isPlaying: false, isOpen: false, isCompareSet: false });
     const on = (id, kind, act) => $(id).addEventListener(kind, act);
     on("history", "click", () => { if (this.isOpen) this.close(); else this.open(); });
     on("back", "click", () => this.close());
@@ -23,6 +24,7 @@ export class Past {
     on("older", "click", () => { this.stop(); this.step(-1); });
     on("newer", "click", () => { this.stop(); this.step(1); });
     on("play", "click", () => { if (this.isPlaying) this.stop(); else this.play(); });
+    on("compare-rev", "input", () => { this.isCompareSet = $("compare-rev").value !== ""; });
     on("compare", "submit", (event) => { event.preventDefault(); this.compare(); });
     setInterval(() => this.history?.save(), SAVE_EVERY);
   }
@@ -43,11 +45,10 @@ export class Past {
   }
 
   async open() {
-    this.isOpen = true;
+    Object.assign(this, { isOpen: true, isCompareSet: false });
     $("slider").hidden = false;
     $("history").setAttribute("aria-pressed", "true");
     $("rev").max = $("compare-rev").max = this.pad.rev;
-    $("compare-rev").value = Math.max(0, this.pad.rev - 1);
     await this.go(this.pad.rev);
     $("rev").focus();
   }
@@ -84,6 +85,8 @@ export class Past {
   show(shown) {
     this.shown = shown;
     this.compared = null;
+    // A revision is compared with the one before it, unless the author has named another.
+    if (!this.isCompareSet) $("compare-rev").value = Math.max(0, shown.rev - 1);
     say($("compare-go"), LABELS.compare);
     $("past").classList.remove("is-compared");
     this.draw(shown.text, shown.runs, shown.comments);
@@ -108,7 +111,7 @@ export class Past {
       return;
     }
     const { rev, entry } = shown, seen = this.history.when(rev), parts = [WORDS.old(rev, pad.now)];
-    parts.push(entry ? WORDS.madeBy(entry.kind, entry.author) : WORDS.start);
+    parts.push(entry ? WORDS.madeBy(entry.kind, named(entry.author)) : WORDS.start);
     if (seen && rev) parts.push((seen.isBefore ? WORDS.seenBefore : WORDS.seenAt)(clockTime.format(seen.at)));
     say($("rev-made"), parts.join(" · "));
     $("rev").setAttribute("aria-valuetext", parts.slice(0, 2).join(", "));

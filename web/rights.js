@@ -1,6 +1,6 @@
 // The dialog of rights: who has which, and, for owners, giving and taking them.
 import { reason } from "./enter.js";
-import { $, element, say } from "./page.js";
+import { $, element, fill, say } from "./page.js";
 import { RIGHT_HELP, WORDS } from "./words.js";
 
 const ORDER = ["own", "write", "comment", "read", "none"];
@@ -15,6 +15,7 @@ export class RightsBox {
     Object.assign(this, { session, onGranted, drawn: "" });
     choices($("grant-right"), "write");
     $("rights").addEventListener("click", () => this.open());
+    $("pad-address").addEventListener("focus", () => $("pad-address").select());
     $("grant").addEventListener("submit", (event) => {
       event.preventDefault();
       this.give($("grant-name").value, $("grant-right").value);
@@ -24,6 +25,7 @@ export class RightsBox {
   async open() {
     say($("grant-error"), "");
     this.draw();
+    $("pad-address").value = new URL(`#${this.session.pad.name}`, location.href).href;
     $("rights-box").showModal();
     try { await this.session.readRights(); } catch (error) { say($("grant-error"), reason(error)); }
   }
@@ -54,7 +56,7 @@ export class RightsBox {
     say($("grant-error"), "");
     try {
       await this.session.grant(name, right);
-      $("grant-name").value = "";
+      fill($("grant-name"), "");
       this.onGranted(WORDS.granted(name, right));
     } catch (error) {
       say($("grant-error"), reason(error));

@@ -10,6 +10,8 @@ import { count } from "./units.js";
 import { Lost, Wire } from "./wire.js";
 
 const ALONE = 4000, TOGETHER = 2000, CROWD = 10000, MOST_TOGETHER = 20, HIDDEN = 15000;
+// How long what is not sent yet may take before a pad is left.
+const SETTLE = 5000;
 const RIGHTS_EVERY = 10000, CARET_EVERY = 1000, ROOM_EVERY = 60000;
 // Refusals that pass: out of memory, a full disk, too many clients.
 const PASSING = [900, 901, 902];
@@ -120,6 +122,7 @@ export class Session {
   async rejoin() {
     const { pad } = this, { visit } = await this.call({ do: "join", pad: pad.name });
     await pad.resume(visit);
+    if (pad !== this.pad) return;
     this.isCaretNew = true;
     this.drive(pad);
     this.refresh();
@@ -160,6 +163,13 @@ export class Session {
     this.comments.move(delta);
     if (this.caretAt !== null) this.caretAt = move(this.caretAt, delta);
     this.view.onShow(delta);
+  }
+
+  // Sends what is not sent yet, if that takes seconds at most. Resolves to whether all words are saved.
+  async settle() {
+    const { pad } = this;
+    if (pad.isUnsent && !this.isLost && !this.isOver) await pad.flush(SETTLE);
+    return !pad.isUnsent;
   }
 
   async leave() {

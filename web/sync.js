@@ -230,11 +230,12 @@ export class Pad {
     return false;
   }
 
-  // Resolves once everything is sent and answered.
-  async flush() {
+  // Resolves once everything is sent and answered, or after some milliseconds.
+  async flush(patience = Infinity) {
+    const end = this.clock.now() + patience;
     this.isHurried = true;
     this.wake?.();
-    while (this.isUnsent) await pause(20, this.clock);
+    while (this.isUnsent && this.clock.now() < end) await pause(20, this.clock);
     this.isHurried = false;
   }
 

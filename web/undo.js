@@ -42,6 +42,8 @@ export class Undo {
     }
     return null;
   }
+  get canUndo() { return this.undos.some((delta) => !isEmpty(delta)); }
+  get canRedo() { return this.redos.some((delta) => !isEmpty(delta)); }
   undo(text) { return this.step(text, this.undos, this.redos); }
   redo(text) { return this.step(text, this.redos, this.undos); }
 

@@ -10,6 +10,7 @@ import random
 import sys
 import tempfile
 
+from first_visit import first_visit
 from hard_cases import hostile, lost_pad
 from page_checks import contrasts, control_names, drawn_lines
 from windows import BROKEN, PAST, ChangedPage, Keys, Line, Server, Window, units, until
@@ -192,8 +193,8 @@ def comments(test):
     test.agree("they agree")
     check("two authors have two colours", len({hue.split(" ", 1)[1] for hue in ann.run(HUES)}) == 2, ann.run(HUES))
     check("the same ones in both windows", until(lambda: ann.run(HUES) == bob.run(HUES)), (ann.run(HUES), bob.run(HUES)))
-    check("the legend names both", until(lambda: "ann@1" in ann.get("authors").text and "bob@1" in ann.get("authors").text), ann.get("authors").text)
-    check("who wrote at the caret is said", until(lambda: bob.get("writer").text == "Written by bob@1"), bob.get("writer").text)
+    check("the legend names both", until(lambda: "ann," in ann.get("authors").text and "bob," in ann.get("authors").text), ann.get("authors").text)
+    check("who wrote at the caret is said", until(lambda: bob.get("writer").text == "Written by bob"), bob.get("writer").text)
     test.shot(ann, "two-authors")
     test.shot(bob, "the-other-window")
 
@@ -205,11 +206,11 @@ def history(test):
     until(made)
     now = int(ann.get("rev").get_property("max"))
     check("the slider begins at the present", now > 20 and made().startswith(f"Revision {now} of"), made())
-    check("and knows when it was seen", "seen " in made(), made())
+    check("and knows when it was seen", "seen by this browser " in made(), made())
     bob.type("!", units(bob.text))
     ann.run("const rev = document.getElementById('rev'); rev.value = arguments[0]; rev.dispatchEvent(new Event('input'))", int(now * 0.6))
     check("an earlier revision is shown", until(lambda: made().startswith(f"Revision {int(now * 0.6)} of")), made())
-    check("with who made it", "ann@1" in made() or "bob@1" in made(), made())
+    check("with who made it", "ann " in made() or "bob " in made(), made())
     test.shot(ann, "history")
     middle = ann.run(PAST)
     ann.get("compare-rev").clear()
@@ -358,6 +359,7 @@ def play(program, folder, tally):
                 part(test)
             exports(test, downloads)
             hostile(test)
+            first_visit(test)
             lost_pad(test)
             full_pad(test, pages)
         finally:

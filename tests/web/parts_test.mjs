@@ -6,6 +6,8 @@
 import fs from "node:fs";
 import path from "node:path";
 import { fileURLToPath } from "node:url";
+import { named, setOrigin } from "../../web/authors.js";
+import { authorsOf, colourOf, giveColours } from "../../web/colours.js";
 import { apply, applyRuns, compose, invert, move, splice, split, transform, typed } from "../../web/delta.js";
 import { toMarkdown } from "../../web/exports.js";
 import { History, merged } from "../../web/history.js";
@@ -74,6 +76,7 @@ function undo() {
   steps.received(splice(0, 0, "other ", "b"));
   const back = () => { text = apply(text, steps.undo(text)); return text; }, again = () => { text = apply(text, steps.redo(text)); return text; };
   tell("undo goes back by bursts, and keeps others' words", [back(), back(), steps.undo(text)], ["other one", "other ", null]);
+  tell("what can be done is known", [steps.canUndo, steps.canRedo], [false, true]);
   tell("redo brings them again", [again(), again(), steps.redo(text)], ["other one", "other one two", null]);
 }
 
@@ -106,6 +109,28 @@ function exported() {
   ].join("\n"));
 }
 
+// Colours depend on who the authors are, whatever happened before.
+function colours() {
+  const pad = (rights, authors, remarks = []) => ({
+    me: "ann@1", rights: rights.map((name) => [name, "write"]),
+    pad: { runs: authors.map((author) => [author, 1]) }, comments: { list: remarks.map((author) => ({ author })) },
+  });
+  const last = pad(["ann", "cyd", "bob"], ["zed@2", "bob@1", "eve@2"], ["dan@2"]), all = authorsOf(last), seen = () => all.map(colourOf);
+  tell("authors with a right come first, others by their names", all, ["ann@1", "cyd@1", "bob@1", "bob@1", "dan@2", "eve@2", "zed@2"]);
+  giveColours(all);
+  const first = seen();
+  tell("each author has another colour", new Set(first).size, 6);
+  tell("what is given again is the same", giveColours(authorsOf(last)), false);
+  for (const before of [pad(["ann", "bobb", "bob"], ["bob@1"]), pad(["ann"], ["zed@2"], ["dan@2"]), pad([], [])]) {
+    const had = colourOf("gone@3");
+    giveColours(authorsOf(before));
+    tell("other authors are noticed", giveColours(authorsOf(last)), true);
+    tell("whoever was there before, the colours are the same", [seen(), colourOf("gone@3")], [first, had]);
+  }
+  setOrigin("ann@1");
+  tell("authors of this server are named without its number", ["ann@1", "bob@1", "bob@2", "ann@11"].map(named), ["ann", "bob", "bob@2", "ann@11"]);
+}
+
 // What the modules and index.html say comes from words.js, and nothing in it is left over.
 function words() {
   const files = fs.readdirSync(WEB).filter((name) => name !== "words.js").map((name) => fs.readFileSync(path.join(WEB, name), "utf8")).join("\n");
@@ -125,6 +150,7 @@ units();
 undo();
 await history();
 exported();
+colours();
 words();
 console.log(`${passed} passed, ${failed} failed`);
 process.exit(failed ? 1 : 0);

@@ -9,8 +9,6 @@ mod handle;
 mod keeper;
 mod owner;
 mod pad_file;
-#[cfg(test)]
-mod piece_tests;
 mod pieces;
 mod progress;
 mod reading;

@@ -178,6 +178,37 @@ def front_of_the_file():
         kill(server)
 
 
+def several_pieces():
+    """A file that is much longer than what is read of it at once (256 KiB) comes back whole. What a crash left at its end is
+    cut off, though it is longer than that too, and a changed line far from the front is told by its number."""
+    server = restarted()
+    ann = server.author("ann")
+    ann.does(do="create", pad="p")
+    typed = [chr(97 + number % 26) * (9_973 - 61 * number) for number in range(120)]
+    for number, text in enumerate(typed):
+        ann.does(do="insert", pad="p", rev=number, at=0, text=text)
+    kill(server)
+    with open("kept/p.pad", "rb") as file:
+        content = file.read()
+    want(len(content) > 3 * 262_144, True, "that the file has several pieces")
+    for rest in (b"", content[:200_000].replace(b"\n", b" "), b"\0" * 600_000 + b"\n" + b"x" * 300_000):
+        with open("kept/p.pad", "wb") as file:
+            file.write(content + rest)
+        server = restarted()
+        ann = server.author("ann", "p")
+        want(ann.does(do="text", pad="p")["text"] == "".join(reversed(typed)), True, f"the text before {len(rest)} bytes")
+        kill(server)
+        with open("kept/p.pad", "rb") as file:
+            want(file.read(len(content)) == content, True, f"the file before {len(rest)} bytes")
+    lines = content.split(b"\n")
+    for number in (60, 121):
+        changed = list(lines)
+        changed[number - 1] = changed[number - 1].replace(b"insert", b"delete")
+        with open("kept/p.pad", "wb") as file:
+            file.write(b"\n".join(changed))
+        refused(1, f"p.pad: line {number}:", "is damaged")
+
+
 def refused(status, *parts):
     process = subprocess.run(
         [path("pad_server"), *f"{LISTEN} {STORE}".split()], stdin=subprocess.DEVNULL, capture_output=True, timeout=15
@@ -423,6 +454,7 @@ TESTS = [
     Test("store: several pads", several_pads),
     Test("store: a torn line", torn_line),
     Test("store: a front of the file", front_of_the_file, 60),
+    Test("store: a file of several pieces", several_pieces, 60),
     Test("store: damage is told by file and line", damaged),
     Test("store: a file under another name", copied),
     Test("store: another process", in_use),

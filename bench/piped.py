@@ -21,7 +21,7 @@ RATE_AIM, GROWTH_AIM = 1 / 3, 1.3
 
 # So many insertions of four characters leave about twice as many blocks. Then so many requests are timed, whose revision is the
 # present or lies so far behind, and of an insertion at most so many times the time of a `revs` is aimed at.
-TYPED, BEHIND, REVS_AIM = 50_000, {"at the present": (0, 3.0), "4 behind": (4, 3.5)}
+TYPED, BEHIND = 50_000, {"at the present": (0, 3.0), "4 behind": (4, 3.5)}
 
 
 def insert(rev, at, text):

@@ -19,8 +19,8 @@ SIZES = [10_000, 100_000]
 # multiple of the twin's own.
 RATE_AIM, GROWTH_AIM = 1 / 3, 1.3
 
-# So many insertions of four characters leave about twice as many blocks. Then so many requests are timed, whose revision is the
-# present or lies so far behind, and of an insertion at most so many times the time of a `revs` is aimed at.
+# So many insertions of four characters leave 80,000 blocks. Then so many requests are timed, whose revision is the present or
+# lies so far behind, and of an insertion at most so many times the time of a `revs` is aimed at.
 TYPED, BEHIND = 50_000, {"at the present": (0, 3.0), "4 behind": (4, 3.5)}
 
 
@@ -49,7 +49,7 @@ def requests(trace, size):
 
 
 def typed(dice):
-    """The lines of a pad of some 100,000 blocks."""
+    """The lines of a pad of some 80,000 blocks."""
     yield '{"do":"create","pad":"p"}\n'
     for rev in range(TYPED):
         yield insert(rev, dice.randrange(4 * rev + 1), "text")
@@ -63,7 +63,7 @@ def more(dice, behind):
 
 
 def beside_revs(folder, rounds):
-    """What an insertion among 100,000 blocks takes, in times of a `revs` in the same run: both without what the typing takes."""
+    """What an insertion among 80,000 blocks and more takes, in times of a `revs` in the same run: both without what the typing takes."""
     path, dice = Path(folder, "lines"), random.Random(2)
     front = "".join(typed(dice))
     works = {"typing": "", "revs": '{"do":"revs","pad":"p"}\n' * TYPED}
@@ -76,7 +76,7 @@ def beside_revs(folder, rounds):
     median = {name: statistics.median(times) for name, times in taken.items()}
     each = {name: (time - median["typing"]) / TYPED for name, time in median.items()}
     for name, (_, aim) in BEHIND.items():
-        print(f"an insertion among 100,000 blocks, {name}: {each[name] * 1e6:.1f} us, {each[name] / each['revs']:.2f} revs (aim: {aim})")
+        print(f"an insertion among 80,000 blocks and more, {name}: {each[name] * 1e6:.1f} us, {each[name] / each['revs']:.2f} revs (aim: {aim})")
 
 
 def run(program, path, replies):

@@ -5,9 +5,10 @@ import { authorsOf, colourOf, giveColours } from "./colours.js";
 import { Editor } from "./editor.js";
 import { reason } from "./enter.js";
 import { save, toMarkdown } from "./exports.js";
+import { GoOnBox } from "./go_on.js";
 import { Margin } from "./margin.js";
 import { Notice } from "./notice.js";
-import { $, element, fill, gather, say } from "./page.js";
+import { $, element, gather, say } from "./page.js";
 import { Past } from "./past.js";
 import { RightsBox } from "./rights.js";
 import { WORDS, refusal } from "./words.js";
@@ -32,8 +33,12 @@ export class Desk {
       onResolve: (name) => this.resolve(name), onLit: (id) => this.light(id), onGo: (id) => this.goTo(id),
     });
     this.carets = new Carets($("carets"));
-    this.past = new Past(session, () => { this.showEditable(); this.showComments(); this.place(); this.list(); });
-    this.notice = new Notice({ onGoOn: () => this.askName(), onClose: () => this.close(true) });
+    this.past = new Past(session, {
+      onShow: () => { this.showEditable(); this.showComments(); this.place(); this.list(); },
+      onRestore: (delta, rev) => this.restore(delta, rev),
+    });
+    this.goOn = new GoOnBox(session, () => this.open());
+    this.notice = new Notice({ onGoOn: () => this.goOn.open(), onClose: () => this.close(true) });
     this.rights = new RightsBox(session, (text) => say($("news"), text));
     this.listen();
   }
@@ -50,8 +55,6 @@ export class Desk {
     on("as-markdown", () => this.exportAs("md"));
     on("print", () => { $("exports").open = false; print(); });
     on("close", () => this.close());
-    on("go-on", (event) => { event.preventDefault(); this.goOn(); }, "submit");
-    on("go-on-cancel", () => $("go-on-box").close());
     addEventListener("keydown", (event) => {
       if (event.ctrlKey && event.altKey && event.key.toLowerCase() === "m" && this.isOpen) {
         event.preventDefault();
@@ -164,6 +167,7 @@ export class Desk {
     }
     this.giveColours();
     this.showEditable();
+    this.past.describe();
     this.rights.draw();
     this.showComments();
     this.showState();
@@ -353,6 +357,14 @@ export class Desk {
     this.showState();
   }
 
+  // The text of an earlier revision comes back, as a change of the author's own.
+  restore(delta, rev) {
+    this.session.pad.type(delta);
+    this.editor.made(delta);
+    this.notice.show(WORDS.restored(rev));
+    this.showState();
+  }
+
   // ---- exports
 
   // The shown revision, with its comments.
@@ -373,26 +385,5 @@ export class Desk {
     if (!this.isOpen) return;
     const { name, rev } = this.revision;
     say($("print-head"), WORDS.printed(name, rev, new Intl.DateTimeFormat(undefined, { dateStyle: "long" }).format(new Date())));
-  }
-
-  // ---- a new pad for a full one
-
-  askName() {
-    const [, stem, last] = this.session.pad.name.match(/^(.*?)(?:-(\d+))?$/);
-    fill($("go-on-name"), `${stem.slice(0, 28)}-${Number(last ?? 1) + 1}`);
-    say($("go-on-error"), "");
-    $("go-on-box").showModal();
-  }
-
-  async goOn() {
-    const { pad } = this.session;
-    try {
-      await this.session.goOnIn($("go-on-name").value, WORDS.continues(pad.name, pad.rev));
-    } catch (error) {
-      say($("go-on-error"), reason(error));
-      return;
-    }
-    $("go-on-box").close();
-    this.open();
   }
 }

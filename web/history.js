@@ -1,5 +1,5 @@
 // Earlier revisions of a pad: their texts, who made them, when this page saw them, and what differs between two of them.
-import { apply, applyRuns } from "./delta.js";
+import { apply, applyRuns, invert } from "./delta.js";
 import { LIMITS } from "./limits.js";
 import { deltaOf } from "./units.js";
 
@@ -61,6 +61,13 @@ export class History {
       for (const entry of entries) this.entries.set(entry.rev, entry);
     }
     return this.entries.get(rev) ?? null;
+  }
+
+  // The delta that leads from revision `to` back to the text of `rev`. What was erased in between comes back as words of
+  // `author`.
+  async back(rev, to, author) {
+    const old = await this.at(rev), { changes } = await this.call({ do: "changes", rev, to });
+    return invert(deltaOf(changes, old.text), old.text, author);
   }
 
   // Two revisions in one text, with runs [author, units, kind] whose kind is "insert", "drop" or undefined.

@@ -1,4 +1,5 @@
-// The slider: earlier revisions, who made them and when this page saw them, and what differs between two of them.
+// The slider: earlier revisions, who made them and when this page saw them, what differs between two of them, and the way
+// back to one.
 import { named } from "./authors.js";
 import { placed } from "./comments.js";
 import { reason } from "./enter.js";
@@ -13,13 +14,15 @@ const STEP = 90, MOST_STEPS = 300, SAVE_EVERY = 5000;
 const clockTime = new Intl.DateTimeFormat(undefined, { dateStyle: "medium", timeStyle: "short" });
 
 export class Past {
-  // `onShow` is called when another revision is shown, or none.
-  constructor(session, onShow) {
-    Object.assign(this, { session, onShow, lines: new Lines($("past")) });
+  // `onShow` is called when another revision is shown, or none. `onRestore` gets what makes the text of a revision the
+  // present one again, a delta over what the pad shows.
+  constructor(session, { onShow, onRestore }) {
+    Object.assign(this, { session, onShow, onRestore, lines: new Lines($("past")) });
     Object.assign(this, { shown: null, compared: null, wanted: null, isPlaying: false, isOpen: false, isCompareSet: false });
     const on = (id, kind, act) => $(id).addEventListener(kind, act);
     on("history", "click", () => { if (this.isOpen) this.close(); else this.open(); });
     on("back", "click", () => this.close());
+    on("restore", "click", () => this.restore());
     on("rev", "input", () => { this.stop(); this.go(Number($("rev").value)); });
     on("older", "click", () => { this.stop(); this.step(-1); });
     on("newer", "click", () => { this.stop(); this.step(1); });
@@ -105,6 +108,7 @@ export class Past {
   describe() {
     const { shown, compared, pad } = this;
     if (!shown) return;
+    $("restore").disabled = !this.session.mayWrite || compared !== null || shown.text === pad.text;
     if (compared) {
       const { from, to, inserted, dropped } = compared;
       say($("rev-made"), [WORDS.comparing(from, to), WORDS.inserted(inserted), WORDS.dropped(dropped)].join(" · "));
@@ -129,6 +133,22 @@ export class Past {
     $("past").classList.add("is-compared");
     this.draw(this.compared.text, this.compared.runs, []);
     this.describe();
+  }
+
+  // Makes the shown text the present one again, with what others do meanwhile.
+  async restore() {
+    const { pad, history, shown: { rev } } = this;
+    this.stop();
+    try {
+      let delta = null;
+      while (!delta) {
+        const from = pad.rev;
+        delta = pad.carriedDelta(await history.back(rev, from, pad.me), from);
+      }
+      if (pad !== this.pad || !this.isOpen || !this.session.mayWrite) return;
+      this.close();
+      this.onRestore(delta, rev);
+    } catch (error) { say($("rev-made"), reason(error)); }
   }
 
   step(by) { return this.go(Math.max(0, Math.min(Number($("rev").max), Number($("rev").value) + by))); }

@@ -259,6 +259,13 @@ export class Pad {
     return this.shown(steps.reduce((at, { delta }) => move(at, delta, after), position), after);
   }
 
+  // A delta over the text of an earlier revision, as one over what is shown; null if that text is no longer known.
+  carriedDelta(delta, rev) {
+    if (this.baseAt(rev) === null) return null;
+    const steps = this.trail.filter((step) => step.rev >= rev).map((step) => step.delta);
+    return [...steps, this.flight ?? [], this.pending].reduce((carried, step) => transform(carried, step)[0], delta);
+  }
+
   // The text of a revision that the page held lately, or null.
   baseAt(rev) { return rev === this.rev ? this.base : this.trail.find((step) => step.rev === rev)?.base ?? null; }
 }

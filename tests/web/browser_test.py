@@ -235,6 +235,28 @@ def history(test):
     check("and can still be read", until(lambda: "Resolved" in ann.get("margin").text), ann.get("margin").text)
 
 
+def restoring(test):
+    """Everything is erased, and the revision before is restored."""
+    ann, bob, check = test.ann, test.bob, test.check
+    before = ann.text
+    bob.select(0, units(before))
+    bob.keys(Keys.DELETE)
+    check("everything is erased", until(lambda: ann.text == bob.text == ""), (ann.text, bob.text))
+    ann.click("history")
+    check("the present text cannot be restored", until(lambda: ann.get("rev-made").text) and ann.get("restore").get_property("disabled"))
+    ann.click("older")
+    check("an earlier one can", until(lambda: ann.get("restore").is_enabled() and ann.run(PAST) == before), ann.run(PAST))
+    ann.click("restore")
+    check("it is the text of both", until(lambda: ann.text == bob.text == before), (ann.text, bob.text))
+    check("its words are said to be ann's, and are", "as yours" in ann.get("notice-text").text and until(lambda: ann.get("authors").text == "ann, 100 %"), (ann.get("notice-text").text, ann.get("authors").text))
+    test.shot(ann, "restored")
+    ann.keys("z", held=[Keys.CONTROL])
+    check("undo takes it back", until(lambda: ann.text == bob.text == ""), (ann.text, bob.text))
+    ann.keys("y", held=[Keys.CONTROL])
+    check("and redo makes it again", until(lambda: ann.text == bob.text == before), (ann.text, bob.text))
+    ann.click("notice-dismiss")
+
+
 def rights(test):
     ann, bob, check = test.ann, test.bob, test.check
     ann.click("rights")
@@ -243,6 +265,11 @@ def rights(test):
     ann.run(choose, "read")
     check("bob may only read now", until(lambda: not bob.run("return document.getElementById('text').isContentEditable") and "read" in bob.state, 20), bob.state)
     check("and cannot comment", bob.get("comment").get_property("disabled"))
+    bob.click("history")
+    bob.click("older")
+    until(lambda: bob.run(PAST))
+    check("nor restore a revision", bob.get("restore").is_displayed() and bob.get("restore").get_property("disabled"))
+    bob.click("back")
     ann.run(choose, "write")
     check("bob may write again", until(lambda: bob.run("return document.getElementById('text').isContentEditable") and bob.is_saved(1), 20), bob.state)
     ann.keys(Keys.ESCAPE)
@@ -355,7 +382,7 @@ def play(program, folder, tally):
         test = None
         try:
             test = Test(server, folder, tally)
-            for part in (way_in, typing, unusual_typing, comments, history, rights, broken, random_keys, looks):
+            for part in (way_in, typing, unusual_typing, comments, history, restoring, rights, broken, random_keys, looks):
                 part(test)
             exports(test, downloads)
             hostile(test)

@@ -22,7 +22,7 @@ function tell(name, isPassed, said = "") {
 // The modules of a folder.
 async function load(folder) {
   const of = (name) => import(pathToFileURL(path.join(folder, name)));
-  return { ...(await of("sync.js")), delta: await of("delta.js") };
+  return { ...(await of("sync.js")), ...(await of("history.js")), delta: await of("delta.js") };
 }
 
 // A copy of web/ with one passage replaced.
@@ -59,7 +59,7 @@ async function findsFault(name, modules, Model) {
   tell(name, false, `not found in ${rounds} rounds`);
 }
 
-const sums = { edits: 0, checks: 0, breaks: 0, undone: 0, typed: 0 };
+const sums = { edits: 0, checks: 0, breaks: 0, undone: 0, restored: 0, typed: 0 };
 try {
   const modules = await load(WEB);
   for (let number = 1; number <= rounds; number++) {
@@ -70,8 +70,8 @@ try {
 } catch (error) {
   tell("the pages show what the model has", false, error.stack);
 }
-const isVaried = sums.edits > 20 * rounds && sums.checks > 40 * rounds && sums.breaks > rounds && sums.undone > rounds;
-tell("the rounds have edits, breaks and undone changes", isVaried);
+const isVaried = sums.edits > 20 * rounds && sums.checks > 40 * rounds && sums.breaks > rounds && sums.undone > rounds && sums.restored > rounds;
+tell("the rounds have edits, breaks, undone changes and restored revisions", isVaried);
 
 const swapped = "if (right.inserts) {\n      const step = right.takeInsertion();\n      add(theirsAfter, step);\n      add(mineAfter, { keep: step.insert.length });\n      continue;\n    }";
 await findsFault("theirs first where both insert at one place",
@@ -84,6 +84,12 @@ await findsFault("changes that are taken while an edit is in flight", await plan
     await this.landAt(await sent);`));
 await findsFault("what a wait brought, used for a later revision",
   await planted("sync.js", "held?.to === n - 1 ? held", "held ? held"));
+await findsFault("a restored revision, without what was typed meanwhile",
+  await planted("sync.js", "return [...steps, this.flight ?? [], this.pending].reduce(", "return steps.reduce("));
+await findsFault("a restored revision, without what others did meanwhile",
+  await planted("sync.js", "return [...steps, this.flight ?? [], this.pending].reduce(", "return [this.flight ?? [], this.pending].reduce("));
+await findsFault("a restored revision that keeps what came since", await planted("history.js",
+  "return invert(deltaOf(changes, old.text), old.text, author);", "return invert(deltaOf(changes, old.text), old.text, author).filter((step) => !step.drop);"));
 await findsFault("insertions listed before the drop beside them", await load(WEB), InsertionsFirst);
 console.log(`${passed} passed, ${failed} failed`);
 process.exit(failed ? 1 : 0);

@@ -92,6 +92,9 @@ async function history() {
   past.note(6, 7, 90000);
   const at = [past.when(2), past.when(4), past.when(6), past.when(7), past.when(9)];
   tell("the page knows when it saw a revision", at.map((one) => one && [one.at, one.isBefore]), [[1000, false], [1000, false], [90000, true], [90000, false], null]);
+  const call = async ({ rev }) => ({ changes: rev ? [["keep", 2], ["drop", 2], ["insert", "X", "c@1"], ["keep", 3]] : [["insert", "one two", "a@1"]] });
+  const back = await new History(call, "p", storage).back(4, 6, "d@1");
+  tell("the way back brings what was erased, as the author's words", back, [{ keep: 2 }, { insert: "e ", author: "d@1" }, { drop: 1 }]);
   const old = { text: "one two", runs: [["a@1", 4], ["b@1", 3]] };
   const both = merged(old, [["keep", 2], ["drop", 3], ["insert", "X", "c@1"], ["keep", 2]]);
   tell("a comparison has what was dropped, with its authors", both, {

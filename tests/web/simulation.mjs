@@ -65,13 +65,14 @@ class Connection {
 
 // One round: the pages, what they type, and what has to hold.
 class Round {
-  constructor(number, { Pad, delta }, Model) {
-    Object.assign(this, { number, Pad, delta, dice: makeDice(number), clock: new Clock(), model: new Model(), pages: [] });
-    this.seen = { edits: 0, checks: 0, breaks: 0, undone: 0, typed: 0, connections: [] };
+  constructor(number, { Pad, History, delta }, Model) {
+    Object.assign(this, { number, Pad, History, delta, dice: makeDice(number), clock: new Clock(), model: new Model(), pages: [] });
+    this.seen = { edits: 0, checks: 0, breaks: 0, undone: 0, restored: 0, typed: 0, connections: [] };
     this.insertsOnly = this.dice(3) === 0;
   }
 
-  fault(text) { throw Object.assign(new Error(`round ${this.number}: ${text}`), { isFound: true }); }
+  found(text) { return Object.assign(new Error(`round ${this.number}: ${text}`), { isFound: true }); }
+  fault(text) { throw this.found(text); }
 
   // What a page believes of its revision is what the model has there, with the same authors.
   check({ pad }) {
@@ -99,6 +100,7 @@ class Round {
       onReceive: (delta) => { page.shown = this.delta.apply(page.shown, delta); },
       onMove: () => this.check(page),
     });
+    page.history = new this.History((request) => page.pad.call(request), "p", { getItem: () => null });
     this.pages.push(page);
     this.keepGoing(page).catch((error) => { page.failure = error; });
   }
@@ -137,6 +139,24 @@ class Round {
     page.shown = this.delta.apply(page.shown, delta);
   }
 
+  // The page goes back to an earlier revision. Where nothing is typed meanwhile, it has the text of that revision then.
+  async restoreAt(page) {
+    const { pad } = page, rev = this.dice(pad.rev + 1), from = pad.rev;
+    let delta;
+    try {
+      delta = pad.carriedDelta(await page.history.back(rev, from, page.author), from);
+    } catch (error) {
+      if (error.message !== "lost") page.failure = error;
+      return;
+    }
+    if (!delta) return;
+    this.seen.restored++;
+    const isStill = pad.rev === from && !pad.isUnsent;
+    page.shown = this.delta.apply(page.shown, delta);
+    pad.type(delta);
+    if (isStill && pad.text !== this.model.text(rev)) page.failure ??= this.found(`revision ${rev} again: ${JSON.stringify([pad.text, this.model.text(rev)])}`);
+  }
+
   async advanceTo(time) {
     let isReached = false;
     this.clock.after(time - this.clock.now(), () => { isReached = true; });
@@ -153,6 +173,7 @@ class Round {
       for (const page of pages) {
         if (dice(3) === 0) this.typeAt(page);
         if (!this.insertsOnly && dice(20) === 0) this.undoAt(page, dice(3) === 0);
+        if (!this.insertsOnly && dice(40) === 0) this.restoreAt(page);
         if (breaks && dice(60) === 0) { this.seen.breaks++; page.connection.break(); }
         if (dice(80) === 0) this.model.remark("u9@1");
       }

@@ -1,0 +1,249 @@
+"""The scripts of .ci/, on a small repository with a toolchain of a few lines: what the full check proves, plays and counts,
+and which must-fail edits it leaves out."""
+import os
+import subprocess
+
+from harness import ROOT, Test, put_files, want
+
+SCRIPTS = [".ci/run", ".ci/long", ".ci/edits"]
+UNPROVED = ["part_tests", "sequence_tests", "pad_tests", "relay_tests", "thread_tests"]
+
+# In place of the toolchain: notes which crates and edits it finds, leaves a program, and says what the file SAYS holds.
+RT = """#!/bin/bash
+case $1 in
+version) cat "$ROOM/kit" ;;
+ci)
+    ls crates >"$ROOM/crates"
+    cp crates.txt "$ROOM/listed"
+    (cd crates && ls -d */must-fail/*.edit) >"$ROOM/edits"
+    mkdir -p crates/pad_server/out
+    echo "of $(cat crates/pad_server/src/main.rt)" >crates/pad_server/out/pad_server
+    cat "$ROOM/says"
+    exit "$(cat "$ROOM/status")"
+    ;;
+must-fail) for edit in crates/$2/must-fail/*.edit; do echo "rt: must-fail $2/${edit##*/}: refused, as it must be: f"; done ;;
+esac
+"""
+
+CRATES = """low:
+high: low  # stands on low
+apart:
+pad_server: high
+""" + "".join(f"{name}: low\n" for name in UNPROVED)
+
+EDITS = ["low/must-fail/a.edit", "high/must-fail/b.edit", "high/must-fail-long/c.edit", "apart/must-fail/d.edit"]
+NEW_EDIT = "apart/must-fail/new.edit"
+
+
+def part(text, status=0):
+    """A script of the repository that says this."""
+    return f"#!/bin/bash\necho \"$0 $*\" >>\"$ROOM/called\"\nprintf '%s' '{text}'\nexit {status}\n"
+
+
+def write(path, text):
+    os.makedirs(os.path.dirname(path) or ".", exist_ok=True)
+    put_files([(path, text)])
+
+
+def run(*words, folder="top"):
+    variables = {"PATH": f"{os.getcwd()}/bin:/usr/bin:/bin", "ROOM": os.getcwd(), "HOME": os.getcwd()}
+    git = {f"GIT_{who}_{what}": "ann@localhost" for who in ["AUTHOR", "COMMITTER"] for what in ["NAME", "EMAIL"]}
+    return subprocess.run(words, cwd=folder, env={**variables, **git}, stdin=subprocess.DEVNULL, capture_output=True, text=True)
+
+
+def commit():
+    run("git", "add", "-A")
+    want(run("git", "commit", "-q", "--allow-empty", "-m", "State").returncode, 0, "the status of git commit")
+
+
+def repository(quick="2 passed, 0 failed\n", played="10 passed, 0 failed\n", says="7 passed, 0 failed\n", status=0):
+    """A repository in the folder top, whose state is committed, and a toolchain."""
+    for name in SCRIPTS:
+        with open(f"{ROOT}/{name}", encoding="utf-8") as file:
+            write(f"top/{name}", file.read())
+    scripts = [("quick", part(quick)), ("run", part(played)), ("pages", part("")), ("needs", part(""))]
+    for name, text in scripts:
+        write(f"top/tests/{name}", text)
+    write("top/crates.txt", CRATES)
+    write("top/.gitignore", "out/\n")
+    for line in CRATES.splitlines():
+        name = line.split(":")[0]
+        write(f"top/crates/{name}/src/{'main' if name == 'pad_server' else 'lib'}.rt", f"fn {name}() {{}}\n")
+    for path in EDITS:
+        write(f"top/crates/{path}", f"file: src/lib.rt\nold: fn\nnew: fun of {path}\n")
+    for path, text in [("bin/rt", RT), ("kit", "kit 1\n"), ("says", says), ("status", f"{status}\n")]:
+        write(path, text)
+    for path in ["bin/rt", *(f"top/{name}" for name in SCRIPTS), *(f"top/tests/{name}" for name, _ in scripts)]:
+        os.chmod(path, 0o755)
+    run("git", "init", "-q")
+    commit()
+
+
+def read(path):
+    with open(path, encoding="utf-8") as file:
+        return file.read()
+
+
+def last_line(done):
+    return done.stdout.splitlines()[-1], done.returncode
+
+
+def all_parts_count():
+    for given, line, status in [
+        ({}, "19 passed, 0 failed", 0),
+        ({"says": "6 passed, 2 failed\n", "status": 1}, "18 passed, 2 failed", 1),
+        ({"says": "7 passed, 0 failed\n", "status": 2}, "19 passed, 1 failed", 1),
+        ({"quick": "1 passed, 1 failed\n"}, "18 passed, 1 failed", 1),
+        ({"played": "Traceback\n"}, "9 passed, 1 failed", 1),
+        ({"played": ""}, "9 passed, 1 failed", 1),
+        ({"says": "killed\n", "status": 137}, "12 passed, 1 failed", 1),
+    ]:
+        repository(**given)
+        want(last_line(run(".ci/run")), (line, status), f"the last line and the status with {given}")
+        subprocess.run(["rm", "-rf", "top"], check=True)
+
+
+def what_fails_before_the_parts_counts():
+    repository()
+    write("top/tests/pages", part("pages.rt is old\n", 1))
+    want(last_line(run(".ci/run")), ("19 passed, 1 failed", 1), "the end with old pages")
+    write("top/tests/needs", part("chromium\n", 1))
+    write("bin/apt-get", "#!/bin/bash\nexit 1\n")
+    os.chmod("bin/apt-get", 0o755)
+    want(last_line(run(".ci/run")), ("0 passed, 1 failed", 1), "the end without a package that the tests need")
+
+
+def the_rest_is_proved_in_a_clone():
+    repository()
+    write("top/crates/pad_server/out/pad_server", "old\n")
+    write("top/crates/pad_server/src/main.rt", "changed\n")
+    done = run(".ci/run")
+    left = sorted({line.split(":")[0] for line in CRATES.splitlines()} - {*UNPROVED})
+    want(sorted(read("crates").split()), left, "the crates that are proved")
+    want(read("listed"), "".join(f"{line}\n" for line in CRATES.splitlines()[: len(left)]), "the crates that are listed")
+    want(read("called").splitlines()[-2:], [f"tests/quick {' '.join(UNPROVED)}", "tests/run "], "what is called last")
+    want(read("top/crates/pad_server/out/pad_server"), "of fn pad_server() {}\n", "the program that tests/run plays")
+    told = "full check: not committed, so not proved: 1 files, such as crates/pad_server/src/main.rt"
+    want(done.stdout.splitlines()[-2], told, "the line before the last")
+    want([name for name in os.listdir("top/.git") if name.startswith("full-check")], [], "what is left of the clone")
+
+
+def a_program_that_was_not_built_is_not_played():
+    repository(says="0 passed, 1 failed\n", status=1)
+    write("top/crates/pad_server/out/pad_server", "old\n")
+    write("bin/rt", RT.replace("echo \"of", "false \"of").replace(">crates/pad_server/out/pad_server", ""))
+    run(".ci/run")
+    want(os.path.exists("top/crates/pad_server/out/pad_server"), False, "that an old program is played")
+
+
+def recorded():
+    """The crates of the record."""
+    return [line.split()[0] for line in read("top/.ci/edits-tried").splitlines() if not line.startswith("#")]
+
+
+def refusals(but=()):
+    return "".join(
+        f"rt: must-fail {crate}/{name}: {'NOT REFUSED' if name in but else 'refused, as it must be: f'}\n"
+        for crate, _, name in (path.split("/") for path in EDITS)
+    )
+
+
+def tried_here():
+    """The edits that a check of what is committed tries."""
+    commit()
+    run("git", "clone", "-q", "top", "clone", folder=".")
+    want(run(".ci/edits", "leave-out", folder="clone").returncode, 0, "the status of .ci/edits")
+    left = [path for path in EDITS + [NEW_EDIT] if os.path.exists(f"clone/crates/{path}") and "long" not in path]
+    subprocess.run(["rm", "-rf", "clone"], check=True)
+    return sorted(left)
+
+
+def after_long_run():
+    repository(says=refusals() + "7 passed, 0 failed\n")
+    want(run(".ci/long").returncode, 0, "the status of the long run")
+    want(sorted(read("edits").split()), sorted(path.replace("-long", "") for path in EDITS), "the edits of the long run")
+    want(sorted(read("crates").split()), sorted(line.split(":")[0] for line in CRATES.splitlines()), "the crates of the long run")
+    want(recorded(), ["apart", "high", "low"], "the record")
+    return read("top/.ci/edits-tried")
+
+
+def edits_are_left_out_after_the_long_run():
+    repository()
+    want(tried_here(), sorted(path for path in EDITS if "long" not in path), "the edits without a record")
+    subprocess.run(["rm", "-rf", "top"], check=True)
+    after_long_run()
+    want(tried_here(), [], "the edits with a record")
+    told = run(".ci/run").stdout
+    want(read("edits"), "", "the edits that rt finds")
+    for line in ["edits of apart left out: d.edit", "edits: 3 of 3 left out, since the long run tried them on the same text; 0 are tried here"]:
+        want(line in told.splitlines(), True, f"that the full check says: {line}")
+
+
+def what_has_changed_brings_edits_back():
+    after_long_run()
+    for path, text, due in [
+        ("top/crates/low/src/lib.rt", "fn low() { }\n", ["high/must-fail/b.edit", "low/must-fail/a.edit"]),
+        ("top/crates/low/proofs/New.antt", "new\n", ["high/must-fail/b.edit", "low/must-fail/a.edit"]),
+        ("top/crates/high/specs/New.antt", "new\n", ["high/must-fail/b.edit"]),
+        ("top/crates/high/must-fail-long/c.edit", "file: src/lib.rt\nold: f\nnew: g\n", ["high/must-fail/b.edit"]),
+        (f"top/crates/{NEW_EDIT}", "new\n", ["apart/must-fail/d.edit", NEW_EDIT]),
+        ("top/crates.txt", CRATES.replace("high: low", "high:"), ["high/must-fail/b.edit"]),
+        ("kit", "kit 2\n", [path for path in sorted(EDITS) if "long" not in path]),
+        ("top/crates/pad_server/src/main.rt", "fn main() {}\n", []),
+        ("top/crates/low/README.md", "Low\n", []),
+    ]:
+        before = read(path) if os.path.exists(path) else None
+        write(path, text)
+        want(tried_here(), due, f"the edits after a change of {path}")
+        os.remove(path) if before is None else write(path, before)
+    want(tried_here(), [], "the edits once all is as it was")
+
+
+def a_wrong_line_hides_no_change():
+    record = after_long_run()
+    sums = dict(line.split() for line in record.splitlines() if not line.startswith("#"))
+    write("top/crates/low/src/lib.rt", "fn low() { }\n")
+    for line in [
+        "low",
+        "low *",
+        f"low {sums['low'][:-1]}",
+        f"low {sums['apart']}",
+        f"* {sums['apart']}",
+        f"low {sums['low']} {sums['low']}",
+        "\udcff low",
+    ]:
+        write("top/.ci/edits-tried", (record + line + "\n").encode(errors="surrogateescape"))
+        want(tried_here(), ["high/must-fail/b.edit", "low/must-fail/a.edit"], f"the edits with the line {line!r}")
+
+
+def an_edit_that_is_not_refused_is_not_written_down():
+    record = after_long_run()
+    commit()
+    write("says", refusals(but=["c.edit"]))
+    run(".ci/long")
+    want(recorded(), ["apart", "low"], "the record after an edit of high that was proved")
+    write("says", refusals().replace("rt: must-fail low/a.edit: refused, as it must be: f\n", ""))
+    run(".ci/long")
+    want(read("top/.ci/edits-tried"), record, "the record after a run that says nothing of low")
+
+
+def single_crates_and_what_has_changed():
+    repository()
+    run(".ci/long", "high")
+    want(recorded(), ["high"], "the record after the run for one crate")
+    commit()
+    run(".ci/long", "--changed")
+    want(sorted(read("edits").split()), ["apart/must-fail/d.edit", "low/must-fail/a.edit"], "the edits of what has changed")
+
+
+TESTS = [
+    Test("full check: the parts are counted together", all_parts_count, 60),
+    Test("full check: what fails before the parts counts", what_fails_before_the_parts_counts),
+    Test("full check: the rest is proved in a clone", the_rest_is_proved_in_a_clone),
+    Test("full check: a program that was not built is not played", a_program_that_was_not_built_is_not_played),
+    Test("full check: edits are left out after the long run", edits_are_left_out_after_the_long_run),
+    Test("full check: what has changed brings edits back", what_has_changed_brings_edits_back, 60),
+    Test("full check: a wrong line hides no change", a_wrong_line_hides_no_change, 60),
+    Test("full check: an edit that is not refused is not written down", an_edit_that_is_not_refused_is_not_written_down),
+    Test("full check: single crates, and what has changed", single_crates_and_what_has_changed),
+]

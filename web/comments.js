@@ -1,5 +1,5 @@
 // The comments of the pad, and where their words are in what this page shows.
-import { move } from "./delta.js";
+import { moveStretch } from "./delta.js";
 import { unit } from "./units.js";
 
 export const idOf = (name) => `comment-${name.join("-")}`;
@@ -12,32 +12,43 @@ export function placed(comments, text) {
   });
 }
 
+// The same, placed in what the page shows. The page has held that revision lately.
+export function placedNow(comments, pad, rev) {
+  return placed(comments, pad.baseAt(rev)).map((comment) => {
+    const from = pad.carried(comment.from, rev, true);
+    return { ...comment, from, to: Math.max(from, pad.carried(comment.to, rev)) };
+  });
+}
+
 export class Comments {
-  constructor(pad, onChange) {
-    this.pad = pad;
-    this.onChange = onChange;
-    this.list = [];
+  // `unsent` are those that the server does not have yet.
+  constructor(pad, unsent, onChange) {
+    Object.assign(this, { pad, unsent, onChange, list: [], isStale: false });
     this.asked = null; // the stretch that the author is about to comment on
-    this.isStale = false;
   }
+
+  // All that are shown.
+  get all() { return [...this.list, ...this.unsent.list]; }
 
   // Asks for the comments of the revision that the page has. They are moved by what came meanwhile.
   async read() {
-    const { pad } = this, rev = pad.rev;
+    const { pad } = this, { rev } = pad;
     this.isStale = false;
-    const reply = await pad.call({ do: "comments", rev }), base = pad.baseAt(rev);
-    if (base === null) { this.isStale = true; return; }
-    this.list = placed(reply.comments, base).map((comment) => {
-      const from = pad.carried(comment.from, rev, true);
-      return { ...comment, from, to: Math.max(from, pad.carried(comment.to, rev)) };
-    });
+    const reply = await pad.call({ do: "comments", rev });
+    if (pad.baseAt(rev) === null) { this.isStale = true; return; }
+    this.list = placedNow(reply.comments, pad, rev);
+    this.onChange();
+  }
+
+  // A comment was made that had not been sent.
+  made({ author, text, from, to }, name) {
+    const id = idOf(name);
+    if (!this.list.some((one) => one.id === id)) this.list.push({ id, name, author, text, isResolved: false, from, to });
     this.onChange();
   }
 
   move(delta) {
-    for (const comment of this.asked ? [...this.list, this.asked] : this.list) {
-      comment.from = move(comment.from, delta, true);
-      comment.to = Math.max(comment.from, move(comment.to, delta));
-    }
+    for (const comment of this.all) moveStretch(comment, delta);
+    if (this.asked) moveStretch(this.asked, delta);
   }
 }

@@ -2,6 +2,9 @@
 // n, and { insert: text, author } inserts. Units are JavaScript's (UTF-16); units.js turns them into the server's
 // characters. What is left at the end is kept. A drop and an insertion beside it stay in their order: it says on which
 // side of the dropped characters the insertion stands.
+//
+// A delta that the page sends changes whole characters: `snapped` sees to it, and everything else keeps it so.
+import { edgeAfter, edgeBefore, hasPairs, isInside, wellFormed } from "./units.js";
 
 const size = (step) => step.keep ?? step.drop ?? step.insert.length;
 const isInsertion = (step) => step.insert !== undefined;
@@ -137,15 +140,53 @@ export function compose(first, second) {
   return trim(out);
 }
 
-// What undoes a delta over this text. What it dropped comes back as the author's own words.
-export function invert(delta, text, author) {
+// What undoes a delta over a text with these author runs. What it dropped comes back with its authors.
+export function restoring(delta, text, runs) {
   const out = [];
-  let at = 0;
+  let at = 0, run = 0, end = runs.length ? runs[0][1] : 0;
   for (const step of delta) {
     if (isInsertion(step)) { add(out, { drop: step.insert.length }); continue; }
-    if (step.keep) add(out, step);
-    else add(out, { insert: text.slice(at, at + step.drop), author });
-    at += size(step);
+    const to = at + size(step);
+    if (step.keep) { add(out, step); at = to; continue; }
+    while (at < to) {
+      while (end <= at && run + 1 < runs.length) end += runs[++run][1];
+      const stop = end > at ? Math.min(to, end) : to;
+      add(out, { insert: text.slice(at, stop), author: runs[run]?.[0] });
+      at = stop;
+    }
+  }
+  return trim(out);
+}
+
+// The same, where what was dropped comes back as this author's words.
+export const invert = (delta, text, author) => restoring(delta, text, [[author, text.length]]);
+
+// A delta in which one author inserts everything.
+export function authored(delta, author) {
+  const out = [];
+  for (const step of delta) add(out, isInsertion(step) ? { ...step, author } : step);
+  return out;
+}
+
+// A delta over a text of whole characters, as one that leaves no half of a character: what drops a half drops the whole
+// character, what inserts inside of a character inserts before it, and a half that is inserted becomes U+FFFD.
+export function snapped(delta, text) {
+  const isWhole = !hasPairs(text) && delta.every((step) => !isInsertion(step) || wellFormed(step.insert) === step.insert);
+  if (isWhole) return delta;
+  const out = [];
+  let at = 0, done = 0;
+  const keepUntil = (place) => {
+    add(out, { keep: Math.max(0, place - done) });
+    done = Math.max(done, place);
+  };
+  for (const step of delta) {
+    if (step.keep) { at += step.keep; continue; }
+    keepUntil(edgeBefore(text, at));
+    if (isInsertion(step)) { add(out, { insert: wellFormed(step.insert), author: step.author }); continue; }
+    at += step.drop;
+    const end = Math.max(done, edgeAfter(text, at));
+    add(out, { drop: end - done });
+    done = end;
   }
   return trim(out);
 }
@@ -167,6 +208,12 @@ export function move(position, delta, after = false) {
   return to + (position - at);
 }
 
+// Moves a stretch { from, to }: what is inserted at one of its ends is outside of it.
+export function moveStretch(stretch, delta) {
+  stretch.from = move(stretch.from, delta, true);
+  stretch.to = Math.max(stretch.from, move(stretch.to, delta));
+}
+
 // The stretch that a delta changes: from `from` on, the text up to `before` became that up to `after`.
 export function extent(delta) {
   let at = 0, to = 0, from = null, before = 0, after = 0;
@@ -181,35 +228,34 @@ export function extent(delta) {
   return { from: from ?? 0, before, after };
 }
 
-const isHigh = (text, at) => (text.charCodeAt(at) & 0xfc00) === 0xd800;
-const isLow = (text, at) => (text.charCodeAt(at) & 0xfc00) === 0xdc00;
-
-// The first part of a delta, of so many insertions and drops and so many units in them, and the rest over what it leads to.
-export function split(delta, mostParts, mostUnits) {
+// The first part of a delta over a text, of so many insertions and drops and so many units in them, and the rest over what
+// it leads to. It cuts between characters. `mostUnits` is at least 2, a character's.
+export function split(delta, text, mostParts, mostUnits) {
   const first = [], rest = [];
-  let parts = 0, units = 0, isFull = false;
+  let parts = 0, units = 0, at = 0, isFull = false;
   for (const step of delta) {
     if (isFull) { add(rest, step); continue; }
-    if (step.keep) { add(first, step); add(rest, step); continue; }
-    let taken = parts < mostParts ? Math.min(size(step), mostUnits - units) : 0;
-    if (step.insert && taken > 0 && taken < size(step) && isHigh(step.insert, taken - 1)) taken--;
+    if (step.keep) { add(first, step); add(rest, step); at += step.keep; continue; }
+    const words = step.insert ?? text.slice(at, at + step.drop), most = Math.min(size(step), mostUnits - units);
+    const taken = parts < mostParts ? edgeBefore(words, most) : 0;
     parts++;
     units += taken;
     isFull = taken < size(step);
     if (step.drop) {
       add(first, { drop: taken });
       add(rest, { drop: step.drop - taken });
+      at += step.drop;
     } else {
-      add(first, { insert: step.insert.slice(0, taken), author: step.author });
+      add(first, { insert: words.slice(0, taken), author: step.author });
       add(rest, { keep: taken });
-      add(rest, { insert: step.insert.slice(taken), author: step.author });
+      add(rest, { insert: words.slice(taken), author: step.author });
     }
   }
   return [trim(first), trim(rest)];
 }
 
 // The one change that leads from a text to another, as typing makes it. `end` is where the caret is in the new text: it
-// says which of several equal letters was typed. No pair of units is split.
+// says which of several equal letters was typed. No character is split.
 export function typed(before, now, end, author) {
   const most = Math.min(before.length, now.length), tail = now.length - end;
   const same = (back) => before[before.length - 1 - back] === now[now.length - 1 - back];
@@ -218,9 +264,7 @@ export function typed(before, now, end, author) {
   let front = 0;
   while (front < most - back && before[front] === now[front]) front++;
   while (back < most - front && same(back)) back++;
-  if (front > 0 && isHigh(now, front - 1) && (isLow(now, front) || isLow(before, front))) front--;
-  const cut = now.length - back;
-  if (back > 0 && cut > front && isLow(now, cut) && isHigh(now, cut - 1)) back--;
-  else if (back > 0 && isLow(now, cut) && isHigh(before, before.length - back - 1)) back--;
+  if (isInside(now, front) || isInside(before, front)) front--;
+  if (back > 0 && (isInside(now, now.length - back) || isInside(before, before.length - back))) back--;
   return splice(front, before.length - front - back, now.slice(front, now.length - back), author);
 }

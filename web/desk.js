@@ -19,12 +19,12 @@ const FULL = [314, 324, 325, 327, 328], DENIED = 312;
 
 export class Desk {
   constructor(session, onClose) {
-    Object.assign(this, { session, onClose, isOpen: false, isShutOut: false, litId: null, showsResolved: false, percent: 0 });
+    Object.assign(this, { session, onClose, isOpen: false, isShutOut: false, litId: null, showsResolved: false, percent: 0, told: "" });
     this.place = gather(() => this.placeAll());
     this.list = gather(() => this.listAuthors(), (act) => setTimeout(act, LISTED));
     this.editor = new Editor($("text"), {
       author: () => session.me, runs: () => session.pad.runs,
-      onType: (delta) => { session.pad.type(delta); this.showState(); },
+      onType: (delta) => this.type(delta),
       onUndo: () => this.undo(false), onRedo: () => this.undo(true),
       onCaret: (at) => { session.moveCaret(at); this.sayWriter(at); },
       onDrawn: () => { this.place(); this.list(); },
@@ -38,7 +38,7 @@ export class Desk {
       onRestore: (delta, rev) => this.restore(delta, rev),
     });
     this.goOn = new GoOnBox(session, () => this.open());
-    this.notice = new Notice({ onGoOn: () => this.goOn.open(), onClose: () => this.close(true) });
+    this.notice = new Notice(session.kept, { onGoOn: () => this.goOn.open(), onClose: () => this.close(true) });
     this.rights = new RightsBox(session, (text) => say($("news"), text));
     this.listen();
   }
@@ -64,22 +64,27 @@ export class Desk {
     });
     addEventListener("pointerdown", (event) => { if (!$("exports").contains(event.target)) $("exports").open = false; });
     addEventListener("beforeprint", () => this.preparePrint());
-    addEventListener("beforeunload", (event) => { if (this.session.pad?.isUnsent) event.preventDefault(); });
+    addEventListener("beforeunload", (event) => {
+      if (this.session.isUnsent || this.session.kept.areWaiting) event.preventDefault();
+    });
     new ResizeObserver(() => this.place()).observe($("paper"));
   }
 
   // ---- opening and closing
 
+  // Whether what is drawn is the pad that is open.
+  get isShowing() { return this.isOpen && this.pad === this.session.pad; }
+
   open() {
     const { pad } = this.session;
-    this.isOpen = true;
+    Object.assign(this, { isOpen: true, pad });
     history.replaceState(null, "", `#${pad.name}`);
     document.title = WORDS.title(pad.name);
     say($("pad-name"), pad.name);
     for (const id of ["enter", "log-out"]) $(id).hidden = true;
     for (const id of ["work", "tools", "here", "pad-name"]) $(id).hidden = false;
     // What was drawn of another pad can look the same by its key.
-    Object.assign(this, { litId: null, percent: 0, peopleKey: null, authorsKey: null, isShutOut: false });
+    Object.assign(this, { litId: null, percent: 0, peopleKey: null, authorsKey: null, isShutOut: false, told: "" });
     this.margin.forget();
     this.carets.clear();
     this.past.start(pad);
@@ -113,12 +118,13 @@ export class Desk {
     this.showState();
   }
 
-  // Closes the pad once everything is sent. Words that cannot be sent in some seconds keep it open, unless the author has
-  // decided to lose them. Resolves to whether the pad is closed.
+  // Closes the pad once everything is sent. Words that cannot be sent in some seconds keep it open, and words that were
+  // refused and not copied, unless the author has decided to lose them. Resolves to whether the pad is closed.
   async close(isForced = false) {
     const { session } = this, { pad } = session, isSettled = isForced || await session.settle();
     if (pad !== session.pad) return false;
     if (!isSettled) { this.showUnsaved(); return false; }
+    if (!isForced && session.kept.areWaiting) { this.notice.show(WORDS.uncopied, { canClose: true }); return false; }
     await this.leave();
     this.onClose();
     return true;
@@ -130,13 +136,13 @@ export class Desk {
     this.isOpen = false;
     $("work").hidden = $("tools").hidden = true;
     document.body.classList.remove("is-offline");
-    this.notice.hide();
+    this.notice.forget();
     await this.session.leave();
     history.replaceState(null, "", location.pathname);
   }
 
   showUnsaved() {
-    const { isOver, pad } = this.session, unsent = pad.unsentWords;
+    const { isOver, unsentWords: unsent } = this.session;
     const text = isOver ? WORDS.unsavedForGood : unsent ? WORDS.unsaved : WORDS.unsavedChange;
     this.notice.show(text, { unsent, canClose: true });
   }
@@ -153,7 +159,7 @@ export class Desk {
     say($("state"), text);
     document.body.classList.toggle("is-offline", state === "over" || state === "lost");
     if (state === "saved") this.notice.takeBack(WORDS.unsaved, WORDS.unsavedChange);
-    else if (this.notice.canClose) this.showUnsaved();
+    else if (session.isUnsent && this.notice.canClose) this.showUnsaved();
     this.showSteps();
     $("state").className = ["over", "lost", "held"].includes(state) ? "is-bad" : `is-${state}`;
   }
@@ -188,7 +194,22 @@ export class Desk {
     if (activeElement?.disabled && ["undo", "redo"].includes(activeElement.id)) $("text").focus();
   }
 
+  type(delta) {
+    if (!this.isShowing) return;
+    this.pad.type(delta);
+    this.told = "";
+    this.showState();
+  }
+
   receive(delta) { this.editor.receive(delta); }
+
+  // The pad was read again, since the page had another text than the server.
+  reread() {
+    this.past.start(this.pad);
+    this.editor.show(this.pad.text);
+    this.notice.show(WORDS.reread);
+    this.showAll();
+  }
 
   moved({ from, to }) {
     this.past.note(from, to);
@@ -217,13 +238,13 @@ export class Desk {
   over(text) {
     this.session.right = "none";
     this.showEditable();
-    this.notice.show(text, { unsent: this.session.pad.unsentWords });
+    this.notice.show(text, { unsent: this.session.unsentWords });
     this.showState();
   }
 
   refused(reply, words) {
     if (reply.code === DENIED && !words) { this.shutOut(); return; }
-    this.notice.show(refusal(reply), { words, canGoOn: FULL.includes(reply.code) });
+    this.notice.show(refusal(reply), { canGoOn: FULL.includes(reply.code) });
   }
 
   // The page asks on, and is refused again and again. It says so once.
@@ -243,7 +264,7 @@ export class Desk {
 
   // The comments that are seen: of the shown revision, resolved ones only if they are asked for.
   get comments() {
-    const all = this.past.compared ? [] : this.past.shown?.comments ?? this.session.comments.list;
+    const all = this.past.compared ? [] : this.past.shown?.comments ?? this.session.comments.all;
     return all.filter(({ isResolved }) => this.showsResolved || !isResolved);
   }
 
@@ -258,7 +279,7 @@ export class Desk {
     const { past, session } = this;
     if (!this.isOpen || !session.pad) return;
     this.giveColours();
-    const all = past.shown?.comments ?? session.comments.list;
+    const all = past.shown?.comments ?? session.comments.all;
     const resolved = all.filter(({ isResolved }) => isResolved).length, { comments } = this;
     $("resolved").hidden = !resolved;
     say($("resolved"), (this.showsResolved ? WORDS.hideResolved : WORDS.showResolved)(resolved));
@@ -298,13 +319,11 @@ export class Desk {
     $("comment-box").showModal();
   }
 
-  async sendComment() {
+  sendComment() {
     const { comments } = this.session, { asked } = comments, text = $("comment-text").value;
     this.editor.root.focus();
-    if ($("comment-box").returnValue === "send" && text.trim()) {
-      try { await this.session.comment(() => asked, text); } catch (error) { this.notice.show(reason(error), { words: text }); }
-    }
     comments.asked = null;
+    if ($("comment-box").returnValue === "send" && text.trim()) this.session.comment(() => asked, text);
     this.showComments();
   }
 
@@ -351,10 +370,20 @@ export class Desk {
 
   undo(isRedo) {
     const { pad } = this.session;
-    if (!this.editor.isEditable || this.editor.isComposing) return;
+    if (!this.editor.isEditable || this.editor.isComposing || !this.mayTakeOver(isRedo)) return;
     const delta = pad.stepBack(isRedo);
     if (delta) this.editor.made(delta);
     this.showState();
+  }
+
+  // Words that others wrote come back as the author's own. The page says so first, and does it when it is asked again.
+  mayTakeOver(isRedo) {
+    const { pad } = this.session, owners = pad.ownersOfStep(isRedo), { told } = this;
+    this.told = owners.length ? (isRedo ? WORDS.redoTakes : WORDS.undoTakes)(owners.map(named).join(", ")) : "";
+    if (this.told && this.told !== told) { this.notice.show(this.told); return false; }
+    if (told) this.notice.takeBack(told);
+    this.told = "";
+    return true;
   }
 
   // The text of an earlier revision comes back, as a change of the author's own.

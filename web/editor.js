@@ -1,6 +1,6 @@
 // The text that is edited. The browser says what it is about to do with the text, the page does it to its own text, and
 // draws the lines that this changes. Only input methods write into the document themselves; what they wrote is read then.
-import { apply, compose, extent, isEmpty, move, splice, transform, typed } from "./delta.js";
+import { apply, compose, extent, isEmpty, move, snapped, splice, transform, typed } from "./delta.js";
 import { Lines } from "./lines.js";
 
 const COMPOSING = ["insertCompositionText", "deleteCompositionText", "insertFromComposition"];
@@ -89,7 +89,8 @@ export class Editor {
   }
 
   // The author's delta over what is drawn: the pad gets it, and its lines are drawn.
-  make(delta) {
+  make(given) {
+    const delta = snapped(given, this.text);
     if (isEmpty(delta)) return;
     const [mine, late] = transform(delta, this.late);
     this.late = late;

@@ -1,6 +1,7 @@
 // The way in: log in, then choose a pad or create one.
 import { named, setOrigin } from "./authors.js";
 import { $, element, fill, say } from "./page.js";
+import { Superseded, Unsaved } from "./session.js";
 import { Lost } from "./wire.js";
 import { WORDS, refusal } from "./words.js";
 
@@ -11,6 +12,7 @@ const DENIED = 312;
 export function reason(error) {
   if (error.reply) return refusal(error.reply);
   if (error instanceof Lost) return WORDS.noServer;
+  if (error instanceof Unsaved) return WORDS.unsavedChange;
   console.error(error);
   return WORDS.fault(error.message);
 }
@@ -103,9 +105,12 @@ export class Enter {
     this.enterNamed();
   }
 
+  // Where several pads are asked for, the last one is opened.
   async enter(how, name) {
     say($("open-error"), "");
+    if (this.session.pad && !(await this.onLeave())) return;
     try { await this.session[how](name); } catch (error) {
+      if (error instanceof Superseded) return;
       say($("open-error"), error.reply?.code === DENIED ? WORDS.noRight : reason(error));
       return;
     }

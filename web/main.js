@@ -10,7 +10,7 @@ import { WORDS } from "./words.js";
 label();
 
 let desk = null, enter = null;
-const whenOpen = (act) => (...given) => { if (desk?.isOpen) act(...given); };
+const whenOpen = (act) => (...given) => { if (desk?.isShowing) act(...given); };
 
 const session = new Session({
   open: webSocket(`${location.protocol === "https:" ? "wss" : "ws"}://${location.host}/socket`),
@@ -27,6 +27,7 @@ const session = new Session({
     onComments: whenOpen(() => desk.showComments()),
     onRights: whenOpen(() => desk.showRights()),
     onRefused: whenOpen((reply, words) => desk.refused(reply, words)),
+    onReread: whenOpen(() => desk.reread()),
     onOver: whenOpen((error) => desk.over(error instanceof LostRevisions ? WORDS.gone : reason(error))),
   },
 });
@@ -38,7 +39,7 @@ document.addEventListener("visibilitychange", () => {
   session.isHidden = document.hidden;
   if (session.pad && !document.hidden) session.refresh();
 });
-addEventListener("online", () => session.hurry?.());
+addEventListener("online", () => session.hurry());
 $("skip").addEventListener("click", (event) => {
   event.preventDefault();
   $("text").focus();

@@ -17,7 +17,7 @@ export class Margin {
   // Draws the cards of comments over a text. Where nothing differs they stay, so that a pressed button is not lost.
   draw(comments, text, mayResolve) {
     const shown = comments.slice(0, MOST_CARDS).sort((a, b) => a.from - b.from);
-    const key = ({ id, author, text: words, isResolved, from, to }) =>
+    const key = ({ id, author, text: words, isResolved, from, to }) => // an unsent one has another id
       [id, author, colourOf(author), words, isResolved, text.slice(from, to)];
     const keys = JSON.stringify([mayResolve, shown.map(key)]);
     if (keys === this.keys) return;
@@ -35,13 +35,14 @@ export class Margin {
     this.root.replaceChildren();
   }
 
-  card({ id, name, author, text: words, isResolved, from, to }, text, mayResolve) {
+  card({ id, name, author, text: words, isResolved, isUnsent, from, to }, text, mayResolve) {
     const quote = text.slice(from, to).replace(/\s+/g, " ");
     const short = quote.length > LONGEST_QUOTE ? `${quote.slice(0, LONGEST_QUOTE)}…` : quote;
     const card = element("article", { id, tabIndex: 0, className: `card ${colourOf(author)}` });
     card.setAttribute("aria-label", WORDS.commentOn(named(author), short, isResolved));
     const head = element("p", { className: "card-head" }, element("b", { textContent: named(author) }));
-    if (isResolved) head.append(element("span", { className: "quiet", textContent: WORDS.resolved }));
+    if (isUnsent) head.append(element("span", { className: "quiet", textContent: WORDS.notSent }));
+    else if (isResolved) head.append(element("span", { className: "quiet", textContent: WORDS.resolved }));
     else if (mayResolve) {
       const button = element("button", { type: "button", className: "small", textContent: WORDS.resolve });
       button.setAttribute("aria-label", `${WORDS.resolve}: ${words}`);

@@ -3,10 +3,11 @@ import { $, say } from "./page.js";
 import { LABELS, WORDS } from "./words.js";
 
 export class Notice {
-  // `onGoOn` opens the dialog for a new pad, and `onClose` closes the pad though words are not sent.
-  constructor({ onGoOn, onClose }) {
-    Object.assign(this, { text: "", kept: "", canClose: false });
-    $("notice-dismiss").addEventListener("click", () => this.hide());
+  // `kept` are words of the author's that were not taken. They are shown with any text until the author has copied or
+  // dismissed them. `onGoOn` opens the dialog for a new pad, and `onClose` closes the pad though words would be lost.
+  constructor(kept, { onGoOn, onClose }) {
+    Object.assign(this, { kept, text: "", canClose: false });
+    $("notice-dismiss").addEventListener("click", () => this.forget());
     $("notice-go-on").addEventListener("click", () => onGoOn());
     $("notice-close").addEventListener("click", () => onClose());
     $("notice-copy").addEventListener("click", async () => {
@@ -14,14 +15,13 @@ export class Notice {
       getSelection().selectAllChildren(words);
       try { await navigator.clipboard.writeText(words.textContent); } catch { document.execCommand("copy"); }
       say($("notice-copy"), WORDS.copied);
+      kept.copied();
     });
   }
 
-  // `words` are the author's own, which would be lost otherwise. They stay until the author dismisses them. `unsent` words
-  // are still in the pad, and are shown with this text only.
-  show(text, { words = "", unsent = "", canGoOn = false, canClose = false } = {}) {
-    if (words) this.kept = this.kept ? `${this.kept}\n${words}` : words;
-    const shown = [this.kept, unsent].filter(Boolean).join("\n");
+  // `unsent` words are still in the pad, and are shown with this text only.
+  show(text, { unsent = "", canGoOn = false, canClose = false } = {}) {
+    const shown = [this.kept.text, unsent].filter(Boolean).join("\n");
     $("notice").hidden = false;
     say($("notice-words"), shown);
     $("notice-words").hidden = $("notice-copy").hidden = !shown;
@@ -35,12 +35,18 @@ export class Notice {
   // Takes back these texts, once they do not hold any more. Words that are kept stay.
   takeBack(...texts) {
     if (!texts.includes(this.text)) return;
-    if (this.kept) this.show(""); else this.hide();
+    if (this.kept.text) this.show(""); else this.hide();
   }
 
   hide() {
     $("notice").hidden = true;
     $("notice-words").textContent = "";
-    Object.assign(this, { text: "", kept: "", canClose: false });
+    Object.assign(this, { text: "", canClose: false });
+  }
+
+  // The same, and the words that were kept are not needed any more.
+  forget() {
+    this.kept.clear();
+    this.hide();
   }
 }

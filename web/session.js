@@ -3,33 +3,44 @@
 import { clock as realClock, pause } from "./clock.js";
 import { Comments } from "./comments.js";
 import { move } from "./delta.js";
+import { KeptWords } from "./kept.js";
 import { LIMITS } from "./limits.js";
 import { Presence } from "./presence.js";
 import { LostRevisions, PACE, Pad, Refused } from "./sync.js";
-import { count } from "./units.js";
+import { Misfit, count } from "./units.js";
+import { UnsentComments } from "./unsent.js";
 import { Lost, Wire } from "./wire.js";
 
 const ALONE = 4000, TOGETHER = 2000, CROWD = 10000, MOST_TOGETHER = 20, HIDDEN = 15000;
 // How long what is not sent yet may take before a pad is left.
-const SETTLE = 5000;
+const SETTLE = 5000, LOOK = 20;
 const RIGHTS_EVERY = 10000, CARET_EVERY = 1000, ROOM_EVERY = 60000;
-// Refusals that pass: out of memory, a full disk, too many clients.
-const PASSING = [900, 901, 902];
+// Refusals that pass: out of memory, a full disk, too many clients. When a pad is joined again, also that it is crowded: the
+// visits of connections that broke may still be counted.
+const PASSING = [900, 901, 902], CROWDED = 313;
+// Refusals that no edit gets if the server has the page's text: no such revision, and a place behind its end.
+const UNFIT = [320, 321];
 
 const NOTHING = () => {};
 const VIEW = {
   onState: NOTHING, onReceive: NOTHING, onShow: NOTHING, onMove: NOTHING, onPeople: NOTHING, onCome: NOTHING, onGo: NOTHING,
-  onComments: NOTHING, onRights: NOTHING, onRefused: NOTHING, onOver: NOTHING,
+  onComments: NOTHING, onRights: NOTHING, onRefused: NOTHING, onReread: NOTHING, onOver: NOTHING,
 };
 
+// Another pad was asked for before this one was open.
+export class Superseded extends Error {}
+// The pad that is open has changes that cannot be sent.
+export class Unsaved extends Error {}
+
 export class Session {
-  constructor({ open, view = {}, clock = realClock, pace = PACE }) {
-    Object.assign(this, { open, clock, pace });
+  constructor({ open, view = {}, clock = realClock, pace = PACE, random = Math.random }) {
+    Object.assign(this, { open, clock, pace, random });
     this.view = { ...VIEW, ...view };
     this.wire = null; this.login = null; this.me = "";
-    this.pad = null; this.presence = null; this.comments = null;
+    this.pad = null; this.presence = null; this.comments = null; this.kept = new KeptWords();
+    this.entries = 0; this.lastEntry = Promise.resolve(); // how many pads were asked for, and the end of the last one's entry
     this.right = "none"; this.rights = []; this.cells = 0;
-    this.isLost = false; this.isOver = false; this.heldBy = null; this.isHidden = false; this.hurry = null;
+    this.isLost = false; this.isOver = false; this.heldBy = null; this.isHidden = false; this.hurry = NOTHING;
     this.caretAt = null; this.isCaretNew = false; this.caretTime = -Infinity; this.caretTimer = null;
   }
 
@@ -50,59 +61,87 @@ export class Session {
     if (this.isOver) return "over";
     if (this.isLost) return "lost";
     if (this.heldBy) return "held";
-    return this.pad?.isUnsent ? "saving" : "saved";
+    return this.isUnsent ? "saving" : "saved";
+  }
+
+  // Whether there is something that the server is not known to have: changes, or comments.
+  get isUnsent() { return this.pad !== null && (this.pad.isUnsent || this.comments.unsent.list.length > 0); }
+
+  // The words of both, to be copied.
+  get unsentWords() {
+    const comments = this.comments.unsent.list.map(({ text }) => text);
+    return [this.pad.unsentWords, ...comments].filter(Boolean).join("\n");
   }
 
   // ---- the connection
 
   async connect() {
     const wire = new Wire(this.open, { clock: this.clock, onDown: () => { if (wire === this.wire) this.down(); } });
+    this.wire?.close();
     this.wire = wire;
     await wire.connect();
     try {
-      this.me = (await this.call({ do: "hello", ...this.login })).author;
+      const reply = await wire.ask({ do: "hello", ...this.login });
+      if (!reply.ok) throw new Refused(reply);
+      this.me = reply.author;
     } catch (error) {
-      this.wire = null;
+      if (wire === this.wire) this.wire = null;
       wire.close();
       throw error;
     }
   }
 
   async logIn(name, token) {
-    this.login = { name, token };
-    try { await this.connect(); } catch (error) { this.login = null; throw error; }
+    const login = { name, token };
+    this.login = login;
+    try { await this.connect(); } catch (error) {
+      if (this.login === login) this.login = null;
+      throw error;
+    }
   }
 
   logOut() {
     this.login = null;
-    this.pad?.stop();
+    this.stop();
     this.pad = null;
     this.wire?.close();
     this.wire = null;
   }
 
+  // Nothing more is sent on the pad.
+  stop() {
+    this.pad?.stop();
+    this.comments?.unsent.stop();
+  }
+
   down() {
     if (!this.login || this.isLost) return;
     this.isLost = true;
-    this.pad?.stop();
+    this.stop();
     this.view.onState();
     this.reconnect();
   }
 
-  // Tries again until it works, with growing pauses. `hurry` ends a pause.
+  // Tries again until it works, with growing pauses. `hurry` ends a pause, or an attempt to connect that hangs.
   async reconnect() {
-    for (let wait = 300; this.login; wait = Math.min(wait * 1.7, 5000)) {
+    for (let wait = 300, isHurried = false; this.login; wait = Math.min(wait * 1.7, 5000)) {
       const hurried = new Promise((done) => { this.hurry = done; });
-      await Promise.race([pause(wait * (0.8 + 0.4 * Math.random()), this.clock), hurried]);
+      if (!isHurried) await Promise.race([pause(wait * (0.8 + 0.4 * this.random()), this.clock), hurried]);
+      isHurried = false;
+      this.hurry = () => {
+        isHurried = !this.wire?.isUp;
+        if (isHurried) this.wire?.giveUp();
+      };
       try {
         await this.connect();
-        if (this.pad) await this.rejoin();
+        if (this.pad) await this.rejoin(this.pad);
         this.isLost = false;
+        this.hurry = NOTHING;
         this.view.onState();
         return;
       } catch (error) {
         this.wire?.close();
-        if (error instanceof Lost || PASSING.includes(error.reply?.code)) continue;
+        if (error instanceof Lost || [...PASSING, CROWDED].includes(error.reply?.code)) continue;
         this.endWith(error);
         return;
       }
@@ -113,18 +152,27 @@ export class Session {
   endWith(error) {
     this.login = null;
     this.isOver = true;
-    this.pad?.stop();
+    this.stop();
     this.wire?.close();
     this.wire = null;
     this.view.onOver(error.reply?.code === 300 ? new LostRevisions() : error);
   }
 
-  async rejoin() {
-    const { pad } = this, { visit } = await this.call({ do: "join", pad: pad.name });
-    await pad.resume(visit);
+  // What fails because the pad was left meanwhile is no failure.
+  async rejoin(pad) {
+    const { visit } = await this.call({ do: "join", pad: pad.name });
+    try {
+      if (!pad.isUnfit) await pad.resume(visit, this.me);
+    } catch (error) {
+      if (pad !== this.pad && error instanceof Refused) return;
+      if (!(error instanceof Misfit)) throw error;
+      pad.isUnfit = true;
+    }
     if (pad !== this.pad) return;
+    pad.visit = visit;
+    pad.takeName(this.me);
     this.isCaretNew = true;
-    this.drive(pad);
+    this.start(pad);
     this.refresh();
   }
 
@@ -134,69 +182,143 @@ export class Session {
   create(name) { return this.enter("create", name); }
   join(name) { return this.enter("join", name); }
 
-  async enter(how, name) {
-    const { visit } = await this.call({ do: how, pad: name }), { view } = this;
+  // Opens a pad. One is open at a time: the one before it is left first. Of those that are asked for while one is being
+  // opened, only the last is opened.
+  enter(how, name) {
+    const entry = ++this.entries, entered = this.lastEntry.then(() => this.enterAs(entry, how, name));
+    this.lastEntry = entered.then(NOTHING, NOTHING);
+    return entered;
+  }
+
+  async enterAs(entry, how, name) {
+    const goOn = () => { if (entry !== this.entries) throw new Superseded(name); };
+    goOn();
+    if (this.isLost) throw new Lost("not connected");
+    if (this.pad && !(await this.settle())) throw new Unsaved(this.pad.name);
+    if (this.pad) await this.leave();
+    goOn();
+    const { visit } = await this.call({ do: how, pad: name }), pad = this.padOf(name, visit);
+    try {
+      goOn();
+      await pad.load();
+      goOn();
+    } catch (error) {
+      await this.call({ do: "leave", pad: name }).catch(NOTHING);
+      throw error;
+    }
+    this.follow(pad);
+    await this.refresh();
+    goOn();
+    return pad;
+  }
+
+  // A pad that tells of itself only while it is the one that is open.
+  padOf(name, visit) {
+    const whenOpen = (act) => (given) => { if (pad === this.pad) act(given); };
     const pad = new Pad({
       name, me: this.me, ask: this.ask, clock: this.clock, pace: this.pace,
-      onReceive: (delta) => view.onReceive(delta),
-      onShow: (delta) => this.showed(delta),
-      onMove: (step) => this.moved(step),
+      onReceive: whenOpen((delta) => this.view.onReceive(delta)),
+      onShow: whenOpen((delta) => this.showed(delta)),
+      onMove: whenOpen((step) => this.moved(step)),
     });
     pad.visit = visit;
-    this.presence = new Presence(pad, {
-      onChange: () => { this.sendCaret(); view.onPeople(); },
-      onCome: (author) => view.onCome(author), onGo: (author) => view.onGo(author),
-    });
-    this.comments = new Comments(pad, () => view.onComments());
-    await pad.load();
-    this.pad = pad;
-    this.isCaretNew = true;
-    this.drive(pad);
-    this.pulse(pad);
-    await this.refresh();
     return pad;
+  }
+
+  follow(pad) {
+    const { view } = this, whenOpen = (act) => (...given) => (pad === this.pad ? act(...given) : undefined);
+    this.presence = new Presence(pad, {
+      onChange: whenOpen(() => { this.sendCaret(); view.onPeople(); }),
+      onCome: whenOpen((author) => view.onCome(author)), onGo: whenOpen((author) => view.onGo(author)),
+    });
+    const unsent = new UnsentComments(pad, {
+      clock: this.clock, onMade: whenOpen((comment, id) => this.madeComment(comment, id)),
+      onRefused: whenOpen((reply, text) => this.refusedComment(reply, text)),
+    });
+    this.comments = new Comments(pad, unsent, whenOpen(() => view.onComments()));
+    this.kept.clear();
+    Object.assign(this, { pad, right: "none", rights: [], cells: 0, heldBy: null, caretAt: null, isCaretNew: true });
+    this.start(pad);
+    this.pulse(pad);
+  }
+
+  start(pad) {
+    this.drive(pad);
+    this.comments.unsent.run().catch((error) => { if (!(error instanceof Lost) && pad === this.pad) this.endWith(error); });
   }
 
   // What is shown has changed, and everything that has a place in it moves.
   showed(delta) {
     this.presence.move(delta);
     this.comments.move(delta);
+    this.kept.move(delta);
     if (this.caretAt !== null) this.caretAt = move(this.caretAt, delta);
     this.view.onShow(delta);
   }
 
-  // Sends what is not sent yet, if that takes seconds at most. Resolves to whether all words are saved.
+  // Sends what is not sent yet, if that takes seconds at most. Resolves to whether everything is saved.
   async settle() {
-    const { pad } = this;
-    if (pad.isUnsent && !this.isLost && !this.isOver) await pad.flush(SETTLE);
-    return !pad.isUnsent;
+    const { pad } = this, end = this.clock.now() + SETTLE;
+    while (pad === this.pad && this.isUnsent && !this.isLost && !this.isOver && this.clock.now() < end) {
+      pad.hurry(true);
+      await pause(LOOK, this.clock);
+    }
+    pad.hurry(false);
+    return pad !== this.pad || !this.isUnsent;
   }
 
   async leave() {
     const { pad } = this;
+    this.stop();
     this.pad = null;
     this.heldBy = null;
-    pad.stop();
     try { await this.call({ do: "leave", pad: pad.name }); } catch { /* the visit ends with the connection at the latest */ }
   }
 
-  // Keeps the pad's loop going over refusals, until the connection is lost or the pad is left.
+  // Keeps the pad's loop going over refusals, until the connection is lost or the pad is left. Where the server has another
+  // text than the page, the pad is read again.
   async drive(pad) {
     const { wire } = this;
     for (let wait = 1000; pad === this.pad && wire === this.wire; wait = Math.min(wait * 2, 10000)) {
-      try { await pad.run(); return; } catch (error) {
+      try {
+        if (pad.isUnfit) await this.reread(pad);
+        await pad.run();
+        return;
+      } catch (error) {
         if (error instanceof Lost || pad !== this.pad || wire !== this.wire) return;
-        if (!(error instanceof Refused)) { this.endWith(error); return; }
-        this.refused(pad, error.reply);
+        if (error instanceof Misfit || UNFIT.includes(error.reply?.code)) this.doubt(pad);
+        else if (error instanceof Refused) this.refused(pad, error.reply);
+        else { this.endWith(error); return; }
         await pause(wait, this.clock);
       }
     }
   }
 
-  // What passes is tried again with the same words. Other refusals take the words back, and the view keeps them.
+  // The page's text is not the server's: nothing is called saved until it is read again.
+  doubt(pad) {
+    pad.isUnfit = true;
+    pad.stop();
+    this.view.onState();
+  }
+
+  async reread(pad) {
+    const words = await pad.load(), texts = this.comments.unsent.giveUp();
+    if (pad !== this.pad) return;
+    for (const lost of [words, ...texts]) this.kept.add(lost);
+    this.caretAt = null;
+    this.view.onReread();
+    await this.comments.read();
+    this.view.onState();
+  }
+
+  // What passes is tried again with the same words. Other refusals take the words back, and keep them for the author.
   refused(pad, reply) {
     if (PASSING.includes(reply.code)) this.heldBy = reply;
-    else this.view.onRefused(reply, pad.isUnsent ? pad.giveUp() : "");
+    else {
+      const pieces = pad.giveUp();
+      for (const { at, words } of pieces) this.kept.add(words, at);
+      this.view.onRefused(reply, pieces.map(({ words }) => words).join("\n"));
+    }
     if (reply.code === 312) this.readRights().catch(NOTHING);
     this.view.onState();
   }
@@ -213,31 +335,49 @@ export class Session {
 
   // ---- what is no change of the text
 
-  // Asks now and then who is here and which rights there are. Each such line also ends a wait, which is asked again.
+  // Asks now and then who is here and which rights there are, what made the page's revision, and whether its text has the
+  // length that the server says. Each such line also ends a wait, which is asked again.
   async pulse(pad) {
+    const { presence } = this;
     let rightsAt = this.clock.now(), roomAt = -Infinity;
     while (pad === this.pad) {
-      const others = this.presence.others.length, now = this.clock.now();
+      const others = presence.others.length, now = this.clock.now();
       await pause(this.isHidden ? HIDDEN : others > MOST_TOGETHER ? CROWD : others ? TOGETHER : ALONE, this.clock);
       if (pad !== this.pad || this.isLost) continue;
       try {
-        this.presence.take(await pad.call({ do: "who" }));
+        presence.take(await pad.call({ do: "who" }));
+        await pad.readMark();
         if (now - rightsAt >= RIGHTS_EVERY) { rightsAt = now; await this.readRights(); }
-        if (now - roomAt >= ROOM_EVERY) { roomAt = now; this.cells = (await pad.call({ do: "revs" })).cells; }
+        if (now - roomAt >= ROOM_EVERY) { roomAt = now; await this.readRoom(pad); }
       } catch { /* the loop of the pad meets the same, and says so */ }
     }
   }
 
+  // The length can be compared if the page has just the revision that was counted.
+  async readRoom(pad) {
+    const { cells, length, now } = await pad.call({ do: "revs" });
+    if (pad !== this.pad) return;
+    this.cells = cells;
+    if (now !== pad.rev || length === count(pad.base) || pad.isUnfit) return;
+    this.doubt(pad);
+    this.drive(pad);
+  }
+
   async refresh() {
+    const { comments, pad } = this;
+    if (!pad) return;
     try {
-      await Promise.all([this.readRights(), this.readPeople(), this.comments.read()]);
+      await Promise.all([this.readRights(), this.readPeople(), comments.read(), pad.readMark()]);
     } catch (error) {
       if (!(error instanceof Lost || error instanceof Refused)) throw error;
     }
     this.view.onState();
   }
 
-  async readPeople() { this.presence.take(await this.pad.call({ do: "who" })); }
+  async readPeople() {
+    const { pad, presence } = this;
+    presence.take(await pad.call({ do: "who" }));
+  }
 
   async readRights() {
     const { pad } = this;
@@ -274,13 +414,30 @@ export class Session {
     pad.call({ do: "caret", rev: pad.rev, at: count(pad.base, 0, Math.min(this.caretAt, pad.base.length)) }).catch(NOTHING);
   }
 
-  // Comments on a stretch, given by a function, since it may move until everything is sent.
-  async comment(stretch, text) {
-    const { pad } = this;
-    await pad.flush();
-    const { from, to } = stretch();
-    if (from >= to) throw new Refused({ code: 322, error: "Empty" });
-    await pad.call({ do: "comment", rev: pad.rev, at: count(pad.base, 0, from), len: count(pad.base, from, to), text });
+  // Comments on a stretch, given by a function. The comment moves with its words until it is made, which this resolves to.
+  comment(stretch, text) {
+    const { from, to } = stretch(), made = this.comments.unsent.add(from, to, text);
+    this.view.onComments();
+    this.view.onState();
+    return made;
+  }
+
+  madeComment(comment, name) {
+    this.heldBy = null;
+    this.comments.made(comment, name);
+    this.view.onState();
+  }
+
+  // Tells whether the comment is to be tried again. Otherwise its text is kept for the author.
+  refusedComment(reply, text) {
+    const isPassing = PASSING.includes(reply.code);
+    if (isPassing) this.heldBy = reply;
+    else {
+      this.kept.add(text);
+      this.view.onRefused(reply, text);
+    }
+    this.view.onState();
+    return isPassing;
   }
 
   resolve(name) { return this.pad.call({ do: "resolve", comment: name }); }

@@ -13,18 +13,23 @@
 // While an edit is in flight, base does not move. If it did, and another author erased the character before flight's text,
 // the place would be known only by a neighbour, and a later insertion could land on its wrong side. So what a wait brings
 // meanwhile is held back, and used only if it ends exactly at revision n - 1.
-import { apply, applyRuns, compose, isEmpty, move, split, transform } from "./delta.js";
+//
+// Everything in `pending` is typed under one name, `me`, which may be another one after a reconnection.
+import { apply, applyRuns, authored, compose, isEmpty, move, restoring, snapped, split, transform, typed } from "./delta.js";
 import { clock as realClock, pause } from "./clock.js";
-import { deltaOf, partsOf } from "./units.js";
 import { LIMITS } from "./limits.js";
+import { entryOf, resume } from "./resume.js";
 import { Undo } from "./undo.js";
+import { deltaOf, partsOf } from "./units.js";
+
+export { LostRevisions } from "./resume.js";
 
 export class Refused extends Error {
   constructor(reply) { super(`${reply.code} ${reply.error}`); this.reply = reply; }
 }
 
 export const PACE = { gather: 500, rest: 100, wait: 25 };
-const EDITS = ["insert", "delete", "edit"], TRAIL = 8;
+const TRAIL = 8, UNMARKED = { rev: 0, name: [], author: "" };
 
 export class Pad {
   // `ask` sends a request and resolves to its reply. `me` is the author as others see it, `name@origin`. `onReceive` gets
@@ -34,13 +39,17 @@ export class Pad {
     Object.assign(this, { name, me, ask, clock, onReceive, onShow, onMove, pace });
     this.base = ""; this.baseRuns = []; this.rev = 0; this.now = 0;
     this.flight = null; this.pending = [];
+    this.sentIn = 0; this.madeAt = 0; // the visit in which flight was sent, and the revision that it is by its answer
     this.text = ""; this.runs = [];
     this.trail = [];
+    this.mark = UNMARKED;
+    this.names = [me];
+    this.isUnfit = false; // the server has another text than the page
     this.undo = new Undo(me, clock);
     this.turn = 0; this.wake = null; this.sentAt = -Infinity; this.askedAt = -Infinity; this.isHurried = false;
   }
 
-  get isUnsent() { return this.flight !== null || !isEmpty(this.pending); }
+  get isUnsent() { return this.isUnfit || this.flight !== null || !isEmpty(this.pending); }
 
   async call(request) {
     const reply = await this.ask({ ...request, pad: this.name });
@@ -51,20 +60,36 @@ export class Pad {
 
   changes(more) { return this.call({ do: "changes", rev: this.rev, ...more }); }
 
-  // The whole text with its authors, in one answer.
+  // The whole text with its authors, in one answer. Returns words that were shown and are not known to be made.
   async load() {
     const { changes, to } = await this.call({ do: "changes", rev: 0 }), delta = deltaOf(changes, "");
+    const words = this.unsentWords;
     this.base = this.text = apply("", delta);
     this.baseRuns = this.runs = applyRuns([], delta);
     this.rev = to;
+    Object.assign(this, { flight: null, pending: [], madeAt: 0, trail: [], mark: UNMARKED, isUnfit: false });
+    this.undo = new Undo(this.me, this.clock);
+    return words;
   }
 
-  // The author changed what is shown. A step of undo is not remembered again.
-  type(delta, isRemembered = true) {
+  // Remembers what made `rev`, by which the page knows after a reconnection whether the server still has its past.
+  async readMark() {
+    const { rev } = this;
+    if (rev <= this.mark.rev) return;
+    const { name, author } = await entryOf(this, rev);
+    if (rev > this.mark.rev) this.mark = { rev, name, author };
+  }
+
+  // The author changed what is shown. A step of undo is not remembered again. Where that was half a character, what is shown
+  // is put right.
+  type(given, isRemembered = true) {
+    const delta = authored(snapped(given, this.text), this.me), before = this.text;
     if (isEmpty(delta)) return;
-    if (isRemembered) this.undo.typed(delta, this.text);
+    if (isRemembered) this.undo.typed(delta, before, this.runs);
     this.pending = compose(this.pending, delta);
     this.show(delta);
+    const drawn = apply(before, given);
+    if (drawn !== this.text) this.onReceive(typed(drawn, this.text, this.text.length, this.me));
     this.wake?.();
   }
 
@@ -74,9 +99,12 @@ export class Pad {
     this.onShow(delta);
   }
 
+  // Other authors whose words the next step would bring back, as the author's own.
+  ownersOfStep(isRedo = false) { return this.undo.owners(isRedo).filter((author) => !this.names.includes(author)); }
+
   // Undoes or redoes the author's last change: the delta over what is shown, or null.
   stepBack(isRedo = false) {
-    const delta = isRedo ? this.undo.redo(this.text) : this.undo.undo(this.text);
+    const delta = isRedo ? this.undo.redo(this.text, this.runs) : this.undo.undo(this.text, this.runs);
     if (delta) this.type(delta, false);
     return delta;
   }
@@ -112,8 +140,7 @@ export class Pad {
   land(theirs, n, notes) {
     const [mine, over] = transform(this.flight, theirs), [pending, shown] = transform(this.pending, over), from = this.rev;
     this.moveBase(compose(theirs, mine), n);
-    this.flight = null;
-    this.pending = pending;
+    Object.assign(this, { flight: null, madeAt: 0, pending });
     this.receive(shown);
     this.onMove({ from, to: n, notes, isOwn: true });
   }
@@ -121,18 +148,20 @@ export class Pad {
   async landAt(n, held) {
     if (n === this.rev + 1) { this.land([], n, 0); return; }
     const told = held?.to === n - 1 ? held : await this.changes({ to: n - 1 });
-    this.land(deltaOf(told.changes, this.base), n, told.notes);
+    if (this.madeAt === n) this.land(deltaOf(told.changes, this.base), n, told.notes);
   }
 
-  // Sends as much of what is pending as one edit can take. Resolves to its revision.
+  // Sends as much of what is pending as one edit can take, and learns which revision that makes.
   async send() {
-    [this.flight, this.pending] = split(this.pending, LIMITS.parts, LIMITS.edit);
+    [this.flight, this.pending] = split(this.pending, this.base, LIMITS.parts, LIMITS.edit);
+    this.sentIn = this.visit;
     this.sentAt = this.clock.now();
-    const parts = partsOf(this.flight, this.base), rev = this.rev;
+    const parts = partsOf(this.flight, this.base), { rev } = this;
     const kind = parts[0].text === undefined ? "delete" : "insert";
     try {
-      const { now } = await this.call(parts.length === 1 ? { do: kind, rev, ...parts[0] } : { do: "edit", rev, parts });
-      return now;
+      const { now, name } = await this.call(parts.length === 1 ? { do: kind, rev, ...parts[0] } : { do: "edit", rev, parts });
+      this.madeAt = now;
+      this.mark = { rev: now, name, author: this.me };
     } catch (error) {
       if (error instanceof Refused) this.unsend();
       throw error;
@@ -148,7 +177,8 @@ export class Pad {
   async run() {
     const turn = ++this.turn;
     while (this.turn === turn) {
-      if (this.untilDue() <= 0) await this.landAt(await this.send());
+      if (this.madeAt) await this.landAt(this.madeAt);
+      else if (this.untilDue() <= 0) await this.send();
       else await this.follow(turn);
     }
   }
@@ -179,7 +209,8 @@ export class Pad {
   }
 
   // Waits for others' changes. When something of the author's is due first, it is sent at the same revision. The server
-  // then ends the wait, and what the wait brought is held back until the edit is answered.
+  // then ends the wait, and what the wait brought is held back until the edit is answered. A refusal of one of the two is
+  // thrown when both are answered.
   async follow(turn) {
     const due = this.due(turn), rest = this.askedAt + this.pace.rest - this.clock.now();
     if (rest > 0) await Promise.race([due, pause(rest, this.clock)]);
@@ -193,63 +224,43 @@ export class Pad {
       if (this.turn === turn) this.advance(reply);
       return;
     }
-    const [held, n] = await Promise.all([told, this.send()]);
-    await this.landAt(n, held);
+    const [held, sent] = await Promise.allSettled([told, this.send()]);
+    if (sent.reason ?? held.reason) throw sent.reason ?? held.reason;
+    if (this.turn === turn) await this.landAt(this.madeAt, held.value);
   }
 
-  // After a new connection: decides whether the edit that was not answered was made, and takes what came since. The old
-  // connection could still deliver the edit, so first its visit has to be gone.
-  async resume(visit, patience = 100) {
-    this.stop();
-    for (let tries = 0; this.flight && this.visit && tries < patience; tries++) {
-      const { who } = await this.call({ do: "who" });
-      if (!who.some((one) => one.visit === this.visit)) break;
-      await pause(100, this.clock);
-    }
-    this.visit = visit;
-    const { now } = await this.call({ do: "revs" });
-    if (now < this.rev) throw new LostRevisions(this.name);
-    if (this.flight && !(await this.find(now))) this.unsend();
-    this.advance(await this.changes());
+  // After a new connection, over which the author has this name: finds out what the server has, and takes what came since.
+  resume(visit, me = this.me) { return resume(this, visit, me); }
+
+  // The server has another number, or the author another name: what is not sent yet will be under that one.
+  takeName(me) {
+    if (me === this.me) return;
+    this.me = me;
+    this.names.push(me);
+    this.pending = authored(this.pending, me);
+    this.runs = applyRuns(this.baseRuns, compose(this.flight ?? [], this.pending));
   }
 
-  // Looks for the revision that the flight made: one of this author that changes just what the flight changes there.
-  async find(now) {
-    for (let from = this.rev + 1; from <= now; from += LIMITS.entries) {
-      const { entries } = await this.call({ do: "entries", from, count: LIMITS.entries });
-      for (const { author, kind, rev } of entries) {
-        if (author !== this.me || !EDITS.includes(kind)) continue;
-        const before = await this.changes({ to: rev - 1 }), made = await this.call({ do: "changes", rev: rev - 1, to: rev });
-        const theirs = deltaOf(before.changes, this.base), text = apply(this.base, theirs);
-        const [mine] = transform(this.flight, theirs), same = apply(text, deltaOf(made.changes, text));
-        if (apply(text, mine) !== same) continue;
-        this.land(theirs, rev, before.notes);
-        return true;
-      }
-    }
-    return false;
-  }
-
-  // Resolves once everything is sent and answered, or after some milliseconds.
-  async flush(patience = Infinity) {
-    const end = this.clock.now() + patience;
-    this.isHurried = true;
+  // Sends what is pending at once, from now on or no longer.
+  hurry(isHurried) {
+    this.isHurried = isHurried;
     this.wake?.();
-    while (this.isUnsent && this.clock.now() < end) await pause(20, this.clock);
-    this.isHurried = false;
   }
 
   // What was typed and is not known to be made.
   get unsentWords() {
-    return compose(this.flight ?? [], this.pending).map((step) => step.insert ?? "").filter((text) => text.trim()).join("\n");
+    const delta = this.madeAt ? this.pending : compose(this.flight ?? [], this.pending);
+    return delta.map((step) => step.insert ?? "").filter((text) => text.trim()).join("\n");
   }
 
-  // Takes back what cannot be sent: what it inserted, for the author to keep.
+  // Takes back what cannot be sent. Returns what it inserted, for the author to keep: words, and where they stood in what is
+  // shown now.
   giveUp() {
-    const kept = this.unsentWords, inverse = restoring(this.pending, this.base, this.baseRuns);
+    const { base, baseRuns, flight, pending } = this, pieces = insertedBy(pending);
+    const back = restoring(pending, apply(base, flight ?? []), applyRuns(baseRuns, flight ?? []));
     this.pending = [];
-    this.receive(inverse);
-    return kept;
+    this.receive(back);
+    return pieces;
   }
 
   // Where a unit of base is in what is shown; and where a unit of an earlier revision's base is, if it is still known.
@@ -270,22 +281,13 @@ export class Pad {
   baseAt(rev) { return rev === this.rev ? this.base : this.trail.find((step) => step.rev === rev)?.base ?? null; }
 }
 
-export class LostRevisions extends Error {}
-
-// What undoes a delta over a text with its authors: what it dropped comes back with them.
-function restoring(delta, text, runs) {
-  const out = [];
+// The insertions of a delta: words, and their place in the text without the delta.
+function insertedBy(delta) {
+  const pieces = [];
   let at = 0;
   for (const step of delta) {
-    if (step.insert) { out.push({ drop: step.insert.length }); continue; }
-    if (step.keep) { out.push({ keep: step.keep }); at += step.keep; continue; }
-    let end = 0;
-    for (const [author, units] of runs) {
-      const from = Math.max(at, end), to = Math.min(at + step.drop, end + units);
-      if (from < to) out.push({ insert: text.slice(from, to), author });
-      end += units;
-    }
-    at += step.drop;
+    if (step.insert) pieces.push({ at, words: step.insert });
+    else at += step.keep ?? step.drop;
   }
-  return out;
+  return pieces;
 }

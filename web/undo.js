@@ -1,6 +1,7 @@
 // An author's own changes, to be undone and redone. Each step is a delta over the text that is shown once all steps above
-// it are made, so what others change is carried down through the steps.
-import { compose, extent, invert, isEmpty, transform } from "./delta.js";
+// it are made, so what others change is carried down through the steps. Words that a step brings back are noted with whose
+// they were; they come back as the author's own.
+import { compose, extent, isEmpty, restoring, transform } from "./delta.js";
 
 const MOST_STEPS = 500, BURST = 1000;
 
@@ -14,9 +15,9 @@ export class Undo {
     this.caret = null;
   }
 
-  // The author changed this text. What is typed on at once, without a new line, is one step.
-  typed(delta, text) {
-    const back = invert(delta, text, this.author), { from, before, after } = extent(delta);
+  // The author changed this text with its author runs. What is typed on at once, without a new line, is one step.
+  typed(delta, text, runs = this.own(text)) {
+    const back = restoring(delta, text, runs), { from, before, after } = extent(delta);
     const now = this.clock.now(), goesOn = now - this.typedAt < BURST && (from === this.caret || before === this.caret);
     const startsLine = delta.some((step) => step.insert?.includes("\n"));
     if (goesOn && !startsLine && this.undos.length) this.undos.push(compose(back, this.undos.pop()));
@@ -31,21 +32,29 @@ export class Undo {
     if (steps.length > MOST_STEPS) steps.shift();
   }
 
+  own(text) { return [[this.author, text.length]]; }
+
   // The delta over this text that takes back the last change, or null; the change itself can then be made again.
-  step(text, from, to) {
+  step(text, runs, from, to) {
     this.caret = null;
     while (from.length) {
       const delta = from.pop();
       if (isEmpty(delta)) continue;
-      this.push(to, invert(delta, text, this.author));
+      this.push(to, restoring(delta, text, runs));
       return delta;
     }
     return null;
   }
+
+  // Whose words the next step would bring back.
+  owners(isRedo) {
+    const next = (isRedo ? this.redos : this.undos).findLast((delta) => !isEmpty(delta)) ?? [];
+    return [...new Set(next.filter((step) => step.insert).map((step) => step.author))];
+  }
   get canUndo() { return this.undos.some((delta) => !isEmpty(delta)); }
   get canRedo() { return this.redos.some((delta) => !isEmpty(delta)); }
-  undo(text) { return this.step(text, this.undos, this.redos); }
-  redo(text) { return this.step(text, this.redos, this.undos); }
+  undo(text, runs = this.own(text)) { return this.step(text, runs, this.undos, this.redos); }
+  redo(text, runs = this.own(text)) { return this.step(text, runs, this.redos, this.undos); }
 
   // Others changed the text.
   received(delta) {

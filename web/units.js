@@ -1,17 +1,27 @@
 // The server counts characters (Unicode scalar values), and JavaScript counts units (UTF-16): a character beyond 16 bits
-// has two units. Here one becomes the other, and deltas become the wire's lists.
-import { add, trim } from "./delta.js";
-
-const PAIRS = /[\ud800-\udbff]/;
+// has two units, a high half and a low one. Here one becomes the other, and deltas become the wire's lists.
+const PAIRS = /[\ud800-\udbff]/, LONE_HALVES = /[\ud800-\udfff]/gu;
 let lastText = "", lastHasPairs = false;
 
+// An answer of the server does not fit the text that the page has of that revision.
+export class Misfit extends Error {}
+
 // Whether a text has characters of two units. The last answer is kept, since one text is asked about many times.
-function hasPairs(text) {
+export function hasPairs(text) {
   if (text !== lastText) { lastText = text; lastHasPairs = PAIRS.test(text); }
   return lastHasPairs;
 }
 
 const isHigh = (text, at) => (text.charCodeAt(at) & 0xfc00) === 0xd800;
+const isLow = (text, at) => (text.charCodeAt(at) & 0xfc00) === 0xdc00;
+
+// Whether a place is inside of a character, between its two units; and the edges of the character around it.
+export const isInside = (text, at) => at > 0 && isLow(text, at) && isHigh(text, at - 1);
+export const edgeBefore = (text, at) => (isInside(text, at) ? at - 1 : at);
+export const edgeAfter = (text, at) => (isInside(text, at) ? at + 1 : at);
+
+// A text as the server takes it: half a character becomes U+FFFD.
+export const wellFormed = (text) => text.replace(LONE_HALVES, "\ufffd");
 
 // How many characters a stretch of units has.
 export function count(text, from = 0, to = text.length) {
@@ -29,12 +39,18 @@ export function unit(text, characters, from = 0) {
   return at;
 }
 
-// The parts of an edit that makes this delta over this text.
+// The parts of an edit that makes this delta over this text. Neighbouring insertions are one part: the server would put the
+// later one of two parts at one place first.
 export function partsOf(delta, text) {
   const parts = [];
   let at = 0, characters = 0;
   for (const step of delta) {
-    if (step.insert !== undefined) { parts.push({ at: characters, text: step.insert }); continue; }
+    if (step.insert !== undefined) {
+      const last = parts[parts.length - 1];
+      if (last?.text !== undefined && last.at === characters) last.text += step.insert;
+      else parts.push({ at: characters, text: step.insert });
+      continue;
+    }
     const units = step.keep ?? step.drop, len = count(text, at, at + units);
     if (step.drop) parts.push({ at: characters, len });
     at += units;
@@ -43,15 +59,18 @@ export function partsOf(delta, text) {
   return parts;
 }
 
-// The delta of the list in an answer to `changes`, over this text.
+// The delta of the list in an answer to `changes`, over this text. It goes through the whole text, and no further.
 export function deltaOf(changes, text) {
   const delta = [];
   let at = 0;
   for (const [kind, what, author] of changes) {
-    if (kind === "insert") { add(delta, { insert: what, author }); continue; }
+    if (kind === "insert") { delta.push({ insert: what, author }); continue; }
     const to = unit(text, what, at);
-    add(delta, kind === "keep" ? { keep: to - at } : { drop: to - at });
+    if (count(text, at, to) !== what) throw new Misfit(`${what} characters to ${kind} at ${at} of ${text.length}`);
+    if (to > at) delta.push(kind === "keep" ? { keep: to - at } : { drop: to - at });
     at = to;
   }
-  return trim(delta);
+  if (at !== text.length) throw new Misfit(`the answer ends at ${at} of ${text.length}`);
+  if (delta[delta.length - 1]?.keep) delta.pop();
+  return delta;
 }

@@ -1,8 +1,11 @@
 // A connection: each message is one request or one reply, and replies come in the order of the requests.
 import { clock as realClock } from "./clock.js";
 
-// A request that takes longer than this has lost its connection. A wait is answered once anything more is sent.
-const LONGEST = 40000;
+// Milliseconds after which a connection is given up: while it is opened; when a request is not answered; and when one is not
+// answered whose answer may be large. A request counts from when those before it are answered, since a large answer to
+// one of these may still be coming. A wait is answered once anything more is sent.
+const OPENING = 10000, ANSWER = 15000, LARGE_ANSWER = 60000;
+const LARGE = ["text", "runs", "comments"];
 
 // The connection ended, perhaps after a refusal that nobody had asked for.
 export class Lost extends Error {
@@ -16,29 +19,35 @@ export const webSocket = (url) => () => {
   return { socket, listen, send: (text) => socket.send(text), close: () => socket.close() };
 };
 
+const isLarge = (request) => LARGE.includes(request.do) || (request.do === "changes" && request.rev === 0);
+
 export class Wire {
   constructor(open, { onDown = () => {}, clock = realClock } = {}) {
-    Object.assign(this, { open, onDown, clock });
-    this.waiting = [];
-    this.channel = null;
-    this.isUp = false;
-    this.farewell = null;
+    Object.assign(this, { open, onDown, clock, waiting: [], channel: null, timer: null, isUp: false, farewell: null });
+    this.giveUp = () => {}; // ends an attempt to connect
   }
 
   connect() {
     return new Promise((opened, failed) => {
-      const channel = this.open();
+      const channel = this.open(), isOver = () => this.channel !== channel;
       this.channel = channel;
+      this.giveUp = () => {
+        failed(new Lost("not connected"));
+        if (!isOver() && !this.isUp) this.close();
+      };
+      const timer = this.clock.after(OPENING, this.giveUp);
       channel.listen({
         onopen: () => {
-          if (this.channel !== channel) return;
+          this.clock.cancel(timer);
+          if (isOver()) return;
           this.isUp = true;
           opened();
         },
-        onmessage: ({ data }) => this.answer(JSON.parse(data)),
+        onmessage: ({ data }) => { if (!isOver()) this.answer(JSON.parse(data)); },
         onclose: () => {
+          this.clock.cancel(timer);
           failed(new Lost("not connected"));
-          if (this.channel === channel) this.drop();
+          if (!isOver()) this.drop();
         },
       });
     });
@@ -47,16 +56,29 @@ export class Wire {
   answer(reply) {
     const waiting = this.waiting.shift();
     if (!waiting) { this.farewell = reply; return; }
-    this.clock.cancel(waiting.timer);
+    const [next] = this.waiting;
+    if (next) next.from = this.clock.now();
+    this.watch();
     waiting.done(reply);
   }
 
   ask = (request) => new Promise((done, failed) => {
     if (!this.isUp) { failed(new Lost("not connected", this.farewell)); return; }
-    const timer = this.clock.after(LONGEST, () => this.drop());
-    this.waiting.push({ done, failed, timer });
+    const from = this.clock.now(), wait = request.wait ?? 0;
+    this.waiting.push({ done, failed, from, wait: 1000 * wait, most: isLarge(request) ? LARGE_ANSWER : ANSWER });
+    this.watch();
     this.channel.send(JSON.stringify(request));
   });
+
+  // Gives the connection up when the first request that waits should have been answered.
+  watch() {
+    const [first, second] = this.waiting;
+    this.clock.cancel(this.timer);
+    if (!first) return;
+    let due = first.from;
+    if (first.wait) due = second ? Math.max(due, second.from) : due + first.wait;
+    this.timer = this.clock.after(Math.max(0, due + first.most - this.clock.now()), () => this.drop());
+  }
 
   // The connection is over: what waits fails, and `onDown` is told.
   drop() {
@@ -69,10 +91,8 @@ export class Wire {
     const { channel } = this;
     this.channel = null;
     this.isUp = false;
+    this.clock.cancel(this.timer);
     channel?.close();
-    for (const { failed, timer } of this.waiting.splice(0)) {
-      this.clock.cancel(timer);
-      failed(new Lost("the connection ended", this.farewell));
-    }
+    for (const { failed } of this.waiting.splice(0)) failed(new Lost("the connection ended", this.farewell));
   }
 }

@@ -77,11 +77,11 @@ const swapped = "if (right.inserts) {\n      const step = right.takeInsertion();
 await findsFault("theirs first where both insert at one place",
   await planted("delta.js", "    if (left.inserts) {", `    ${swapped}\n    if (left.inserts) {`));
 await findsFault("changes that are taken while an edit is in flight", await planted("sync.js",
-  "const [held, n] = await Promise.all([told, this.send()]);\n    await this.landAt(n, held);",
-  `const sent = this.send(), early = await told, theirs = deltaOf(early.changes, this.base);
+  "const [held, sent] = await Promise.allSettled([told, this.send()]);",
+  `const sending = this.send(), early = await told, theirs = deltaOf(early.changes, this.base);
     const [mine, over] = transform(this.flight, theirs), [pending, shown] = transform(this.pending, over);
     this.moveBase(theirs, early.to); this.flight = mine; this.pending = pending; this.receive(shown);
-    await this.landAt(await sent);`));
+    const held = {}, [sent] = await Promise.allSettled([sending]);`));
 await findsFault("what a wait brought, used for a later revision",
   await planted("sync.js", "held?.to === n - 1 ? held", "held ? held"));
 await findsFault("a restored revision, without what was typed meanwhile",

@@ -46,7 +46,7 @@ function deltas() {
     if (apply(next, invert(mine, text, "a")) !== text) broken.invert++;
     if (apply(text, compose(mine, second)) !== apply(next, second)) broken.compose++;
     if (applyRuns([["o", text.length]], mine).reduce((sum, [, units]) => sum + units, 0) !== next.length) broken.runs++;
-    const [first, rest] = split(mine, 1 + dice(3), 1 + dice(5));
+    const [first, rest] = split(mine, text, 1 + dice(3), 2 + dice(4));
     if (apply(apply(text, first), rest) !== next) broken.split++;
     if (apply(text, typed(text, next, next.length, "a")) !== next) broken.typed++;
     if (move(text.length, mine, true) !== next.length) broken.move++;
@@ -55,7 +55,7 @@ function deltas() {
   const [mine, theirs] = transform(splice(1, 0, "M", "a"), splice(1, 0, "T", "b"));
   tell("mine comes first where both insert", [apply("xTy", mine), apply("xMy", theirs)], ["xMTy", "xMTy"]);
   tell("a pair of units is not split by typing", typed("a🙂b", "a🙃b", 3, "a"), [{ keep: 1 }, { drop: 2 }, { insert: "🙃", author: "a" }]);
-  tell("nor by an edit that is too long", split(splice(0, 0, "a🙂b", "a"), 16, 2)[0], [{ insert: "a", author: "a" }]);
+  tell("nor by an edit that is too long", split(splice(0, 0, "a🙂b", "a"), "", 16, 2)[0], [{ insert: "a", author: "a" }]);
 }
 
 function units() {

@@ -2,27 +2,9 @@
 // is simulated, so a round of minutes takes milliseconds.
 import { dice as makeDice } from "./dice.mjs";
 import { ModelPad } from "./model.mjs";
+import { SimulatedClock } from "./simulated_clock.mjs";
 
 const LETTERS = ["a", "b", "c", "d", "\n", "é", "🙂", "👩‍🚀", "語"];
-
-// A clock that goes on when it is told to.
-class Clock {
-  constructor() { this.time = 0; this.events = []; this.next = 1; }
-  now = () => this.time;
-  after = (milliseconds, act) => {
-    const event = { at: this.time + milliseconds, id: this.next++, act };
-    this.events.push(event);
-    return event.id;
-  };
-  cancel = (id) => { this.events = this.events.filter((event) => event.id !== id); };
-  async step() {
-    const event = this.events.reduce((a, b) => (b.at < a.at || (b.at === a.at && b.id < a.id) ? b : a));
-    this.events.splice(this.events.indexOf(event), 1);
-    this.time = event.at;
-    event.act();
-    await new Promise((done) => setImmediate(done));
-  }
-}
 
 // One connection to the model. Each direction delays at random and keeps its order.
 class Connection {
@@ -66,7 +48,7 @@ class Connection {
 // One round: the pages, what they type, and what has to hold.
 class Round {
   constructor(number, { Pad, History, delta }, Model) {
-    Object.assign(this, { number, Pad, History, delta, dice: makeDice(number), clock: new Clock(), model: new Model(), pages: [] });
+    Object.assign(this, { number, Pad, History, delta, dice: makeDice(number), clock: new SimulatedClock(), model: new Model(), pages: [] });
     this.seen = { edits: 0, checks: 0, breaks: 0, undone: 0, restored: 0, typed: 0, connections: [] };
     this.insertsOnly = this.dice(3) === 0;
   }
@@ -102,7 +84,7 @@ class Round {
     });
     page.history = new this.History((request) => page.pad.call(request), "p", { getItem: () => null });
     this.pages.push(page);
-    this.keepGoing(page).catch((error) => { page.failure = error; });
+    this.keepGoing(page).catch((error) => { page.failure ??= error.reply || error.constructor.name === "Misfit" ? this.found(error.message) : error; });
   }
 
   async keepGoing(page) {

@@ -118,7 +118,10 @@ def typing(test):
     ann.keys(Keys.BACKSPACE)
     check("a selection is erased", until(lambda: units(bob.text) == end), bob.text)
     ann.keys("z", held=[Keys.CONTROL])
-    check("undo brings it back", until(lambda: units(bob.text) == end + 30), bob.text)
+    check("undo says first that it would take over bob's words", until(lambda: "bob" in ann.get("notice-text").text), ann.get("notice-text").text)
+    check("and does nothing", units(ann.text) == end, ann.text[end:])
+    ann.keys("z", held=[Keys.CONTROL])
+    check("undo brings it back when it is asked again", until(lambda: units(bob.text) == end + 30), bob.text)
     ann.keys("z", held=[Keys.CONTROL, Keys.SHIFT])
     check("redo erases it again", until(lambda: units(bob.text) == end), bob.text)
 

@@ -25,23 +25,25 @@ export class Tally {
   }
 }
 
-// Logs in over a connection that `open` opens, and creates or joins a pad.
-export async function openPage({ open, name, token, pad, how, pace }) {
-  const out = { shown: "", faults: [], refusals: [], said: [] };
-  const session = new Session({
-    open, pace,
+// Logs in over a connection that `open` opens, and creates or joins a pad. The session can be of another copy of web/, and
+// run by another clock and other random numbers.
+export async function openPage({ open, name, token, pad, how, pace, clock, random, Kind = Session }) {
+  const out = { shown: "", faults: [], refusals: [], said: [], rereads: 0 };
+  const session = new Kind({
+    open, pace, clock, random,
     view: {
       onReceive: (delta) => { out.shown = apply(out.shown, delta); },
       onOver: (error) => out.faults.push(error),
       onRefused: (reply, kept) => out.refusals.push([reply.code, kept]),
+      onReread: () => { out.rereads++; out.shown = session.pad.text; },
       onCome: (author) => out.said.push(`${author} came`),
       onGo: (author) => out.said.push(`${author} went`),
     },
   });
-  await session.logIn(name, token);
-  await session[how](pad);
   out.session = session;
-  out.shown = session.pad.text;
+  await session.logIn(name, token);
+  if (pad) await session[how](pad);
+  out.shown = session.pad?.text ?? "";
   out.type = (at, dropped, text) => {
     const delta = splice(at, dropped, text, session.me);
     out.shown = apply(out.shown, delta);

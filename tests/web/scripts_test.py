@@ -38,6 +38,10 @@ def the_parts_of_the_page_keep_their_laws():
     script(NODE, "parts_test.mjs")
 
 
+def no_words_of_an_author_are_lost_by_the_page():
+    script(NODE, "lost_words_test.mjs")
+
+
 def pages_whose_connections_break_make_each_character_once(seconds=6):
     script(NODE, "server_test.mjs", f"ws://{WebServer(stderr=subprocess.DEVNULL).host}/socket", seconds)
 
@@ -73,6 +77,7 @@ def named(function, seconds, name=None):
 TESTS = [
     named(the_parts_of_the_page_keep_their_laws, 60),
     named(the_pages_show_what_a_model_of_the_server_has, 120),
+    named(no_words_of_an_author_are_lost_by_the_page, 60),
     named(pages_whose_connections_break_make_each_character_once, 150),
     named(another_client_library_speaks_with_the_socket, 60),
     named(forty_pages_type_beside_a_peer, 180),

@@ -2,10 +2,10 @@
 import os
 import re
 import signal
-import socket
 import stat
 import subprocess
 
+from fresh_machine import make_machine, notes
 from harness import ROOT, Failed, Test, path_of, put_files, want
 from sockets import Client
 from web_server import Socket, read_web
@@ -113,114 +113,20 @@ def another_accounts_file_is_taken():
     served.end()
 
 
-RT = """#!/bin/bash
-# In place of the toolchain: notes what it is called for and when, and what it makes is the server that is built.
-crate=${PWD##*/}
-case $1 in
-lib | run)
-    echo "begin $crate" >>"$NOTES"
-    sleep 0.05
-    [[ $crate != "$FAILS" ]] || { echo "fn $crate::f: not proved"; exit 1; }
-    echo "end $crate" >>"$NOTES"
-    [[ $1 == lib ]] || { mkdir -p out; ln -s "$BUILT" out/pad_server; }
-    ;;
-try) exec "$BUILT" "${@:5}" ;;
-esac
-"""
-
-
-def fresh_machine(fails=""):
-    """A copy of the script and of the list of crates, with nothing built, and a toolchain of a few lines. Returns the
-    environment and what each crate depends on."""
-    with open(f"{ROOT}/crates.txt", encoding="utf-8") as file:
-        crates = file.read()
-    with open(f"{ROOT}/serve", "rb") as file:
-        put_files([("serve", file.read()), ("crates.txt", crates), ("notes", "")])
-    below = {line.split(":")[0].split()[0]: line.split(":")[1].split() for line in crates.splitlines() if ":" in line}
-    os.mkdir("bin")
-    put_files([("bin/rt", RT)])
-    os.chmod("bin/rt", 0o755)
-    os.chmod("serve", 0o755)
-    for name in below:
-        os.makedirs(f"crates/{name}/src")
-    here = os.getcwd()
-    variables = {"PATH": f"{here}/bin:/usr/bin:/bin", "NOTES": f"{here}/notes", "BUILT": path_of("pad_server"), "FAILS": fails}
-    return variables, below
-
-
-def notes():
-    with open("notes", encoding="utf-8") as file:
-        return [line.split() for line in file.read().splitlines()]
-
-
-def everything_is_proved_lowest_first():
-    variables, below = fresh_machine()
-    served = Served("--store", "kept", script="./serve", variables=variables)
-    served.end()
-    told = notes()
-    crates = [name for word, name in told if word == "begin"]
-    want(len(set(crates)), len(crates), "how many crates are proved, each once")
-    want(crates[-1], "pad_server", "the last one")
-    for number, (word, name) in enumerate(told):
-        if word == "begin":
-            ended = [other for what, other in told[:number] if what == "end"]
-            want([other for other in below[name] if other in below and other not in ended], [], f"what is missing below {name}")
-    served = Served("--store", "kept", script="./serve", variables=variables)
-    served.end()
-    want(notes(), told, "what is proved at the second start")
-
-
 def a_failing_proof_ends_it():
-    variables, _ = fresh_machine(fails="pad_core")
-    done = subprocess.run(["./serve"], env=variables, capture_output=True, text=True)
+    variables = make_machine(FAILS="pad_core")
+    done = subprocess.run(["./serve", "--proved"], env=variables, capture_output=True, text=True)
     want((done.returncode, done.stdout), (1, ""), "the status, and standard output")
     lines = done.stderr.splitlines()
-    want(lines[-2:], ["fn pad_core::f: not proved", "serve: pad_core is not proved, or not built"], "the last messages")
-    want("begin pad_server" in notes(), False, "that the server is proved")
-
-
-def unproved_serves_until_it_is_ended():
-    variables, _ = fresh_machine()
-    with socket.socket() as free:
-        free.bind(("127.0.0.1", 0))
-        port = free.getsockname()[1]
-    command = ["./serve", "--unproved", "--listen", f"127.0.0.1:{port}"]
-    process = subprocess.Popen(command, env=variables, stdout=subprocess.DEVNULL, stderr=subprocess.PIPE, text=True)
-    told = ""
-    while not told.startswith("serve: log in at "):
-        told = process.stderr.readline() or "serve: log in at no address"
-    log_in(port, *accounts_of("accounts")[0])
-    process.send_signal(signal.SIGTERM)
-    want(process.wait(), 143, "the status")
-    try:
-        Client(port)
-    except OSError:
-        return
-    raise Failed("the server goes on")
-
-
-def unproved_looks_at_its_addresses_first():
-    variables, _ = fresh_machine()
-    with socket.socket() as taken:
-        taken.bind(("127.0.0.1", 0))
-        taken.listen()
-        other = f"127.0.0.1:{taken.getsockname()[1]}"
-        for address, status, part in [
-            (other, 1, f"serve: something listens on {other} already: stop it, or name another address with --listen"),
-            ("7878", 2, "serve: --unproved needs HOST:PORT in --listen, with a port of 1 to 65535"),
-            ("127.0.0.1:80000", 2, "serve: --unproved needs HOST:PORT in --listen, with a port of 1 to 65535"),
-            ("127.0.0.1:0", 2, "serve: --unproved needs HOST:PORT in --listen, with a port of 1 to 65535"),
-        ]:
-            command = ["./serve", "--unproved", "--listen", address]
-            done = subprocess.run(command, env=variables, capture_output=True, text=True)
-            want((done.returncode, done.stderr.splitlines()[-1]), (status, part), f"the status and the message of {address}")
+    want(lines[-2:], ["fn pad_core::f: not proved", "prove: pad_core is not proved, or not built"], "the last messages")
+    want([row for row in notes() if row[1] == "pad_server"], [], "that the server is proved")
 
 
 def words_are_refused():
     for words, status, part in [
         (["--all"], 2, "serve: unknown word: --all"),
         (["--store"], 2, "serve: --store needs a value"),
-        (["--unproved"], 1, "serve: rt, the toolchain that builds the server, is not on the path"),
+        (["--unproved"], 1, "serve: rt, the toolchain that proves and builds the server, is not on the path"),
     ]:
         done = subprocess.run([f"{ROOT}/serve", *words], env={"PATH": "/usr/bin:/bin"}, capture_output=True, text=True)
         want((done.returncode, part in done.stderr), (status, True), f"serve {words}: {done.stderr}")
@@ -233,9 +139,6 @@ TESTS = [
     Test("serve: a second start keeps accounts and pads", a_second_start_keeps_accounts_and_pads),
     Test("serve: the page has its pads after a restart", the_page_has_its_pads_after_a_restart),
     Test("serve: another accounts file is taken", another_accounts_file_is_taken),
-    Test("serve: everything is proved, lowest first", everything_is_proved_lowest_first),
     Test("serve: a failing proof ends it", a_failing_proof_ends_it),
-    Test("serve: --unproved serves until it is ended", unproved_serves_until_it_is_ended),
-    Test("serve: --unproved looks at its addresses first", unproved_looks_at_its_addresses_first),
     Test("serve: wrong words", words_are_refused),
 ]

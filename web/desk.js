@@ -4,16 +4,19 @@ import { Carets } from "./carets.js";
 import { authorsOf, colourOf, giveColours } from "./colours.js";
 import { Editor } from "./editor.js";
 import { reason } from "./enter.js";
-import { save, toMarkdown } from "./exports.js";
+import { ExportMenu } from "./export_menu.js";
 import { GoOnBox } from "./go_on.js";
+import { letterOf } from "./keys.js";
+import { Legend } from "./legend.js";
 import { Margin } from "./margin.js";
 import { Notice } from "./notice.js";
 import { $, element, gather, say } from "./page.js";
 import { Past } from "./past.js";
 import { RightsBox } from "./rights.js";
+import { StateLine } from "./state_line.js";
 import { WORDS, refusal } from "./words.js";
 
-const NEARLY_FULL = 0.9, LISTED = 300;
+const NEARLY_FULL = 0.9, LISTED = 300, SCROLLED = 150;
 // Refusals that say that a pad can take no more.
 const FULL = [314, 324, 325, 327, 328], DENIED = 312;
 
@@ -21,13 +24,18 @@ export class Desk {
   constructor(session, onClose) {
     Object.assign(this, { session, onClose, isOpen: false, isShutOut: false, litId: null, showsResolved: false, percent: 0, told: "" });
     this.place = gather(() => this.placeAll());
+    this.legend = new Legend();
+    this.stateLine = new StateLine(session);
     this.list = gather(() => this.listAuthors(), (act) => setTimeout(act, LISTED));
     this.editor = new Editor($("text"), {
       author: () => session.me, runs: () => session.pad.runs,
       onType: (delta) => this.type(delta),
       onUndo: () => this.undo(false), onRedo: () => this.undo(true),
-      onCaret: (at) => { session.moveCaret(at); this.sayWriter(at); },
+      // The browser can tell of the caret once more after the pad was closed.
+      onCaret: (at) => { session.moveCaret(at); this.legend.sayWriter(session.pad?.runs ?? [], at); },
       onDrawn: () => { this.place(); this.list(); },
+      onNoText: () => this.notice.show(WORDS.onlyText), onRest: () => this.showComments(),
+      roomAbove: () => Math.max(0, $("bar").getBoundingClientRect().bottom) + 10,
     });
     this.margin = new Margin($("margin"), {
       onResolve: (name) => this.resolve(name), onLit: (id) => this.light(id), onGo: (id) => this.goTo(id),
@@ -40,6 +48,7 @@ export class Desk {
     this.goOn = new GoOnBox(session, () => this.open());
     this.notice = new Notice(session.kept, { onGoOn: () => this.goOn.open(), onClose: () => this.close(true) });
     this.rights = new RightsBox(session, (text) => say($("news"), text));
+    this.exports = new ExportMenu(() => (this.isOpen ? this.revision : null));
     this.listen();
   }
 
@@ -48,26 +57,28 @@ export class Desk {
     on("undo", () => this.undo(false));
     on("redo", () => this.undo(true));
     on("comment", () => this.askComment());
-    on("comment", (event) => event.preventDefault(), "mousedown");
+    // The mouse leaves the keyboard to the text.
+    for (const id of ["undo", "redo", "comment"]) on(id, (event) => event.preventDefault(), "mousedown");
     on("comment-box", () => this.sendComment(), "close");
     on("resolved", () => { this.showsResolved = !this.showsResolved; this.showComments(); });
-    on("as-text", () => this.exportAs("txt"));
-    on("as-markdown", () => this.exportAs("md"));
-    on("print", () => { $("exports").open = false; print(); });
     on("close", () => this.close());
-    addEventListener("keydown", (event) => {
-      if (event.ctrlKey && event.altKey && event.key.toLowerCase() === "m" && this.isOpen) {
-        event.preventDefault();
-        this.askComment();
-      }
-      if (event.key === "Escape") $("exports").open = false;
-    });
-    addEventListener("pointerdown", (event) => { if (!$("exports").contains(event.target)) $("exports").open = false; });
-    addEventListener("beforeprint", () => this.preparePrint());
+    addEventListener("keydown", (event) => this.keyDown(event));
     addEventListener("beforeunload", (event) => {
       if (this.session.isUnsent || this.session.kept.areWaiting) event.preventDefault();
     });
+    addEventListener("scroll", gather(() => { if (this.margin.isCut) this.showComments(); }, (act) => setTimeout(act, SCROLLED)));
     new ResizeObserver(() => this.place()).observe($("paper"));
+  }
+
+  // Ctrl+Alt+M comments, unless these keys type a letter of the keyboard, as Alt Gr does. Escape closes the history.
+  keyDown(event) {
+    if (!this.isOpen) return;
+    if (event.ctrlKey && event.altKey && !event.getModifierState("AltGraph") && letterOf(event) === "m") {
+      event.preventDefault();
+      this.askComment();
+    }
+    const isTaken = event.defaultPrevented || document.querySelector("dialog[open]");
+    if (event.key === "Escape" && this.past.isOpen && !isTaken) this.past.close();
   }
 
   // ---- opening and closing
@@ -84,7 +95,8 @@ export class Desk {
     for (const id of ["enter", "log-out"]) $(id).hidden = true;
     for (const id of ["work", "tools", "here", "pad-name"]) $(id).hidden = false;
     // What was drawn of another pad can look the same by its key.
-    Object.assign(this, { litId: null, percent: 0, peopleKey: null, authorsKey: null, isShutOut: false, told: "" });
+    Object.assign(this, { litId: null, percent: 0, peopleKey: null, isShutOut: false, told: "" });
+    this.legend.forget();
     this.margin.forget();
     this.carets.clear();
     this.past.start(pad);
@@ -150,18 +162,12 @@ export class Desk {
   // ---- what the session tells
 
   showState() {
-    const { session } = this, { state } = session;
+    const { session } = this;
     if (!this.isOpen) return;
-    const idle = session.mayWrite ? WORDS.saved : WORDS.reading(session.right);
-    const held = session.heldBy && WORDS.held(refusal(session.heldBy));
-    const lost = session.mayWrite ? WORDS.lost : WORDS.lostReading;
-    const text = { over: WORDS.over, lost, held, saving: WORDS.saving, saved: idle }[state];
-    say($("state"), text);
-    document.body.classList.toggle("is-offline", state === "over" || state === "lost");
-    if (state === "saved") this.notice.takeBack(WORDS.unsaved, WORDS.unsavedChange);
+    this.stateLine.draw();
+    if (session.state === "saved") this.notice.takeBack(WORDS.unsaved, WORDS.unsavedChange);
     else if (session.isUnsent && this.notice.canClose) this.showUnsaved();
     this.showSteps();
-    $("state").className = ["over", "lost", "held"].includes(state) ? "is-bad" : `is-${state}`;
   }
 
   showRights() {
@@ -283,7 +289,8 @@ export class Desk {
     const resolved = all.filter(({ isResolved }) => isResolved).length, { comments } = this;
     $("resolved").hidden = !resolved;
     say($("resolved"), (this.showsResolved ? WORDS.hideResolved : WORDS.showResolved)(resolved));
-    this.margin.draw(comments, past.shown ? past.shown.text : session.pad.text, session.mayComment && !past.isOpen);
+    const { text } = past.shown ?? session.pad, mayResolve = session.mayComment && !past.isOpen;
+    this.margin.draw(comments, text, mayResolve, () => this.lines.unitAt(innerHeight / 2));
     if (!past.shown) this.editor.setMarks(this.marks);
     this.place();
   }
@@ -331,46 +338,30 @@ export class Desk {
 
   // ---- places on the screen
 
+  get lines() { return this.past.shown ? this.past.lines : this.editor.lines; }
+
   // Once a frame at most: carets and cards go beside their words.
   placeAll() {
     const { session, past } = this;
     if (!this.isOpen) return;
-    const lines = past.shown ? past.lines : this.editor.lines;
-    const rectAt = (unit) => lines.rectAt(Math.min(unit, lines.text.length));
+    const { lines } = this, rectAt = (unit) => lines.rectAt(Math.min(unit, lines.text.length));
     if (past.shown) this.carets.clear();
-    else if (!this.editor.isComposing) this.carets.draw(session.presence.others, rectAt);
+    else if (!this.editor.isWaiting) this.carets.draw(session.presence.others, rectAt);
     if (!past.compared) this.margin.place(this.comments, rectAt);
   }
 
-  // The legend: who wrote how much of the shown text.
   listAuthors() {
     const { past, session } = this;
     if (!this.isOpen || !session.pad) return;
     this.giveColours();
-    const shown = past.shown ?? session.pad, sizes = new Map();
-    for (const [author, units] of shown.runs) sizes.set(author, (sizes.get(author) ?? 0) + units);
-    const list = [...sizes].sort((a, b) => b[1] - a[1]), whole = shown.text.length;
-    const key = JSON.stringify(list.map(([author, units]) => [author, colourOf(author), Math.round((100 * units) / whole)]));
-    if (key === this.authorsKey) return;
-    this.authorsKey = key;
-    $("authors").replaceChildren(...list.map(([author, units]) =>
-      element("li", { className: colourOf(author), textContent: WORDS.share(named(author), Math.round((100 * units) / whole)) })));
-    if (!list.length) $("authors").append(element("li", { className: "quiet", textContent: WORDS.emptyPad }));
-  }
-
-  // Colour alone does not say to everybody who wrote the words at the caret.
-  sayWriter(at) {
-    let end = 0;
-    // The browser can tell of the caret once more after the pad was closed.
-    for (const [author, units] of this.session.pad?.runs ?? []) {
-      end += units;
-      if (at <= end) { say($("writer"), WORDS.atCaret(named(author))); return; }
-    }
+    this.legend.draw(past.shown ?? session.pad);
   }
 
   undo(isRedo) {
     const { pad } = this.session;
-    if (!this.editor.isEditable || this.editor.isComposing || !this.mayTakeOver(isRedo)) return;
+    if (!this.editor.isEditable) return;
+    this.editor.endComposition();
+    if (!this.mayTakeOver(isRedo)) return;
     const delta = pad.stepBack(isRedo);
     if (delta) this.editor.made(delta);
     this.showState();
@@ -401,18 +392,5 @@ export class Desk {
     const { pad, comments } = this.session, { shown } = this.past;
     const { rev, text, runs } = shown ?? pad;
     return { name: pad.name, rev, text, runs, comments: shown?.comments ?? comments.list };
-  }
-
-  exportAs(ending) {
-    const { revision } = this, name = `${revision.name}-${revision.rev}.${ending}`;
-    $("exports").open = false;
-    if (ending === "md") save(name, "text/markdown", toMarkdown(revision));
-    else save(name, "text/plain", revision.text);
-  }
-
-  preparePrint() {
-    if (!this.isOpen) return;
-    const { name, rev } = this.revision;
-    say($("print-head"), WORDS.printed(name, rev, new Intl.DateTimeFormat(undefined, { dateStyle: "long" }).format(new Date())));
   }
 }

@@ -1,27 +1,37 @@
 // The text that is edited. The browser says what it is about to do with the text, the page does it to its own text, and
-// draws the lines that this changes. Only input methods write into the document themselves; what they wrote is read then.
-import { apply, compose, extent, isEmpty, move, snapped, splice, transform, typed } from "./delta.js";
+// draws the lines that this changes. Only input methods write into the document themselves: the lines that they write into
+// are lent to the browser, and read. What others do in other lines is drawn meanwhile. What they do in the lent lines waits
+// until the input method ends or rests.
+import { add, apply, compose, extent, isEmpty, move, snapped, splice, transform, typed } from "./delta.js";
+import { Drag } from "./drag.js";
+import { insertedBy, isComposing, isDeleting } from "./input.js";
+import { letterOf } from "./keys.js";
 import { Lines } from "./lines.js";
+import { edgeAfter, edgeBefore } from "./units.js";
 
-const COMPOSING = ["insertCompositionText", "deleteCompositionText", "insertFromComposition"];
-const DELETING = /^delete/;
+// An input method that does nothing for this long makes room for what others did in its lines.
+const REST = 5000;
 
 export class Editor {
-  // `author` is a function, `runs` gives the author runs of what the pad shows.
-  constructor(root, { author, runs, onType, onUndo, onRedo, onCaret, onDrawn }) {
-    Object.assign(this, { root, author, runs, onType, onUndo, onRedo, onCaret, onDrawn });
+  // `author` is a function, `runs` gives the author runs of what the pad shows, and `roomAbove` how many pixels above the
+  // text are covered. `onNoText` is called where something without a text was to be inserted, and `onRest` when lent lines
+  // are drawn again.
+  constructor(root, { author, runs, roomAbove, onType, onUndo, onRedo, onCaret, onDrawn, onNoText, onRest }) {
+    Object.assign(this, { root, author, runs, roomAbove, onType, onUndo, onRedo, onCaret, onDrawn, onNoText, onRest });
     this.lines = new Lines(root);
-    this.text = ""; this.marks = []; this.late = []; this.composed = []; this.isComposing = false; this.caret = 0;
+    this.text = ""; this.marks = []; this.late = []; this.isComposing = false; this.caret = 0;
+    this.place = null; this.resting = null;
     const on = (kind, act) => root.addEventListener(kind, act);
     on("beforeinput", (event) => this.beforeInput(event));
     on("input", () => this.read());
-    on("compositionstart", () => { this.isComposing = true; });
+    on("compositionstart", () => { this.isComposing = true; this.lend(); });
     on("compositionend", () => this.endComposition());
     on("keydown", (event) => this.keyDown(event));
     on("copy", (event) => this.copy(event));
     on("cut", (event) => { if (this.copy(event) && this.isEditable) this.replaceSelection(""); });
-    on("dragstart", (event) => event.preventDefault());
-    on("drop", (event) => this.drop(event));
+    on("click", (event) => { if (event.detail >= 3) this.tripleClicked(); });
+    on("focus", () => this.focused());
+    this.drag = new Drag(this);
     document.addEventListener("selectionchange", () => this.selectionChange());
   }
 
@@ -32,16 +42,18 @@ export class Editor {
     this.root.setAttribute("aria-readonly", String(!is));
   }
 
+  get drawn() { return { text: this.text, runs: this.runs(), marks: this.marks }; }
+
   // Another text.
   show(text) {
-    this.text = text; this.marks = []; this.late = []; this.caret = 0;
+    Object.assign(this, { text, marks: [], late: [], caret: 0, place: null, isComposing: false });
     this.lines.show(text, this.runs(), []);
     this.onDrawn();
   }
 
   setMarks(marks) {
-    if (this.isComposing) return;
-    const selected = this.selection();
+    if (this.isWaiting) return;
+    const selected = this.lines.lent ? null : this.selection();
     this.marks = marks.map((mark) => ({ ...mark }));
     this.lines.setMarks(this.marks);
     if (selected) this.select(selected.anchor, selected.focus);
@@ -57,48 +69,62 @@ export class Editor {
       if (inputType === "historyUndo") this.onUndo(); else this.onRedo();
       return;
     }
-    if (this.isComposing || COMPOSING.includes(inputType)) return;
+    if (this.isComposing || isComposing(event)) { this.lend(event); return; }
     event.preventDefault();
+    this.endComposition();
     const text = insertedBy(event);
     if (text === null) return;
+    if (!text && !isDeleting(event)) { this.onNoText(); return; }
     const { from, to } = this.target(event);
     if (from < to || text) this.replace(from, to, text);
   }
 
   // What an event changes. A browser may name nothing where a deletion joins two lines.
   target(event) {
-    const [range] = event.getTargetRanges(), selected = this.selection();
-    const from = range ? this.lines.unitOf(range.startContainer, range.startOffset) : selected.from;
-    const to = range ? this.lines.unitOf(range.endContainer, range.endOffset) : selected.to;
-    if (from !== to || !DELETING.test(event.inputType)) return { from, to };
+    const { from, to } = this.named(event) ?? this.selection();
+    if (from !== to || !isDeleting(event)) return { from, to };
     if (/Backward$/.test(event.inputType) && this.text[from - 1] === "\n") return { from: from - 1, to };
     if (/Forward$/.test(event.inputType) && this.text[to] === "\n") return { from, to: to + 1 };
     return { from, to };
   }
 
+  // The stretch that an event names, or null.
+  named(event) {
+    const [range] = event.getTargetRanges();
+    return range ? this.stretchOf(range.startContainer, range.startOffset, range.endContainer, range.endOffset) : null;
+  }
+
   replace(from, to, text) {
-    const delta = splice(from, to - from, text, this.author());
-    this.make(delta);
+    this.draw(this.make(splice(from, to - from, text, this.author())));
     this.select(from + text.length);
     this.reveal();
   }
 
   replaceSelection(text) {
+    this.endComposition();
     const { from, to } = this.selection();
     this.replace(from, to, text);
   }
 
-  // The author's delta over what is drawn: the pad gets it, and its lines are drawn.
+  // Words go to another place of the text, as the author's own.
+  moveWords({ from, to }, at) {
+    if (at >= from && at <= to) return;
+    const words = this.text.slice(from, to), goal = at < from ? at : at - words.length;
+    this.draw(this.make(compose(splice(from, words.length, "", this.author()), splice(goal, 0, words, this.author()))));
+    this.select(goal, goal + words.length);
+    this.reveal();
+  }
+
+  // The author's delta over what is drawn, for the pad. Answers what was made of it.
   make(given) {
     const delta = snapped(given, this.text);
-    if (isEmpty(delta)) return;
+    if (isEmpty(delta)) return delta;
     const [mine, late] = transform(delta, this.late);
     this.late = late;
     this.text = apply(this.text, delta);
     this.moveMarks(delta);
     this.onType(mine);
-    if (this.isComposing) this.composed = compose(this.composed, delta);
-    else this.draw(delta);
+    return delta;
   }
 
   // A step of undo, which the pad has made already.
@@ -112,10 +138,9 @@ export class Editor {
   }
 
   keyDown(event) {
-    const key = event.key.toLowerCase();
     if (!(event.ctrlKey || event.metaKey) || event.altKey || !this.isEditable) return;
-    const isRedo = key === "y" || (key === "z" && event.shiftKey);
-    if (key !== "z" && !isRedo) return;
+    const letter = letterOf(event), isRedo = letter === "y" || (letter === "z" && event.shiftKey);
+    if (letter !== "z" && !isRedo) return;
     event.preventDefault();
     if (isRedo) this.onRedo(); else this.onUndo();
   }
@@ -128,54 +153,88 @@ export class Editor {
     return true;
   }
 
-  drop(event) {
-    event.preventDefault();
-    const text = plainText(event.dataTransfer), place = document.caretRangeFromPoint?.(event.clientX, event.clientY);
-    const at = place && this.lines.unitOf(place.startContainer, place.startOffset);
-    if (this.isEditable && text && at !== null && at !== undefined) this.replace(at, at, text);
+  // A browser selects a line with the break behind it, and what is typed then would join it to the next line.
+  tripleClicked() {
+    const { from, to } = this.selection() ?? {};
+    if (from < to && this.text[to - 1] === "\n") this.select(from, to - 1);
   }
 
   // ---- input methods
 
-  // What was written into the document since it was last known.
+  // Lends the lines to the browser that it is about to write into: those of the selection, and those that the event names.
+  lend(event = null) {
+    const places = [this.selection(), event && this.named(event)].filter(Boolean), more = event && isDeleting(event) ? 1 : 0;
+    if (!places.length) return;
+    const from = Math.min(...places.map((place) => place.from)) - more, to = Math.max(...places.map((place) => place.to)) + more;
+    this.lines.lend(Math.max(0, from), Math.min(this.text.length, to));
+    this.rest();
+  }
+
+  // What the browser has written into the lines that are lent, or into those of the caret if it had said nothing before.
   read() {
-    const now = this.lines.written();
-    if (now === this.text) return;
-    const caret = this.writtenCaret();
-    this.make(typed(this.text, now, caret ?? now.length, this.author()));
-    if (caret !== null && !this.isComposing) this.select(caret);
+    if (!this.lines.lent) this.lend();
+    if (!this.lines.lent) return;
+    const now = this.lines.readLent(), { from, to } = this.lines.lentStretch, before = this.text.slice(from, to);
+    if (now !== before) {
+      const caret = this.writtenCaret() ?? from + now.length, delta = typed(before, now, caret - from, this.author());
+      const behind = this.text.length - to;
+      this.make(delta.reduce(add, add([], { keep: from })));
+      this.lines.wrote(this.text.length - behind - from, this.drawn);
+      this.onDrawn();
+    }
+    if (!this.isComposing) this.takeBack();
   }
 
   writtenCaret() {
     const { focusNode, focusOffset } = getSelection();
-    return this.root.contains(focusNode) ? this.lines.writtenUntil(focusNode, focusOffset) : null;
+    return this.root.contains(focusNode) ? this.lines.unitOf(focusNode, focusOffset) : null;
   }
 
-  // The lines that were composed in are drawn again, with what others did meanwhile.
   endComposition() {
-    this.read();
-    const caret = this.writtenCaret(), { late } = this, delta = compose(this.composed, late);
-    Object.assign(this, { isComposing: false, composed: [], late: [] });
+    this.isComposing = false;
+    if (this.lines.lent) this.read();
+  }
+
+  // The lent lines are drawn again, with what others did in them meanwhile.
+  takeBack() {
+    const caret = this.writtenCaret(), { late } = this;
+    clearTimeout(this.resting);
+    this.late = [];
     this.text = apply(this.text, late);
     this.moveMarks(late);
-    this.draw(delta);
+    this.draw(late);
     if (caret !== null) this.select(move(caret, late));
+    this.onRest();
   }
 
   // ---- what others do
 
-  // While an input method composes, it waits.
+  // Whether something of others' is not drawn yet, since an input method writes there.
+  get isWaiting() { return !isEmpty(this.late); }
+
   receive(delta) {
-    if (this.isComposing) { this.late = compose(this.late, delta); return; }
-    const selected = this.selection();
+    const { lent } = this.lines;
+    if (lent && (this.isWaiting || touches(delta, this.lines.lentStretch))) {
+      this.late = compose(this.late, delta);
+      this.rest();
+      return;
+    }
+    const selected = lent ? null : this.selection();
     this.text = apply(this.text, delta);
     this.moveMarks(delta);
     this.draw(delta);
     if (selected) this.select(move(selected.anchor, delta), move(selected.focus, delta));
   }
 
+  // An input method that rests is ended once others wait for it. On phones each word is composed, also one that is left
+  // as it is.
+  rest() {
+    clearTimeout(this.resting);
+    if (this.isWaiting) this.resting = setTimeout(() => this.endComposition(), REST);
+  }
+
   moveMarks(delta) {
-    for (const mark of this.marks) {
+    for (const mark of [...this.marks, this.drag.dragged].filter(Boolean)) {
       mark.from = move(mark.from, delta, true);
       mark.to = Math.max(mark.from, move(mark.to, delta));
     }
@@ -184,52 +243,70 @@ export class Editor {
   // If the browser itself has changed the blocks, all of them are made again.
   draw(delta) {
     if (!this.lines.isWhole) this.lines.show(this.text, this.runs(), this.marks);
-    else this.lines.change(delta, { text: this.text, runs: this.runs(), marks: this.marks });
+    else if (this.isComposing) this.lines.change(delta, this.drawn);
+    else this.lines.takeBack(delta, this.drawn);
     this.onDrawn();
   }
 
   // ---- the selection, in units
 
-  // Where the selection is, or null if it is elsewhere.
+  // Where the selection is, or null if it is elsewhere. While something else has the keyboard, it is where it was.
   selection() {
     const { anchorNode, anchorOffset, focusNode, focusOffset } = getSelection();
+    if (this.place) return this.place;
     if (!anchorNode || !this.root.contains(anchorNode) || !this.root.contains(focusNode)) return null;
-    const anchor = this.lines.unitOf(anchorNode, anchorOffset), focus = this.lines.unitOf(focusNode, focusOffset);
-    return { anchor, focus, from: Math.min(anchor, focus), to: Math.max(anchor, focus) };
+    return this.stretchOf(anchorNode, anchorOffset, focusNode, focusOffset);
   }
 
+  // Two places of the document in units: { anchor, focus, from, to }. A place inside a character is at its edge.
+  stretchOf(anchorNode, anchorOffset, focusNode, focusOffset) {
+    const a = this.lines.unitOf(anchorNode, anchorOffset), b = this.lines.unitOf(focusNode, focusOffset);
+    const edge = (one, other) => (one > other ? edgeAfter : edgeBefore)(this.text, one);
+    return stretch(edge(a, b), edge(b, a));
+  }
+
+  // To select words in a document takes the keyboard from a button or a field, which the author may be about to use. So it
+  // is done only if the text has the keyboard, and otherwise when the text gets it.
   select(anchor, focus = anchor) {
+    if (document.activeElement !== this.root) { this.place = stretch(anchor, focus); return; }
     const a = this.lines.pointOf(anchor), b = this.lines.pointOf(focus), now = getSelection();
     const isAnchored = now.anchorNode === a.node && now.anchorOffset === a.offset;
     if (isAnchored && now.focusNode === b.node && now.focusOffset === b.offset) return;
     now.setBaseAndExtent(a.node, a.offset, b.node, b.offset);
   }
 
+  focused() {
+    const { place } = this;
+    this.place = null;
+    if (place) this.select(place.anchor, place.focus);
+  }
+
   selectionChange() {
-    if (this.isComposing || document.activeElement !== this.root) return;
+    if (this.isWaiting || document.activeElement !== this.root) return;
     const selected = this.selection();
     if (!selected || selected.focus === this.caret) return;
     this.caret = selected.focus;
     this.onCaret(selected.focus);
   }
 
-  // Scrolls so that the caret can be seen.
+  // Scrolls so that the caret can be seen, below the bar.
   reveal() {
     const selected = this.selection();
     if (!selected) return;
-    const { top, bottom } = this.lines.rectAt(selected.focus), above = 90, below = innerHeight - 60;
+    const { top, bottom } = this.lines.rectAt(selected.focus), above = this.roomAbove(), below = innerHeight - 60;
     if (top < above) scrollBy(0, top - above);
     else if (bottom > below) scrollBy(0, bottom - below);
   }
 }
 
-// What an event inserts, "" for a deletion, or null for what a pad has not, such as bold type.
-function insertedBy(event) {
-  const { inputType, data, dataTransfer } = event;
-  if (DELETING.test(inputType)) return "";
-  if (inputType === "insertParagraph" || inputType === "insertLineBreak") return "\n";
-  if (!/^insert(Text|ReplacementText|FromPaste|FromYank|Transpose)/.test(inputType)) return null;
-  return data ?? plainText(dataTransfer);
-}
+function stretch(anchor, focus) { return { anchor, focus, from: Math.min(anchor, focus), to: Math.max(anchor, focus) }; }
 
-function plainText(dataTransfer) { return (dataTransfer?.getData("text/plain") ?? "").replace(/\r\n?/g, "\n"); }
+// Whether a delta changes something in the lines of a stretch, or joins another line to them.
+function touches(delta, { from, to }) {
+  let at = 0;
+  return delta.some((step) => {
+    const start = at;
+    at += step.keep ?? step.drop ?? 0;
+    return !step.keep && start <= to && at >= from;
+  });
+}

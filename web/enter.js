@@ -2,6 +2,7 @@
 import { named, setOrigin } from "./authors.js";
 import { $, element, fill, say } from "./page.js";
 import { Superseded, Unsaved } from "./session.js";
+import { forget } from "./storage.js";
 import { Lost } from "./wire.js";
 import { WORDS, refusal } from "./words.js";
 
@@ -20,16 +21,19 @@ export function reason(error) {
 export class Enter {
   // `onPad` is called once a pad is open, and `onLeave` closes it.
   constructor(session, { onPad, onLeave }) {
-    Object.assign(this, { session, onPad, onLeave, wasLost: false });
+    Object.assign(this, { session, onPad, onLeave, wasLost: false, isLoggingIn: false });
     $("log-in").addEventListener("submit", (event) => { event.preventDefault(); this.logIn(); });
     $("open").addEventListener("submit", (event) => { event.preventDefault(); this.enter("join", $("pad").value); });
     $("create").addEventListener("click", () => { if ($("open").reportValidity()) this.enter("create", $("pad").value); });
-    $("log-out").addEventListener("click", () => location.reload());
+    $("log-out").addEventListener("click", () => { forget(); location.reload(); });
     addEventListener("hashchange", () => this.follow());
   }
 
+  // A second click on the button, while the first log-in is under way, does nothing.
   async logIn() {
     const { session } = this;
+    if (this.isLoggingIn) return;
+    this.isLoggingIn = true;
     say($("log-in-error"), "");
     say($("state"), WORDS.connecting);
     try {
@@ -38,7 +42,10 @@ export class Enter {
       say($("log-in-error"), reason(error));
       $("token").select();
       return;
-    } finally { say($("state"), ""); }
+    } finally {
+      this.isLoggingIn = false;
+      say($("state"), "");
+    }
     $("token").value = "";
     await this.show();
     this.enterNamed();

@@ -2,13 +2,21 @@
 import { WORDS } from "./words.js";
 
 const safe = (text) => text.replaceAll("&", "&amp;").replaceAll("<", "&lt;");
-const short = (author) => author.split("@")[0];
+
+// A name for each author: without the server's number, unless authors of two servers have the same name.
+function namesOf(authors) {
+  const bare = (author) => author.split("@")[0], all = [...new Set(authors)];
+  const isShared = (author) => all.some((other) => other !== author && bare(other) === bare(author));
+  return new Map(all.map((author) => [author, isShared(author) ? author : bare(author)]));
+}
+
 const oneLine = (text) => safe(text).replace(/\s+/g, " ").trim();
 
 // Markdown: each stretch begins with its author's name where the author changes, and each comment is a footnote behind its
 // words. The text's own Markdown stays; only `<` and `&` are escaped.
 export function toMarkdown({ name, rev, text, runs, comments }) {
   const notes = [...comments].sort((a, b) => a.to - b.to || a.from - b.from), out = [];
+  const names = namesOf([...runs.map(([author]) => author), ...comments.map(({ author }) => author)]);
   let at = 0, next = 0, last = "";
   const put = (to) => {
     for (; next < notes.length && notes[next].to <= to; next++) {
@@ -22,7 +30,7 @@ export function toMarkdown({ name, rev, text, runs, comments }) {
     const end = at + units, blank = text.slice(at, end).match(/^\s*/)[0].length;
     if (author !== last && blank < units) {
       put(at + blank);
-      out.push(`<sup>${short(author)}</sup>`);
+      out.push(`<sup>${names.get(author)}</sup>`);
       last = author;
     }
     put(end);
@@ -30,7 +38,7 @@ export function toMarkdown({ name, rev, text, runs, comments }) {
   const footnotes = notes.map(({ author, from, to, text: words, isResolved }, k) => {
     const quote = from < to ? `“${oneLine(text.slice(from, to))}”: ` : "";
     const state = isResolved ? ` (${WORDS.resolved.toLowerCase()})` : "";
-    return `[^${k + 1}]: **${short(author)}**${state}: ${quote}${oneLine(words)}`;
+    return `[^${k + 1}]: **${names.get(author)}**${state}: ${quote}${oneLine(words)}`;
   });
   const authors = [...new Set(runs.map(([author]) => author))].join(", ");
   const head = `# ${WORDS.markdownTitle(name, rev)}\n\n${authors && `*${authors}*\n\n`}`;

@@ -1,6 +1,7 @@
 // Earlier revisions of a pad: their texts, who made them, when this page saw them, and what differs between two of them.
 import { apply, applyRuns, invert } from "./delta.js";
 import { LIMITS } from "./limits.js";
+import { SEEN } from "./storage.js";
 import { deltaOf } from "./units.js";
 
 const MOST_KEPT = 40, MOST_SEEN = 2000, NEAR = 400, BURST = 30000;
@@ -8,7 +9,7 @@ const MOST_KEPT = 40, MOST_SEEN = 2000, NEAR = 400, BURST = 30000;
 export class History {
   // `call` asks a request on the pad. `storage` keeps the times at which this browser saw revisions.
   constructor(call, name, storage) {
-    Object.assign(this, { call, storage, key: `seen ${name}`, isSaved: true });
+    Object.assign(this, { call, storage, key: `${SEEN}${name}`, isSaved: true });
     this.texts = new Map();
     this.entries = new Map();
     try { this.seen = JSON.parse(storage.getItem(this.key)) ?? []; } catch { this.seen = []; }

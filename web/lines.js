@@ -1,79 +1,20 @@
 // A text as blocks, one for each line, in the colours of its authors. A change makes only the blocks of its lines again.
+//
+// Lines that an input method writes into are lent to the browser. They are one entry of the list then, whose blocks are
+// whatever the browser has made of them between the blocks of their neighbours; nobody else draws them or reads others.
+import { makeBlock, piecesBetween, textOf } from "./blocks.js";
 import { colourOf } from "./colours.js";
-
-// The pieces of a text between two units: { text, author, kind, marks }, cut where an author or a mark begins or ends.
-export function piecesBetween(text, runs, marks, from, to) {
-  const here = marks.filter((mark) => mark.from < to && mark.to > from && mark.from < mark.to), cuts = [from, to];
-  for (const mark of here) cuts.push(Math.max(from, mark.from), Math.min(to, mark.to));
-  let end = 0;
-  const owners = [];
-  for (const [author, units, kind] of runs) {
-    const start = end;
-    end += units;
-    if (end <= from) continue;
-    if (start >= to) break;
-    owners.push({ end, author, kind });
-    if (end < to) cuts.push(end);
-  }
-  cuts.sort((a, b) => a - b);
-  const out = [];
-  let owner = 0;
-  for (let k = 1; k < cuts.length; k++) {
-    const [start, stop] = [cuts[k - 1], cuts[k]];
-    if (start === stop) continue;
-    while (owner + 1 < owners.length && owners[owner].end <= start) owner++;
-    const { author = "", kind } = owners[owner] ?? {};
-    const over = here.filter((mark) => mark.from <= start && mark.to >= stop);
-    out.push({ text: text.slice(start, stop), author, kind, marks: over });
-  }
-  return out;
-}
-
-function makeBlock(pieces) {
-  const block = document.createElement("div");
-  block.className = "line";
-  block.dir = "auto";
-  for (const { text, author, kind, marks } of pieces) {
-    const node = document.createElement(kind === "insert" ? "ins" : kind === "drop" ? "del" : "span");
-    node.className = `run ${colourOf(author)}`;
-    node.dataset.author = author;
-    if (marks.length) {
-      node.classList.add("marked");
-      node.classList.toggle("lit", marks.some((mark) => mark.isLit));
-      node.dataset.marks = marks.map((mark) => mark.id).join(" ");
-    }
-    node.textContent = text;
-    block.append(node);
-  }
-  if (!pieces.length) block.append(document.createElement("br"));
-  return block;
-}
-
-// The text of a document that an input method may have changed: blocks are lines, and a break at a block's end is a filler.
-function textOf(root) {
-  const lines = [];
-  let isOpen = false;
-  const put = (text) => {
-    if (isOpen) lines[lines.length - 1] += text; else lines.push(text);
-    isOpen = true;
-  };
-  for (const node of root.childNodes) {
-    if (node.nodeName === "DIV") { lines.push(textOf(node)); isOpen = false; }
-    else if (node.nodeName === "BR") put(node.nextSibling ? "\n" : "");
-    else put(node.textContent);
-  }
-  return lines.join("\n");
-}
 
 export class Lines {
   constructor(root) {
     this.root = root;
     this.lines = [];
+    this.lent = null;
   }
 
   // Everything is made again: another text.
   show(text, runs, marks = []) {
-    Object.assign(this, { text, runs, marks });
+    Object.assign(this, { text, runs, marks, lent: null });
     this.lines = [];
     this.root.replaceChildren();
     this.replace({ first: 0, last: -1, from: 0, to: text.length });
@@ -115,9 +56,11 @@ export class Lines {
       made.push({ block: makeBlock(piecesBetween(this.text, this.runs, this.marks, at, end)), length: end - at });
       at = end + 1;
     }
-    const old = this.lines.splice(first, last - first + 1, ...made), next = this.lines[first + made.length]?.block ?? null;
-    for (const { block } of old) block.remove();
-    const blocks = document.createDocumentFragment();
+    const old = this.lines.slice(first, last + 1), gone = old.flatMap((line) => this.nodesOf(line));
+    const [next = null] = this.nodesOf(this.lines[last + 1]), blocks = document.createDocumentFragment();
+    if (old.includes(this.lent)) this.lent = null;
+    this.lines = [...this.lines.slice(0, first), ...made, ...this.lines.slice(last + 1)];
+    for (const node of gone) node.remove();
     for (const { block } of made) blocks.append(block);
     this.root.insertBefore(blocks, next);
   }
@@ -141,9 +84,97 @@ export class Lines {
     for (const { from, to } of changed) if (from < to) this.renew(Math.min(from, length), Math.min(to, length));
   }
 
+  // Draws the lines of a stretch again, but for those that are lent.
   renew(from, to) {
-    const a = this.lineAt(from), b = this.lineAt(to);
-    this.replace({ first: a.index, last: b.index, from: a.start, to: b.start + this.lines[b.index].length });
+    const first = this.lineAt(from).index, last = this.lineAt(to).index, lent = this.lines.indexOf(this.lent);
+    if (lent < first || lent > last) { this.redraw(first, last); return; }
+    if (lent < last) this.redraw(lent + 1, last);
+    if (first < lent) this.redraw(first, lent - 1);
+  }
+
+  redraw(first, last) {
+    this.replace({ first, last, from: this.startOf(first), to: this.startOf(last) + this.lines[last].length });
+  }
+
+  // ---- lines that are lent to the browser
+
+  // Lends the lines of a stretch, beside those that are lent already.
+  lend(from, to) {
+    let first = this.lineAt(from).index, last = this.lineAt(to).index;
+    if (this.lent) {
+      const at = this.lines.indexOf(this.lent);
+      [first, last] = [Math.min(first, at), Math.max(last, at)];
+    }
+    this.merge(first, last);
+  }
+
+  // Makes one entry of some, which is lent.
+  merge(first, last) {
+    const merged = this.lines.slice(first, last + 1);
+    this.lent = { block: merged[0].block, length: merged.reduce((sum, { length }) => sum + length + 1, -1) };
+    this.lines.splice(first, merged.length, this.lent);
+  }
+
+  // The text that the browser has written into the lent lines, which become those of this length. Neighbours whose blocks
+  // it has taken away, and one of them where it has left no block at all, are lent as well.
+  readLent() {
+    const isGone = (at) => at >= 0 && at < this.lines.length && this.lines[at].block.parentNode !== this.root;
+    for (let at = this.lines.indexOf(this.lent); ; at = this.lines.indexOf(this.lent)) {
+      const isEmpty = !this.nodesOf(this.lent).length, isLast = at + 1 === this.lines.length;
+      if (isGone(at - 1) || (isEmpty && at > 0)) this.merge(at - 1, at);
+      else if (isGone(at + 1) || (isEmpty && !isLast)) this.merge(at, at + 1);
+      else return textOf(this.nodesOf(this.lent));
+    }
+  }
+
+  // What the lent lines are in the text: { from, to }.
+  get lentStretch() {
+    const from = this.startOf(this.lines.indexOf(this.lent));
+    return { from, to: from + this.lent.length };
+  }
+
+  // The text has changed in the lent lines, as the browser shows it already.
+  wrote(length, { text, runs, marks }) {
+    Object.assign(this, { text, runs, marks });
+    this.lent.length = length;
+  }
+
+  // Draws the lent lines again, after a change that may be in them, too.
+  takeBack(delta, state) {
+    this.change(delta, state);
+    if (!this.lent) return;
+    const at = this.lines.indexOf(this.lent);
+    this.redraw(at, at);
+  }
+
+  // The nodes of a line in the document: one block, or what the browser has made of the lines that are lent.
+  nodesOf(line) {
+    if (!line) return [];
+    if (line !== this.lent) return [line.block];
+    const at = this.lines.indexOf(line), end = this.lines[at + 1]?.block ?? null, out = [];
+    let node = at ? this.lines[at - 1].block.nextSibling : this.root.firstChild;
+    for (; node && node !== end; node = node.nextSibling) out.push(node);
+    return out;
+  }
+
+  // Whether the document still has just these blocks, and whatever is in the place of those that are lent.
+  get isWhole() {
+    let node = this.root.firstChild;
+    for (const line of this.lines) {
+      const nodes = this.nodesOf(line);
+      if (nodes.length && nodes[0] !== node) return false;
+      if (nodes.length) node = nodes.at(-1).nextSibling;
+    }
+    return node === null;
+  }
+
+  // ---- places
+
+  // Where a line begins in the text.
+  startOf(index) {
+    let start = 0;
+    for (let at = 0; at < index; at++) start += this.lines[at].length + 1;
+    return start;
   }
 
   lineAt(unit) {
@@ -155,74 +186,39 @@ export class Lines {
   // The place in the document of a unit of the text.
   pointOf(unit) {
     const { index, start } = this.lineAt(unit), { block } = this.lines[index];
+    const words = document.createTreeWalker(block, NodeFilter.SHOW_TEXT);
     let left = unit - start;
-    for (const node of block.childNodes) {
-      const { length } = node.textContent;
-      if (left <= length && node.firstChild) return { node: node.firstChild, offset: left };
-      left -= length;
-    }
+    for (let node; (node = words.nextNode()); left -= node.length) if (left <= node.length) return { node, offset: left };
     return { node: block, offset: 0 };
   }
 
   // The unit of the text at a place of the document, or null outside.
   unitOf(node, offset) {
-    if (node === this.root) {
-      let start = 0;
-      for (const { length } of this.lines.slice(0, offset)) start += length + 1;
-      return Math.min(start, this.text.length);
-    }
+    if (node === this.root) return offset < node.childNodes.length ? this.unitOf(node.childNodes[offset], 0) : this.text.length;
     let block = node;
     while (block && block.parentNode !== this.root) block = block.parentNode;
     if (!block) return null;
     let start = 0;
-    for (const line of this.lines) {
-      if (line.block === block) break;
-      start += line.length + 1;
-    }
-    const range = document.createRange();
-    range.setStart(block, 0);
+    const line = this.lines.find((one) => {
+      if (one === this.lent ? this.nodesOf(one).includes(block) : one.block === block) return true;
+      start += one.length + 1;
+      return false;
+    });
+    const range = document.createRange(), isLent = line !== undefined && line === this.lent;
+    range.setStart(isLent ? this.nodesOf(line)[0] : block, 0);
     range.setEnd(node, offset);
+    if (isLent) return start + textOf(range.cloneContents().childNodes).length;
     return Math.min(start + range.toString().length, this.text.length);
   }
 
-  // Whether the document still has just these blocks.
-  get isWhole() {
-    let node = this.root.firstChild;
-    for (const { block } of this.lines) {
-      if (block !== node) return false;
-      node = node.nextSibling;
+  // The unit with which the line begins that is at a height of the window. Lines stand below one another.
+  unitAt(y) {
+    let low = 0, high = this.lines.length - 1;
+    while (low < high) {
+      const middle = (low + high) >> 1;
+      if (this.lines[middle].block.getBoundingClientRect().bottom < y) low = middle + 1; else high = middle;
     }
-    return node === null;
-  }
-
-  // The text that the document has now, after an input method or the browser wrote into it.
-  written() {
-    if (!this.isWhole) return textOf(this.root);
-    const parts = [];
-    let start = 0, from = 0;
-    for (const { block, length } of this.lines) {
-      const { textContent } = block;
-      if (textContent.length !== length || !this.text.startsWith(textContent, start)) {
-        parts.push(this.text.slice(from, start), textOf(block));
-        from = start + length;
-      }
-      start += length + 1;
-    }
-    parts.push(this.text.slice(from));
-    return parts.join("");
-  }
-
-  // How much of that text is before a place of the document.
-  writtenUntil(node, offset) {
-    const range = document.createRange();
-    const block = this.isWhole ? this.lines.find((line) => line.block.contains(node))?.block : null;
-    range.selectNodeContents(block ?? this.root);
-    range.setEnd(node, offset);
-    const start = block ? this.unitOf(block, 0) : 0;
-    if (block) return start + range.toString().length;
-    const before = document.createElement("div");
-    before.append(range.cloneContents());
-    return textOf(before).length;
+    return this.startOf(low);
   }
 
   // Where a unit is on the screen.

@@ -2,21 +2,24 @@
 import { named } from "./authors.js";
 import { colourOf } from "./colours.js";
 import { WORDS } from "./words.js";
-import { element } from "./page.js";
+import { $, element, say, wordsOf } from "./page.js";
 
+// A page with thousands of cards is slow. So it has those that are nearest to what is on the screen, until the author wants all.
 const MOST_CARDS = 300, GAP = 10, LONGEST_QUOTE = 80;
 
 export class Margin {
   // `onResolve` gets a comment's name, `onLit` its id or null, and `onGo` its id when the author wants to see its words.
   constructor(root, { onResolve, onLit, onGo }) {
     Object.assign(this, { root, onResolve, onLit, onGo });
-    this.cards = new Map();
-    this.keys = "";
+    this.forget();
+    $("all-comments").addEventListener("click", () => { this.most = Infinity; this.again(); });
   }
 
-  // Draws the cards of comments over a text. Where nothing differs they stay, so that a pressed button is not lost.
-  draw(comments, text, mayResolve) {
-    const shown = comments.slice(0, MOST_CARDS).sort((a, b) => a.from - b.from);
+  // Draws the cards of comments over a text. Where nothing differs they stay, so that a pressed button is not lost. `seen`
+  // answers which unit of the text is on the screen.
+  draw(comments, text, mayResolve, seen) {
+    this.again = () => this.draw(comments, text, mayResolve, seen);
+    const shown = this.nearest([...comments].sort((a, b) => a.from - b.from), seen);
     const key = ({ id, author, text: words, isResolved, from, to }) => // an unsent one has another id
       [id, author, colourOf(author), words, isResolved, text.slice(from, to)];
     const keys = JSON.stringify([mayResolve, shown.map(key)]);
@@ -28,10 +31,25 @@ export class Margin {
     if (active) document.getElementById(active)?.focus();
   }
 
+  // Of comments in the order of the text, as many as are drawn: around the card that has the keyboard, or around a unit.
+  nearest(comments, seen) {
+    this.isCut = comments.length > this.most;
+    $("fewer").hidden = !this.isCut;
+    if (!this.isCut) return comments;
+    say($("some-comments"), WORDS.someComments(this.most, comments.length));
+    say($("all-comments"), WORDS.allComments(comments.length));
+    const held = document.activeElement?.closest?.(".card")?.id, focused = comments.findIndex(({ id }) => id === held);
+    const unit = focused < 0 ? seen() : 0, next = focused < 0 ? comments.findIndex(({ from }) => from >= unit) : focused;
+    const middle = next < 0 ? comments.length : next, first = Math.max(0, Math.min(middle - this.most / 2, comments.length - this.most));
+    return comments.slice(first, first + this.most);
+  }
+
   // Forgets the cards: those of another pad have the same ids.
   forget() {
     this.cards = new Map();
     this.keys = "";
+    this.isCut = false;
+    this.most = MOST_CARDS;
     this.root.replaceChildren();
   }
 
@@ -49,8 +67,8 @@ export class Margin {
       button.addEventListener("click", (event) => { event.stopPropagation(); this.onResolve(name); });
       head.append(button);
     }
-    const quoted = element("p", { className: "card-quote", textContent: from < to ? short : WORDS.erased });
-    card.append(head, quoted, element("p", { className: "card-words", textContent: words }));
+    const quoted = from < to ? wordsOf("p", "card-quote", short) : element("p", { className: "card-quote", textContent: WORDS.erased });
+    card.append(head, quoted, wordsOf("p", "card-words", words));
     card.classList.toggle("is-resolved", isResolved);
     for (const [kind, lit] of [["mouseenter", id], ["focus", id], ["mouseleave", null], ["blur", null]]) {
       card.addEventListener(kind, () => this.onLit(lit));

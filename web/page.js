@@ -1,6 +1,10 @@
 // Small helpers for the document, which everything that is seen uses.
 import { LABELS, LANGUAGE } from "./words.js";
 
+// Where authors' words stand. The page itself is in the language of words.js; that of a pad is known to nobody, and the
+// browser's is the best guess for screen readers, hyphenation and the spelling checker.
+const WRITTEN = ["text", "past", "comment-words", "comment-text", "notice-words"];
+
 export const $ = (id) => document.getElementById(id);
 
 // An element with properties and children.
@@ -8,6 +12,11 @@ export function element(kind, properties = {}, ...children) {
   const node = Object.assign(document.createElement(kind), properties);
   node.append(...children);
   return node;
+}
+
+// An element with words of authors, in their direction and, for all that is known, in the language of the reader.
+export function wordsOf(kind, className, textContent) {
+  return element(kind, { className, textContent, dir: "auto", lang: navigator.language });
 }
 
 // Writes a text only where it differs, so that a screen reader says it once.
@@ -19,6 +28,7 @@ export function label() {
   for (const node of document.querySelectorAll("[data-text]")) node.textContent = LABELS[node.dataset.text];
   for (const node of document.querySelectorAll("[data-label]")) node.setAttribute("aria-label", LABELS[node.dataset.label]);
   for (const node of document.querySelectorAll("[data-hint]")) node.title = LABELS[node.dataset.hint];
+  for (const id of WRITTEN) $(id).lang = navigator.language;
   document.querySelectorAll("input[pattern]").forEach(explain);
 }
 

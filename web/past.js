@@ -7,6 +7,7 @@ import { History } from "./history.js";
 import { Lines } from "./lines.js";
 import { $, say } from "./page.js";
 import { pause } from "./clock.js";
+import { storage } from "./storage.js";
 import { LABELS, WORDS } from "./words.js";
 
 const STEP = 90, MOST_STEPS = 300, SAVE_EVERY = 5000;
@@ -34,7 +35,7 @@ export class Past {
 
   // Another pad is open.
   start(pad) {
-    this.history = new History((request) => pad.call(request), pad.name, localStorage);
+    this.history = new History((request) => pad.call(request), pad.name, storage());
     this.pad = pad;
     if (this.isOpen) this.close();
   }

@@ -1,9 +1,10 @@
 #!/usr/bin/env python3
 """The page in two windows of headless Chromium, before a real server that is killed and started again on the way.
 
-    tests/web/browser_test.py PROGRAM [FOLDER]
+    tests/web/browser_test.py [--disk] PROGRAM [FOLDER]
 
-PROGRAM is crates/pad_server/out/pad_server. Screenshots go into FOLDER, if it is given. The last line is `N passed, M failed`.
+PROGRAM is crates/pad_server/out/pad_server. Screenshots go into FOLDER, if it is given. With --disk, the page is that on
+disk, and not that of the program. The last line is `N passed, M failed`.
 """
 import os
 import random
@@ -13,7 +14,7 @@ import tempfile
 from first_visit import first_visit
 from hard_cases import hostile, lost_pad
 from page_checks import contrasts, control_names, drawn_lines
-from windows import BROKEN, PAST, ChangedPage, Keys, Line, Server, Window, units, until
+from windows import BROKEN, ON_DISK, PAST, ChangedPage, Keys, Line, Server, Window, units, until
 
 BOB_MAY = "Can write"
 HUES = """
@@ -282,7 +283,7 @@ def broken(test):
     ann, bob, check = test.ann, test.bob, test.check
     before = ann.text
     test.server.kill()
-    check("ann is told that she is offline", until(lambda: "Offline" in ann.state), ann.state)
+    check("ann is told that she is offline", until(lambda: "offline" in ann.state), ann.state)
     ann.type(" typed while the server was away", units(ann.text))
     bob.type("[bob, offline] ", 0)
     test.shot(ann, "offline")
@@ -319,7 +320,7 @@ def exports(test, downloads):
     ann, check = test.ann, test.check
     ann.driver.execute_cdp_cmd("Browser.setDownloadBehavior", {"behavior": "allow", "downloadPath": downloads})
     for button, ending in (("as-text", ".txt"), ("as-markdown", ".md")):
-        ann.click_first("#exports summary")
+        ann.click("export")
         ann.click(button)
         name = until(lambda: next((name for name in os.listdir(downloads) if name.endswith(ending)), None))
         text = ""
@@ -395,7 +396,7 @@ def play(program, folder, tally):
         finally:
             if test:
                 test.end()
-            server.kill()
+            server.end()
 
 
 def main(program, folder=None):
@@ -414,4 +415,5 @@ def main(program, folder=None):
 
 
 if __name__ == "__main__":
-    sys.exit(main(os.path.realpath(sys.argv[1]), *sys.argv[2:]))
+    given = [word for word in sys.argv[1:] if word != ON_DISK]
+    sys.exit(main(os.path.realpath(given[0]), *given[1:]))

@@ -75,7 +75,7 @@ const done = arguments[0];
     part.setMarks(marks);
     const whole = new Lines(document.createElement('div'));
     whole.show(text, runs, marks);
-    if (part.root.innerHTML !== whole.root.innerHTML || part.written() !== text) { done(`round ${round}: ${part.root.innerHTML} | ${whole.root.innerHTML}`); return; }
+    if (part.root.innerHTML !== whole.root.innerHTML || [...part.root.childNodes].map((line) => line.textContent).join('\\n') !== text) { done(`round ${round}: ${part.root.innerHTML} | ${whole.root.innerHTML}`); return; }
   }
   done('');
 })().catch((error) => done(String(error)));

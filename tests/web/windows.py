@@ -3,6 +3,7 @@ import json
 import os
 import socket
 import subprocess
+import sys
 import time
 
 from selenium import webdriver
@@ -19,6 +20,7 @@ HERE = os.path.dirname(os.path.realpath(__file__))
 NOT_YET = (ElementClickInterceptedException, ElementNotInteractableException, StaleElementReferenceException, IndexError)
 # What is raised where the browser or its driver has broken.
 BROKEN = (WebDriverException, HTTPError)
+ON_DISK = "--disk"
 ACCOUNTS = "author ann t1\nauthor bob t2\nauthor cyd t3\n"
 FLAGS = ("--headless=new", "--no-sandbox", "--disable-gpu", "--disable-dev-shm-usage", "--force-color-profile=srgb")
 TEXT = "return [...document.querySelectorAll('#text .line')].map(line => line.textContent).join('\\n')"
@@ -28,6 +30,7 @@ const [from, to] = arguments, root = document.getElementById('text'), places = [
 root.focus();
 for (const unit of [from, to]) {
   let left = unit;
+  const had = places.length;
   for (const line of root.children) {
     if (left > line.textContent.length) { left -= line.textContent.length + 1; continue; }
     let place = [line, 0];
@@ -38,6 +41,8 @@ for (const unit of [from, to]) {
     places.push(place);
     break;
   }
+  // Another author can have made the text shorter meanwhile.
+  if (places.length === had) places.push([root.lastChild, root.lastChild.childNodes.length]);
 }
 getSelection().setBaseAndExtent(...places[0], ...places[1]);
 """
@@ -186,11 +191,15 @@ class Line:
 
 
 class Server:
-    """The program in a folder of its own. It can be killed and started again, at the same addresses."""
+    """The program in a folder of its own. It can be killed and started again, at the same addresses.
+
+    With `--disk` among the words of the command line, windows get the page as it is on disk, and not that of the program.
+    """
 
     def __init__(self, program, folder):
         self.program, self.folder, self.port, self.web = program, folder, free_port(), free_port()
-        self.url = f"http://127.0.0.1:{self.web}/"
+        self.page = ChangedPage(self, folder) if ON_DISK in sys.argv else None
+        self.url = self.page.url if self.page else f"http://127.0.0.1:{self.web}/"
         with open(os.path.join(folder, "accounts"), "w", encoding="utf-8") as file:
             file.write(ACCOUNTS)
         self.start()
@@ -205,6 +214,11 @@ class Server:
     def kill(self):
         self.process.kill()
         self.process.wait()
+
+    def end(self):
+        self.kill()
+        if self.page:
+            self.page.end()
 
 
 class ChangedPage:

@@ -1,0 +1,71 @@
+// One line of a text as a block of the document, in the colours of its authors.
+import { colourOf } from "./colours.js";
+
+// The pieces of a text between two units: { text, author, kind, marks }, cut where an author or a mark begins or ends.
+export function piecesBetween(text, runs, marks, from, to) {
+  const here = marks.filter((mark) => mark.from < to && mark.to > from && mark.from < mark.to), cuts = [from, to];
+  for (const mark of here) cuts.push(Math.max(from, mark.from), Math.min(to, mark.to));
+  let end = 0;
+  const owners = [];
+  for (const [author, units, kind] of runs) {
+    const start = end;
+    end += units;
+    if (end <= from) continue;
+    if (start >= to) break;
+    owners.push({ end, author, kind });
+    if (end < to) cuts.push(end);
+  }
+  cuts.sort((a, b) => a - b);
+  const out = [];
+  let owner = 0;
+  for (let k = 1; k < cuts.length; k++) {
+    const [start, stop] = [cuts[k - 1], cuts[k]];
+    if (start === stop) continue;
+    while (owner + 1 < owners.length && owners[owner].end <= start) owner++;
+    const { author = "", kind } = owners[owner] ?? {};
+    const over = here.filter((mark) => mark.from <= start && mark.to >= stop);
+    out.push({ text: text.slice(start, stop), author, kind, marks: over });
+  }
+  return out;
+}
+
+export function makeBlock(pieces) {
+  const block = document.createElement("div");
+  block.className = "line";
+  block.dir = "auto";
+  for (const piece of pieces) block.append(makeRun(piece));
+  if (!pieces.length) block.append(document.createElement("br"));
+  return block;
+}
+
+// Words under a comment are told to be marked, and where the comment is; who wrote them is said at the caret (desk.js).
+function makeRun({ text, author, kind, marks }) {
+  const node = document.createElement(kind === "insert" ? "ins" : kind === "drop" ? "del" : "span");
+  node.className = `run ${colourOf(author)}`;
+  node.dataset.author = author;
+  node.textContent = text;
+  if (!marks.length) return node;
+  node.classList.add("marked");
+  node.classList.toggle("lit", marks.some((mark) => mark.isLit));
+  node.dataset.marks = marks.map((mark) => mark.id).join(" ");
+  node.setAttribute("role", "mark");
+  node.setAttribute("aria-details", node.dataset.marks);
+  return node;
+}
+
+// The text of nodes that a browser may have changed, for an input method or by itself. Each block is a line; a trailing
+// <br> is only there to keep an empty line open.
+export function textOf(nodes) {
+  const lines = [];
+  let isOpen = false;
+  const put = (text) => {
+    if (isOpen) lines[lines.length - 1] += text; else lines.push(text);
+    isOpen = true;
+  };
+  for (const node of nodes) {
+    if (node.nodeName === "DIV") { lines.push(textOf(node.childNodes)); isOpen = false; }
+    else if (node.nodeName === "BR") put(node.nextSibling ? "\n" : "");
+    else put(node.textContent);
+  }
+  return lines.join("\n");
+}

@@ -1,0 +1,31 @@
+// The line that says how the pad is: saved, being saved, or why it is not.
+import { $, say } from "./page.js";
+import { WORDS, refusal } from "./words.js";
+
+const BAD = ["over", "lost", "held"];
+
+export class StateLine {
+  constructor(session) { Object.assign(this, { session, wasBad: false }); }
+
+  draw() {
+    const { state } = this.session, isBad = BAD.includes(state), text = this.textOf(state);
+    say($("state"), text);
+    $("state").className = isBad ? "is-bad" : `is-${state}`;
+    document.body.classList.toggle("is-offline", state === "over" || state === "lost");
+    this.announce(state, text);
+  }
+
+  textOf(state) {
+    const { heldBy, mayWrite, right } = this.session;
+    const held = heldBy && WORDS.held(refusal(heldBy)), lost = mayWrite ? WORDS.lost : WORDS.lostReading;
+    return { over: WORDS.over, lost, held, saving: WORDS.saving, saved: mayWrite ? WORDS.saved : WORDS.reading(right) }[state];
+  }
+
+  // What a screen reader says of it: that something is wrong, and that it is right again. Each letter is saved, and to hear
+  // so each time would drown everything else.
+  announce(state, text) {
+    const isBad = BAD.includes(state);
+    if (isBad || (this.wasBad && state === "saved")) say($("news"), text);
+    if (isBad || state === "saved") this.wasBad = isBad;
+  }
+}

@@ -1,23 +1,21 @@
-// An author's session: logs in, keeps one pad open, and connects again when the connection is lost. It has no display; it
-// tells `view` what happens.
-import { clock as realClock, pause } from "./clock.js";
+// An author's session: keeps one pad open, also over connections that are lost. It has no display; it tells `view` what
+// happens.
+import { pause } from "./clock.js";
 import { Comments } from "./comments.js";
-import { move } from "./delta.js";
+import { Connection, PASSING } from "./connection.js";
 import { KeptWords } from "./kept.js";
 import { LIMITS } from "./limits.js";
+import { OwnCaret } from "./own_caret.js";
 import { Presence } from "./presence.js";
 import { LostRevisions, PACE, Pad, Refused } from "./sync.js";
 import { Misfit, count } from "./units.js";
 import { UnsentComments } from "./unsent.js";
-import { Lost, Wire } from "./wire.js";
+import { Lost } from "./wire.js";
 
 const ALONE = 4000, TOGETHER = 2000, CROWD = 10000, MOST_TOGETHER = 20, HIDDEN = 15000;
 // How long what is not sent yet may take before a pad is left.
 const SETTLE = 5000, LOOK = 20;
-const RIGHTS_EVERY = 10000, CARET_EVERY = 1000, ROOM_EVERY = 60000;
-// Refusals that pass: out of memory, a full disk, too many clients. When a pad is joined again, also that it is crowded: the
-// visits of connections that broke may still be counted.
-const PASSING = [900, 901, 902], CROWDED = 313;
+const RIGHTS_EVERY = 10000, ROOM_EVERY = 60000;
 // Refusals that no edit gets if the server has the page's text: no such revision, and a place behind its end.
 const UNFIT = [320, 321];
 
@@ -32,24 +30,13 @@ export class Superseded extends Error {}
 // The pad that is open has changes that cannot be sent.
 export class Unsaved extends Error {}
 
-export class Session {
-  constructor({ open, view = {}, clock = realClock, pace = PACE, random = Math.random }) {
-    Object.assign(this, { open, clock, pace, random });
-    this.view = { ...VIEW, ...view };
-    this.wire = null; this.login = null; this.me = "";
-    this.pad = null; this.presence = null; this.comments = null; this.kept = new KeptWords();
+export class Session extends Connection {
+  constructor({ view = {}, pace = PACE, ...connection }) {
+    super(connection);
+    Object.assign(this, { pace, view: { ...VIEW, ...view } });
+    this.pad = null; this.presence = null; this.comments = null; this.kept = new KeptWords(); this.caret = new OwnCaret(this);
     this.entries = 0; this.lastEntry = Promise.resolve(); // how many pads were asked for, and the end of the last one's entry
-    this.right = "none"; this.rights = []; this.cells = 0;
-    this.isLost = false; this.isOver = false; this.heldBy = null; this.isHidden = false; this.hurry = NOTHING;
-    this.caretAt = null; this.isCaretNew = false; this.caretTime = -Infinity; this.caretTimer = null;
-  }
-
-  ask = (request) => (this.wire ? this.wire.ask(request) : Promise.reject(new Lost("not connected")));
-
-  async call(request) {
-    const reply = await this.ask(request);
-    if (!reply.ok) throw new Refused(reply);
-    return reply;
+    this.right = "none"; this.rights = []; this.cells = 0; this.heldBy = null; this.isHidden = false;
   }
 
   get name() { return this.me.split("@")[0]; }
@@ -75,37 +62,9 @@ export class Session {
 
   // ---- the connection
 
-  async connect() {
-    const wire = new Wire(this.open, { clock: this.clock, onDown: () => { if (wire === this.wire) this.down(); } });
-    this.wire?.close();
-    this.wire = wire;
-    await wire.connect();
-    try {
-      const reply = await wire.ask({ do: "hello", ...this.login });
-      if (!reply.ok) throw new Refused(reply);
-      this.me = reply.author;
-    } catch (error) {
-      if (wire === this.wire) this.wire = null;
-      wire.close();
-      throw error;
-    }
-  }
-
-  async logIn(name, token) {
-    const login = { name, token };
-    this.login = login;
-    try { await this.connect(); } catch (error) {
-      if (this.login === login) this.login = null;
-      throw error;
-    }
-  }
-
   logOut() {
-    this.login = null;
-    this.stop();
+    super.logOut();
     this.pad = null;
-    this.wire?.close();
-    this.wire = null;
   }
 
   // Nothing more is sent on the pad.
@@ -114,49 +73,9 @@ export class Session {
     this.comments?.unsent.stop();
   }
 
-  down() {
-    if (!this.login || this.isLost) return;
-    this.isLost = true;
-    this.stop();
-    this.view.onState();
-    this.reconnect();
-  }
-
-  // Tries again until it works, with growing pauses. `hurry` ends a pause, or an attempt to connect that hangs.
-  async reconnect() {
-    for (let wait = 300, isHurried = false; this.login; wait = Math.min(wait * 1.7, 5000)) {
-      const hurried = new Promise((done) => { this.hurry = done; });
-      if (!isHurried) await Promise.race([pause(wait * (0.8 + 0.4 * this.random()), this.clock), hurried]);
-      isHurried = false;
-      this.hurry = () => {
-        isHurried = !this.wire?.isUp;
-        if (isHurried) this.wire?.giveUp();
-      };
-      try {
-        await this.connect();
-        if (this.pad) await this.rejoin(this.pad);
-        this.isLost = false;
-        this.hurry = NOTHING;
-        this.view.onState();
-        return;
-      } catch (error) {
-        this.wire?.close();
-        if (error instanceof Lost || [...PASSING, CROWDED].includes(error.reply?.code)) continue;
-        this.endWith(error);
-        return;
-      }
-    }
-  }
-
-  // The session cannot go on: the account, the right or the pad is gone, or the page has a fault.
-  endWith(error) {
-    this.login = null;
-    this.isOver = true;
-    this.stop();
-    this.wire?.close();
-    this.wire = null;
-    this.view.onOver(error.reply?.code === 300 ? new LostRevisions() : error);
-  }
+  onState() { this.view.onState(); }
+  onOver(error) { this.view.onOver(error.reply?.code === 300 ? new LostRevisions() : error); }
+  async goOn() { if (this.pad) await this.rejoin(this.pad); }
 
   // What fails because the pad was left meanwhile is no failure.
   async rejoin(pad) {
@@ -171,7 +90,7 @@ export class Session {
     if (pad !== this.pad) return;
     pad.visit = visit;
     pad.takeName(this.me);
-    this.isCaretNew = true;
+    this.caret.isNew = true;
     this.start(pad);
     this.refresh();
   }
@@ -228,7 +147,7 @@ export class Session {
   follow(pad) {
     const { view } = this, whenOpen = (act) => (...given) => (pad === this.pad ? act(...given) : undefined);
     this.presence = new Presence(pad, {
-      onChange: whenOpen(() => { this.sendCaret(); view.onPeople(); }),
+      onChange: whenOpen(() => { this.caret.send(); view.onPeople(); }),
       onCome: whenOpen((author) => view.onCome(author)), onGo: whenOpen((author) => view.onGo(author)),
     });
     const unsent = new UnsentComments(pad, {
@@ -237,7 +156,8 @@ export class Session {
     });
     this.comments = new Comments(pad, unsent, whenOpen(() => view.onComments()));
     this.kept.clear();
-    Object.assign(this, { pad, right: "none", rights: [], cells: 0, heldBy: null, caretAt: null, isCaretNew: true });
+    this.caret.forget();
+    Object.assign(this, { pad, right: "none", rights: [], cells: 0, heldBy: null });
     this.start(pad);
     this.pulse(pad);
   }
@@ -252,7 +172,7 @@ export class Session {
     this.presence.move(delta);
     this.comments.move(delta);
     this.kept.move(delta);
-    if (this.caretAt !== null) this.caretAt = move(this.caretAt, delta);
+    this.caret.move(delta);
     this.view.onShow(delta);
   }
 
@@ -305,7 +225,7 @@ export class Session {
     const words = await pad.load(), texts = this.comments.unsent.giveUp();
     if (pad !== this.pad) return;
     for (const lost of [words, ...texts]) this.kept.add(lost);
-    this.caretAt = null;
+    this.caret.forget();
     this.view.onReread();
     await this.comments.read();
     this.view.onState();
@@ -327,8 +247,8 @@ export class Session {
     if (isOwn) this.heldBy = null;
     this.presence.reach();
     if (notes || this.comments.isStale) this.comments.read().catch(NOTHING);
-    this.isCaretNew ||= isOwn;
-    this.sendCaret();
+    this.caret.isNew ||= isOwn;
+    this.caret.send();
     this.view.onMove({ from, to, isOwn });
     this.view.onState();
   }
@@ -394,25 +314,8 @@ export class Session {
     await this.readRights();
   }
 
-  // The author's caret is at this unit of what is shown. Others are told at most once a second.
-  moveCaret(at) {
-    this.caretAt = at;
-    this.isCaretNew = true;
-    this.sendCaret();
-  }
-
-  sendCaret() {
-    const { pad } = this, left = this.caretTime + CARET_EVERY - this.clock.now();
-    if (!pad || !this.isCaretNew || this.caretAt === null || !this.presence.others.length) return;
-    if (this.isLost || pad.isUnsent) return;
-    if (left > 0) {
-      this.caretTimer ??= this.clock.after(left, () => { this.caretTimer = null; this.sendCaret(); });
-      return;
-    }
-    this.isCaretNew = false;
-    this.caretTime = this.clock.now();
-    pad.call({ do: "caret", rev: pad.rev, at: count(pad.base, 0, Math.min(this.caretAt, pad.base.length)) }).catch(NOTHING);
-  }
+  // The author's caret is at this unit of what is shown.
+  moveCaret(at) { this.caret.moveTo(at); }
 
   // Comments on a stretch, given by a function. The comment moves with its words until it is made, which this resolves to.
   comment(stretch, text) {

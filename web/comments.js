@@ -23,7 +23,7 @@ export function placedNow(comments, pad, rev) {
 export class Comments {
   // `unsent` are those that the server does not have yet.
   constructor(pad, unsent, onChange) {
-    Object.assign(this, { pad, unsent, onChange, list: [], isStale: false });
+    Object.assign(this, { pad, unsent, onChange, list: [], rev: 0, isStale: false });
     this.asked = null; // the stretch that the author is about to comment on
   }
 
@@ -36,9 +36,12 @@ export class Comments {
     this.isStale = false;
     const reply = await pad.call({ do: "comments", rev });
     if (pad.baseAt(rev) === null) { this.isStale = true; return; }
-    this.list = placedNow(reply.comments, pad, rev);
+    Object.assign(this, { list: placedNow(reply.comments, pad, rev), rev });
     this.onChange();
   }
+
+  // Where text came beside erased characters, only the server knows whether it is within a comment.
+  async readMoved() { if (this.list.length && this.rev < this.pad.rev) await this.read(); }
 
   // A comment was made that had not been sent.
   made({ author, text, from, to }, name) {

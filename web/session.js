@@ -258,7 +258,7 @@ export class Session extends Connection {
   // Asks now and then who is here and which rights there are, what made the page's revision, and whether its text has the
   // length that the server says. Each such line also ends a wait, which is asked again.
   async pulse(pad) {
-    const { presence } = this;
+    const { comments, presence } = this;
     let rightsAt = this.clock.now(), roomAt = -Infinity;
     while (pad === this.pad) {
       const others = presence.others.length, now = this.clock.now();
@@ -267,7 +267,7 @@ export class Session extends Connection {
       try {
         presence.take(await pad.call({ do: "who" }));
         await pad.readMark();
-        if (now - rightsAt >= RIGHTS_EVERY) { rightsAt = now; await this.readRights(); }
+        if (now - rightsAt >= RIGHTS_EVERY) { rightsAt = now; await this.readRights(); await comments.readMoved(); }
         if (now - roomAt >= ROOM_EVERY) { roomAt = now; await this.readRoom(pad); }
       } catch { /* the loop of the pad meets the same, and says so */ }
     }

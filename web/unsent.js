@@ -12,6 +12,9 @@ const LOOK = 50, LAST_TRY = 10000;
 // Nothing is selected: what the server would say of a comment whose words are gone.
 const EMPTY = { ok: false, code: 322, error: "Empty" };
 
+// Whether two stretches are the same words. Where erased words stood is not known for sure.
+const areSame = (one, other) => one.from === one.to || other.from === other.to || (one.from < other.to && other.from < one.to);
+
 export class UnsentComments {
   // `onMade` gets a comment that was made, with its name. `onRefused` gets the reply to one that was not taken, with its text,
   // and tells whether it is to be tried again.
@@ -92,8 +95,7 @@ export class UnsentComments {
       if (rev < last) { await pause(LOOK, this.clock); continue; } // the page follows meanwhile
       const reply = await pad.call({ do: "comments", rev });
       if (pad.baseAt(rev) === null) continue;
-      const isThis = ({ name, text, from, to }) =>
-        names.includes(name.join()) && text === comment.text && from <= comment.to && comment.from <= to;
+      const isThis = ({ name, text, ...words }) => names.includes(name.join()) && text === comment.text && areSame(words, comment);
       return placedNow(reply.comments, pad, rev).find(isThis) ?? null;
     }
     return null;

@@ -3,37 +3,16 @@
 //     node tests/web/model_test.mjs [ROUNDS]
 //
 // Then the same with planted faults, each of which has to be found. The last line is `N passed, M failed`.
-import fs from "node:fs";
-import os from "node:os";
-import path from "node:path";
-import { fileURLToPath, pathToFileURL } from "node:url";
+import { WEB, loadWeb as load, planted } from "./copies.mjs";
 import { ModelPad } from "./model.mjs";
 import { round } from "./simulation.mjs";
 
-const WEB = path.join(path.dirname(fileURLToPath(import.meta.url)), "..", "..", "web");
 const rounds = Number(process.argv[2] ?? 300);
 let passed = 0, failed = 0;
 
 function tell(name, isPassed, said = "") {
   if (isPassed) passed++; else failed++;
   console.log(`${isPassed ? "ok    " : "FAILED"} ${name}${said && `: ${said}`}`);
-}
-
-// The modules of a folder.
-async function load(folder) {
-  const of = (name) => import(pathToFileURL(path.join(folder, name)));
-  return { ...(await of("sync.js")), ...(await of("history.js")), delta: await of("delta.js") };
-}
-
-// A copy of web/ with one passage replaced.
-async function planted(file, passage, other) {
-  const folder = fs.mkdtempSync(path.join(os.tmpdir(), "planted-"));
-  for (const name of fs.readdirSync(WEB)) fs.copyFileSync(path.join(WEB, name), path.join(folder, name));
-  fs.writeFileSync(path.join(folder, "package.json"), '{"type":"module"}');
-  const whole = fs.readFileSync(path.join(folder, file), "utf8");
-  if (whole.split(passage).length !== 2) throw new Error(`${file} has no single ${passage}`);
-  fs.writeFileSync(path.join(folder, file), whole.replace(passage, other));
-  return load(folder);
 }
 
 // A model that lists insertions before a drop beside them.

@@ -16,10 +16,13 @@ class Way {
     this.pump();
   }
 
-  // What is under way is lost, and what comes later.
+  // What is under way is lost.
+  clear() { this.queue = []; }
+
+  // That, and what comes later.
   cut() {
     this.isCut = true;
-    this.queue = [];
+    this.clear();
   }
 
   pump() {
@@ -95,10 +98,11 @@ class Connection {
     this.network.connections.delete(this);
   }
 
-  // The server's side is over, and the page hears of it.
-  shut() {
+  // The server's side is over, and the page hears of it. Replies that are under way may be lost.
+  shut(areRepliesLost = false) {
     this.end();
     this.up.cut();
+    if (areRepliesLost) this.down.clear();
     this.down.put(() => { if (!this.isClosed) { this.isClosed = true; this.handlers.onclose(); } });
   }
 
@@ -142,9 +146,9 @@ export class Network {
   of({ session }) { return session.wire?.channel ?? null; }
 
   // The server is killed. Its connections end, and it answers again when it is started.
-  kill() {
+  kill(areRepliesLost = () => false) {
     this.isDown = true;
-    for (const connection of [...this.connections]) connection.shut();
+    for (const connection of [...this.connections]) connection.shut(areRepliesLost());
   }
   start(replica) {
     this.server.restart(replica);

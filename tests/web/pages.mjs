@@ -19,6 +19,13 @@ export class Tally {
     if (isPassed) this.passed++; else this.failed++;
     console.log(`${isPassed ? "ok    " : "FAILED"} ${name}${said && `: ${said}`}`);
   };
+  // Runs tests one after the other. What one throws is a failure of it.
+  async run(tests) {
+    for (const test of tests) {
+      try { await test(); } catch (error) { this.tell(test.name, false, error.stack); }
+    }
+    this.end();
+  }
   end() {
     console.log(`${this.passed} passed, ${this.failed} failed`);
     process.exit(this.failed ? 1 : 0);

@@ -8,7 +8,7 @@ import path from "node:path";
 import { fileURLToPath } from "node:url";
 import { named, setOrigin } from "../../web/authors.js";
 import { authorsOf, colourOf, giveColours } from "../../web/colours.js";
-import { apply, applyRuns, compose, invert, move, splice, split, transform, typed } from "../../web/delta.js";
+import { apply, applyRuns, compose, invert, move, snapped, splice, split, transform, typed } from "../../web/delta.js";
 import { toMarkdown } from "../../web/exports.js";
 import { History, merged } from "../../web/history.js";
 import { Undo } from "../../web/undo.js";
@@ -35,6 +35,33 @@ function randomDelta(dice, length, author) {
   return delta;
 }
 
+// Deltas with places and halves anywhere, over texts with characters of two units.
+function wholeCharacters() {
+  const dice = makeDice(5), broken = { snapped: 0, split: 0, same: 0, typed: 0 }, isWhole = (text) => !/[\ud800-\udfff]/u.test(text);
+  const random = () => Array.from({ length: dice(8) }, () => ["x", "🙂", "語", "🙃"][dice(4)]).join("");
+  for (let round = 0; round < 5000; round++) {
+    const text = random(), size = text.length, delta = [];
+    for (let at = 0; at < size; ) {
+      const units = Math.min(1 + dice(3), size - at);
+      if (!dice(3)) delta.push({ insert: ["a", "🙂", "\ud83d", "\ude42"][dice(4)], author: "a" });
+      delta.push(dice(2) ? { keep: units } : { drop: units });
+      at += units;
+    }
+    const whole = snapped(delta, text), next = apply(text, whole);
+    if (!isWhole(next) || whole.some((step) => step.insert && !isWhole(step.insert))) broken.snapped++;
+    if (JSON.stringify(snapped(whole, text)) !== JSON.stringify(whole)) broken.same++;
+    const [first, rest] = split(whole, text, 1 + dice(3), 2 + dice(4)), between = apply(text, first);
+    if (!isWhole(between) || apply(between, rest) !== next) broken.split++;
+    const other = random(), change = typed(text, other, other.length, "a");
+    if (apply(text, change) !== other || snapped(change, text) !== change && JSON.stringify(snapped(change, text)) !== JSON.stringify(change)) broken.typed++;
+  }
+  tell("no delta leaves half a character in 5,000 rounds", broken, { snapped: 0, split: 0, same: 0, typed: 0 });
+  tell("a drop is cut between characters", split(splice(0, 4, "", "a"), "🙂🙂", 16, 3), [[{ drop: 2 }], [{ drop: 2 }]]);
+  tell("half a character that is typed is U+FFFD", snapped(splice(0, 0, "a\ud83db", "a"), "x"), [{ insert: "a\ufffdb", author: "a" }]);
+  tell("what is typed inside of a character comes before it", snapped(splice(1, 0, "a", "a"), "🙂"), [{ insert: "a", author: "a" }]);
+  tell("a character of which half is erased is erased", snapped(splice(1, 1, "a", "a"), "🙂b"), [{ drop: 2 }, { insert: "a", author: "a" }]);
+}
+
 // Laws of deltas, on random ones.
 function deltas() {
   const dice = makeDice(3), broken = { transform: 0, invert: 0, compose: 0, runs: 0, split: 0, typed: 0, move: 0 };
@@ -58,10 +85,18 @@ function deltas() {
   tell("nor by an edit that is too long", split(splice(0, 0, "a🙂b", "a"), "", 16, 2)[0], [{ insert: "a", author: "a" }]);
 }
 
+// What `deltaOf` says of an answer that does not fit.
+function misfit(changes, text) {
+  try { return deltaOf(changes, text); } catch (error) { return error.constructor.name; }
+}
+
 function units() {
   tell("characters are counted", [count("a🙂b"), count("a🙂b", 1, 3), unit("a🙂b", 2), unit("ab", 2)], [3, 1, 3, 2]);
   const delta = [{ keep: 3 }, { drop: 1 }, { insert: "é", author: "a" }];
   tell("an edit's parts count characters", partsOf(delta, "a🙂bc"), [{ at: 2, len: 1 }, { at: 3, text: "é" }]);
+  tell("neighbouring insertions are one part", partsOf([{ keep: 1 }, { insert: "a", author: "a@1" }, { insert: "b", author: "a@2" }], "x"), [{ at: 1, text: "ab" }]);
+  const misfits = [misfit([["keep", 1]], "ab"), misfit([["keep", 3]], "ab"), misfit([["drop", 2]], "🙂"), misfit([["insert", "a", "a"]], "ab"), misfit([], "")];
+  tell("an answer that does not go through the whole text does not fit", misfits, ["Misfit", "Misfit", "Misfit", "Misfit", []]);
   tell("and an answer's changes, too", deltaOf([["keep", 2], ["drop", 1], ["insert", "é", "a"], ["keep", 1]], "a🙂bc"), delta);
 }
 
@@ -149,6 +184,7 @@ function words() {
 }
 
 deltas();
+wholeCharacters();
 units();
 undo();
 await history();

@@ -42,6 +42,14 @@ def no_words_of_an_author_are_lost_by_the_page():
     script(NODE, "lost_words_test.mjs")
 
 
+def nor_what_the_server_did_not_take():
+    script(NODE, "kept_words_test.mjs")
+
+
+def pages_agree_with_a_model_over_a_bad_network(rounds=40):
+    script(NODE, "storm_test.mjs", rounds)
+
+
 def pages_whose_connections_break_make_each_character_once(seconds=6):
     script(NODE, "server_test.mjs", f"ws://{WebServer(stderr=subprocess.DEVNULL).host}/socket", seconds)
 
@@ -78,6 +86,8 @@ TESTS = [
     named(the_parts_of_the_page_keep_their_laws, 60),
     named(the_pages_show_what_a_model_of_the_server_has, 120),
     named(no_words_of_an_author_are_lost_by_the_page, 60),
+    named(nor_what_the_server_did_not_take, 60),
+    named(pages_agree_with_a_model_over_a_bad_network, 300),
     named(pages_whose_connections_break_make_each_character_once, 150),
     named(another_client_library_speaks_with_the_socket, 60),
     named(forty_pages_type_beside_a_peer, 180),
@@ -87,6 +97,7 @@ TESTS = [
 # These take minutes: tests/run --long.
 LONG_TESTS = [
     named(lambda: the_pages_show_what_a_model_of_the_server_has(5_000), 600, "5,000 rounds with the model"),
+    named(lambda: pages_agree_with_a_model_over_a_bad_network(300), 900, "300 rounds over a bad network"),
     named(lambda: pages_whose_connections_break_make_each_character_once(60), 400, "connections break for two minutes"),
     named(lambda: the_same_over_tcp(30), 300, "connections over TCP break for a minute"),
     named(lambda: forty_pages_type_beside_a_peer(60), 400, "forty pages type for a minute beside a peer"),

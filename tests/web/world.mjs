@@ -7,6 +7,10 @@ import { SimulatedClock } from "./simulated_clock.mjs";
 
 const PAD = "p";
 
+// The author's words that were not taken, as a page keeps them; and whether all pages show what the model has.
+export const kept = ({ session }) => session.kept?.text ?? "";
+export const agree = (world) => world.pages.every(({ shown, session }) => shown === world.text() && session.pad.text === shown);
+
 export class World {
   constructor({ seed = 1, delay = 20, Kind, ...server } = {}) {
     this.clock = new SimulatedClock();

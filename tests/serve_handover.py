@@ -1,5 +1,7 @@
 """The script `serve` on a fresh machine: an unproved server serves, the proofs run behind it, and the proved one takes over."""
+import hashlib
 import os
+import shutil
 import signal
 import socket
 import subprocess
@@ -7,7 +9,7 @@ import threading
 import time
 
 from fresh_machine import Machine, begun, ends_machines, make_machine, notes, nothing_is_left, touch, wait_until
-from harness import Failed, Test, want
+from harness import Failed, Test, path_of, put_files, want
 from scripts_test import PYTHON, script
 
 READY = "serve: log in at http://127.0.0.1:"
@@ -174,6 +176,25 @@ def a_source_that_changes_meanwhile_is_said():
     machine.ends(signal.SIGTERM)
 
 
+def the_program_is_compared_with_that_of_a_release():
+    with open(path_of("pad_server"), "rb") as file:
+        right = hashlib.sha256(file.read()).hexdigest()
+    name = "crates/pad_server/out/pad_server"
+    for text, part in [
+        (f"# commit c\n{right}  {name}\n", "serve: the program that was proved and built here is that of the release in RELEASE, byte for byte"),
+        (f"{right[::-1]}  {name}\n{right}  crates/pad_store/out/pad_store\n", f"is NOT that of the release in RELEASE: its SHA-256 is {right}"),
+        ("", "is NOT that of the release in RELEASE"),
+    ]:
+        put_files([("RELEASE", text)])
+        machine = Machine("--proved")
+        machine.said(part)
+        machine.said(READY)
+        machine.ends(signal.SIGTERM)
+        os.remove("RELEASE")
+        shutil.rmtree("crates")
+        shutil.rmtree("bin")
+
+
 def taken_addresses_are_refused():
     variables = make_machine()
     needs = "serve: an unproved server needs HOST:PORT in --listen, with a port of 1 to 65535 (or use --proved)"
@@ -213,6 +234,7 @@ TESTS = [
     named("--proved waits for the proof", proved_waits_for_the_proof),
     named("--unproved proves nothing", unproved_proves_nothing),
     named("a source that changes meanwhile is said", a_source_that_changes_meanwhile_is_said),
+    named("the program is compared with that of a release", the_program_is_compared_with_that_of_a_release),
     named("taken addresses are refused", taken_addresses_are_refused),
     named("two pages type while the proved server takes over", two_pages_type_meanwhile, 300),
 ]

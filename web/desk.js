@@ -134,7 +134,7 @@ export class Desk {
   // refused and not copied, unless the author has decided to lose them. Resolves to whether the pad is closed.
   async close(isForced = false) {
     const { session } = this, { pad } = session, isSettled = isForced || await session.settle();
-    if (pad !== session.pad) return false;
+    if (!pad || pad !== session.pad) return false;
     if (!isSettled) { this.showUnsaved(); return false; }
     if (!isForced && session.kept.areWaiting) { this.notice.show(WORDS.uncopied, { canClose: true }); return false; }
     await this.leave();

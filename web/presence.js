@@ -1,5 +1,6 @@
 // Who is on the pad, and where their carets are in what this page shows. The answers to `who` say where carets were at a
-// revision; between two answers they move with the text. `moves` counts how often an author has moved the caret itself.
+// revision; between two answers they move with the text, and are behind what their authors write. `moves` counts how often
+// an author has moved the caret itself.
 import { move } from "./delta.js";
 import { unit } from "./units.js";
 
@@ -16,8 +17,8 @@ export class Presence {
   take(reply) {
     const known = new Map(this.people.map((person) => [person.visit, person])), isFirst = !this.people.length;
     this.people = reply.who.map(({ author, visit }) => {
-      const { at = null, moves = 0 } = known.get(visit) ?? {};
-      return { author, visit, isMe: visit === this.pad.visit, at, moves };
+      const { at = null, told = null, moves = 0 } = known.get(visit) ?? {};
+      return { author, visit, isMe: visit === this.pad.visit, at, told, moves };
     });
     this.held = reply;
     this.place();
@@ -44,8 +45,24 @@ export class Presence {
       const person = this.people.find((one) => one.visit === visit);
       if (!person) continue;
       const at = pad.carried(unit(base, caret), held.now);
-      if (at !== person.at) person.moves++;
-      person.at = at;
+      if (at !== person.told) this.put(person, at);
+      person.told = at;
+    }
+  }
+
+  put(person, at) {
+    if (at !== person.at) person.moves++;
+    person.at = at;
+  }
+
+  // Others have changed what is shown. The caret of one who writes is behind what came, before `who` says so.
+  wrote(delta) {
+    let at = 0;
+    for (const step of delta) {
+      at += step.keep ?? step.insert?.length ?? 0;
+      if (!step.insert) continue;
+      const writers = this.others.filter(({ author }) => author === step.author);
+      if (writers.length === 1) this.put(writers[0], at);
     }
   }
 
@@ -58,6 +75,9 @@ export class Presence {
 
   // What is shown has changed.
   move(delta) {
-    for (const person of this.people) if (person.at !== null) person.at = move(person.at, delta);
+    for (const person of this.people) {
+      if (person.at !== null) person.at = move(person.at, delta);
+      if (person.told !== null) person.told = move(person.told, delta);
+    }
   }
 }

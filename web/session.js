@@ -12,7 +12,9 @@ import { Misfit, count } from "./units.js";
 import { UnsentComments } from "./unsent.js";
 import { Lost } from "./wire.js";
 
-const ALONE = 4000, TOGETHER = 2000, CROWD = 10000, MOST_TOGETHER = 20, HIDDEN = 15000;
+// Milliseconds until it is asked again who is here: alone, with a few others, with more of them, in a crowd, out of sight.
+const ALONE = 4000, FEW = 1000, TOGETHER = 2000, CROWD = 10000, HIDDEN = 15000;
+const MOST_FEW = 5, MOST_TOGETHER = 20;
 // How long what is not sent yet may take before a pad is left.
 const SETTLE = 5000, LOOK = 20;
 const RIGHTS_EVERY = 10000, ROOM_EVERY = 60000;
@@ -136,7 +138,7 @@ export class Session extends Connection {
     const whenOpen = (act) => (given) => { if (pad === this.pad) act(given); };
     const pad = new Pad({
       name, me: this.me, ask: this.ask, clock: this.clock, pace: this.pace,
-      onReceive: whenOpen((delta) => this.view.onReceive(delta)),
+      onReceive: whenOpen((delta) => { this.presence.wrote(delta); this.view.onReceive(delta); }),
       onShow: whenOpen((delta) => this.showed(delta)),
       onMove: whenOpen((step) => this.moved(step)),
     });
@@ -179,6 +181,7 @@ export class Session extends Connection {
   // Sends what is not sent yet, if that takes seconds at most. Resolves to whether everything is saved.
   async settle() {
     const { pad } = this, end = this.clock.now() + SETTLE;
+    if (!pad) return true;
     while (pad === this.pad && this.isUnsent && !this.isLost && !this.isOver && this.clock.now() < end) {
       pad.hurry(true);
       await pause(LOOK, this.clock);
@@ -261,8 +264,8 @@ export class Session extends Connection {
     const { comments, presence } = this;
     let rightsAt = this.clock.now(), roomAt = -Infinity;
     while (pad === this.pad) {
-      const others = presence.others.length, now = this.clock.now();
-      await pause(this.isHidden ? HIDDEN : others > MOST_TOGETHER ? CROWD : others ? TOGETHER : ALONE, this.clock);
+      const now = this.clock.now();
+      await pause(this.pulseTime(presence.others.length), this.clock);
       if (pad !== this.pad || this.isLost) continue;
       try {
         presence.take(await pad.call({ do: "who" }));
@@ -271,6 +274,13 @@ export class Session extends Connection {
         if (now - roomAt >= ROOM_EVERY) { roomAt = now; await this.readRoom(pad); }
       } catch { /* the loop of the pad meets the same, and says so */ }
     }
+  }
+
+  pulseTime(others) {
+    if (this.isHidden) return HIDDEN;
+    if (others > MOST_TOGETHER) return CROWD;
+    if (others > MOST_FEW) return TOGETHER;
+    return others ? FEW : ALONE;
   }
 
   // The length can be compared if the page has just the revision that was counted.

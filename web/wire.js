@@ -4,7 +4,7 @@ import { clock as realClock } from "./clock.js";
 // Milliseconds after which a connection is given up: while it is opened; when a request is not answered; and when one is not
 // answered whose answer may be large. A request counts from when those before it are answered, since a large answer to
 // one of these may still be coming. A wait is answered once anything more is sent.
-const OPENING = 10000, ANSWER = 15000, LARGE_ANSWER = 60000;
+const OPENING = 10000, ANSWER = 15000, LARGE_ANSWER = 120000;
 const LARGE = ["text", "runs", "comments"];
 
 // The connection ended, perhaps after a refusal that nobody had asked for.

@@ -167,7 +167,27 @@ async function whoseWords() {
   world.end();
 }
 
+// ---- carets
+
+async function writersCaret() {
+  const world = new World(), [ann, bob] = await world.open("one two", "ann", "bob");
+  await world.advance(5 * SECOND);
+  const seen = [], caret = () => ann.session.presence.others[0].at, { onReceive } = ann.session.view;
+  ann.session.view.onReceive = (delta) => { onReceive(delta); seen.push(caret()); };
+  bob.session.moveCaret(3);
+  await world.advance(5 * SECOND);
+  bob.type(3, 0, "🙂!");
+  bob.session.moveCaret(6);
+  await world.settle();
+  tell("a writer's caret is behind what came, at once", seen.join() === "6", seen.join());
+  for (let k = 0; k < 40; k++) { await world.advance(100); seen.push(caret()); }
+  tell("and stays there", new Set(seen).size === 1, seen.join());
+  bob.session.moveCaret(1);
+  tell("until it is moved", await world.until(() => caret() === 1, 2 * SECOND), `${caret()}`);
+  world.end();
+}
+
 const TESTS = [
-  commentsOffline, commentUnsaved, commentAnswerLost, commentRefused, refusedWords, refusedWhileTyping, twoWindows, whoseWords,
+  commentsOffline, commentUnsaved, commentAnswerLost, commentRefused, refusedWords, refusedWhileTyping, twoWindows, whoseWords, writersCaret,
 ];
 await tally.run(TESTS);

@@ -66,6 +66,10 @@ def forty_pages_type_beside_a_peer(seconds=15):
     script(NODE, "crowd_test.mjs", f"ws://127.0.0.1:{web}/socket", ports[2], PAGES, seconds)
 
 
+def pages_outlive_a_server_that_is_killed(seconds):
+    script(NODE, "killed_test.mjs", path_of("pad_server"), seconds)
+
+
 def another_client_library_speaks_with_the_socket():
     script(PYTHON, "websockets_test.py", WebServer("--web-origin https://pads.example").web)
 
@@ -101,5 +105,6 @@ LONG_TESTS = [
     named(lambda: pages_whose_connections_break_make_each_character_once(60), 400, "connections break for two minutes"),
     named(lambda: the_same_over_tcp(30), 300, "connections over TCP break for a minute"),
     named(lambda: forty_pages_type_beside_a_peer(60), 400, "forty pages type for a minute beside a peer"),
+    named(lambda: pages_outlive_a_server_that_is_killed(90), 500, "pages outlive a server that is killed"),
     named(a_large_pad_in_a_browser, 400),
 ]

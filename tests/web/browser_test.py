@@ -11,10 +11,14 @@ import random
 import sys
 import tempfile
 
+from compositions import compositions
 from first_visit import first_visit
-from hard_cases import hostile, lost_pad
-from page_checks import contrasts, control_names, drawn_lines
-from windows import BROKEN, ON_DISK, PAST, ChangedPage, Keys, Line, Server, Window, units, until
+from hard_cases import full_pad, hostile, lost_pad
+from keyboard import by_hand
+from looks import exports, looks
+from page_checks import plain
+from visits import visits
+from windows import BROKEN, ON_DISK, PAST, Keys, Line, Server, Window, units, until
 
 BOB_MAY = "Can write"
 HUES = """
@@ -54,15 +58,6 @@ class Test:
     def shot(self, window, name):
         if self.folder:
             window.shot(self.folder, name)
-
-
-def plain(test, window, where):
-    """What is shown now can be named and read, in both modes."""
-    bare, poor = control_names(window), []
-    for is_dark in (True, False):
-        window.dark(is_dark)
-        poor += contrasts(window)
-    test.check(f"{where}: every control has a name, and all words a contrast of at least 4.5", not bare and not poor, (bare, poor))
 
 
 def way_in(test):
@@ -316,69 +311,6 @@ def random_keys(test):
     test.check("and with the server", server == test.ann.text, (server, test.ann.text))
 
 
-def exports(test, downloads):
-    ann, check = test.ann, test.check
-    ann.driver.execute_cdp_cmd("Browser.setDownloadBehavior", {"behavior": "allow", "downloadPath": downloads})
-    for button, ending in (("as-text", ".txt"), ("as-markdown", ".md")):
-        ann.click("export")
-        ann.click(button)
-        name = until(lambda: next((name for name in os.listdir(downloads) if name.endswith(ending)), None))
-        text = ""
-        if name:
-            with open(os.path.join(downloads, name), encoding="utf-8", newline="") as file:
-                text = file.read()
-        check(f"{ending}: the pad is exported", text == ann.text if ending == ".txt" else "[^1]: **ann**" in text and "<sup>bob</sup>" in text, text)
-
-
-def looks(test):
-    ann, bob, check = test.ann, test.bob, test.check
-    plain(test, ann, "the pad")
-    ann.dark()
-    test.shot(ann, "dark")
-    ann.dark(False)
-    check("lines are drawn like those of a new page", drawn_lines(ann) == "", drawn_lines(ann))
-    bob.driver.execute_cdp_cmd("Emulation.setDeviceMetricsOverride", {"width": 375, "height": 740, "deviceScaleFactor": 2, "mobile": True})
-    check("a phone's width is enough", until(lambda: bob.run("return document.documentElement.scrollWidth <= innerWidth")), bob.run("return [document.documentElement.scrollWidth, innerWidth]"))
-    test.shot(bob, "phone")
-    bob.driver.execute_cdp_cmd("Emulation.clearDeviceMetricsOverride", {})
-    bob.driver.execute_cdp_cmd("Emulation.setEmulatedMedia", {"media": "print"})
-    bob.run("dispatchEvent(new Event('beforeprint'))")
-    seen = [name for name in ("bar", "keys", "text", "print-head") if bob.get(name).is_displayed()]
-    check("a print has a head and the text only", seen == ["text", "print-head"], seen)
-    test.shot(bob, "print")
-    bob.driver.execute_cdp_cmd("Emulation.setEmulatedMedia", {"media": ""})
-    for window in (ann, bob):
-        faults = window.faults()
-        check("the browser reports no fault", not faults, faults)
-
-
-def full_pad(test, folder):
-    """A page that believes in smaller limits."""
-    with open(os.path.join(folder, "limits.js"), "w", encoding="utf-8") as file:
-        file.write("export const LIMITS = { operations: 40, characters: 4e6, comments: 1e4, edit: 1e4, parts: 16, comment: 2e3, entries: 100 };\n")
-    ann, check = test.ann, test.check
-    changed = ChangedPage(test.server, folder)
-    ann.url = changed.url
-    ann.log_in("ann", "t1", "#minutes")
-    check("an address opens its pad", until(lambda: ann.get("pad-name").text == "minutes" and ann.is_saved(1)))
-    ann.click("close")
-    check("a pad is closed", until(lambda: ann.get("choose").is_displayed()))
-    ann.open("small", "create")
-    line = Line(test.server.port, "ann", "t1")
-    line.ask(do="join", pad="small")
-    for rev in range(37):
-        line.ask(do="insert", pad="small", rev=rev, at=rev, text="x")
-    check("from 90 % on the page says so", until(lambda: "% full" in ann.get("notice-text").text), ann.get("notice-text").text)
-    test.shot(ann, "nearly-full")
-    ann.click("notice-go-on")
-    ann.get("go-on-name").send_keys(Keys.ENTER)
-    wanted = "Continues the pad “small” after its revision 37.\n\n" + "x" * 37
-    check("and the pad goes on in a new one", until(lambda: ann.get("pad-name").text == "small-2" and ann.text == wanted), (ann.get("pad-name").text, ann.text))
-    faults = ann.faults()
-    check("without a fault", not faults, faults)
-    changed.end()
-
-
 def play(program, folder, tally):
     """Plays all parts before a new server."""
     with tempfile.TemporaryDirectory() as home, tempfile.TemporaryDirectory() as pages, tempfile.TemporaryDirectory() as downloads:
@@ -391,6 +323,9 @@ def play(program, folder, tally):
             exports(test, downloads)
             hostile(test)
             first_visit(test)
+            by_hand(test)
+            compositions(test)
+            visits(test)
             lost_pad(test)
             full_pad(test, pages)
         finally:

@@ -1,8 +1,8 @@
-"""What a window makes of hostile words, and of a server that has lost a pad."""
+"""What a window makes of hostile words, of a server that has lost a pad, and of a pad that is full."""
 import os
 import shutil
 
-from windows import PAST, Line, units, until
+from windows import PAST, ChangedPage, Keys, Line, units, until
 
 # All control characters but those that end a line, marks that change the direction, and markup.
 HOSTILE = "".join(map(chr, range(0x20))).replace("\n", "").replace("\r", "") + (
@@ -70,3 +70,30 @@ def lost_pad(test):
     line.ask(do="join", pad="restored")
     text = line.ask(do="text", pad="restored")["text"]
     check("nothing is sent to it", text == "old words", text)
+
+
+def full_pad(test, folder):
+    """A page that believes in smaller limits."""
+    with open(os.path.join(folder, "limits.js"), "w", encoding="utf-8") as file:
+        file.write("export const LIMITS = { operations: 40, characters: 4e6, comments: 1e4, edit: 1e4, parts: 16, comment: 2e3, entries: 100 };\n")
+    ann, check = test.ann, test.check
+    changed = ChangedPage(test.server, folder)
+    ann.url = changed.url
+    ann.log_in("ann", "t1", "#minutes")
+    check("an address opens its pad", until(lambda: ann.get("pad-name").text == "minutes" and ann.is_saved(1)))
+    ann.click("close")
+    check("a pad is closed", until(lambda: ann.get("choose").is_displayed()))
+    ann.open("small", "create")
+    line = Line(test.server.port, "ann", "t1")
+    line.ask(do="join", pad="small")
+    for rev in range(37):
+        line.ask(do="insert", pad="small", rev=rev, at=rev, text="x")
+    check("from 90 % on the page says so", until(lambda: "% full" in ann.get("notice-text").text), ann.get("notice-text").text)
+    test.shot(ann, "nearly-full")
+    ann.click("notice-go-on")
+    ann.get("go-on-name").send_keys(Keys.ENTER)
+    wanted = "Continues the pad “small” after its revision 37.\n\n" + "x" * 37
+    check("and the pad goes on in a new one", until(lambda: ann.get("pad-name").text == "small-2" and ann.text == wanted), (ann.get("pad-name").text, ann.text))
+    faults = ann.faults()
+    check("without a fault", not faults, faults)
+    changed.end()

@@ -97,3 +97,12 @@ def contrasts(window):
 
 def drawn_lines(window):
     return window.driver.execute_async_script(LINES)
+
+
+def plain(test, window, where):
+    """What is shown now can be named and read, in both modes."""
+    bare, poor = control_names(window), []
+    for is_dark in (True, False):
+        window.dark(is_dark)
+        poor += contrasts(window)
+    test.check(f"{where}: every control has a name, and all words a contrast of at least 4.5", not bare and not poor, (bare, poor))

@@ -11,6 +11,7 @@ import { authorsOf, colourOf, giveColours } from "../../web/colours.js";
 import { apply, applyRuns, compose, invert, move, snapped, splice, split, transform, typed } from "../../web/delta.js";
 import { toMarkdown } from "../../web/exports.js";
 import { History, merged } from "../../web/history.js";
+import { letterOf } from "../../web/keys.js";
 import { Undo } from "../../web/undo.js";
 import { count, deltaOf, partsOf, unit } from "../../web/units.js";
 import { LABELS, REFUSALS, WORDS } from "../../web/words.js";
@@ -147,6 +148,28 @@ function exported() {
   ].join("\n"));
 }
 
+// Authors of two servers can have one name, and a file that is kept must not give the words of one to the other.
+function exportedFromTwoServers() {
+  const comments = [{ author: "ann@2", from: 0, to: 3, text: "which?", isResolved: false }];
+  const have = toMarkdown({ name: "p", rev: 2, text: "one two six", runs: [["ann@1", 4], ["ann@2", 4], ["bob@1", 3]], comments });
+  tell("Markdown tells authors of two servers apart", have.split("\n").slice(4), [
+    "<sup>ann@1</sup>one[^1] <sup>ann@2</sup>two <sup>bob</sup>six", "", "[^1]: **ann@2**: “one”: which?", "",
+  ]);
+}
+
+function keys() {
+  const letters = [["z", "KeyZ"], [";", "KeyZ"], ["Z", "Slash"], ["я", "KeyZ"], ["ζ", "KeyZ"], ["ז", "KeyZ"], ["Enter", "Enter"]];
+  tell("a shortcut's letter is what a Latin key types, or else its place", letters.map(([key, code]) => letterOf({ key, code })), ["z", ";", "z", "z", "z", "z", "enter"]);
+}
+
+// Every module is named in the document, so that a browser fetches all of them at once, and not one behind the other.
+function modules() {
+  const html = fs.readFileSync(path.join(WEB, "index.html"), "utf8");
+  const named = [...html.matchAll(/<link rel="modulepreload" href="\/(\w+\.js)">/g)].map(([, name]) => name);
+  const main = html.match(/<script type="module" src="\/(\w+\.js)">/)[1];
+  tell("all modules are loaded at once", [main, ...named].sort(), fs.readdirSync(WEB).filter((name) => name.endsWith(".js")).sort());
+}
+
 // Colours depend on who the authors are, whatever happened before.
 function colours() {
   const pad = (rights, authors, remarks = []) => ({
@@ -189,6 +212,9 @@ units();
 undo();
 await history();
 exported();
+exportedFromTwoServers();
+keys();
+modules();
 colours();
 words();
 console.log(`${passed} passed, ${failed} failed`);

@@ -1,4 +1,4 @@
-"""The README's table of limits: each number in it is that of the code."""
+"""The table of docs/LIMITS.md: each number in it is that of the code."""
 import re
 
 from harness import ROOT, Failed, Test, want
@@ -36,15 +36,15 @@ def value_of(path, name):
     return int(found[1].replace("_", ""))
 
 
-def rows_of_readme():
-    with open(f"{ROOT}/README.md", encoding="utf-8") as file:
-        part = file.read().split("\n## Limits\n")[1].split("\n## ")[0]
-    rows = [line.strip("| ").split(" | ") for line in part.splitlines() if line.startswith("| ")]
+def rows_of_page():
+    with open(f"{ROOT}/docs/LIMITS.md", encoding="utf-8") as file:
+        lines = file.read().splitlines()
+    rows = [line.strip("| ").split(" | ") for line in lines if line.startswith("| ")]
     return rows[1:]  # without the titles
 
 
 def numbers_are_those_of_the_code():
-    rows = rows_of_readme()
+    rows = rows_of_page()
     want(len(rows), len(ROWS), "how many rows the table has")
     for (what, most), (begin, path, name) in zip(rows, ROWS):
         want(what[: len(begin)], begin, "what a row limits")
@@ -52,4 +52,4 @@ def numbers_are_those_of_the_code():
         want(numbers, [value_of(path, name)], f"the limit of {what}")
 
 
-TESTS = [Test("limits: the README has those of the code", numbers_are_those_of_the_code)]
+TESTS = [Test("limits: docs/LIMITS.md has those of the code", numbers_are_those_of_the_code)]

@@ -55,14 +55,13 @@ export class Presence {
     person.at = at;
   }
 
-  // Others have changed what is shown. The caret of one who writes is behind what came, before `who` says so.
+  // Others have changed what is shown. Where one writes at its caret, the caret is behind what came, before `who` says so.
   wrote(delta) {
     let at = 0;
-    for (const step of delta) {
-      at += step.keep ?? step.insert?.length ?? 0;
-      if (!step.insert) continue;
-      const writers = this.others.filter(({ author }) => author === step.author);
-      if (writers.length === 1) this.put(writers[0], at);
+    for (const { keep = 0, insert = "", author } of delta) {
+      const writer = insert && this.others.find((person) => person.author === author && person.at === at);
+      at += keep + insert.length;
+      if (writer) this.put(writer, at);
     }
   }
 

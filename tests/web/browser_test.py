@@ -14,6 +14,7 @@ import tempfile
 from compositions import compositions
 from first_visit import first_visit
 from hard_cases import full_pad, hostile, lost_pad
+from kept_checks import kept_words
 from keyboard import by_hand
 from looks import exports, looks
 from page_checks import plain
@@ -327,6 +328,7 @@ def play(program, folder, tally):
             compositions(test)
             visits(test)
             lost_pad(test)
+            kept_words(test)
             full_pad(test, pages)
         finally:
             if test:

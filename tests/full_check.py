@@ -227,6 +227,17 @@ def an_edit_that_is_not_refused_is_not_written_down():
     want(read("top/.ci/edits-tried"), record, "the record after a run that says nothing of low")
 
 
+def a_short_run_tries_no_long_edits():
+    repository(says=refusals().replace("rt: must-fail high/c.edit: refused, as it must be: f\n", ""))
+    want(run(".ci/long", "--short").returncode, 0, "the status of the short run")
+    want(sorted(read("edits").split()), sorted(path for path in EDITS if "long" not in path), "the edits of the short run")
+    want(recorded(), ["apart", "high", "low"], "the record")
+    want(tried_here(), [], "the edits of the full check")
+    write("says", refusals(but=["b.edit"]))
+    run(".ci/long", "--short")
+    want(recorded(), ["apart", "low"], "the record after an edit of high that was proved")
+
+
 def single_crates_and_what_has_changed():
     repository()
     run(".ci/long", "high")
@@ -245,5 +256,6 @@ TESTS = [
     Test("full check: what has changed brings edits back", what_has_changed_brings_edits_back, 60),
     Test("full check: a wrong line hides no change", a_wrong_line_hides_no_change, 60),
     Test("full check: an edit that is not refused is not written down", an_edit_that_is_not_refused_is_not_written_down),
+    Test("full check: a short run tries no long edits", a_short_run_tries_no_long_edits),
     Test("full check: single crates, and what has changed", single_crates_and_what_has_changed),
 ]

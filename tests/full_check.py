@@ -245,6 +245,7 @@ def single_crates_and_what_has_changed():
     commit()
     run(".ci/long", "--changed")
     want(sorted(read("edits").split()), ["apart/must-fail/d.edit", "low/must-fail/a.edit"], "the edits of what has changed")
+    want(recorded(), ["high"], "the record after that")
 
 
 TESTS = [

@@ -1,9 +1,10 @@
 #!/usr/bin/env python3
-"""How fast the page is on a pad of 105,000 characters with some 2,000 author runs.
+"""How fast the page is on a pad of 105,000 characters with some 2,000 author runs, and on one of a million.
 
-    tests/web/large_pad.py PROGRAM
+    tests/web/large_pad.py [--disk] PROGRAM
 
-PROGRAM is crates/pad_server/out/pad_server. Prints milliseconds, and fails if a letter takes more than 50 to the next frame.
+PROGRAM is crates/pad_server/out/pad_server. Prints milliseconds, and fails if a letter takes more than 50 to the next frame,
+or if it takes more than 3,000 to select the million characters and erase them. With --disk, the page is that on disk.
 """
 import os
 import random
@@ -11,7 +12,7 @@ import sys
 import tempfile
 import time
 
-from windows import Line, Server, Window, until
+from windows import ON_DISK, Keys, Line, Server, Window, until
 
 WATCH = """
 window.took = [];
@@ -25,16 +26,22 @@ document.getElementById('text').addEventListener('keydown', () => {
 WORDS = "the council notes that quays and cranes are to be painted before the ships return from the northern harbours".split()
 
 
-def fill(ann, bob, pad):
+def write(ann, pad, inserts, dice):
+    """Makes a pad of so many insertions of some 9,900 characters. Answers its revision."""
     ann.ask(do="create", pad=pad)
-    ann.ask(do="grant", pad=pad, author="bob", right="write")
-    bob.ask(do="join", pad=pad)
-    dice, rev = random.Random(1), 0
-    for _ in range(10):
+    for rev in range(inserts):
         text = ""
         while len(text) < 9900:
             text += dice.choice(WORDS) + (" " if dice.random() > 0.06 else ".\n\n")
-        rev = ann.ask(do="insert", pad=pad, rev=rev, at=0, text=text[:10000])["now"]
+        ann.ask(do="insert", pad=pad, rev=rev, at=0, text=text[:10000])
+    return inserts
+
+
+def fill(ann, bob, pad):
+    dice = random.Random(1)
+    rev = write(ann, pad, 10, dice)
+    ann.ask(do="grant", pad=pad, author="bob", right="write")
+    rev = bob.ask(do="join", pad=pad)["now"]
     for _ in range(63):
         parts = [{"at": dice.randrange(90000), "text": "(bob) "} for _ in range(16)]
         rev = bob.ask(do="edit", pad=pad, rev=rev, parts=parts)["now"]
@@ -49,6 +56,19 @@ def letters(window):
         window.keys("x")
         time.sleep(0.1)
     return window.run("return window.took")
+
+
+def erase_all(window, ann):
+    """How many milliseconds it takes to select and erase a million characters, or None if it fails."""
+    write(ann, "huge", 101, random.Random(2))
+    window.log_in("ann", "t1")
+    window.open("huge")
+    until(lambda: window.get("pad-name").text == "huge" and window.is_saved(1), 60)
+    window.select(0)
+    start = time.time()
+    window.keys("a", held=[Keys.CONTROL])
+    window.keys(Keys.DELETE)
+    return 1000 * (time.time() - start) if window.text == "" else None
 
 
 def main(program):
@@ -82,12 +102,16 @@ def main(program):
             window.run("const rev = document.getElementById('rev'); rev.value = 20; rev.dispatchEvent(new Event('input'))")
             until(lambda: window.get("rev-made").text.startswith("Revision 20 "))
             print(f"the slider shows another revision after {1000 * (time.time() - start):.0f} ms")
-            print(f"{int(frame[15] <= 50)} passed, {int(frame[15] > 50)} failed")
-            return int(frame[15] > 50)
+            erased = erase_all(window, ann)
+            print(f"a million characters are erased after {erased:.0f} ms" if erased else "a million characters are not erased")
+            failed = int(frame[15] > 50) + int(not erased or erased > 3_000)
+            print(f"{2 - failed} passed, {failed} failed")
+            return int(failed > 0)
         finally:
             window.quit()
-            server.kill()
+            server.end()
 
 
 if __name__ == "__main__":
-    sys.exit(main(os.path.realpath(sys.argv[1])))
+    given = [word for word in sys.argv[1:] if word != ON_DISK]
+    sys.exit(main(os.path.realpath(given[0])))

@@ -1,4 +1,4 @@
-"""The tests of the page that are scripts: in node, and in Debian's Python, for which Chromium's driver is packaged."""
+"""The tests of the page that are scripts: in node, and in Debian's Python, for which Chromium's driver and a client of sockets are packaged."""
 import os
 import re
 import subprocess
@@ -78,6 +78,10 @@ def two_windows_of_a_browser():
     script(PYTHON, "browser_test.py", path_of("pad_server"))
 
 
+def two_windows_of_firefox():
+    script(PYTHON, "firefox_test.py", path_of("pad_server"))
+
+
 def a_large_pad_in_a_browser():
     script(PYTHON, "large_pad.py", path_of("pad_server"))
 
@@ -96,6 +100,7 @@ TESTS = [
     named(another_client_library_speaks_with_the_socket, 60),
     named(forty_pages_type_beside_a_peer, 180),
     named(two_windows_of_a_browser, 700),
+    named(two_windows_of_firefox, 200),
 ]
 
 # These take minutes: tests/run --long.

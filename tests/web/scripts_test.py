@@ -78,6 +78,10 @@ def two_windows_of_a_browser():
     script(PYTHON, "browser_test.py", path_of("pad_server"))
 
 
+def compositions_at_random(rounds=100):
+    script(PYTHON, "random_compositions.py", path_of("pad_server"), rounds)
+
+
 def two_windows_of_firefox():
     script(PYTHON, "firefox_test.py", path_of("pad_server"))
 
@@ -112,4 +116,5 @@ LONG_TESTS = [
     named(lambda: forty_pages_type_beside_a_peer(60), 400, "forty pages type for a minute beside a peer"),
     named(lambda: pages_outlive_a_server_that_is_killed(90), 500, "pages outlive a server that is killed"),
     named(a_large_pad_in_a_browser, 400),
+    named(lambda: compositions_at_random(400), 400, "400 compositions at random"),
 ]

@@ -45,7 +45,7 @@ export class Desk {
       onShow: () => { this.showEditable(); this.showComments(); this.place(); this.list(); },
       onRestore: (delta, rev) => this.restore(delta, rev),
     });
-    this.goOn = new GoOnBox(session, () => this.open());
+    this.goOn = new GoOnBox(session, { onDone: () => this.open(), onGone: () => this.leave().then(() => this.onClose()) });
     this.notice = new Notice(session.kept, { onGoOn: () => this.goOn.open(), onClose: () => this.close(true) });
     this.rights = new RightsBox(session, (text) => say($("news"), text));
     this.exports = new ExportMenu(() => (this.isOpen ? this.revision : null));
@@ -101,6 +101,7 @@ export class Desk {
     this.carets.clear();
     this.past.start(pad);
     this.notice.hide();
+    if (this.session.kept.areWaiting) this.notice.show(""); // of a full pad that goes on in this one
     giveColours(authorsOf(this.session));
     this.editor.show(pad.text);
     this.showAll();

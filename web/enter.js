@@ -102,9 +102,9 @@ export class Enter {
 
   // The address names another pad now. If the open one has words that cannot be sent, it stays.
   async follow() {
-    const { login, pad } = this.session, { hash } = location;
+    const { entering, login, pad } = this.session, { hash } = location;
     if (!login || hash.slice(1) === pad?.name) return;
-    if (pad && !(await this.onLeave()) && pad === this.session.pad) {
+    if (pad && !entering && !(await this.onLeave()) && pad === this.session.pad) {
       history.replaceState(null, "", `#${pad.name}`);
       return;
     }
@@ -115,7 +115,7 @@ export class Enter {
   // Where several pads are asked for, the last one is opened.
   async enter(how, name) {
     say($("open-error"), "");
-    if (this.session.pad && !(await this.onLeave())) return;
+    if (this.session.pad && !this.session.entering && !(await this.onLeave())) return;
     try { await this.session[how](name); } catch (error) {
       if (error instanceof Superseded) return;
       say($("open-error"), error.reply?.code === DENIED ? WORDS.noRight : reason(error));

@@ -4,9 +4,9 @@ import { $, fill, say } from "./page.js";
 import { WORDS } from "./words.js";
 
 export class GoOnBox {
-  // `onDone` is called when the session has the new pad.
-  constructor(session, onDone) {
-    Object.assign(this, { session, onDone });
+  // `onDone` is called when the session has the new pad, and `onGone` when it has none any more.
+  constructor(session, { onDone, onGone }) {
+    Object.assign(this, { session, onDone, onGone });
     $("go-on").addEventListener("submit", (event) => { event.preventDefault(); this.goOn(); });
     $("go-on-cancel").addEventListener("click", () => $("go-on-box").close());
   }
@@ -24,6 +24,7 @@ export class GoOnBox {
       await this.session.goOnIn($("go-on-name").value, WORDS.continues(pad.name, pad.rev));
     } catch (error) {
       say($("go-on-error"), reason(error));
+      if (!this.session.pad) { $("go-on-box").close(); this.onGone(); }
       return;
     }
     $("go-on-box").close();

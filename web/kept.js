@@ -12,6 +12,9 @@ export class KeptWords {
     this.isCopied &&= !words.trim();
   }
 
+  // Another text is shown, in which they have no place.
+  leave() { for (const piece of this.pieces) piece.at = null; }
+
   // What is shown has changed.
   move(delta) {
     for (const piece of this.pieces) if (piece.at !== null) piece.at = move(piece.at, delta);

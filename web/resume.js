@@ -47,14 +47,15 @@ async function settle(pad, visit, me) {
 }
 
 // Looks at something until it is found, or until nothing more can come of a visit. What it made before it went is there
-// when the last look is taken. Resolves to what was found.
-export async function whenGone(pad, visit, look) {
-  for (let wait = FIRST_LOOK; ; wait = Math.min(wait * 1.5, LAST_LOOK)) {
+// when the last look is taken. Resolves to what was found, also if `goesOn` ends it.
+export async function whenGone(pad, visit, look, goesOn = () => true) {
+  for (let wait = FIRST_LOOK; goesOn(); wait = Math.min(wait * 1.5, LAST_LOOK)) {
     const { who } = await pad.call({ do: "who" }), isGone = !who.some((one) => one.visit === visit);
     const found = await look();
     if (found || isGone) return found;
     await pause(wait, pad.clock);
   }
+  return null;
 }
 
 // Looks for the revision that the flight made: one of this author that changes just what the flight changes there. Earlier

@@ -37,7 +37,8 @@ export class Session extends Connection {
     super(connection);
     Object.assign(this, { pace, view: { ...VIEW, ...view } });
     this.pad = null; this.presence = null; this.comments = null; this.kept = new KeptWords(); this.caret = new OwnCaret(this);
-    this.entries = 0; this.lastEntry = Promise.resolve(); // how many pads were asked for, and the end of the last one's entry
+    // How many pads were asked for, how many of these are being opened, and the end of the last one's entry.
+    this.entries = 0; this.entering = 0; this.lastEntry = Promise.resolve();
     this.right = "none"; this.rights = []; this.cells = 0; this.heldBy = null; this.isHidden = false;
   }
 
@@ -106,8 +107,9 @@ export class Session extends Connection {
   // Opens a pad. One is open at a time: the one before it is left first. Of those that are asked for while one is being
   // opened, only the last is opened.
   enter(how, name) {
-    const entry = ++this.entries, entered = this.lastEntry.then(() => this.enterAs(entry, how, name));
-    this.lastEntry = entered.then(NOTHING, NOTHING);
+    const entry = ++this.entries, entered = this.lastEntry.then(() => this.enterAs(entry, how, name)), end = () => { this.entering--; };
+    this.entering++;
+    this.lastEntry = entered.then(end, end);
     return entered;
   }
 
@@ -130,6 +132,7 @@ export class Session extends Connection {
     this.follow(pad);
     await this.refresh();
     goOn();
+    if (pad !== this.pad) throw new Superseded(name);
     return pad;
   }
 
@@ -157,7 +160,7 @@ export class Session extends Connection {
       onRefused: whenOpen((reply, text) => this.refusedComment(reply, text)),
     });
     this.comments = new Comments(pad, unsent, whenOpen(() => view.onComments()));
-    this.kept.clear();
+    this.kept.leave();
     this.caret.forget();
     Object.assign(this, { pad, right: "none", rights: [], cells: 0, heldBy: null });
     this.start(pad);
@@ -192,6 +195,7 @@ export class Session extends Connection {
 
   async leave() {
     const { pad } = this;
+    if (!pad) return;
     this.stop();
     this.pad = null;
     this.heldBy = null;
@@ -362,7 +366,8 @@ export class Session extends Connection {
     return { used, left: Math.max(0, operations - now) };
   }
 
-  // Makes a new pad with this text behind a first line, with the same rights, and leaves this one.
+  // Makes a new pad with this text behind a first line, with the same rights, and leaves this one. Comments that could not be
+  // sent are kept for the author.
   async goOnIn(name, firstLine) {
     const characters = Array.from(`${firstLine}\n\n${this.pad.text}`), { rights } = this;
     await this.call({ do: "create", pad: name });
@@ -374,6 +379,7 @@ export class Session extends Connection {
       if (author !== this.name && right !== "none") await this.call({ do: "grant", pad: name, author, right });
     }
     await this.call({ do: "leave", pad: name });
+    for (const text of this.comments.unsent.giveUp()) this.kept.add(text);
     await this.leave();
     return this.join(name);
   }

@@ -83,15 +83,17 @@ export class Pad {
   // The author changed what is shown. A step of undo is not remembered again. Where that was half a character, what is shown
   // is put right.
   type(given, isRemembered = true) {
-    const delta = authored(snapped(given, this.text), this.me), before = this.text;
+    const whole = snapped(given, this.text), delta = authored(whole, this.me), before = this.text;
     if (isEmpty(delta)) return;
     if (isRemembered) this.undo.typed(delta, before, this.runs);
     this.pending = compose(this.pending, delta);
     this.show(delta);
-    const drawn = apply(before, given);
-    if (drawn !== this.text) this.onReceive(typed(drawn, this.text, this.text.length, this.me));
+    if (whole !== given) this.correct(apply(before, given));
     this.wake?.();
   }
+
+  // The display has drawn another text.
+  correct(drawn) { if (drawn !== this.text) this.onReceive(typed(drawn, this.text, this.text.length, this.me)); }
 
   show(delta) {
     this.text = apply(this.text, delta);

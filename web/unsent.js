@@ -12,6 +12,12 @@ const LOOK = 50, LAST_TRY = 10000;
 // Nothing is selected: what the server would say of a comment whose words are gone.
 const EMPTY = { ok: false, code: 322, error: "Empty" };
 
+// What was refused while a comment was looked for is tried again later.
+function onlyRefused(error) {
+  if (!(error instanceof Refused)) throw error;
+  return false;
+}
+
 // Whether two stretches are the same words. Where erased words stood is not known for sure.
 const areSame = (one, other) => one.from === one.to || other.from === other.to || (one.from < other.to && other.from < one.to);
 
@@ -51,7 +57,7 @@ export class UnsentComments {
       pad.hurry(Boolean(comment));
       if (!comment) await new Promise((done) => { this.wake = done; });
       else if (pad.isUnsent) await pause(LOOK, this.clock);
-      else if (await this.send(comment, turn)) wait = 1000;
+      else if (await this.send(comment, turn).catch(onlyRefused)) wait = 1000;
       else {
         await pause(wait, this.clock);
         wait = Math.min(2 * wait, LAST_TRY);
@@ -81,7 +87,7 @@ export class UnsentComments {
   // The answer to a comment was lost. Once nothing more can come of the connection, the comment is among those of this
   // author since, with this text and on these words, or it was not made.
   async wasMade(comment, turn) {
-    const { pad } = this, found = await whenGone(pad, comment.sent.visit, () => this.find(comment, turn));
+    const { pad } = this, found = await whenGone(pad, comment.sent.visit, () => this.find(comment, turn), () => this.turn === turn);
     if (this.turn !== turn) return true;
     if (found) this.made(comment, found.name);
     else comment.sent = null;

@@ -14,8 +14,7 @@ export class Deeds {
   fault(text) { throw Object.assign(new Error(text), { isFound: true }); }
 
   add(page) {
-    const isTwin = this.pages.some(({ session }) => session.name === page.session.name);
-    this.pages.push(Object.assign(page, { mine: new Map(), isTwin, isSwitching: false, wantsPad: false }));
+    this.pages.push(Object.assign(page, { mine: new Map(), isSwitching: false, wantsPad: false }));
   }
   remove(page) { this.pages = this.pages.filter((one) => one !== page); }
 
@@ -44,7 +43,7 @@ export class Deeds {
     const text = from === to || dice(2) ? this.characters(1 + dice(isLarge ? 60 : 5)) : "";
     this.note(page, pad, pad.text.slice(spots[from], spots[to]), text);
     page.type(spots[from], spots[to] - spots[from], text);
-    if (!page.isTwin) page.session.moveCaret(spots[from] + text.length);
+    if (!this.pages.some((one) => one !== page && one.session.name === page.session.name)) page.session.moveCaret(spots[from] + text.length);
   }
 
   note(page, pad, dropped, typed) {

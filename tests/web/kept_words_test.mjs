@@ -121,6 +121,21 @@ async function refusedWhileTyping() {
   world.end();
 }
 
+// A pad is full and goes on in a new one: words that it did not take are still there to be copied.
+async function refusedByFullPad() {
+  const world = new World(), [ann] = await world.open("base", "ann");
+  world.server.most = 3;
+  ann.type(4, 0, " last words");
+  remark(ann, "base", "a remark");
+  await world.until(() => ann.refusals.length > 0, 5 * SECOND);
+  world.server.most = 10000;
+  await world.clock.finish(ann.session.goOnIn("p2", "Continues p."));
+  const text = "Continues p.\n\nbase";
+  tell("words that a full pad did not take are kept in the one that goes on", kept(ann).includes(" last words") && ann.session.pad.text === text, JSON.stringify([kept(ann), ann.session.pad.text]));
+  tell("with comments that were not sent", kept(ann).includes("a remark") || world.model().remarks.length === 1, kept(ann));
+  world.end();
+}
+
 // ---- one author in two windows
 
 async function twoWindows() {
@@ -188,6 +203,6 @@ async function writersCaret() {
 }
 
 const TESTS = [
-  commentsOffline, commentUnsaved, commentAnswerLost, commentRefused, refusedWords, refusedWhileTyping, twoWindows, whoseWords, writersCaret,
+  commentsOffline, commentUnsaved, commentAnswerLost, commentRefused, refusedWords, refusedWhileTyping, refusedByFullPad, twoWindows, whoseWords, writersCaret,
 ];
 await tally.run(TESTS);

@@ -38,7 +38,7 @@ def two_pads(test):
 
 def unsent_comments(test):
     ann, server, check = test.ann, test.server, test.check
-    ann.open("remarks", "create")
+    ann.open("unsent-remarks", "create")
     ann.type("alpha beta gamma", 0)
     ann.is_saved()
     server.kill()
@@ -57,9 +57,9 @@ def unsent_comments(test):
     server.start()
     check("they are sent when the server is back", ann.is_saved(40) and until(lambda: "Not sent yet" not in "".join(ann.run(CARDS))), ann.run(CARDS))
     line = Line(server.port, "ann", "t1")
-    line.ask(do="join", pad="remarks")
-    text = line.ask(do="text", pad="remarks")["text"]
-    made = sorted((one["text"], text[one["at"] : one["at"] + one["len"]]) for one in line.ask(do="comments", pad="remarks")["comments"])
+    line.ask(do="join", pad="unsent-remarks")
+    text = line.ask(do="text", pad="unsent-remarks")["text"]
+    made = sorted((one["text"], text[one["at"] : one["at"] + one["len"]]) for one in line.ask(do="comments", pad="unsent-remarks")["comments"])
     check("each on its own words, once", made == [("on alpha", "alpha"), ("on gamma", "gamma")], made)
     check("and nothing stops leaving", not ann.run(WOULD_ASK))
     ann.click("close")
@@ -69,12 +69,12 @@ def unsent_comments(test):
 def refused_words(test):
     ann, check = test.ann, test.check
     line = Line(test.server.port, "bob", "t2")
-    line.ask(do="create", pad="refused")
-    line.ask(do="grant", pad="refused", author="ann", right="write")
+    line.ask(do="create", pad="refused-words")
+    line.ask(do="grant", pad="refused-words", author="ann", right="write")
     ann.click("log-out")
     ann.log_in("ann", "t1")
-    ann.open("refused")
-    line.ask(do="grant", pad="refused", author="ann", right="none")
+    ann.open("refused-words")
+    line.ask(do="grant", pad="refused-words", author="ann", right="none")
     with Stopped(test.server):
         for letter in "a decision":
             ann.keys(letter)
@@ -91,20 +91,20 @@ def refused_words(test):
 
 def whole_characters(test):
     ann, check = test.ann, test.check
-    ann.open("whole", "create")
+    ann.open("whole-characters", "create")
     ann.insert("x" + "🙂" * 5_200 + "TAIL of another sentence")
     ann.is_saved(60)
     ann.select(0, 10_401)
     ann.keys(Keys.BACKSPACE)
     line = Line(test.server.port, "ann", "t1")
-    line.ask(do="join", pad="whole")
+    line.ask(do="join", pad="whole-characters")
     check("a long deletion erases whole characters", ann.is_saved(60) and ann.text == "TAIL of another sentence", ann.text[:80])
-    text = line.ask(do="text", pad="whole")["text"]
+    text = line.ask(do="text", pad="whole-characters")["text"]
     check("also at the server", text == "TAIL of another sentence", text[:80])
     ann.select(0)
     ann.run("document.execCommand('insertText', false, 'half \\ud83d ')")
     check("half a character is shown as what is sent", until(lambda: ann.is_saved() and ann.text.startswith("half \ufffd TAIL")), ann.text)
-    text = line.ask(do="text", pad="whole")["text"]
+    text = line.ask(do="text", pad="whole-characters")["text"]
     check("and the server has it", text == ann.text and units(text) == units(ann.text), text)
     faults = ann.faults()
     check("no fault is reported of all this", not faults, faults)

@@ -89,7 +89,9 @@ export class Storm {
   // ---- what the world does
 
   disturb() {
-    const { dice, world } = this, { network, pages } = world, page = pages[dice(pages.length)], connection = network.of(page);
+    const { dice, world } = this, { network, pages } = world, page = pages[dice(pages.length)];
+    if (!page) return;
+    const connection = network.of(page);
     const deed = dice(14);
     if (deed === 0 && connection) { this.seen.held++; connection.hold(dice(60) * SECOND); }
     if (deed === 1 && connection) { this.seen.breaks++; connection.break(dice(60) * SECOND, false); }

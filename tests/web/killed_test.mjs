@@ -1,5 +1,5 @@
-// Six pages of four authors before the real program, which is killed with SIGKILL and started again on its store, each page
-// behind a proxy of its own that delays, holds and cuts:
+// Six pages of four authors before the real program, which is killed with SIGKILL and started again on its store, now and then
+// under another number, each page behind a proxy of its own that delays, holds and cuts:
 //
 //     node tests/web/killed_test.mjs PROGRAM [SECONDS [SEED]]
 //
@@ -20,7 +20,9 @@ import { tcp } from "./tcp.mjs";
 const [program, seconds = "60", seed = "1"] = process.argv.slice(2), SECOND = 1000, LONGEST_HOLD = 25;
 const PADS = ["p0", "p1"], AUTHORS = ["ann", "bob", "cyd", "dan"], FAST = { gather: 60, rest: 20, wait: 25 };
 const tally = new Tally(), { tell } = tally, dice = makeDice(Number(seed));
-const seen = { held: 0, breaks: 0, cuts: 0, kills: 0 };
+const seen = { held: 0, breaks: 0, cuts: 0, kills: 0, numbers: 0 };
+// Six pages and two visits of connections that broke have room on a pad.
+const ROOM = ["--present", "8", "--idle", "60"];
 
 const freePort = () => new Promise((done) => {
   const server = net.createServer().listen(0, "127.0.0.1", () => {
@@ -31,11 +33,12 @@ const freePort = () => new Promise((done) => {
 
 // The program in a folder of its own.
 class Server {
-  constructor(folder, port) { Object.assign(this, { folder, port, process: null }); }
+  constructor(folder, port) { Object.assign(this, { folder, port, process: null, replica: 1 }); }
 
-  async start() {
-    const words = ["--listen", `127.0.0.1:${this.port}`, "--replica", "1", "--accounts", "accounts", "--store", "store", "--idle", "60"];
-    const child = spawn(program, words, { cwd: this.folder, stdio: ["ignore", "pipe", "ignore"] });
+  async start(isRenumbered = false) {
+    if (isRenumbered) this.replica++;
+    const words = ["--listen", `127.0.0.1:${this.port}`, "--replica", `${this.replica}`, "--accounts", "accounts", "--store", "store", ...ROOM];
+    const child = spawn(program, isRenumbered ? [...words, "--new-replica"] : words, { cwd: this.folder, stdio: ["ignore", "pipe", "ignore"] });
     this.process = child;
     await new Promise((done, failed) => {
       child.stdout.once("data", done);
@@ -82,7 +85,9 @@ async function killNowAndThen(server, end) {
     await server.kill();
     seen.kills++;
     await pause(dice(3) * SECOND);
-    await server.start();
+    const isRenumbered = dice(3) === 0;
+    if (isRenumbered) seen.numbers++;
+    await server.start(isRenumbered);
   }
 }
 

@@ -4,10 +4,12 @@
 // whatever the browser has made of them between the blocks of their neighbours; nobody else draws them or reads others.
 import { makeBlock, piecesBetween, textOf } from "./blocks.js";
 import { colourOf } from "./colours.js";
+import { Groups } from "./groups.js";
 
 export class Lines {
   constructor(root) {
     this.root = root;
+    this.groups = new Groups(root);
     this.lines = [];
     this.lent = null;
   }
@@ -16,7 +18,7 @@ export class Lines {
   show(text, runs, marks = []) {
     Object.assign(this, { text, runs, marks, lent: null });
     this.lines = [];
-    this.root.replaceChildren();
+    this.groups.clear();
     this.replace({ first: 0, last: -1, from: 0, to: text.length });
   }
 
@@ -57,12 +59,11 @@ export class Lines {
       at = end + 1;
     }
     const old = this.lines.slice(first, last + 1), gone = old.flatMap((line) => this.nodesOf(line));
-    const [next = null] = this.nodesOf(this.lines[last + 1]), blocks = document.createDocumentFragment();
+    const [next = null] = this.nodesOf(this.lines[last + 1]);
     if (old.includes(this.lent)) this.lent = null;
     this.lines = [...this.lines.slice(0, first), ...made, ...this.lines.slice(last + 1)];
-    for (const node of gone) node.remove();
-    for (const { block } of made) blocks.append(block);
-    this.root.insertBefore(blocks, next);
+    this.groups.insert(made.map(({ block }) => block), next, !this.lent);
+    this.groups.remove(gone);
   }
 
   // Authors have other colours now.
@@ -118,7 +119,7 @@ export class Lines {
   // The text that the browser has written into the lent lines, which become those of this length. Neighbours whose blocks
   // it has taken away, and one of them where it has left no block at all, are lent as well.
   readLent() {
-    const isGone = (at) => at >= 0 && at < this.lines.length && this.lines[at].block.parentNode !== this.root;
+    const isGone = (at) => at >= 0 && at < this.lines.length && !this.groups.holds(this.lines[at].block);
     for (let at = this.lines.indexOf(this.lent); ; at = this.lines.indexOf(this.lent)) {
       const isEmpty = !this.nodesOf(this.lent).length, isLast = at + 1 === this.lines.length;
       if (isGone(at - 1) || (isEmpty && at > 0)) this.merge(at - 1, at);
@@ -152,18 +153,18 @@ export class Lines {
     if (!line) return [];
     if (line !== this.lent) return [line.block];
     const at = this.lines.indexOf(line), end = this.lines[at + 1]?.block ?? null, out = [];
-    let node = at ? this.lines[at - 1].block.nextSibling : this.root.firstChild;
-    for (; node && node !== end; node = node.nextSibling) out.push(node);
+    let node = at ? this.groups.next(this.lines[at - 1].block) : this.groups.first;
+    for (; node && node !== end; node = this.groups.next(node)) out.push(node);
     return out;
   }
 
   // Whether the document still has just these blocks, and whatever is in the place of those that are lent.
   get isWhole() {
-    let node = this.root.firstChild;
+    let node = this.groups.first;
     for (const line of this.lines) {
       const nodes = this.nodesOf(line);
       if (nodes.length && nodes[0] !== node) return false;
-      if (nodes.length) node = nodes.at(-1).nextSibling;
+      if (nodes.length) node = this.groups.next(nodes.at(-1));
     }
     return node === null;
   }
@@ -194,9 +195,8 @@ export class Lines {
 
   // The unit of the text at a place of the document, or null outside.
   unitOf(node, offset) {
-    if (node === this.root) return offset < node.childNodes.length ? this.unitOf(node.childNodes[offset], 0) : this.text.length;
-    let block = node;
-    while (block && block.parentNode !== this.root) block = block.parentNode;
+    if (node === this.root || this.groups.isGroup(node)) return this.unitAtChild(node, offset);
+    const block = this.groups.blockOf(node);
     if (!block) return null;
     let start = 0;
     const line = this.lines.find((one) => {
@@ -209,6 +209,12 @@ export class Lines {
     range.setEnd(node, offset);
     if (isLent) return start + textOf(range.cloneContents().childNodes).length;
     return Math.min(start + range.toString().length, this.text.length);
+  }
+
+  // The same for a place between lines or groups: where the line behind it begins, or the text ends.
+  unitAtChild(node, offset) {
+    const child = node.childNodes[offset] ?? (node === this.root ? null : node.nextSibling), block = this.groups.inside(child);
+    return block ? this.unitOf(block, 0) : this.text.length;
   }
 
   // The unit with which the line begins that is at a height of the window. Lines stand below one another.

@@ -16,9 +16,11 @@ from windows import ON_DISK, Keys, Line, Server, Window, units, until
 TEXT_OF_LINES = "return [...document.querySelectorAll('#text .line')].map((line) => line.textContent).join('\\n')"
 # Whether each line is drawn as one block with its runs, and nothing else is in the text.
 IS_PLAIN = """
-return [...document.getElementById('text').children].every((line) => line.className === 'line'
+return [...document.getElementById('text').children].every((group) => group.className === 'group')
+&& [...document.querySelectorAll('#text .group')].flatMap((group) => [...group.children]).every((line) => line.className === 'line'
   && [...line.children].every((one) => one.nodeName === 'BR' || (one.className.startsWith('run') && one.childNodes.length === 1)))
 """
+GROUP = 100  # lines of the first group, as the page begins
 WORDS = ("ni", "nihao", "é", "ka", "你好", "x y", "🙂")
 
 
@@ -48,7 +50,8 @@ class Round:
     def play(self):
         dice, window = self.dice, self.window
         text = window.text
-        at = dice.randrange(len(text) + 1)
+        edge = sum(len(line) + 1 for line in text.split("\n")[:GROUP])
+        at = dice.randrange(len(text) + 1) if dice.random() < 0.5 else min(len(text), max(0, edge + dice.randrange(-12, 4)))
         window.select(units(text[:at]), units(text[: at + dice.choice((0, 0, 0, 0, 3, 25))]))
         for _ in range(dice.randrange(1, 4)):
             self.compose(dice.choice(WORDS))
@@ -84,7 +87,7 @@ def main(program, rounds=100, seed=1):
             ann, bob = Line(server.port, "ann", "t1"), Line(server.port, "bob", "t2")
             ann.ask(do="create", pad="random")
             ann.ask(do="grant", pad="random", author="bob", right="write")
-            ann.ask(do="insert", pad="random", rev=0, at=0, text="first line\nsecond 🙂 line\n\nfourth line\nfifth")
+            ann.ask(do="insert", pad="random", rev=0, at=0, text="first line\nsecond 🙂 line\n\nfourth line\nfifth\n" * 50)
             bob.ask(do="join", pad="random")
             window.log_in("ann", "t1")
             window.open("random")

@@ -56,17 +56,17 @@ def many_comments(test):
     """More comments than there are cards."""
     ann, check = test.ann, test.check
     line = Line(test.server.port, "ann", "t1")
-    line.ask(do="create", pad="remarks")
-    line.ask(do="insert", pad="remarks", rev=0, at=0, text="".join(f"line {number}\n" for number in range(COMMENTS)))
-    text = line.ask(do="text", pad="remarks")["text"]
+    line.ask(do="create", pad="many-remarks")
+    line.ask(do="insert", pad="many-remarks", rev=0, at=0, text="".join(f"line {number}\n" for number in range(COMMENTS)))
+    text = line.ask(do="text", pad="many-remarks")["text"]
     for number in range(COMMENTS):
-        line.ask(do="comment", pad="remarks", rev=1, at=text.index(f"line {number}\n"), len=4, text=f"remark {number}.")
-    open_pad(ann, "remarks")
+        line.ask(do="comment", pad="many-remarks", rev=1, at=text.index(f"line {number}\n"), len=4, text=f"remark {number}.")
+    open_pad(ann, "many-remarks")
     has = lambda number: ann.run("return [...document.querySelectorAll('#margin .card-words')].some((one) => one.textContent === arguments[0])", f"remark {number}.")
     check("the first comments are shown", until(lambda: has(0)))
     said = ann.run("return document.getElementById('side').innerText")
     check("and how many are not", f"of {COMMENTS} comments" in said, said[:80])
-    ann.run("document.querySelector('#text .line:nth-child(300)').scrollIntoView()")
+    ann.run("document.querySelectorAll('#text .line')[299].scrollIntoView()")
     check("the newest are shown beside their words", until(lambda: has(COMMENTS - 1)))
     ann.run("scrollTo(0, 0)")
     until(lambda: has(0))

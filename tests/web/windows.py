@@ -31,7 +31,7 @@ root.focus();
 for (const unit of [from, to]) {
   let left = unit;
   const had = places.length;
-  for (const line of root.children) {
+  for (const line of root.querySelectorAll('.line')) {
     if (left > line.textContent.length) { left -= line.textContent.length + 1; continue; }
     let place = [line, 0];
     for (const run of line.childNodes) {
@@ -42,7 +42,7 @@ for (const unit of [from, to]) {
     break;
   }
   // Another author can have made the text shorter meanwhile.
-  if (places.length === had) places.push([root.lastChild, root.lastChild.childNodes.length]);
+  if (places.length === had) places.push([root, root.childNodes.length]);
 }
 getSelection().setBaseAndExtent(...places[0], ...places[1]);
 """

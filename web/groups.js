@@ -34,22 +34,23 @@ export class Groups {
     return block ?? null;
   }
 
-  // Puts blocks before another one, or at the end. A group that has grown is split, if its blocks `mayMove`.
+  // Puts blocks before another one, or at the end: into its group, or into groups of their own if they are many. A group
+  // that has grown is split, if its blocks `mayMove`.
   insert(blocks, next, mayMove) {
-    if (!blocks.length) return;
-    const near = next ? next.parentNode : this.root.lastChild, group = this.isGroup(near) ? near : groupOf([]);
-    if (group !== near) this.root.insertBefore(group, next);
-    const made = document.createDocumentFragment();
-    for (const block of blocks) made.append(block);
-    group.insertBefore(made, group === near ? next : null);
-    if (mayMove) this.split(group);
+    const near = next ? next.parentNode : this.root.lastChild, isNear = this.isGroup(near);
+    if (isNear && (blocks.length <= SIZE || !mayMove)) {
+      const made = document.createDocumentFragment();
+      for (const block of blocks) made.append(block);
+      near.insertBefore(made, next);
+      if (mayMove && near.childNodes.length > 2 * SIZE) this.cut(near.childNodes[SIZE]);
+    } else if (blocks.length) this.root.insertBefore(groupsOf(blocks), isNear && next ? this.cut(next) : next);
   }
 
-  split(group) {
-    if (group.childNodes.length <= 2 * SIZE) return;
-    const rest = [...group.childNodes].slice(SIZE), groups = document.createDocumentFragment();
-    for (let at = 0; at < rest.length; at += SIZE) groups.append(groupOf(rest.slice(at, at + SIZE)));
-    this.root.insertBefore(groups, group.nextSibling);
+  // Begins a group with a block. Answers that group.
+  cut(block) {
+    const group = block.parentNode, all = [...group.childNodes], at = all.indexOf(block);
+    if (at) this.root.insertBefore(groupsOf(all.slice(at)), group.nextSibling);
+    return block.parentNode;
   }
 
   remove(blocks) {
@@ -61,9 +62,11 @@ export class Groups {
   }
 }
 
-function groupOf(blocks) {
-  const group = document.createElement("div");
-  group.className = "group";
-  for (const block of blocks) group.append(block);
-  return group;
+function groupsOf(blocks) {
+  const groups = document.createDocumentFragment();
+  blocks.forEach((block, at) => {
+    if (at % SIZE === 0) groups.append(Object.assign(document.createElement("div"), { className: "group" }));
+    groups.lastChild.append(block);
+  });
+  return groups;
 }

@@ -162,9 +162,10 @@ export class Lines {
   get isWhole() {
     let node = this.groups.first;
     for (const line of this.lines) {
-      const nodes = this.nodesOf(line);
-      if (nodes.length && nodes[0] !== node) return false;
-      if (nodes.length) node = this.groups.next(nodes.at(-1));
+      const nodes = line === this.lent ? this.nodesOf(line) : null, last = nodes ? nodes.at(-1) : line.block;
+      if (!last) continue;
+      if (node !== (nodes ? nodes[0] : last)) return false;
+      node = this.groups.next(last);
     }
     return node === null;
   }

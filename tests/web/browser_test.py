@@ -11,6 +11,7 @@ import random
 import sys
 import tempfile
 
+from browser_limits import browser_limits
 from compositions import compositions
 from first_visit import first_visit
 from hard_cases import full_pad, hostile, lost_pad
@@ -18,7 +19,6 @@ from kept_checks import kept_words
 from keyboard import by_hand
 from looks import exports, looks
 from page_checks import plain
-from visits import visits
 from windows import BROKEN, ON_DISK, PAST, Keys, Line, Server, Window, units, until
 
 BOB_MAY = "Can write"
@@ -326,7 +326,7 @@ def play(program, folder, tally):
             first_visit(test)
             by_hand(test)
             compositions(test)
-            visits(test)
+            browser_limits(test)
             lost_pad(test)
             kept_words(test)
             full_pad(test, pages)

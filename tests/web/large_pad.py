@@ -59,12 +59,14 @@ def letters(window):
 
 
 def erase_all(window, ann):
-    """How many milliseconds it takes to select and erase a million characters, or None if it fails."""
+    """How many milliseconds it takes to select and erase a million characters, or None if it fails. Prints those of a letter."""
     write(ann, "huge", 101, random.Random(2))
     window.log_in("ann", "t1")
     window.open("huge")
     until(lambda: window.get("pad-name").text == "huge" and window.is_saved(1), 60)
     window.select(0)
+    frame = sorted(one[1] for one in letters(window))
+    print(f"a letter among a million: next frame after {frame[len(frame) // 2]:.1f} ms (median), {frame[-1]:.1f} ms (worst)")
     start = time.time()
     window.keys("a", held=[Keys.CONTROL])
     window.keys(Keys.DELETE)

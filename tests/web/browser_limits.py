@@ -1,4 +1,4 @@
-"""Log-ins, and pads with many lines and many comments."""
+"""What a browser keeps and shows: log-ins, storage that is blocked, and pads with many comments and many lines."""
 import time
 
 from keyboard import make, open_pad
@@ -92,6 +92,6 @@ def many_lines(test):
     check(f"{LINES} lines are erased in {LONGEST} seconds", is_empty and took < LONGEST, (is_empty, took))
 
 
-def visits(test):
+def browser_limits(test):
     for part in (log_in_twice, log_out, blocked_storage, many_comments, many_lines):
         part(test)

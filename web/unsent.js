@@ -30,7 +30,8 @@ export class UnsentComments {
 
   // Resolves to the comment once it is made, and fails with the reply if it is refused.
   add(from, to, text) {
-    const id = `unsent-${++this.number}`, { me } = this.pad, comment = { id, author: me, text, from, to, isResolved: false, isUnsent: true, sent: null };
+    const id = `unsent-${++this.number}`, author = this.pad.me;
+    const comment = { id, author, text, from, to, isResolved: false, isUnsent: true, sent: null };
     const made = new Promise((done, failed) => { Object.assign(comment, { done, failed }); });
     made.catch(() => {}); // `onRefused` has told it
     this.list.push(comment);

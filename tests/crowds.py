@@ -152,7 +152,7 @@ def a_client_that_breaks_off_in_the_middle_of_a_line():
         breaks.send(part)
         time.sleep(0.1)
         breaks.reset()
-        said = server.process.stderr.readline().decode()
+        said = server.says()
         want("510 ReadFault" in said, True, f"what {said!r} says")
         want(len(keeps.does(do="who", pad="p")["who"]), 1, "who is there")
 
@@ -193,7 +193,7 @@ def wrong_tokens_are_answered_after_pauses():
     want(json.loads(guesses.replies.readline()), BAD_TOKEN, "the answer to the wrong token")
     want(json.loads(guesses.replies.readline()), {"author": "bob@1", "ok": True}, "the answer to the right one")
     want(time.monotonic() - began >= 0.8, True, "a pause of 0.8 s")
-    said = server.process.stderr.readline().decode()
+    said = server.says()
     want([part for part in ["connection 2 from 127.0.0.1:", "for bob"] if part not in said], [], f"what {said!r} lacks")
 
 

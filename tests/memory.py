@@ -292,6 +292,39 @@ def a_long_line_without_memory_is_told():
     ann.wants({"do": "text", "pad": "p"}, {"now": 0, "ok": True, "rev": 0, "text": ""})
 
 
+def who_moves_without_memory_leaves_its_pads():
+    """A long line begins, and its client moves to another worker. Whichever allocation fails then, nobody stays behind."""
+    server = Server("--workers 2")
+    ann = server.author("ann")
+    ann.does(do="create", pad="p")
+    ann.does(do="grant", pad="p", author="bob", right="write")
+    server.faults.set("everywhere", 1)
+    for allocation in itertools.count(1):
+        bob = server.author("bob")
+        bob.join("p")
+        _, refused = server.refuses_one(allocation, lambda: begin_long_line(bob))
+        bob.close()
+        end = time.monotonic() + 10
+        while [visit["author"] for visit in ann.does(do="who", pad="p")["who"]] != ["ann@1"]:
+            if time.monotonic() > end:
+                raise Failed(f"with allocation {allocation} refused, who has gone is still on the pad")
+            time.sleep(0.02)
+        if not refused:
+            break
+    if allocation < 5:
+        raise Failed(f"only {allocation - 1} allocations were refused")
+
+
+def begin_long_line(client):
+    """Sends the beginning of a long line, and waits until the server has taken it, or has closed the connection."""
+    client.send(" " * 120_000)
+    client.socket.settimeout(0.3)
+    try:
+        return client.socket.recv(4_096)
+    except (TimeoutError, ConnectionResetError):
+        return b""
+
+
 def the_room_of_a_long_line_is_given_back():
     """Four connections send a line of 8 MiB each, are answered, and wait: no large block is left of those lines."""
     server = Server()
@@ -355,6 +388,7 @@ TESTS = [
     Test("memory: allocations of each request are refused", allocations_of_each_request_are_refused, 120),
     Test("memory: a connection that finds none ends alone", a_connection_without_memory_ends_alone, 60),
     Test("memory: a long line that finds none", a_long_line_without_memory_is_told, 60),
+    Test("memory: who moves to the worker for long lines leaves its pads", who_moves_without_memory_leaves_its_pads, 60),
     Test("memory: the room of a long line is given back", the_room_of_a_long_line_is_given_back, 60),
     Test("memory: standard input and output", standard_input_without_memory, 60),
 ]

@@ -5,6 +5,7 @@ use crate::hub::Hub;
 use crate::limits::{Limits, VISITS};
 use crate::rarely::Rarely;
 use crate::ticker::Ticker;
+use admission::key_of;
 use journal::Journal;
 use log::warn;
 use mio::net::{TcpListener, TcpStream};
@@ -170,9 +171,10 @@ fn accept_some<R: Clock + Wait + Eprint>(
 ) -> Round {
     for _ in 0..AT_ONCE {
         match listener.accept() {
-            Ok((stream, _address)) => {
+            Ok((stream, from)) => {
                 count.accepted = count.accepted.saturating_add(1);
-                take(rt, stream, entrance, hub, limits, count);
+                let address = key_of(from.ip());
+                take(rt, stream, address, entrance, hub, limits, count);
             }
             Err(error) => match error.kind() {
                 ErrorKind::WouldBlock => return Round::Done,
@@ -200,20 +202,22 @@ fn accept_some<R: Clock + Wait + Eprint>(
 fn take<R: Clock + Wait + Eprint>(
     rt: &R,
     mut stream: TcpStream,
+    address: u128,
     entrance: Entrance,
     hub: &Hub,
     limits: Limits,
     count: &mut Count,
 ) {
     let number = count.accepted;
-    let (has_room, most, refusal) = match entrance {
-        Entrance::Lines => (hub.has_room(limits.clients), limits.clients, FULL),
-        Entrance::Web => (hub.has_room_for_visit(), VISITS, FULL_PAGE),
-    };
-    if !has_room {
+    if let Some(full) = what_is_full(rt, address, entrance, hub, limits) {
         if count.full.is_due(count.ticker.look(rt)) {
-            warn!(Journal(rt); "connection {number} is refused: {most} clients are connected");
+            let Full { most, of } = full;
+            warn!(Journal(rt); "connection {number} is refused: {most} {of}");
         }
+        let refusal = match entrance {
+            Entrance::Lines => FULL,
+            Entrance::Web => FULL_PAGE,
+        };
         let _told = stream.write(refusal);
         return;
     }
@@ -222,13 +226,60 @@ fn take<R: Clock + Wait + Eprint>(
     }
     let (home, connected) = (hub.least_busy(), entrance.connected());
     hub.enter(home, connected);
+    if entrance == Entrance::Lines {
+        hub.lobby().enter();
+    }
     let arrival = Arrival::Accepted {
         number,
         stream,
         entrance,
+        address,
     };
-    if !hub.send(rt, home, arrival) {
+    if hub.send(rt, home, arrival).is_some() {
         warn!(Journal(rt); "connection {number} is not served: out of memory");
+        if entrance == Entrance::Lines {
+            hub.lobby().leave();
+        }
+        if limits.per_address.is_some() {
+            hub.lobby().disconnect(rt, address);
+        }
         hub.leave(home, connected);
+    }
+}
+
+/// Why a connection is one too many.
+#[derive(Clone, Copy)]
+struct Full {
+    most: u32,
+    of: &'static str,
+}
+
+// Why there is no room for a connection, if there is none. If there is, it is counted for its address.
+fn what_is_full<R: Wait>(
+    rt: &R,
+    address: u128,
+    entrance: Entrance,
+    hub: &Hub,
+    limits: Limits,
+) -> Option<Full> {
+    let (has_room, most) = match entrance {
+        Entrance::Lines => (hub.has_room(limits.clients), limits.clients),
+        Entrance::Web => (hub.has_room_for_visit(), VISITS),
+    };
+    if !has_room {
+        let of = "clients are connected";
+        return Some(Full { most, of });
+    }
+    let most = limits.newcomers();
+    if entrance == Entrance::Lines && !hub.lobby().has_room(most) {
+        let of = "clients are connected that have not logged in";
+        return Some(Full { most, of });
+    }
+    match limits.per_address {
+        Some(most) if !hub.lobby().connect(rt, address, most) => {
+            let of = "connections of its address are there";
+            Some(Full { most, of })
+        }
+        _ => None,
     }
 }

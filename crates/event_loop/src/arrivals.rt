@@ -1,8 +1,11 @@
 //! What is sent to a worker: clients, and new accounts.
 use crate::client::Client;
 use crate::hub::Connected;
+use crate::link::Link;
 use mio::net::TcpStream;
 use sessions::Accounts;
+use std::alloc::Global;
+use web_wire::Visit;
 
 /// The listener at which a connection was accepted.
 #[derive(Clone, Copy, Debug, PartialEq, Eq)]
@@ -14,6 +17,14 @@ pub enum Entrance {
 }
 
 impl Entrance {
+    /// What a connection accepted there speaks.
+    pub fn link(self, alloc: Global) -> Link {
+        match self {
+            Entrance::Lines => Link::Lines,
+            Entrance::Web => Link::Visit(Visit::new(alloc)),
+        }
+    }
+
     /// How a connection accepted there counts.
     pub fn connected(self) -> Connected {
         match self {
@@ -31,6 +42,8 @@ pub enum Arrival {
         number: u64,
         stream: TcpStream,
         entrance: Entrance,
+        /// The key of the address that it comes from.
+        address: u128,
     },
     /// A client that moves from another worker.
     Moved(Client),

@@ -22,3 +22,9 @@ impl Buffers {
         })
     }
 }
+
+/// The first bytes of a buffer, at most as many as are asked for.
+pub fn first_bytes(bytes: &mut [u8], most: usize) -> &mut [u8] {
+    let end = most.min(bytes.len());
+    &mut bytes[..end]
+}

@@ -1,9 +1,11 @@
 //! One client of a worker: its socket, its conversation and its session.
-use crate::buffers::Buffers;
+use crate::buffers::{Buffers, first_bytes};
 use crate::hold::{BAD_TOKEN, Hold, Wanted, pause_after};
 use crate::hub::Connected;
 use crate::limits::{LOG_IN, REQUEST};
 use crate::link::Link;
+use crate::lobby::Lobby;
+use crate::newcomer::Newcomer;
 use crate::outbox::Outbox;
 use crate::serve::Step;
 use crate::times::{Late, Times};
@@ -38,6 +40,8 @@ pub enum Phase {
 pub struct Client {
     pub(crate) number: u64,
     pub(crate) home: usize,
+    /// The key of the address that it comes from.
+    pub(crate) address: u128,
     pub(crate) stream: TcpStream,
     pub(crate) link: Link,
     /// The bytes to be written to a browser. Replies to a client that speaks lines are written directly from its
@@ -55,16 +59,26 @@ pub struct Client {
     pub(crate) moves: bool,
     pub(crate) failures: u32,
     pub(crate) hold: Hold,
+    pub(crate) newcomer: Newcomer,
     pub(crate) times: Times,
     pub(crate) cause: Option<io::Error>,
 }
 
 impl Client {
     /// Creates a client that has just arrived, and is queued.
-    pub fn new(alloc: Global, number: u64, home: usize, stream: TcpStream, link: Link) -> Client {
+    pub fn new(
+        alloc: Global,
+        number: u64,
+        home: usize,
+        stream: TcpStream,
+        link: Link,
+        address: u128,
+    ) -> Client {
+        let is_counted = link.connected() == Connected::Client;
         Client {
             number,
             home,
+            address,
             stream,
             link,
             outbox: Outbox::new(alloc),
@@ -77,6 +91,7 @@ impl Client {
             moves: false,
             failures: 0,
             hold: Hold::Free,
+            newcomer: Newcomer::new(is_counted),
             times: Times::new(),
             cause: None,
         }
@@ -90,6 +105,11 @@ impl Client {
     /// The place of the worker to which the client belongs.
     pub fn home(&self) -> usize {
         self.home
+    }
+
+    /// The key of the address that it comes from.
+    pub fn address(&self) -> u128 {
+        self.address
     }
 
     /// How its connection counts.
@@ -164,25 +184,37 @@ impl Client {
 
     fn has_more(&self) -> bool {
         match self.phase {
-            Phase::Open => self.is_readable || self.hold == Hold::Over,
-            Phase::Ended => true,
+            Phase::Open => match self.hold {
+                Hold::Over => true,
+                Hold::LogIn { .. } => false,
+                _ => self.is_readable && !self.newcomer.is_stalled,
+            },
+            Phase::Ended => match self.hold {
+                Hold::LogIn { .. } => false,
+                _ => true,
+            },
             Phase::Over | Phase::Broken(_) => false,
         }
     }
 
     /// Reads once, if a read may give bytes; for a WebSocket, takes the next message.
-    pub(crate) fn read_more(&mut self, buffers: &mut Buffers) -> Step {
+    pub(crate) fn read_more(&mut self, lobby: &Lobby, buffers: &mut Buffers) -> Step {
         if self.phase != Phase::Open {
             return Step::Rests;
         }
         if let Link::Socket(_) = self.link {
-            return self.listen(buffers);
+            return self.listen(lobby, buffers);
         }
         if !self.is_readable {
             return Step::Rests;
         }
-        let chunk = buffers.chunk.as_mut_slice();
+        let Some(most) = self.may_read(lobby) else {
+            return Step::Rests;
+        };
+        let before = self.waiting();
+        let chunk = first_bytes(buffers.chunk.as_mut_slice(), most);
         let read = read_into(&mut self.conversation, &mut self.stream, chunk);
+        self.note_read(before);
         self.has_read(read)
     }
 
@@ -214,15 +246,15 @@ impl Client {
         Step::Rests
     }
 
-    /// Holds back the reply to a wrong token, and returns the time until which it does.
-    pub fn pause(&mut self, now: u64) -> u64 {
-        let pause = pause_after(self.failures).unwrap_or(0);
-        let until = now.saturating_add(pause);
+    /// Holds back the reply to a wrong token if it was not the first one of the connection, or for this name, and
+    /// returns the time until which it does. `for_name` is how many came for the name.
+    pub fn pause(&mut self, now: u64, for_name: u32) -> Option<u64> {
+        let until = now.saturating_add(pause_after(self.failures.max(for_name))?);
         self.hold = Hold::Pause {
             until,
             bytes: BAD_TOKEN.len(),
         };
-        until
+        Some(until)
     }
 
     /// Holds back the first line, and returns the time until which it does.

@@ -1,16 +1,12 @@
 //! The clients of a worker, and the work of a turn.
-use crate::arrivals::Entrance;
 use crate::buffers::Buffers;
 use crate::client::Client;
 use crate::hub::Hub;
-use crate::link::Link;
-use mio::net::TcpStream;
 use mio::{Events, Interest, Registry, Token};
 use sessions::Accounts;
 use slab::Slab;
 use std::alloc::{AllocError, Global};
 use std::{io, mem};
-use web_wire::Visit;
 
 /// The token of a worker's waker.
 pub const WAKING: Token = Token(usize::MAX);
@@ -34,6 +30,13 @@ pub struct Clients {
     pub accounts: Option<Accounts>,
 }
 
+/// A client that could not be added, and why.
+#[derive(Drop)]
+pub struct NotServed {
+    pub client: Client,
+    pub cause: io::Error,
+}
+
 impl Clients {
     /// Creates an empty set of clients.
     pub fn new(alloc: Global) -> Result<Clients, AllocError> {
@@ -50,31 +53,27 @@ impl Clients {
         })
     }
 
-    /// Adds a connection that was accepted.
-    pub fn accept(
-        &mut self,
-        alloc: Global,
-        registry: &Registry,
-        number: u64,
-        home: usize,
-        stream: TcpStream,
-        entrance: Entrance,
-    ) -> io::Result<()> {
-        let link = match entrance {
-            Entrance::Lines => Link::Lines,
-            Entrance::Web => Link::Visit(Visit::new(alloc)),
-        };
-        self.insert(registry, Client::new(alloc, number, home, stream, link))
+    /// Adds a client, which is served in this turn. If it cannot be served, it is returned with the cause.
+    pub fn insert(&mut self, registry: &Registry, mut client: Client) -> Result<(), NotServed> {
+        client.settle_in();
+        if let Err(cause) = self.register(registry, &mut client) {
+            return Err(NotServed { client, cause });
+        }
+        match self.all.insert(client) {
+            Ok(_) => Ok(()),
+            Err(failed) => Err(NotServed {
+                client: failed.value,
+                cause: io::Error::from(AllocError),
+            }),
+        }
     }
 
-    /// Adds a client, which is served in this turn.
-    pub fn insert(&mut self, registry: &Registry, mut client: Client) -> io::Result<()> {
-        client.settle_in();
+    // Makes room for a client, registers its socket and queues it under the next key.
+    fn register(&mut self, registry: &Registry, client: &mut Client) -> io::Result<()> {
         self.reserve()?;
         let key = self.all.vacant_key();
         let both = Interest::READABLE | Interest::WRITABLE;
         registry.register(client.stream(), Token(key), both)?;
-        let key = self.all.insert(client)?;
         self.queue.push(key)?;
         Ok(())
     }

@@ -1,4 +1,5 @@
-//! When clients are held back: by a pause after wrong tokens, or while they wait for a pad to change.
+//! When clients are held back: by a pause around wrong tokens, or while they wait for a pad to change.
+use crate::lobby::PATIENT;
 use pad_core::{Act, Request};
 use pad_model::Name;
 use sessions::Session;
@@ -9,9 +10,6 @@ use wire_json::read_request;
 
 /// The reply to a wrong token.
 pub const BAD_TOKEN: &[u8] = b"{\"code\":201,\"error\":\"BadToken\",\"ok\":false}\n";
-
-/// The number of the first wrong token of a connection whose reply is held back.
-const PATIENT: u32 = 3;
 
 /// How long the first such reply is held back, and the longest pause, in milliseconds.
 const FIRST_PAUSE: u64 = 100;
@@ -31,6 +29,8 @@ pub enum Hold {
     Free,
     /// The reply to a wrong token, the last `bytes` of its replies, is held back.
     Pause { until: u64, bytes: usize },
+    /// Its first line is a log-in, which waits because its address has sent wrong tokens.
+    LogIn { until: u64 },
     /// Its first line waits for the pad at a cell to pass a revision.
     Change { wanted: Wanted, until: u64 },
     /// Its first line has waited long enough.
@@ -41,7 +41,9 @@ impl Hold {
     /// The time at which the hold ends at the latest.
     pub fn until(self) -> Option<u64> {
         match self {
-            Hold::Pause { until, .. } | Hold::Change { until, .. } => Some(until),
+            Hold::Pause { until, .. } | Hold::LogIn { until } | Hold::Change { until, .. } => {
+                Some(until)
+            }
             Hold::Free | Hold::Over => None,
         }
     }
@@ -55,7 +57,7 @@ pub struct Wanted {
     pub seconds: u64,
 }
 
-/// How long the reply to a connection's nth wrong token is held back, in milliseconds; None if it is not.
+/// How long the reply to the nth wrong token is held back, in milliseconds; None if it is not.
 pub fn pause_after(failures: u32) -> Option<u64> {
     if failures < PATIENT {
         return None;
@@ -65,11 +67,6 @@ pub fn pause_after(failures: u32) -> Option<u64> {
         pause = pause.saturating_mul(2);
     }
     Some(pause.min(LONGEST_PAUSE))
-}
-
-/// Whether the next wrong token of a connection with this many is logged.
-pub fn is_suspect(failures: u32) -> bool {
-    failures >= PATIENT - 1
 }
 
 /// Who a line claims to be.

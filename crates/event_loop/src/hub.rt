@@ -4,6 +4,7 @@ use crate::arrivals::Arrival;
 use crate::cells::CellSet;
 use crate::hold::{Hold, Wanted};
 use crate::limits::VISITS;
+use crate::lobby::Lobby;
 use crossbeam_channel::Sender;
 use mio::Waker;
 use sessions::Accounts;
@@ -72,6 +73,8 @@ pub struct Hub {
     /// Whether the server has stopped accepting connections.
     is_closed: AtomicBool,
     has_stopped: AtomicBool,
+    /// The clients that have not logged in.
+    lobby: Lobby,
     /// The revision of the pad at each cell.
     revisions: Vec<AtomicU64>,
     /// The time from which wrong tokens may be reported again, in milliseconds of a `Ticker`.
@@ -88,6 +91,7 @@ impl Hub {
         acceptor: Waker,
         began: Option<Instant>,
         revisions: Vec<AtomicU64>,
+        lobby: Lobby,
     ) -> Hub {
         Hub {
             doors,
@@ -97,6 +101,7 @@ impl Hub {
             visits: AtomicU64::new(0),
             is_closed: AtomicBool::new(false),
             has_stopped: AtomicBool::new(false),
+            lobby,
             revisions,
             report_from: AtomicU64::new(0),
         }
@@ -105,6 +110,11 @@ impl Hub {
     /// When the server started.
     pub fn began(&self) -> Option<Instant> {
         self.began
+    }
+
+    /// The clients that have not logged in.
+    pub fn lobby(&self) -> &Lobby {
+        &self.lobby
     }
 
     /// Whether there is room for one more client, with at most `most` in all.
@@ -193,11 +203,17 @@ impl Hub {
         }
     }
 
-    /// Sends something to a worker. Returns false if it cannot be sent.
-    pub fn send<R: Wait>(&self, rt: &R, place: usize, arrival: Arrival) -> bool {
-        match self.doors.get(place) {
-            Some(door) => door.to.send(rt, arrival).is_ok() && door.waker.wake().is_ok(),
-            None => false,
+    /// Sends something to a worker. Returns it if it cannot be sent.
+    pub fn send<R: Wait>(&self, rt: &R, place: usize, arrival: Arrival) -> Option<Arrival> {
+        let Some(door) = self.doors.get(place) else {
+            return Some(arrival);
+        };
+        match door.to.send(rt, arrival) {
+            Ok(()) => {
+                let _woken = door.waker.wake();
+                None
+            }
+            Err(unsent) => Some(unsent.into_inner()),
         }
     }
 
@@ -301,7 +317,7 @@ impl Hub {
     /// Whether a client stays held back, apart from its time limit.
     pub fn holds(&self, place: usize, hold: Hold) -> bool {
         match hold {
-            Hold::Pause { .. } => true,
+            Hold::Pause { .. } | Hold::LogIn { .. } => true,
             Hold::Change { wanted, .. } => self.has_to_wait(place, wanted),
             Hold::Free | Hold::Over => false,
         }

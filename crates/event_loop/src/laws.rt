@@ -1,6 +1,6 @@
 //! A law of browsers, as the contract of a function that does nothing.
 ghost use Rattle.event_loop.specs.Laws.{BrowserLaw};
-ghost use Rattle.workers.specs.WorkerThreads.{CallsRow, KeepsSession};
+ghost use Rattle.workers.specs.WorkerThreads.{CallsRow, IsApart};
 ghost use Rattle.workers.specs.Laws.{ServesApart};
 ghost use Rattle.workers.specs.declared.shared.Shared.{Shared};
 
@@ -12,10 +12,10 @@ use wire_lines::laws::lines_law;
 use workers::laws::shared_law;
 
 /// Whatever pieces the bytes of its socket arrive in, a browser's conversation gives out the session text of the first
-/// lines of its messages, even if the worker's seats serve others between two of them.
+/// lines of its messages, even if the worker's seats serve others between two of them, or the accounts are replaced.
 pub fn browser_law<S: Sequence, R: Wait, G: Gate>()
-    ensures { BrowserLaw {P = Shared S R G} CallsRow KeepsSession
-        (ServesApart CallsRow KeepsSession) }
+    ensures { BrowserLaw {P = Shared S R G} CallsRow IsApart
+        (ServesApart CallsRow IsApart) }
 {
     lines_law();
     pieces_law();

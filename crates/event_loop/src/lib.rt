@@ -1,7 +1,7 @@
 //! Many connections for each thread, with workers that wait until sockets are ready.
 //!
 //! It depends on `workers`, which answers the lines of a connection, on `web_wire`, which turns what browsers send into
-//! lines, and on `mio`, which reports when sockets are ready. It knows nothing of stores and command lines: a `Settle`
+//! lines, on `admission`, which counts wrong tokens, and on `mio`, which reports when sockets are ready. It knows nothing of stores and command lines: a `Settle`
 //! is what replies wait for.
 #![tactic(auto)]
 
@@ -17,7 +17,9 @@ mod hub;
 pub mod laws;
 mod limits;
 mod link;
+mod lobby;
 mod messages;
+mod newcomer;
 mod outbox;
 mod rarely;
 mod serve;

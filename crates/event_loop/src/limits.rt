@@ -7,9 +7,27 @@ pub struct Limits {
     pub connections: Option<u32>,
     /// The most clients that may be connected at once.
     pub clients: u32,
+    /// The most connections that one address may have at once. None: no limit.
+    pub per_address: Option<u32>,
     /// The most seconds from one line of a client to the next. None: no limit.
     pub idle: Option<u32>,
 }
+
+impl Limits {
+    /// The most clients that may be connected without having logged in: a quarter of all, or 16 if that is more.
+    pub fn newcomers(&self) -> u32 {
+        (self.clients / 4).max(FEWEST_NEWCOMERS)
+    }
+}
+
+/// The number of clients that may be connected without having logged in, however few may be connected in all.
+const FEWEST_NEWCOMERS: u32 = 16;
+
+/// The bytes that are read of an unfinished line before the client has logged in.
+pub const UNFINISHED: usize = 4_096;
+
+/// The most clients that have not logged in and are read beyond that.
+pub const MOST_LONG: u64 = 16;
 
 /// The most lines of a client that are answered, and the most reads of its socket, before others have their turn.
 pub const LINES: u32 = 32;

@@ -1,4 +1,6 @@
 //! Bytes that are waiting to be written.
+ghost use Rattle.std.specs.Prelude.{◌≡◌, [], drop, length, nat_le};
+
 use std::alloc::Global;
 
 /// The capacity that is kept between two replies. What a longer one needed is freed when it was written.
@@ -25,7 +27,9 @@ impl Outbox {
     }
 
     /// An outbox with these bytes to be written.
-    pub fn of(bytes: Vec<u8>) -> Outbox {
+    pub fn of(bytes: Vec<u8>) -> Outbox
+        ensures { (result.sent ≡ 0) × (result.bytes.items ≡ bytes.items) }
+    {
         Outbox { bytes, sent: 0 }
     }
 
@@ -35,12 +39,16 @@ impl Outbox {
     }
 
     /// Whether all bytes were written.
-    pub fn is_empty(&self) -> bool {
+    pub fn is_empty(&self) -> bool
+        ensures { result ≡ nat_le (length self.now.bytes.items) self.now.sent }
+    {
         self.sent >= self.bytes.len()
     }
 
     /// Drops the bytes once all were written.
-    pub fn settle(&mut self) {
+    pub fn settle(&mut self)
+        ensures { drop self.new.sent self.new.bytes.items ≡ drop self.old.sent self.old.bytes.items }
+    {
         if self.is_empty() {
             self.bytes.clear();
             self.sent = 0;
@@ -49,7 +57,9 @@ impl Outbox {
     }
 
     /// Frees the memory that is not needed while nothing is written.
-    pub fn rest(&mut self) {
+    pub fn rest(&mut self)
+        ensures { (self.new.sent ≡ self.old.sent) × (self.new.bytes.items ≡ self.old.bytes.items) }
+    {
         self.bytes.shrink_to(KEPT_IDLE);
     }
 }

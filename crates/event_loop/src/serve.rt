@@ -3,9 +3,10 @@ ghost use Rattle.wire_lines.specs.Buffer.{IsPart};
 
 use crate::buffers::Buffers;
 use crate::client::{Client, Phase};
-use crate::hold::{BAD_TOKEN, Claim, Hold, Wanted, claim_in, is_suspect, pause_after, wanted_by};
+use crate::hold::{BAD_TOKEN, Claim, Hold, Wanted, claim_in, wanted_by};
 use crate::hub::{Connected, Hub};
-use crate::limits::{LINES, LONG_LINE, MOST_OWED};
+use crate::limits::{LINES, LONG_LINE, MOST_OWED, UNFINISHED};
+use crate::lobby::Lobby;
 use crate::settle::Settle;
 use crate::work::Service;
 use pad_model::Sequence;
@@ -22,9 +23,10 @@ pub enum Step {
     Rests,
     /// The client has to move, because a long line has begun or was answered.
     Moves,
-    /// A wrong token was answered, and the reply is to be held back. The claim is who the client said it is, if that is
-    /// to be logged.
+    /// A wrong token was answered. The claim is who the client said it is, if it is known.
     Fails(Option<Claim>),
+    /// A log-in comes next, and is to be held back if its address has sent wrong tokens.
+    Knocks,
     /// The first line is to be held back.
     Waits(Wanted),
 }
@@ -54,9 +56,13 @@ impl Client {
             }
             match self.step(service, place, pads, buffers) {
                 Step::Goes => {}
-                end => return end,
+                end => {
+                    self.review(service.hub.lobby());
+                    return end;
+                }
             }
         }
+        self.review(service.hub.lobby());
         Step::Rests
     }
 
@@ -76,8 +82,7 @@ impl Client {
     {
         let alloc = service.row.rt.alloc();
         if self.connected() == Connected::Visit {
-            let most = service.limits.clients;
-            return self.visit(alloc, service.site, service.hub, most, buffers);
+            return self.visit(alloc, service.site, service.hub, service.limits, buffers);
         }
         if self.is_misplaced(service.hub, place) {
             self.moves = true;
@@ -86,7 +91,7 @@ impl Client {
         }
         match self.hold_line(alloc, service.hub, place, buffers) {
             Some(held) => held,
-            None => self.answer_or_read(alloc, pads, buffers),
+            None => self.answer_or_read(alloc, service.hub.lobby(), pads, buffers),
         }
     }
 
@@ -94,23 +99,21 @@ impl Client {
     fn answer_or_read<S: Sequence, R: Wait, G: Gate>(
         &mut self,
         alloc: Global,
+        lobby: &Lobby,
         pads: &mut Shared<'_, S, R, G>,
         buffers: &mut Buffers,
     ) -> Step {
         let before = self.conversation.replies().len();
-        let suspect = self.suspect(alloc);
+        let claim = self.claim(alloc);
         let number = self.number;
         if self.conversation.is_cut() {
             self.phase = Phase::Over;
             return Step::Rests;
         }
         match pads.answer(alloc, &mut self.session, &mut self.conversation, number) {
-            Ok(Turn::Answered) => self.answered(before, suspect),
-            Ok(Turn::Waits) if self.phase == Phase::Ended => {
-                self.end(alloc, pads);
-                Step::Rests
-            }
-            Ok(Turn::Waits) => self.read_more(buffers),
+            Ok(Turn::Answered) => self.answered(before, claim),
+            Ok(Turn::Waits) if self.phase == Phase::Ended => self.end(alloc, pads),
+            Ok(Turn::Waits) => self.read_more(lobby, buffers),
             Ok(Turn::Full) => Step::Rests,
             Ok(Turn::Cut) => {
                 self.phase = Phase::Over;
@@ -147,7 +150,15 @@ impl Client {
         place: usize,
         buffers: &mut Buffers,
     ) -> Option<Step> {
-        if self.hold == Hold::Over || self.phase != Phase::Open {
+        match self.hold {
+            Hold::Over => return None,
+            Hold::LogIn { .. } => return Some(Step::Rests),
+            _ => {}
+        }
+        if self.is_knocking(alloc, hub.lobby()) {
+            return Some(Step::Knocks);
+        }
+        if self.phase != Phase::Open {
             return None;
         }
         let line = self.conversation.first_line()?;
@@ -156,7 +167,7 @@ impl Client {
             return None;
         }
         if let Hold::Change { .. } = self.hold {
-            return Some(self.read_more(buffers));
+            return Some(self.read_more(hub.lobby(), buffers));
         }
         let wanted = wanted_by(alloc, line, &self.session)?;
         if hub.has_to_wait(place, wanted) {
@@ -166,41 +177,52 @@ impl Client {
         }
     }
 
-    // Who the first line logs in as, if the next wrong token is to be logged.
-    fn suspect(&self, alloc: Global) -> Option<Claim> {
-        if !is_suspect(self.failures) {
+    // Who the first line logs in as, if nobody has logged in yet and the line is short.
+    fn claim(&self, alloc: Global) -> Option<Claim> {
+        if !self.is_nobody() {
             return None;
         }
-        claim_in(alloc, self.conversation.first_line()?)
+        let line = self.conversation.first_line()?;
+        if line.len() > UNFINISHED {
+            return None;
+        }
+        claim_in(alloc, line)
     }
 
     // Handles the answer to a line.
-    fn answered(&mut self, before: usize, suspect: Option<Claim>) -> Step {
+    fn answered(&mut self, before: usize, claim: Option<Claim>) -> Step {
         self.hold = Hold::Free;
         self.times.note_line();
+        self.note_answered();
         if self.conversation.replies().get(before..) != Some(BAD_TOKEN) {
             return Step::Goes;
         }
         self.failures = self.failures.saturating_add(1);
-        if pause_after(self.failures).is_some() {
-            Step::Fails(suspect)
-        } else {
-            Step::Goes
-        }
+        Step::Fails(claim)
     }
 
     // Answers the last line, since no more bytes arrive.
-    fn end<S: Sequence, R: Wait, G: Gate>(&mut self, alloc: Global, pads: &mut Shared<'_, S, R, G>)
+    fn end<S: Sequence, R: Wait, G: Gate>(
+        &mut self,
+        alloc: Global,
+        pads: &mut Shared<'_, S, R, G>,
+    ) -> Step
         requires { IsPart self.old.conversation.waiting }
     {
         if !self.conversation.replies().is_empty() {
-            return;
+            return Step::Rests;
         }
         self.phase = Phase::Over;
         let number = self.number;
         let told = pads.answer_last(alloc, &mut self.session, &mut self.conversation, number);
         if let Err(fault) = told {
-            let _broken = self.fail(fault);
+            return self.fail(fault);
         }
+        self.hold = Hold::Free;
+        if self.conversation.replies() != BAD_TOKEN {
+            return Step::Rests;
+        }
+        self.failures = self.failures.saturating_add(1);
+        Step::Fails(None)
     }
 }

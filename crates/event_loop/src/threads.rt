@@ -2,6 +2,7 @@
 use crate::accept::Acceptor;
 use crate::clients::WAKING;
 use crate::hub::{Door, Hub};
+use crate::lobby::Lobby;
 use crate::work::Worker;
 use mio::Waker;
 use shared_pads::Seat;
@@ -42,9 +43,10 @@ pub fn set_up<R: AllocGlobal + Net + Clock>(
     for revision in revisions {
         counts.push(AtomicU64::new(*revision))?;
     }
+    let lobby = Lobby::new(alloc)?;
     let began = Instant::now(rt).ok();
     Ok(SetUp {
-        hub: Hub::new(doors, waker, began, counts),
+        hub: Hub::new(doors, waker, began, counts, lobby),
         acceptor,
         workers,
     })

@@ -1,10 +1,11 @@
 //! One turn of a worker.
 use crate::arrivals::Arrival;
 use crate::client::Client;
-use crate::clients::Clients;
+use crate::clients::{Clients, NotServed};
 use crate::hold::Claim;
 use crate::hub::Connected;
 use crate::limits::CHECK;
+use crate::lobby::{Noted, PATIENT};
 use crate::serve::Step;
 use crate::settle::Settle;
 use crate::ticker::Ticker;
@@ -42,7 +43,7 @@ where
     let timeout = timeout_of(rt, clients, ticker);
     worker.poll.poll(&mut worker.events, timeout)?;
     if clients.note(&worker.events)? {
-        receive(service, worker, clients);
+        receive(service, worker, clients, pads);
         if service.hub.take_moved(worker.place) {
             clients.release(service.hub, worker.place, ticker.look(rt))?;
         }
@@ -54,7 +55,7 @@ where
         }
         if now.saturating_sub(*checked) >= CHECK {
             *checked = now;
-            check_times(service, clients, pads, now);
+            check_times(service, clients, pads, now)?;
         }
     }
     serve(service, worker.place, clients, pads, ticker)?;
@@ -84,6 +85,7 @@ fn receive<S, R, G, T>(
     service: &Service<'_, S, R, G, T>,
     worker: &mut Worker,
     clients: &mut Clients,
+    pads: &mut Shared<'_, S, R, G>,
 )
 where
     S: Sequence,
@@ -93,36 +95,29 @@ where
 {
     let rt = service.row.rt;
     for _ in 0..ARRIVALS {
-        let registry = worker.poll.registry();
-        let (number, home, connected, taken) = match worker.arrivals.try_recv(rt) {
+        let client = match worker.arrivals.try_recv(rt) {
             Ok(
                 Arrival::Accepted {
                     number,
                     stream,
                     entrance,
+                    address,
                 },
             ) => {
-                let home = worker.place;
-                let taken = clients.accept(rt.alloc(), registry, number, home, stream, entrance);
-                (number, home, entrance.connected(), taken)
+                let link = entrance.link(rt.alloc());
+                Client::new(rt.alloc(), number, worker.place, stream, link, address)
             }
-            Ok(Arrival::Moved(client)) => {
-                let (number, home, connected) = (
-                    client.number(),
-                    client.home(),
-                    client.connected(),
-                );
-                (number, home, connected, clients.insert(registry, client))
-            }
+            Ok(Arrival::Moved(client)) => client,
             Ok(Arrival::Accounts(accounts)) => {
                 clients.accounts = Some(accounts);
                 continue;
             }
             Err(TryRecvError::Empty | TryRecvError::Disconnected) => return,
         };
-        if let Err(cause) = taken {
+        if let Err(NotServed { client, cause }) = clients.insert(worker.poll.registry(), client) {
+            let number = client.number();
             warn!(Journal(rt); "connection {number} is not served: {cause}");
-            service.hub.leave(home, connected);
+            close(service, pads, client);
         }
     }
 }
@@ -151,15 +146,8 @@ where
         };
         let until = match client.serve(service, place, pads, &mut clients.buffers) {
             Step::Goes | Step::Rests | Step::Moves => None,
-            Step::Fails(claim) => {
-                let now = ticker.look(rt);
-                if let Some(claim) = claim {
-                    if service.hub.may_report(now) {
-                        log_failure(rt, client, &claim);
-                    }
-                }
-                Some(client.pause(now))
-            }
+            Step::Fails(claim) => note_failure(service, client, claim, ticker.look(rt)),
+            Step::Knocks => client.knock(rt, service.hub.lobby(), ticker.look(rt)),
             Step::Waits(wanted) => Some(client.wait(ticker.look(rt), wanted)),
         };
         clients.has_spoken = clients.has_spoken || client.owes();
@@ -172,13 +160,52 @@ where
     Ok(())
 }
 
-// Logs a client that sent wrong tokens, and who it claimed to be.
-fn log_failure<R: Clock + Eprint>(rt: &R, client: &mut Client, claim: &Claim) {
+// Notes a wrong token, and logs it once there were some. Returns the time until which its reply is held back, if it is: a
+// log-in that has waited before it was answered does not wait again.
+fn note_failure<S, R, G, T>(
+    service: &Service<'_, S, R, G, T>,
+    client: &mut Client,
+    claim: Option<Claim>,
+    now: u64,
+) -> Option<u64>
+where
+    S: Sequence,
+    R: AllocGlobal + Clock + Wait + Eprint,
+    G: Gate,
+    T: Settle,
+{
+    let (rt, hub) = (service.row.rt, service.hub);
+    let name = match &claim {
+        Some(Claim::Author(name)) => name.clone().ok(),
+        _ => None,
+    };
+    let noted = hub.lobby().note_wrong(rt, client.address(), name, now);
+    if noted.of_address.max(noted.for_name) >= PATIENT && hub.may_report(now) {
+        log_failure(rt, client, claim, noted);
+    }
+    if noted.of_address > PATIENT {
+        return None;
+    }
+    client.pause(now, noted.for_name)
+}
+
+// Logs a client that sent a wrong token, who it claimed to be, and how many there were.
+fn log_failure<R: Clock + Eprint>(rt: &R, client: &mut Client, claim: Option<Claim>, noted: Noted) {
     let number = client.number();
+    let Noted {
+        of_address,
+        for_name,
+        total,
+    } = noted;
+    let Some(claim) = claim else {
+        warn!(Journal(rt); "connection {number}: a wrong token; {total} since the start");
+        return;
+    };
     match client.stream().peer_addr() {
         Ok(address) =>
-            warn!(Journal(rt); "connection {number} from {address}: wrong tokens, the last for {claim}"),
-        Err(_) => warn!(Journal(rt); "connection {number}: wrong tokens, the last for {claim}"),
+            warn!(Journal(rt); "connection {number} from {address}: a wrong token for {claim}; {of_address} from this address and {for_name} for this name lately, {total} since the start"),
+        Err(_) =>
+            warn!(Journal(rt); "connection {number}: a wrong token for {claim}; {for_name} for this name lately, {total} since the start"),
     }
 }
 
@@ -233,20 +260,20 @@ where
     let Some(mut client) = clients.all.try_remove(key) else {
         return;
     };
-    let (number, home, connected) = (client.number(), client.home(), client.connected());
+    let (number, home) = (client.number(), client.home());
     let to = if worker.place == service.hub.long_lines() {
         home
     } else {
         service.hub.long_lines()
     };
     let _registered = worker.poll.registry().deregister(client.stream());
-    if !service.hub.send(rt, to, Arrival::Moved(client)) {
+    if let Some(Arrival::Moved(client)) = service.hub.send(rt, to, Arrival::Moved(client)) {
         warn!(Journal(rt); "connection {number} ended: out of memory");
-        service.hub.leave(home, connected);
+        close(service, pads, client);
     }
 }
 
-// Ends a client's session, and closes its socket.
+// Takes a client out, ends its session and closes its socket.
 fn end<S, R, G, T>(
     service: &Service<'_, S, R, G, T>,
     clients: &mut Clients,
@@ -259,17 +286,37 @@ where
     G: Gate,
     T: Settle,
 {
-    let rt = service.row.rt;
-    let Some(mut client) = clients.all.try_remove(key) else {
+    let Some(client) = clients.all.try_remove(key) else {
         return;
     };
-    client.end_session(pads);
     let number = client.number();
     match client.fault() {
         Some((fault, Some(cause))) =>
-            warn!(Journal(rt); "connection {number} ended: {fault}: {cause}"),
-        Some((fault, None)) => warn!(Journal(rt); "connection {number} ended: {fault}"),
+            warn!(Journal(service.row.rt); "connection {number} ended: {fault}: {cause}"),
+        Some((fault, None)) => warn!(Journal(service.row.rt); "connection {number} ended: {fault}"),
         None => {}
+    }
+    close(service, pads, client);
+}
+
+// Ends a client's session, and closes its socket. Each client that the worker no longer serves ends here, unless it
+// moves to another worker.
+fn close<S, R, G, T>(
+    service: &Service<'_, S, R, G, T>,
+    pads: &mut Shared<'_, S, R, G>,
+    mut client: Client,
+)
+where
+    S: Sequence,
+    R: AllocGlobal + Wait + Clock + Eprint,
+    G: Gate,
+    T: Settle,
+{
+    client.end_session(pads);
+    let lobby = service.hub.lobby();
+    client.leave_lobby(lobby);
+    if service.limits.per_address.is_some() {
+        lobby.disconnect(service.row.rt, client.address());
     }
     let (home, connected) = (client.home(), client.connected());
     drop(client);
@@ -282,7 +329,7 @@ fn check_times<S, R, G, T>(
     clients: &mut Clients,
     pads: &mut Shared<'_, S, R, G>,
     now: u64,
-)
+) -> io::Result<()>
 where
     S: Sequence,
     R: AllocGlobal + Wait + Clock + Eprint,
@@ -297,6 +344,9 @@ where
         let Some(client) = clients.all.get_mut(key) else {
             continue;
         };
+        if client.end_stall() {
+            clients.queue.push(key)?;
+        }
         let Some(late) = client.check(now, idle) else {
             continue;
         };
@@ -312,4 +362,5 @@ where
         client.say_goodbye();
         end(service, clients, pads, key);
     }
+    Ok(())
 }

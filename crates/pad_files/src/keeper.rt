@@ -68,6 +68,22 @@ pub struct Held {
     pub folder: File,
 }
 
+impl Books {
+    // Adds the book of the next cell. Where memory runs out, the start fails, so one of the two may then be longer.
+    pub(crate) fn add(
+        &mut self,
+        file: Option<File>,
+        sum: String,
+        handle: Option<File>,
+    ) -> Result<(), AllocError> {
+        let kept = self.all.push(Mutex::new(Book { file, sum }));
+        let held = self.handles.push(Handle::new(handle));
+        kept?;
+        held?;
+        Ok(())
+    }
+}
+
 impl Keeper {
     // A keeper of these books.
     pub(crate) fn new(

@@ -120,28 +120,34 @@ fn open_loaded<S: Sequence>(
     replica: u16,
     loaded: Loaded<S>,
 ) -> io::Result<PadFile<S>> {
-    let Loaded {
-        pad,
-        header,
-        sum,
-        whole,
-        cut,
-    } = loaded;
-    if cut > 0 {
-        warn!(Journal(files); "{path}: the last {cut} bytes are no whole lines that were synced, and are cut off");
-    }
-    let (mut file, handle) = open_file(files, path, whole)?;
-    let sum = if header.replica == u64::from(replica) {
-        sum
-    } else {
-        begin_again(files.alloc(), &mut file, &header, replica, sum.as_str())?
-    };
+    let (sum, file, handle) = open_end(files, path, replica, &loaded)?;
     Ok(PadFile {
-        pad,
+        pad: loaded.pad,
         sum,
         file,
         handle,
     })
+}
+
+// The sum of the file's last line, and the file, opened twice.
+fn open_end<S: Sequence>(
+    files: &HostRuntime,
+    path: &str,
+    replica: u16,
+    loaded: &Loaded<S>,
+) -> io::Result<(String, File, File)> {
+    let cut = loaded.cut;
+    if cut > 0 {
+        warn!(Journal(files); "{path}: the last {cut} bytes are no whole lines that were synced, and are cut off");
+    }
+    let (mut file, handle) = open_file(files, path, loaded.whole)?;
+    let before = loaded.sum.as_str();
+    let sum = if loaded.header.replica == u64::from(replica) {
+        String::from_str(files.alloc(), before)?
+    } else {
+        begin_again(files.alloc(), &mut file, &loaded.header, replica, before)?
+    };
+    Ok((sum, file, handle))
 }
 
 // Appends the header of a server with another number, and returns its sum.

@@ -119,15 +119,7 @@ where
     };
     let reads: Vec<Read<BlockSeq>> = read_all(rt, files, folder, names, owner)?;
     for read in reads {
-        let loaded = match read.into_pad() {
-            Ok(Some(loaded)) => loaded,
-            Ok(None) => continue,
-            Err(unloaded) => return Err(unloaded.in_folder(folder)),
-        };
-        if row.cells.len() >= size.cells as usize {
-            return Err(StoreError::TooManyPads { folder });
-        }
-        row.add(alloc, loaded)?;
+        row.take(alloc, folder, size.cells, read)?;
     }
     let taken = row.cells.len().min(size.cells as usize) as u32;
     for cell in taken..size.cells {
@@ -147,43 +139,56 @@ struct Loading {
 }
 
 impl Loading {
+    // Adds the pad of a file, if one was named in it and there is room for one more than these cells.
+    fn take<'f>(
+        &mut self,
+        alloc: Global,
+        folder: &'f str,
+        cells: u32,
+        read: Read<BlockSeq>,
+    ) -> Result<(), StoreError<'f>> {
+        match read.into_pad() {
+            Ok(Some(_)) if self.cells.len() >= cells as usize => {
+                Err(StoreError::TooManyPads { folder })
+            }
+            Ok(Some(loaded)) => Ok(self.add(alloc, loaded)?),
+            Ok(None) => Ok(()),
+            Err(unloaded) => Err(unloaded.in_folder(folder)),
+        }
+    }
+
     // Adds a pad.
     fn add(&mut self, alloc: Global, opened: PadFile<BlockSeq>) -> Result<(), AllocError> {
-        let cell = u32::try_from(self.cells.len()).unwrap_or(u32::MAX);
         let PadFile {
             pad,
             sum,
             file,
             handle,
         } = opened;
-        self.revisions.push(pad.revision())?;
-        let Ok(pad) = SharedPad::new(alloc, pad, cell, self.seats) else {
-            return Err(AllocError);
-        };
-        self.cells.push(pad)?;
-        self.books.all.push(Mutex::new(Book {
-            file: Some(file),
-            sum,
-        }))?;
-        self.books.handles.push(Handle::new(Some(handle)))?;
-        Ok(())
+        let booked = self.books.add(Some(file), sum, Some(handle));
+        let added = self.add_pad(alloc, pad);
+        booked.and(added)
     }
 
     // Adds a cell without a pad.
     fn add_free(&mut self, alloc: Global, owner: &Owner, cell: u32) -> Result<(), AllocError> {
+        let booked = self.books.add(None, String::new(alloc), None);
         let Ok(pad) = Pad::new(alloc, owner.replica(), owner.present()) else {
             return Err(AllocError);
         };
-        let Ok(pad) = SharedPad::new(alloc, pad, cell, self.seats) else {
+        let added = self.add_pad(alloc, pad);
+        booked.and(added)
+    }
+
+    // Adds the pad of the next cell.
+    fn add_pad(&mut self, alloc: Global, pad: Pad<BlockSeq>) -> Result<(), AllocError> {
+        let cell = u32::try_from(self.cells.len()).unwrap_or(u32::MAX);
+        let revision = pad.revision();
+        let Ok(shared) = SharedPad::new(alloc, pad, cell, self.seats) else {
             return Err(AllocError);
         };
-        self.cells.push(pad)?;
-        self.revisions.push(0)?;
-        self.books.all.push(Mutex::new(Book {
-            file: None,
-            sum: String::new(alloc),
-        }))?;
-        self.books.handles.push(Handle::new(None))?;
+        self.cells.push(shared)?;
+        self.revisions.push(revision)?;
         Ok(())
     }
 }

@@ -11,6 +11,7 @@ settings_of asked = record {
   workers = asked.workers;
   connections = asked.connections;
   clients = asked.clients;
+  clients_per_address = asked.clients_per_address;
   idle = asked.idle;
   store = asked.store;
   new_replica = asked.new_replica;

@@ -29,6 +29,10 @@ connections_rule = number_rule (codes "connections") 1 4294967295
 abbrev pub clients_rule : Rule
 clients_rule = number_rule (codes "clients") 1 4294967295
 
+-- `--clients-per-address N`, a number of 32 bits
+abbrev pub clients_per_address_rule : Rule
+clients_per_address_rule = number_rule (codes "clients-per-address") 1 4294967295
+
 -- `--idle SECONDS`, a number of 32 bits
 abbrev pub idle_rule : Rule
 idle_rule = number_rule (codes "idle") 1 4294967295
@@ -68,7 +72,7 @@ line_with_clients_and_store = with_rule (with_rule (with_rule (with_rule line_wi
 
 -- the whole command line, in the terms of clap, which define the words that it accepts and what they give under a name
 abbrev pub line : App
-line = with_rule (with_rule line_with_clients_and_store web_rule) web_origins_rule
+line = with_rule (with_rule (with_rule line_with_clients_and_store web_rule) web_origins_rule) clients_per_address_rule
 
 -- what the words give: the numbers, the flags and the texts under the names of the options
 pub record AsksFor (words : List (List ℕ)) (asked : Asked) : Type 0 where
@@ -82,6 +86,8 @@ pub record AsksFor (words : List (List ℕ)) (asked : Asked) : Type 0 where
   pub connections : (other : ℕ) → Gives line words (codes "connections") 0 4294967295 other
       (unwrap_or asked.connections other)
   pub clients : Gives line words (codes "clients") 0 4294967295 DEFAULT_CLIENTS asked.clients
+  pub clients_per_address : (other : ℕ) → Gives line words (codes "clients-per-address") 0 4294967295 other
+      (unwrap_or asked.clients_per_address other)
   pub idle : (other : ℕ) → Gives line words (codes "idle") 0 4294967295 other (unwrap_or asked.idle other)
   pub store : option_map (λ folder. folder.now) asked.store ≡ text_given line words (codes "store")
   pub new_replica : IsFlag (one_of (codes "new-replica") (matches_of line words)) asked.new_replica

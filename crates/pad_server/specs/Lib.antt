@@ -2,4 +2,5 @@
 pub mod Asking
 pub mod CommandLine
 pub mod Modes
+pub mod Origins
 pub mod Status

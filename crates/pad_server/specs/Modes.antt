@@ -4,7 +4,7 @@ use Rattle.std.specs.Option.{is_some}
 use Rattle.std.specs.Borrow.{Bor}
 use Rattle.pad_server.specs.declared.args.Asked.{Asked}
 use Rattle.pad_server.specs.declared.mode.Misuse.{Misuse}
-use Rattle.pad_server.specs.declared.mode.Misuse.TheVariants.{NotOne, NoAccounts, NoStore, NoIdle, NoNewReplica, NoWeb, NoWebOrigins}
+use Rattle.pad_server.specs.declared.mode.Misuse.TheVariants.{NotOne, NoAccounts, NoStore, NoIdle, NoNewReplica, NoWeb, NoWebOrigins, NoClientsPerAddress}
 use Rattle.pad_server.specs.declared.mode.Mode.{Mode}
 use Rattle.pad_server.specs.declared.mode.Mode.TheVariants.{Stdin, Listen}
 
@@ -15,7 +15,8 @@ listening address (Some accounts) asked =
     if not (is_some asked.web) && is_some asked.web_origins then Err NoWebOrigins
     else Ok (Listen address accounts)
 
--- standard input, without the options that only connections have: a store, a limit of silence, a new replica number, a page
+-- standard input, without the options that only connections have: a store, a limit of silence, a new replica number, a
+-- page, a limit by address
 abbrev pub reading : Asked → Result Mode Misuse
 reading asked =
     if is_some asked.store then Err NoStore
@@ -23,6 +24,7 @@ reading asked =
     else if asked.new_replica then Err NoNewReplica
     else if is_some asked.web then Err NoWeb
     else if is_some asked.web_origins then Err NoWebOrigins
+    else if is_some asked.clients_per_address then Err NoClientsPerAddress
     else Ok Stdin
 
 -- exactly one of standard input and connections over TCP

@@ -6,9 +6,9 @@ ghost use Rattle.server_core.specs.declared.limits.TheConstants.{MAX_CELLS};
 ghost use Rattle.pad_server.specs.CommandLine.{AsksFor, line_with_service, line, line_with_sizes, line_with_clients_and_store};
 
 use crate::options::{
-    clients_of, clients_option, connections_of, connections_option, idle_of, idle_option,
-    listen_option, new_replica_flag, stdin_flag, store_option, web_option, web_origins_option,
-    workers_of, workers_option,
+    clients_of, clients_option, clients_per_address_of, clients_per_address_option, connections_of,
+    connections_option, idle_of, idle_option, listen_option, new_replica_flag, stdin_flag,
+    store_option, web_option, web_origins_option, workers_of, workers_option,
 };
 use clap::{Command, Error};
 use command_line::{
@@ -38,6 +38,8 @@ pub struct Asked<'a> {
     pub connections: Option<u32>,
     /// The most clients that may be connected at once, at least 1.
     pub clients: u32,
+    /// The most connections that one address may have at once. None: no limit.
+    pub clients_per_address: Option<u32>,
     /// The seconds of silence after which a connection is closed. None: never.
     pub idle: Option<u32>,
     /// The directory in which pads are stored. None: they are lost when the server ends.
@@ -101,7 +103,8 @@ fn command<'a>(alloc: Global) -> Result<Command<'a>, AllocError>
 {
     with_client_and_store_options(alloc)?
         .arg(web_option(alloc))?
-        .arg(web_origins_option(alloc))
+        .arg(web_origins_option(alloc))?
+        .arg(clients_per_address_option(alloc))
 }
 
 /// What the words of the command line give, or what is wrong with them.
@@ -124,6 +127,7 @@ pub fn parse<'a>(alloc: Global, words: &'a [String]) -> Result<Asked<'a>, Error>
         workers: workers_of(&matches),
         connections: connections_of(&matches),
         clients: clients_of(&matches),
+        clients_per_address: clients_per_address_of(&matches),
         idle: idle_of(&matches),
         store: matches.get_str("store"),
         new_replica: matches.get_flag("new-replica"),

@@ -17,6 +17,7 @@ impl<'a> Asked<'a> {
             workers: self.workers,
             connections: self.connections,
             clients: self.clients,
+            clients_per_address: self.clients_per_address,
             idle: self.idle,
             store: self.store,
             new_replica: self.new_replica,

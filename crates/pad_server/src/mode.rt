@@ -36,11 +36,14 @@ pub enum Misuse {
     NoWeb,
     #[error("--web-origin <ORIGINS> needs --web <ADDR>")]
     NoWebOrigins,
+    #[error("--clients-per-address <N> needs --listen <ADDR>")]
+    NoClientsPerAddress,
 }
 
 impl<'a> Asked<'a> {
     /// Returns what is served. Exactly one of `--stdin` and `--listen` has to be given: the first without `--store`,
-    /// `--idle`, `--new-replica` and `--web`, the second with `--accounts`. `--web-origin` is for `--web`.
+    /// `--idle`, `--new-replica`, `--web` and `--clients-per-address`, the second with `--accounts`. `--web-origin` is
+    /// for `--web`.
     pub fn mode(self) -> Result<Mode<'a>, Misuse>
         ensures { result ≡ mode_of self.entry }
     {
@@ -50,6 +53,7 @@ impl<'a> Asked<'a> {
             (true, None) if self.new_replica => Err(Misuse::NoNewReplica),
             (true, None) if self.web.is_some() => Err(Misuse::NoWeb),
             (true, None) if self.web_origins.is_some() => Err(Misuse::NoWebOrigins),
+            (true, None) if self.clients_per_address.is_some() => Err(Misuse::NoClientsPerAddress),
             (true, None) => Ok(Mode::Stdin),
             (true, Some(_)) | (false, None) => Err(Misuse::NotOne),
             (false, Some(address)) => match self.accounts {

@@ -2,7 +2,7 @@
 ghost use Rattle.std.specs.Prelude.{◌≡◌, ◌≤◌, ℕ, codes, false, unwrap_or};
 ghost use Rattle.clap.specs.Words.{rule_of};
 ghost use Rattle.command_line.specs.Options.{Holds};
-ghost use Rattle.pad_server.specs.CommandLine.{clients_rule, connections_rule, idle_rule, listen_rule, new_replica_rule, stdin_rule, store_rule, web_origins_rule, web_rule, workers_rule};
+ghost use Rattle.pad_server.specs.CommandLine.{clients_per_address_rule, clients_rule, connections_rule, idle_rule, listen_rule, new_replica_rule, stdin_rule, store_rule, web_origins_rule, web_rule, workers_rule};
 
 use clap::{Arg, ArgAction, ArgMatches, value_parser};
 use serving::MAX_WORKERS;
@@ -66,6 +66,17 @@ pub fn clients_option<'a>(alloc: Global) -> Arg<'a>
         .help("How many clients may be connected at once [default: 10000]")
 }
 
+/// `--clients-per-address N`.
+pub fn clients_per_address_option<'a>(alloc: Global) -> Arg<'a>
+    ensures { (rule_of result ≡ clients_per_address_rule) × (result.global ≡ false) }
+{
+    Arg::new(alloc, "clients-per-address")
+        .long("clients-per-address")
+        .value_name("N")
+        .value_parser(value_parser!(u32).range(1..))
+        .help("How many connections one address may have at once [default: no limit]")
+}
+
 /// `--idle SECONDS`.
 pub fn idle_option<'a>(alloc: Global) -> Arg<'a>
     ensures { (rule_of result ≡ idle_rule) × (result.global ≡ false) }
@@ -114,7 +125,7 @@ pub fn web_origins_option<'a>(alloc: Global) -> Arg<'a>
         .long("web-origin")
         .value_name("ORIGINS")
         .help(
-            "Whose pages may connect beside the server's own, such as https://pads.example; several are separated by commas",
+            "Also accepts pages from these origins, separated by commas, such as https://pads.example",
         )
 }
 
@@ -133,6 +144,13 @@ pub fn clients_of(matches: &ArgMatches<'_>) -> u32
         Some(clients) => clients,
         None => DEFAULT_CLIENTS,
     }
+}
+
+/// The number of `--clients-per-address`, if there is one.
+pub fn clients_per_address_of(matches: &ArgMatches<'_>) -> Option<u32>
+    ensures { (other : ℕ) → Holds (codes "clients-per-address") 0 4294967295 other matches.now (unwrap_or result other) }
+{
+    matches.get_one::<u32>("clients-per-address")
 }
 
 /// The number of `--connections`, if there is one.

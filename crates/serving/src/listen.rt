@@ -1,5 +1,5 @@
 //! The server of many connections over TCP.
-ghost use Rattle.std.specs.Prelude.{◌≤◌};
+ghost use Rattle.std.specs.Prelude.{◌≡◌, ◌≤◌, [], None, IfOk};
 ghost use Rattle.server_core.specs.declared.limits.TheConstants.{MAX_CELLS};
 
 use crate::listeners::listen_at;
@@ -50,24 +50,46 @@ where
 {
     let watching = files.clone()?;
     let (opened, bytes) = open_pads(rt, files, asked, path)?;
-    let origins = origins_of(rt.alloc(), asked)?;
+    let watch = Watch::new(watching, path, bytes);
+    let has_stopped = serve_opened(rt, &opened, asked, address, pages, watch)?;
+    match asked.store {
+        Some(folder) if opened.has_failed() => Err(ServingError::StoreFailed { folder }),
+        _ if has_stopped => Err(ServingError::WorkerFailed),
+        _ => Ok(()),
+    }
+}
+
+/// Serves connections with what is open, and returns whether the workers have stopped.
+fn serve_opened<'a, R>(
+    rt: &R,
+    opened: &Opened,
+    asked: Settings<'a>,
+    address: &'a str,
+    pages: &[Page],
+    watch: Watch<'_>,
+) -> Result<bool, ServingError<'a>>
+where
+    R: Runtime<A = Global, File = File>
+        + Net<Listener = TcpListener, Stream = TcpStream>
+        + Threads
+        + Wait
+        + Sync
+        + Eprint,
+{
     let listeners = listen_at(rt, asked, address)?;
-    let SetUp {
-        hub,
-        acceptor,
-        workers,
-    } = make_threads(rt, &opened, asked, listeners)?;
+    let made = make_threads(rt, opened, asked, listeners)?;
+    let origins = origins_of(rt.alloc(), asked)?;
     let site = Site {
         pages,
         origins: origins.as_slice(),
     };
-    let watch = Watch::new(watching, path, bytes);
-    serve_row(rt, &opened, &hub, asked, site, acceptor, workers, watch)?;
-    match asked.store {
-        Some(folder) if opened.has_failed() => Err(ServingError::StoreFailed { folder }),
-        _ if hub.has_stopped() => Err(ServingError::WorkerFailed),
-        _ => Ok(()),
-    }
+    let SetUp {
+        hub,
+        acceptor,
+        workers,
+    } = made;
+    serve_row(rt, opened, &hub, asked, site, acceptor, workers, watch)?;
+    Ok(hub.has_stopped())
 }
 
 /// Serves connections with the pads of a row.
@@ -112,6 +134,7 @@ where
         limits: Limits {
             connections: asked.connections,
             clients: asked.clients,
+            per_address: asked.clients_per_address,
             idle: asked.idle,
         },
         settle: &settle,
@@ -127,13 +150,15 @@ where
     serve(&service, acceptor, workers, others)
 }
 
-/// The origins of the settings, which are separated by commas. A slash at the end, as browsers show an address, is dropped.
-fn origins_of(alloc: Global, asked: Settings<'_>) -> Result<Vec<String>, AllocError> {
+/// The origins of the settings, which are separated by commas; without the option, none.
+fn origins_of(alloc: Global, asked: Settings<'_>) -> Result<Vec<String>, AllocError>
+    ensures { asked.web_origins ≡ None → IfOk result (λ origins. origins.items ≡ []) }
+{
     let mut origins = Vec::new(alloc);
-    for origin in asked.web_origins.unwrap_or_default().split(',') {
-        let origin = origin.trim();
-        let origin = origin.strip_suffix("/").unwrap_or(origin);
-        origins.push(String::from_str(alloc, origin)?)?;
+    if let Some(all) = asked.web_origins {
+        for origin in all.split(',') {
+            origins.push(String::from_str(alloc, origin.trim())?)?;
+        }
     }
     Ok(origins)
 }

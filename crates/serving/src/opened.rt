@@ -5,7 +5,7 @@ ghost use Rattle.server_core.specs.declared.limits.TheConstants.{MAX_CELLS};
 use crate::serving_error::ServingError;
 use crate::settings::Settings;
 use crate::threads::seats_for;
-use accounts_file::read_accounts;
+use accounts_file::{read_accounts, warn_of_tokens};
 use block_seq::BlockSeq;
 use pad_files::{Keeper, Owner, Size, Stored, restore};
 use pad_model::Refusal;
@@ -56,6 +56,7 @@ where
     requires { (1 ≤ asked.replica) × (asked.cells ≤ MAX_CELLS) }
 {
     let (accounts, bytes) = read_accounts(rt, path)?;
+    warn_of_tokens(rt, path, bytes.as_slice());
     let size = Size {
         cells: asked.cells,
         seats: seats_for(rt, asked, accounts.peers().len()),

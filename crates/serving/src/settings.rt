@@ -15,6 +15,8 @@ pub struct Settings<'a> {
     pub connections: Option<u32>,
     /// The most clients that may be connected at once, at least 1.
     pub clients: u32,
+    /// The most connections that one address may have at once. None: no limit.
+    pub clients_per_address: Option<u32>,
     /// The seconds of silence after which a connection is closed. None: never.
     pub idle: Option<u32>,
     /// The directory where pads are kept. None: they are lost when the server ends.

@@ -1,5 +1,5 @@
 //! The accounts file of a server that runs. It is read again when it has changed.
-use accounts_file::{reason_of, warn_of_ports};
+use accounts_file::{reason_of, warn_of_ports, warn_of_tokens};
 use event_loop::Hub;
 use journal::Journal;
 use log::{info, warn};
@@ -54,6 +54,7 @@ impl<'a> Watch<'a> {
                 if let Some(accounts) = copies.first() {
                     warn_of_ports(rt, path, accounts);
                 }
+                warn_of_tokens(rt, path, bytes.as_slice());
                 hub.replace_accounts(rt, copies);
                 info!(Journal(rt); "the accounts file {path} has changed and was read again");
             }

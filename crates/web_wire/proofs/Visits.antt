@@ -1,5 +1,5 @@
 -- The response of a visit: a socket or a page answers the request that was read.
-use Rattle.std.proofs.Common.{◌≡◌, ◌≤◌, refl, inl, inr, ℕ, Bool, true, List, [], ◌++◌, length, take, drop, Result, Ok, Err, ap, sym, ◌∙◌, append_assoc, arith}
+use Rattle.std.proofs.Common.{◌≡◌, ◌≤◌, refl, inl, inr, ℕ, Bool, true, false, List, [], ◌++◌, length, take, drop, Result, Ok, Err, ap, sym, ◌∙◌, append_assoc, arith}
 use Rattle.std.proofs.lemmas.List.{append-nil, take-append-le, take_all}
 use Rattle.std.specs.Prelude.{◌⊎◌, IfOk, OnOk, OnErr, codes}
 use Rattle.std.specs.Borrow.{Bor}
@@ -56,23 +56,23 @@ socket_planned : (plan : Plan) (old between : Exchange) (pages : List Page) (ori
     → IsPlanned pages origins room body method target minor found plan → Responds plan old (Ok Socket) between
     → (path_of target ≡ codes "/socket") × (room ≡ true)
     × ((answer : List ℕ) × MayOpen origins method minor found answer
-    × (between.output ≡ old.output ++ response_bytes answer []) × (between.input ≡ old.input))
+    × (between.output ≡ old.output ++ response_bytes answer []) × (between.input ≡ old.input) × (body ≡ false))
 socket_planned (Planned.Page page whole) old between pages origins room body method target minor found planned responds = absurd responds
 socket_planned (Planned.Unchanged page) old between pages origins room body method target minor found planned responds = absurd responds
 socket_planned (Planned.Refused status whole) old between pages origins room body method target minor found planned responds = absurd responds
 socket_planned (Planned.Socket key) old between pages origins room body method target minor found planned responds =
-    (planned.0, planned.1, (key, planned.2, responds.1, responds.0))
+    (planned.0, planned.1, (key, planned.2.0, responds.1, responds.0, planned.2.1))
 
 pub socket_opens : (plan : Plan) (result : Result Next AllocError) (old between new : Exchange) (pages : List Page)
-    (origins : List (List ℕ)) (room body : Bool) (server next : Server) (spans : List HeaderSpan) (len : ℕ) (request : RequestSpans)
-    → result ≡ Ok Socket → TakesHead server old.input spans next len request
-    → IsPlanned pages origins room body (span_bytes old.input request.method) (span_bytes old.input request.path)
+    (origins : List (List ℕ)) (room : Bool) (next : Server) (spans : List HeaderSpan) (len : ℕ) (request : RequestSpans)
+    → result ≡ Ok Socket → TakesHead (new_server request_limits) old.input spans next len request
+    → IsPlanned pages origins room (has_bytes (unread_size (reading next))) (span_bytes old.input request.method) (span_bytes old.input request.path)
     request.version (fields_of old.input (take request.headers spans)) plan
     → Responds plan old result between → new ≡ record { input = drop len between.input; output = between.output }
     → (room ≡ true) × OpensSocket origins old new
-socket_opens plan result old between new pages origins room body server next spans len request is takes planned responds goes =
+socket_opens plan result old between new pages origins room next spans len request is takes planned responds goes =
     let found =
-    socket_planned plan old between pages origins room body (span_bytes old.input request.method)
+    socket_planned plan old between pages origins room (has_bytes (unread_size (reading next))) (span_bytes old.input request.method)
     (span_bytes old.input request.path) request.version (fields_of old.input (take request.headers spans)) planned
     (rw is at responds) in
     let covered = takes.covered in (
@@ -81,6 +81,9 @@ socket_opens plan result old between new pages origins room body server next spa
         head = takes.head;
         reads = rw (ap (λ d. d.input) goes ∙ ap (drop len) found.2.3) takes.accepts.reads;
         path = ap path_of (sym covered.path) ∙ found.0;
+        framing = takes.framing;
+        accepts = rw (ap (λ d. d.input) goes ∙ ap (drop len) found.2.3) takes.accepts;
+        bare = rw (ap reading (sym takes.next)) found.2.4;
         answer = found.2.0;
         may = rw (sym covered.method, sym covered.version, sym covered.fields) found.2.1;
         sent = ap (λ d. d.output) goes ∙ found.2.2;

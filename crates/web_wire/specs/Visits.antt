@@ -1,5 +1,5 @@
 -- Which requests are answered with a page or with the socket.
-use Rattle.std.specs.Prelude.{◌≡◌, ◌⊎◌, not, ⊤, ℕ, ◌≤◌, Bool, true, false, ◌&&◌, ◌||◌, ◌==◌, nat_lt, if◌then◌else◌, List, [], ◌++◌, map, length, take, drop, codes, bytes_eq, Option, None, Some, Result, Ok, Err, Contains, unwrap_or}
+use Rattle.std.specs.Prelude.{◌≡◌, ◌⊎◌, not, ⊤, ◌∷◌, is_some, ℕ, ◌≤◌, Bool, true, false, ◌&&◌, ◌||◌, ◌==◌, nat_lt, if◌then◌else◌, List, [], ◌++◌, map, length, take, drop, codes, bytes_eq, Option, None, Some, Result, Ok, Err, Contains, unwrap_or}
 use Rattle.std.specs.List.{list_any, position}
 use Rattle.std.specs.declared.alloc.AllocError.{AllocError}
 use Rattle.http1.specs.Conn.{unread_size}
@@ -57,13 +57,20 @@ may_connect None host allowed = true
 may_connect (Some origin) host allowed =
     is_own origin host || list_any (λ one. eq_ignore_case origin one) allowed
 
+-- whether at most one field has a name; the case of the name's letters does not matter
+abbrev pub is_single : Fields → List ℕ → Bool
+is_single [] name = true
+is_single (field ∷ more) name =
+    if eq_ignore_case field.0 name then not (is_some (header_value more name)) else is_single more name
+
 -- a handshake with these parts is answered with this key: it follows RFC 6455, asks for version 13 with a valid key,
--- and its origin is allowed
+-- and names at most one origin, which is allowed
 abbrev pub MayOpen : List (List ℕ) → List ℕ → ℕ → Fields → List ℕ → Type 0
 MayOpen origins method minor head_fields answer =
     ((key : List ℕ) × (requested_key method minor head_fields ≡ Ok key) × IsValidKey key
     × (answer ≡ accept_key_of key))
     × (may_connect (header_value head_fields (codes "Origin")) (header_value head_fields (codes "Host")) origins ≡ true)
+    × (is_single head_fields (codes "Origin") ≡ true)
 
 -- whether a method is GET or HEAD
 abbrev pub is_reading : List ℕ → Bool
@@ -108,12 +115,23 @@ abbrev pub IsPlanned : List Page → List (List ℕ) → Bool → Bool → List 
     → Type 0
 IsPlanned pages origins room body method target minor head_fields (Planned.Page page whole) =
     Contains pages page.now × (page.now.path.now ≡ path_of target) × (whole ≡ bytes_eq method (codes "GET"))
+    × (is_reading method ≡ true) × (body ≡ false)
 IsPlanned pages origins room body method target minor head_fields (Planned.Unchanged page) =
     Contains pages page.now × (page.now.path.now ≡ path_of target)
+    × (is_reading method ≡ true) × (body ≡ false)
 IsPlanned pages origins room body method target minor head_fields (Planned.Socket key) =
-    (path_of target ≡ codes "/socket") × (room ≡ true) × MayOpen origins method minor head_fields key
+    (path_of target ≡ codes "/socket") × (room ≡ true)
+    × (MayOpen origins method minor head_fields key × (body ≡ false))
 IsPlanned pages origins room body method target minor head_fields (Planned.Refused status whole) =
     (400 ≤ status) × MayRefuse pages origins room body method target minor head_fields
+
+-- the limits of a request
+abbrev pub request_limits : Limits
+request_limits = record {
+  max_head_len = LONGEST_HEAD;
+  max_extensions_len = 64;
+  max_trailers_len = 64;
+}
 
 -- the request at the front opened the socket, whose first bytes are the rest: it was a handshake at the socket's path
 -- that may open it, and is answered as RFC 6455 requires
@@ -121,6 +139,9 @@ pub record OpensSocket (origins : List (List ℕ)) (old new : Exchange) : Type 0
   pub head : RequestHead
   pub reads : ReadsRequest old.input head new.input
   pub path : path_of head.target ≡ codes "/socket"
+  pub framing : Framing
+  pub accepts : AcceptsRequest request_limits old.input head framing new.input
+  pub bare : has_bytes (unread_size (Reads.Body (decoder_for request_limits framing))) ≡ false
   pub answer : List ℕ
   pub may : MayOpen origins head.method head.minor (fields head) answer
   pub sent : new.output ≡ old.output ++ response_bytes answer []
@@ -132,6 +153,7 @@ pub record ServesPage (pages : List Page) (old new : Exchange) : Type 0 where
   pub page : Page
   pub there : Contains pages page
   pub path : page.path.now ≡ path_of head.target
+  pub reading : is_reading head.method ≡ true
   pub lead : List ℕ
   pub sent : new.output ≡ old.output ++ (lead ++ (if bytes_eq head.method (codes "GET") then page.text.now else []))
 
@@ -185,14 +207,6 @@ IfRefused (Ok Read) P = ⊤
 IfRefused (Ok (Close status)) P = 400 ≤ status → P status
 IfRefused (Ok Socket) P = ⊤
 IfRefused (Err error) P = ⊤
-
--- the limits of a request
-abbrev pub request_limits : Limits
-request_limits = record {
-  max_head_len = LONGEST_HEAD;
-  max_extensions_len = 64;
-  max_trailers_len = 64;
-}
 
 -- why a visit is refused: a page that cannot be sent, bytes that cannot become a request, or a reason of the request
 abbrev pub HasReason : List Page → List (List ℕ) → Bool → Exchange → Exchange → ℕ → Type 0

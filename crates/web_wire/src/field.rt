@@ -2,6 +2,7 @@
 ghost use Rattle.std.specs.Prelude.{◌≡◌, All, length, option_map};
 ghost use Rattle.httparse.specs.Spans.{IsHeaderWithin};
 ghost use Rattle.websocket.specs.Headers.{eq_ignore_case, fields_of, header_value};
+ghost use Rattle.web_wire.specs.Visits.{is_single};
 
 use httparse::spans::HeaderSpan;
 
@@ -24,4 +25,21 @@ pub(crate) fn field<'b>(input: &'b [u8], fields: &[HeaderSpan], name: &[u8]) -> 
         }
     }
     None
+}
+
+/// Whether at most one field has a name.
+pub(crate) fn is_single(input: &[u8], fields: &[HeaderSpan], name: &[u8]) -> bool
+    requires { All (IsHeaderWithin (length input.now)) fields.now }
+    ensures { result ≡ is_single (fields_of input.now fields.now) name.now }
+{
+    let mut is_found = false;
+    for span in fields {
+        if is_same(span.name.of(input), name) {
+            if is_found {
+                return false;
+            }
+            is_found = true;
+        }
+    }
+    true
 }

@@ -5,7 +5,7 @@ ghost use Rattle.httparse.specs.Spans.{IsRequestWithin, span_bytes};
 ghost use Rattle.websocket.specs.Headers.{fields_of};
 ghost use Rattle.web_wire.specs.Visits.{IfSocket, IsNoPage, IsPlanned, MayOpen, has_page, is_query, path_of};
 
-use crate::field::field;
+use crate::field::{field, is_single};
 use crate::origin::may_connect;
 use crate::page::{Page, Site};
 use httparse::spans::{HeaderSpan, RequestSpans};
@@ -88,7 +88,7 @@ fn socket_plan(
     let fields = &spans[..head.headers];
     let origin = field(input, fields, b"Origin");
     let host = field(input, fields, b"Host");
-    if !may_connect(origin, host, allowed) {
+    if !is_single(input, fields, b"Origin") || !may_connect(origin, host, allowed) {
         return Plan::Refused(403, true);
     }
     match check_request(input, head, spans) {

@@ -72,6 +72,10 @@ module _ {S R G : Type 0} where
   abbrev pub KeepsSession : Shared S R G → Shared S R G → Type 0
   KeepsSession old new = (new.row ≡ old.row) × (new.session ≡ old.session)
 
+  -- others used the seats, or the accounts were replaced: the session is unchanged
+  abbrev pub IsApart : Shared S R G → Shared S R G → Type 0
+  IsApart old new = new.session ≡ old.session
+
   -- a thread's part of a pool: with these seats and an unauthenticated session it served some connections of the row,
   -- one after another
   abbrev pub Works : Row S R G → List Seat → List Seat → Type 0

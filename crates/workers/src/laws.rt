@@ -1,6 +1,6 @@
 //! Laws of conversations, each the contract of a function that does nothing.
 ghost use Rattle.std.specs.Prelude.{◌≡◌};
-ghost use Rattle.workers.specs.WorkerThreads.{CallsRow, KeepsSession};
+ghost use Rattle.workers.specs.WorkerThreads.{CallsRow, IsApart};
 ghost use Rattle.workers.specs.Laws.{CourseLaw, LastLaw, ServesApart};
 ghost use Rattle.workers.specs.Session.{Serves};
 ghost use Rattle.workers.specs.declared.shared.Shared.{Shared};
@@ -17,10 +17,10 @@ pub fn conversation_law<P: Pads>()
     ensures last { LastLaw P.calls (λ old new. new ≡ old) (Serves P.calls) }
 {}
 
-/// The same if the thread's seats serve other sessions between two lines of this one.
+/// The same if the thread's seats serve other sessions between two lines of this one, or the accounts are replaced there.
 pub fn shared_law<S: Sequence, R: Wait, G: Gate>()
-    ensures course { CourseLaw {P = Shared S R G} CallsRow KeepsSession
-        (ServesApart CallsRow KeepsSession) }
-    ensures last { LastLaw {P = Shared S R G} CallsRow KeepsSession
-        (ServesApart CallsRow KeepsSession) }
+    ensures course { CourseLaw {P = Shared S R G} CallsRow IsApart
+        (ServesApart CallsRow IsApart) }
+    ensures last { LastLaw {P = Shared S R G} CallsRow IsApart
+        (ServesApart CallsRow IsApart) }
 {}

@@ -1,9 +1,9 @@
-use Rattle.workers.specs.WorkerThreads.{CallsRow, KeepsSession}
+use Rattle.workers.specs.WorkerThreads.{CallsRow, IsApart}
 use Rattle.workers.specs.Laws.{ServesApart}
 use Rattle.event_loop.proofs.Browsing.{browsers}
 use Rattle.event_loop.proofs.laws.browser_law.Goals as goal
 
 pub returns : goal.returns
 returns g c =
-    browsers CallsRow KeepsSession (ServesApart CallsRow KeepsSession) c.lines_law.ensures c.pieces_law.ensures
+    browsers CallsRow IsApart (ServesApart CallsRow IsApart) c.lines_law.ensures c.pieces_law.ensures
     c.shared_law.ensures.course

@@ -43,6 +43,8 @@ returns-clause-asked c =
           (c.connections_of.ensures other);
       clients = gives_number line words m (codes "clients") 0 4294967295 DEFAULT_CLIENTS c.clients_of.result rows
           c.clients_of.ensures;
+      clients_per_address = λ other. gives_number line words m (codes "clients-per-address") 0 4294967295 other _ rows
+          (c.clients_per_address_of.ensures other);
       idle = λ other. gives_number line words m (codes "idle") 0 4294967295 other _ rows (c.idle_of.ensures other);
       store = c.get_str-3.ensures ∙ gives_text line words m (codes "store") rows;
       new_replica = record {

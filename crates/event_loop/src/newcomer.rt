@@ -1,0 +1,148 @@
+//! A client until it has logged in: how long a line it may send, and whether its log-in has to wait.
+use crate::client::{Client, Phase};
+use crate::hold::{Hold, claim_in, pause_after};
+use crate::limits::{CHUNK, UNFINISHED};
+use crate::link::Link;
+use crate::lobby::{Lobby, PATIENT};
+use pad_model::Who;
+use std::alloc::Global;
+use std::sync::Wait;
+
+/// What is kept about a client because it has not logged in.
+#[derive(Clone, Copy, Debug)]
+pub struct Newcomer {
+    /// Whether the lobby counts it.
+    pub is_counted: bool,
+    /// The bytes that have come since its last whole line.
+    pub unfinished: usize,
+    /// Whether it is one of those that may send a long line.
+    pub may_be_long: bool,
+    /// Whether it is not read until it may send a long line.
+    pub is_stalled: bool,
+}
+
+impl Newcomer {
+    /// A client that has sent nothing.
+    pub fn new(is_counted: bool) -> Newcomer {
+        Newcomer {
+            is_counted,
+            unfinished: 0,
+            may_be_long: false,
+            is_stalled: false,
+        }
+    }
+}
+
+impl Client {
+    /// Whether nobody has logged in.
+    pub(crate) fn is_nobody(&self) -> bool {
+        match self.session.who() {
+            Who::Nobody => true,
+            _ => false,
+        }
+    }
+
+    /// The most bytes that may be read now. None: the client has not logged in, has begun a line of more than
+    /// `UNFINISHED` bytes, and as many others as may have done so too. It is asked again after a while.
+    pub(crate) fn may_read(&mut self, lobby: &Lobby) -> Option<usize> {
+        if !self.is_nobody() {
+            return Some(CHUNK);
+        }
+        let room = UNFINISHED.saturating_sub(self.newcomer.unfinished);
+        if room > 0 {
+            return Some(room);
+        }
+        if self.newcomer.may_be_long || lobby.begin_long() {
+            self.newcomer.may_be_long = true;
+            return Some(CHUNK);
+        }
+        self.newcomer.is_stalled = true;
+        None
+    }
+
+    /// Notes how many bytes wait now, of which `before` waited before a read.
+    pub(crate) fn note_read(&mut self, before: usize) {
+        let came = self.waiting().saturating_sub(before);
+        self.newcomer.unfinished = self.newcomer.unfinished.saturating_add(came);
+    }
+
+    /// Notes that a line was answered: what waits now is the beginning of the next one.
+    pub(crate) fn note_answered(&mut self) {
+        self.newcomer.unfinished = self.waiting();
+    }
+
+    /// The bytes that wait to be answered, or to become a line.
+    pub(crate) fn waiting(&self) -> usize {
+        let lines = self.conversation.waiting();
+        match &self.link {
+            Link::Socket(frames) => lines.saturating_add(frames.len()),
+            _ => lines,
+        }
+    }
+
+    /// Gives back to the lobby what the client no longer needs: its place, if it has logged in, and the leave to send a
+    /// long line, once it was sent.
+    pub(crate) fn review(&mut self, lobby: &Lobby) {
+        let has_logged_in = !self.is_nobody();
+        if has_logged_in || self.newcomer.unfinished < UNFINISHED {
+            self.give_back_long(lobby);
+        }
+        if has_logged_in {
+            self.give_back_place(lobby);
+        }
+    }
+
+    /// Gives back everything to the lobby, since the connection ends.
+    pub fn leave_lobby(&mut self, lobby: &Lobby) {
+        self.give_back_long(lobby);
+        self.give_back_place(lobby);
+    }
+
+    fn give_back_long(&mut self, lobby: &Lobby) {
+        if self.newcomer.may_be_long {
+            self.newcomer.may_be_long = false;
+            lobby.end_long();
+        }
+    }
+
+    fn give_back_place(&mut self, lobby: &Lobby) {
+        if self.newcomer.is_counted {
+            self.newcomer.is_counted = false;
+            lobby.leave();
+        }
+    }
+
+    /// Ends a stall, so that the client asks again whether it may be read. Returns whether the caller has to queue it.
+    pub fn end_stall(&mut self) -> bool {
+        if !self.newcomer.is_stalled {
+            return false;
+        }
+        self.newcomer.is_stalled = false;
+        self.queue()
+    }
+
+    /// Whether the next line may be a log-in, after wrong tokens have come to the server.
+    pub(crate) fn is_knocking(&self, alloc: Global, lobby: &Lobby) -> bool {
+        if !lobby.has_wrong() || !self.is_nobody() {
+            return false;
+        }
+        match self.conversation.first_line() {
+            Some(line) => line.len() > UNFINISHED || claim_in(alloc, line).is_some(),
+            None => self.phase == Phase::Ended && self.conversation.waiting() > 0,
+        }
+    }
+
+    /// Holds back a log-in if its address has sent wrong tokens lately. Returns the time until which it does, or None
+    /// if the line can be answered.
+    pub fn knock<R: Wait>(&mut self, rt: &R, lobby: &Lobby, now: u64) -> Option<u64> {
+        let tokens = lobby.wrong_of(rt, self.address, now);
+        if tokens < PATIENT {
+            self.hold = Hold::Over;
+            return None;
+        }
+        let pause = pause_after(tokens.saturating_add(1)).unwrap_or(0);
+        let until = now.saturating_add(pause);
+        self.hold = Hold::LogIn { until };
+        Some(until)
+    }
+}

@@ -6,6 +6,9 @@ from harness import ROOT, Failed, Test, want
 # The beginning of a row, and the constant whose value its number is: a file of crates/ and the name there.
 ROWS = [
     ("clients connected at once", "pad_server/src/options.rt", "DEFAULT_CLIENTS"),
+    ("clients that have not logged in", "event_loop/src/limits.rt", "FEWEST_NEWCOMERS"),
+    ("bytes of an unfinished line", "event_loop/src/limits.rt", "UNFINISHED"),
+    ("clients that are read beyond that", "event_loop/src/limits.rt", "MOST_LONG"),
     ("threads that serve them", "serving/src/threads.rt", "MAX_WORKERS"),
     ("requests for the page's files at once", "event_loop/src/limits.rt", "VISITS"),
     ("bytes in a line over TCP", "wire_lines/src/feed.rt", "MAX_LINE"),

@@ -4,18 +4,21 @@ import { Enter, reason } from "./enter.js";
 import { $, label } from "./page.js";
 import { Session } from "./session.js";
 import { LostRevisions } from "./sync.js";
+import { tellIfUnproved } from "./unproved.js";
 import { webSocket } from "./wire.js";
 import { WORDS } from "./words.js";
 
 label();
 
-let desk = null, enter = null;
+let desk = null, enter = null, wasLost = false;
 const whenOpen = (act) => (...given) => { if (desk?.isShowing) act(...given); };
 
 const session = new Session({
   open: webSocket(`${location.protocol === "https:" ? "wss" : "ws"}://${location.host}/socket`),
   view: {
     onState: () => {
+      if (wasLost && !session.isLost) tellIfUnproved();
+      wasLost = session.isLost;
       enter?.showState();
       if (desk?.isOpen) desk.showState();
     },
@@ -44,4 +47,5 @@ $("skip").addEventListener("click", (event) => {
   event.preventDefault();
   $("text").focus();
 });
+tellIfUnproved();
 $("name").focus();

@@ -8,7 +8,7 @@ from harness import Case, Has, Test, want
 from sockets import ACCOUNTS, LISTEN, WAIT
 from web_server import ACCEPT, WebServer, files, handshake_of, head_of, read_response
 
-KINDS = {"/": "text/html", ".css": "text/css", ".js": "text/javascript", ".svg": "image/svg+xml"}
+KINDS = {"/": "text/html", ".css": "text/css", ".js": "text/javascript", ".svg": "image/svg+xml", ".txt": "text/plain"}
 # What a page may do: load its own files and open its own socket.
 POLICY = {
     "default-src": "'none'", "script-src": "'self'", "style-src": "'self'", "img-src": "'self'", "connect-src": "'self'",
@@ -26,7 +26,7 @@ def policy_of(response):
 
 
 def each_file_is_served():
-    server = WebServer()
+    server = WebServer("--unproved")
     for path, text in files().items():
         response = server.get(path)
         kind = KINDS["/" if path == "/" else path[path.rindex(".") :]]
@@ -34,6 +34,11 @@ def each_file_is_served():
         want(response.fields["content-type"], f"{kind}; charset=utf-8", f"the type of {path}")
         want(response.fields["content-length"], str(len(text)), f"the length of {path}")
         want({name: response.fields.get(name) for name in FIELDS}, FIELDS, f"the fields of {path}")
+
+
+def a_proved_program_does_not_say_that_it_is_unproved():
+    response = WebServer().get("/unproved.txt")
+    want((response.status, response.body), (200, b""), "the status and the text of /unproved.txt")
 
 
 def the_policy_allows_the_page_alone_and_nothing_unsafe():
@@ -220,6 +225,7 @@ CASES = [
 
 FUNCTIONS = [
     each_file_is_served,
+    a_proved_program_does_not_say_that_it_is_unproved,
     the_policy_allows_the_page_alone_and_nothing_unsafe,
     a_head_alone_has_the_same_fields,
     a_known_tag_is_answered_304,

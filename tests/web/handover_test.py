@@ -70,6 +70,11 @@ def hand_over(machine, typists):
     wait_until(lambda: all(len(it.typed) >= was + FEWEST for it, was in zip(typists, typed)), "that both have typed on")
 
 
+def notice_of(window):
+    """What a window says below everything else."""
+    return window.run("return document.getElementById('unproved').textContent")
+
+
 def text_of(machine):
     reader = machine.author()
     reader.does(do="join", pad="p")
@@ -97,6 +102,8 @@ def play(check):
         touch("BUILD")
         machine.said(READY)
         windows = open_windows(machine)
+        for window, name in zip(windows, ["ann", "bob"]):
+            check(f"{name}'s window says that nothing is proved", until(lambda: "without proofs" in notice_of(window)), notice_of(window))
         typists = [Typist(window, letters) for window, letters in zip(windows, ["0123456789", "abcdefghijklmnopqrstuvwxyz"])]
         try:
             hand_over(machine, typists)
@@ -106,6 +113,7 @@ def play(check):
         due = "\n".join(typist.typed for typist in typists)
         for window, name in zip(windows, ["ann", "bob"]):
             check(f"{name}'s window is saved", until(window.is_saved), window.state)
+            check(f"{name}'s window no longer says that nothing is proved", until(lambda: notice_of(window) == ""), notice_of(window))
             check(f"each character is there once in {name}'s window", until(lambda: window.text == due), (window.text, due))
         check("each character is there once at the server", text_of(machine) == due, (text_of(machine), due))
     finally:

@@ -107,7 +107,7 @@ def accounts_change_while_the_server_runs():
     lines = [line.split(" ", 1)[1] for line in server.said().splitlines()]
     want(lines, [
         "pad_server: note: the accounts file accounts has changed and was read again",
-        f"pad_server: warning: the accounts file accounts has changed, and nothing of it is taken: line 2: {NO_TOKEN}",
+        f"pad_server: warning: the accounts file accounts has changed, and the accounts stay as they were: line 2: {NO_TOKEN}",
         "pad_server: warning: the accounts file accounts cannot be read, and the accounts stay as they are: No such file or directory (os error 2)",
         "pad_server: note: the accounts file accounts has changed and was read again",
     ], "what is logged")

@@ -1,3 +1,4 @@
 -- The definitions that the contracts cite, by topic.
 pub mod Laws
 pub mod Messages
+pub mod Newcomers

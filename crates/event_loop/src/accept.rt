@@ -181,7 +181,7 @@ fn accept_some<R: Clock + Wait + Eprint>(
                 ErrorKind::Interrupted | ErrorKind::ConnectionAborted => {}
                 _ => {
                     if count.refused.is_due(count.ticker.look(rt)) {
-                        warn!(Journal(rt); "no connection is accepted: {error}");
+                        warn!(Journal(rt); "cannot accept connections: {error}");
                     }
                     return Round::Refused;
                 }

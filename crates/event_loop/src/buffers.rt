@@ -1,4 +1,6 @@
 //! The buffers that a worker reads into, shared by its clients.
+ghost use Rattle.std.specs.Prelude.{◌≤◌, length};
+
 use crate::limits::CHUNK;
 use std::alloc::{AllocError, Global};
 
@@ -24,7 +26,9 @@ impl Buffers {
 }
 
 /// The first bytes of a buffer, at most as many as are asked for.
-pub fn first_bytes(bytes: &mut [u8], most: usize) -> &mut [u8] {
+pub fn first_bytes(bytes: &mut [u8], most: usize) -> &mut [u8]
+    ensures { length result.now ≤ most }
+{
     let end = most.min(bytes.len());
     &mut bytes[..end]
 }

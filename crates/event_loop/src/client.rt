@@ -19,9 +19,6 @@ use std::{io, mem};
 use wire_lines::Fault;
 use workers::{Conversation, Gate, Shared};
 
-/// The most writes to a socket before other clients have their turn.
-const WRITES: u32 = 16;
-
 /// The state of a client's connection.
 #[derive(Clone, Copy, Debug, PartialEq, Eq)]
 pub enum Phase {

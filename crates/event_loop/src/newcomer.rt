@@ -1,4 +1,8 @@
 //! A client until it has logged in: how long a line it may send, and whether its log-in has to wait.
+ghost use Rattle.std.specs.Prelude.{◌≡◌, ◌⊎◌, ◌+◌, ◌≤◌, true, false, IfSome};
+ghost use Rattle.event_loop.specs.Newcomers.{is_nobody};
+ghost use Rattle.event_loop.specs.declared.limits.TheConstants.{UNFINISHED};
+
 use crate::client::{Client, Phase};
 use crate::hold::{Hold, claim_in, pause_after};
 use crate::limits::{CHUNK, UNFINISHED};
@@ -35,7 +39,9 @@ impl Newcomer {
 
 impl Client {
     /// Whether nobody has logged in.
-    pub(crate) fn is_nobody(&self) -> bool {
+    pub(crate) fn is_nobody(&self) -> bool
+        ensures { result ≡ is_nobody self.now.session.who }
+    {
         match self.session.who() {
             Who::Nobody => true,
             _ => false,
@@ -44,7 +50,11 @@ impl Client {
 
     /// The most bytes that may be read now. None: the client has not logged in, has begun a line of more than
     /// `UNFINISHED` bytes, and as many others as may have done so too. It is asked again after a while.
-    pub(crate) fn may_read(&mut self, lobby: &Lobby) -> Option<usize> {
+    pub(crate) fn may_read(&mut self, lobby: &Lobby) -> Option<usize>
+        ensures bounded { IfSome result (λ most. (is_nobody self.old.session.who ≡ false)
+            ⊎ ((self.new.newcomer.may_be_long ≡ true)
+            ⊎ (most + self.old.newcomer.unfinished ≤ UNFINISHED))) }
+    {
         if !self.is_nobody() {
             return Some(CHUNK);
         }

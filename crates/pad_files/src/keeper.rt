@@ -210,7 +210,7 @@ impl Keeper {
     // Spends the reserve.
     fn make_room<R: Wait>(&self, rt: &R) -> io::Result<()> {
         if self.reserve.spend(rt)? {
-            warn!(Journal(&self.files); "the disk of the store {} is full: nothing more is taken that has to be kept", self.folder);
+            warn!(Journal(&self.files); "the disk of the store {} is full: edits, joins and grants are refused (901) until there is space", self.folder);
         }
         Ok(())
     }

@@ -106,7 +106,7 @@ fn move_aside(files: &HostRuntime, path: &str) -> io::Result<()> {
     for number in 1..=MOST_ASIDE {
         let aside = format!(in files.alloc(); "{path}.unnamed-{number}")?;
         if !fs::exists(files, aside.as_str())? {
-            warn!(Journal(files); "{path}: no pad was named in it, and it is moved to {aside}");
+            warn!(Journal(files); "{path}: it holds no pad, and is moved to {aside}");
             return fs::rename(files, path, aside.as_str());
         }
     }
@@ -138,7 +138,7 @@ fn open_end<S: Sequence>(
 ) -> io::Result<(String, File, File)> {
     let cut = loaded.cut;
     if cut > 0 {
-        warn!(Journal(files); "{path}: the last {cut} bytes are no whole lines that were synced, and are cut off");
+        warn!(Journal(files); "{path}: dropped the last {cut} bytes, which an interrupted write left; nothing that was synced is lost");
     }
     let (mut file, handle) = open_file(files, path, loaded.whole)?;
     let before = loaded.sum.as_str();

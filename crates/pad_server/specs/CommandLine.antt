@@ -45,6 +45,10 @@ store_rule = option_rule (codes "store")
 abbrev pub new_replica_rule : Rule
 new_replica_rule = flag_rule (codes "new-replica")
 
+-- `--unproved`
+abbrev pub unproved_rule : Rule
+unproved_rule = flag_rule (codes "unproved")
+
 -- `--web ADDR`
 abbrev pub web_rule : Rule
 web_rule = option_rule (codes "web")
@@ -72,7 +76,8 @@ line_with_clients_and_store = with_rule (with_rule (with_rule (with_rule line_wi
 
 -- the whole command line, in the terms of clap, which define the words that it accepts and what they give under a name
 abbrev pub line : App
-line = with_rule (with_rule (with_rule line_with_clients_and_store web_rule) web_origins_rule) clients_per_address_rule
+line = with_rule (with_rule (with_rule (with_rule line_with_clients_and_store web_rule) web_origins_rule)
+    clients_per_address_rule) unproved_rule
 
 -- what the words give: the numbers, the flags and the texts under the names of the options
 pub record AsksFor (words : List (List ℕ)) (asked : Asked) : Type 0 where
@@ -91,5 +96,6 @@ pub record AsksFor (words : List (List ℕ)) (asked : Asked) : Type 0 where
   pub idle : (other : ℕ) → Gives line words (codes "idle") 0 4294967295 other (unwrap_or asked.idle other)
   pub store : option_map (λ folder. folder.now) asked.store ≡ text_given line words (codes "store")
   pub new_replica : IsFlag (one_of (codes "new-replica") (matches_of line words)) asked.new_replica
+  pub unproved : IsFlag (one_of (codes "unproved") (matches_of line words)) asked.unproved
   pub web : option_map (λ address. address.now) asked.web ≡ text_given line words (codes "web")
   pub web_origins : option_map (λ origins. origins.now) asked.web_origins ≡ text_given line words (codes "web-origin")

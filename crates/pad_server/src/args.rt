@@ -8,7 +8,7 @@ ghost use Rattle.pad_server.specs.CommandLine.{AsksFor, line_with_service, line,
 use crate::options::{
     clients_of, clients_option, clients_per_address_of, clients_per_address_option, connections_of,
     connections_option, idle_of, idle_option, listen_option, new_replica_flag, stdin_flag,
-    store_option, web_option, web_origins_option, workers_of, workers_option,
+    store_option, unproved_flag, web_option, web_origins_option, workers_of, workers_option,
 };
 use clap::{Command, Error};
 use command_line::{
@@ -46,6 +46,8 @@ pub struct Asked<'a> {
     pub store: Option<&'a str>,
     /// Whether no server has used the replica number before. Then the store may be that of another number.
     pub new_replica: bool,
+    /// Whether the page says that this program was built without proofs.
+    pub unproved: bool,
     /// The address at which to serve the page for browsers.
     pub web: Option<&'a str>,
     /// The origins whose pages may connect beside the server's own, separated by commas.
@@ -104,7 +106,8 @@ fn command<'a>(alloc: Global) -> Result<Command<'a>, AllocError>
     with_client_and_store_options(alloc)?
         .arg(web_option(alloc))?
         .arg(web_origins_option(alloc))?
-        .arg(clients_per_address_option(alloc))
+        .arg(clients_per_address_option(alloc))?
+        .arg(unproved_flag(alloc))
 }
 
 /// What the words of the command line give, or what is wrong with them.
@@ -131,6 +134,7 @@ pub fn parse<'a>(alloc: Global, words: &'a [String]) -> Result<Asked<'a>, Error>
         idle: idle_of(&matches),
         store: matches.get_str("store"),
         new_replica: matches.get_flag("new-replica"),
+        unproved: matches.get_flag("unproved"),
         web: matches.get_str("web"),
         web_origins: matches.get_str("web-origin"),
     })

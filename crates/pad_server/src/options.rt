@@ -2,7 +2,7 @@
 ghost use Rattle.std.specs.Prelude.{◌≡◌, ◌≤◌, ℕ, codes, false, unwrap_or};
 ghost use Rattle.clap.specs.Words.{rule_of};
 ghost use Rattle.command_line.specs.Options.{Holds};
-ghost use Rattle.pad_server.specs.CommandLine.{clients_per_address_rule, clients_rule, connections_rule, idle_rule, listen_rule, new_replica_rule, stdin_rule, store_rule, web_origins_rule, web_rule, workers_rule};
+ghost use Rattle.pad_server.specs.CommandLine.{clients_per_address_rule, clients_rule, connections_rule, idle_rule, listen_rule, new_replica_rule, stdin_rule, store_rule, unproved_rule, web_origins_rule, web_rule, workers_rule};
 
 use clap::{Arg, ArgAction, ArgMatches, value_parser};
 use serving::MAX_WORKERS;
@@ -106,6 +106,16 @@ pub fn new_replica_flag<'a>(alloc: Global) -> Arg<'a>
         .long("new-replica")
         .action(ArgAction::SetTrue)
         .help("Continues a store under a replica number that no server has used")
+}
+
+/// `--unproved`.
+pub fn unproved_flag<'a>(alloc: Global) -> Arg<'a>
+    ensures { (rule_of result ≡ unproved_rule) × (result.global ≡ false) }
+{
+    Arg::new(alloc, "unproved")
+        .long("unproved")
+        .action(ArgAction::SetTrue)
+        .help("Lets the page say that this program was built without proofs")
 }
 
 /// `--web ADDR`.

@@ -32,7 +32,7 @@ pub fn warn_of_room<R: Clock + Eprint>(rt: &R, asked: Settings<'_>, threads: usi
     let room = limit.saturating_sub(taken);
     let clients = asked.clients;
     if room < u64::from(clients) {
-        warn!(Journal(rt); "the limit of {limit} open files has room for {room} clients, fewer than the {clients} of --clients");
+        warn!(Journal(rt); "the open-file limit ({limit}) allows {room} clients, but --clients is {clients}; raise it with ulimit -n");
     }
 }
 

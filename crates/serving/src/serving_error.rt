@@ -28,7 +28,7 @@ pub enum ServingError<'a> {
     #[error("the threads that serve connections cannot be set up: {0}")]
     NotSetUp(io::Error),
     /// The system cannot make as many threads as are needed.
-    #[error("the system makes no thread")]
+    #[error("cannot start a thread: the system's limit is reached")]
     NoThread,
     /// The store failed while the server ran.
     #[error("the store {folder} failed")]

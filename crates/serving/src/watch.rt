@@ -60,7 +60,7 @@ impl<'a> Watch<'a> {
             }
             Err(AccountsError::BadLine { line, mistake }) => {
                 let reason = reason_of(mistake);
-                warn!(Journal(rt); "the accounts file {path} has changed, and nothing of it is taken: line {line}: {reason}");
+                warn!(Journal(rt); "the accounts file {path} has changed, and the accounts stay as they were: line {line}: {reason}");
             }
             // It is tried again.
             Err(AccountsError::Memory) => return,

@@ -22,6 +22,7 @@ returns-clause-asked c =
     let rows = rows_found c.in_ok-command.field-0 line words m c.in_ok-command.ensures is_simple_line
     c.in-Ok.ensures.matches in
     let flag = one_text-rows (found_of m) (codes "stdin") ∙ ap (one_of (codes "stdin")) rows in
+    let unproved = one_text-rows (found_of m) (codes "unproved") ∙ ap (one_of (codes "unproved")) rows in
     let renewed = one_text-rows (found_of m) (codes "new-replica") ∙ ap (one_of (codes "new-replica")) rows in
     record {
       replica = gives_number line words m (codes "replica") 1 65535 1 c.replica_of.result rows
@@ -51,6 +52,11 @@ returns-clause-asked c =
         absent = λ e. c.get_flag-2.ensures.none (renewed ∙ e);
         set = λ e. c.get_flag-2.ensures.value (renewed ∙ e);
         unset = λ e. c.get_flag-2.ensures.other (renewed ∙ e);
+      };
+      unproved = record {
+        absent = λ e. c.get_flag-3.ensures.none (unproved ∙ e);
+        set = λ e. c.get_flag-3.ensures.value (unproved ∙ e);
+        unset = λ e. c.get_flag-3.ensures.other (unproved ∙ e);
       };
       web = c.get_str-4.ensures ∙ gives_text line words m (codes "web") rows;
       web_origins = c.get_str-5.ensures ∙ gives_text line words m (codes "web-origin") rows;

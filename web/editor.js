@@ -69,6 +69,7 @@ export class Editor {
       if (inputType === "historyUndo") this.onUndo(); else this.onRedo();
       return;
     }
+    if (event.isComposing) this.isComposing = true; // also after a rest, if the browser goes on without saying so
     if (this.isComposing || isComposing(event)) { this.lend(event); return; }
     event.preventDefault();
     this.endComposition();
@@ -250,9 +251,11 @@ export class Editor {
 
   // ---- the selection, in units
 
-  // Where the selection is, or null if it is elsewhere. While something else has the keyboard, it is where it was.
+  // Where the selection is, or null if it is elsewhere. While something else has the keyboard, it is where it was. A window in
+  // the background tells of no focus, so a place that was remembered is forgotten here as well.
   selection() {
     const { anchorNode, anchorOffset, focusNode, focusOffset } = getSelection();
+    if (document.activeElement === this.root) this.place = null;
     if (this.place) return this.place;
     if (!anchorNode || !this.root.contains(anchorNode) || !this.root.contains(focusNode)) return null;
     return this.stretchOf(anchorNode, anchorOffset, focusNode, focusOffset);
@@ -269,6 +272,7 @@ export class Editor {
   // is done only if the text has the keyboard, and otherwise when the text gets it.
   select(anchor, focus = anchor) {
     if (document.activeElement !== this.root) { this.place = stretch(anchor, focus); return; }
+    this.place = null;
     const a = this.lines.pointOf(anchor), b = this.lines.pointOf(focus), now = getSelection();
     const isAnchored = now.anchorNode === a.node && now.anchorOffset === a.offset;
     if (isAnchored && now.focusNode === b.node && now.focusOffset === b.offset) return;

@@ -3,8 +3,6 @@
 //! It depends on `web_wire`, which serves them.
 #![tactic(auto)]
 
-mod notice;
 mod pages;
 
-pub use notice::hide_notice;
 pub use pages::all_pages;

@@ -64,7 +64,7 @@ else:
 note("end", crate)
 '''
 
-PATIENCE = 60  # seconds, for what is to come
+PATIENCE = 150  # seconds, for what is to come; a busy machine takes long
 
 
 def free_port():

@@ -1,5 +1,6 @@
 //! The origins that `--web-origin` takes.
 ghost use Rattle.std.specs.Prelude.{◌≡◌, false, IfSome, option_map};
+ghost use Rattle.std.specs.List.{list_all};
 ghost use Rattle.pad_server.specs.Origins.{host_of, is_host_byte, is_origin};
 
 /// The first of these texts, which are separated by commas, that no browser sends as an origin.
@@ -20,9 +21,15 @@ fn is_origin(text: &str) -> bool
     ensures { result ≡ is_origin text.now }
 {
     match host_of(text.as_bytes()) {
-        Some(host) => !host.is_empty() && host.iter().all(|byte| is_host_byte(*byte)),
+        Some(host) => !host.is_empty() && are_host_bytes(host),
         None => false,
     }
+}
+
+fn are_host_bytes(host: &[u8]) -> bool
+    ensures { result ≡ list_all is_host_byte host.now }
+{
+    host.iter().all(|byte| is_host_byte(*byte))
 }
 
 // What follows the scheme.

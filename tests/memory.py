@@ -30,6 +30,9 @@ WAKES = {"insert", "delete", "edit", "comment", "resolve", "push"}
 # What is done before the name of the pad is learned for the next look-up, which can do without.
 LEARNS = {"create"}
 
+# Who a log-in is for is read beforehand, to be noted if its token is wrong. That can do without memory too.
+NOTED = {"hello", "peer"}
+
 # What may have a long reply, whose room is given back once it is written. It may also stay: nobody is told of that.
 LONG_REPLIES = {"text", "runs", "comments", "entries", "pull"}
 
@@ -90,7 +93,7 @@ class Server:
             answer, refused = self.refuses_one(allocation, lambda: client.ask(**request))
             if allocation > 1 and answer.get("code") == DONE.get(request["do"], 0):
                 return None, 0
-            if not refused or (answer["ok"] and request["do"] in WAKES | LEARNS | LONG_REPLIES):
+            if not refused or (answer["ok"] and request["do"] in WAKES | LEARNS | NOTED | LONG_REPLIES):
                 return answer, allocation if refused else 0
             want(answer, NO_MEMORY, f"the answer to {request} with its allocation {allocation} refused")
             after = read()
@@ -294,12 +297,13 @@ def a_long_line_without_memory_is_told():
 
 def who_moves_without_memory_leaves_its_pads():
     """A long line begins, and its client moves to another worker. Whichever allocation fails then, nobody stays behind."""
-    server = Server("--workers 2")
-    ann = server.author("ann")
-    ann.does(do="create", pad="p")
-    ann.does(do="grant", pad="p", author="bob", right="write")
-    server.faults.set("everywhere", 1)
     for allocation in itertools.count(1):
+        # What a worker has made room for it keeps, so each time it is another server.
+        server = Server("--workers 2")
+        ann = server.author("ann")
+        ann.does(do="create", pad="p")
+        ann.does(do="grant", pad="p", author="bob", right="write")
+        server.faults.set("everywhere", 1)
         bob = server.author("bob")
         bob.join("p")
         _, refused = server.refuses_one(allocation, lambda: begin_long_line(bob))
@@ -309,6 +313,7 @@ def who_moves_without_memory_leaves_its_pads():
             if time.monotonic() > end:
                 raise Failed(f"with allocation {allocation} refused, who has gone is still on the pad")
             time.sleep(0.02)
+        server.process.kill()
         if not refused:
             break
     if allocation < 5:

@@ -104,7 +104,7 @@ def accounts_change_while_the_server_runs():
     want(server.asks(hello("cyd", "t3"))[1], '{"author":"cyd@1","ok":true}\n', "a log-in without a file")
     put_files([("accounts", "author dan t4\n")])
     server.comes_to(hello("dan", "t4"), '{"author":"dan@1","ok":true}\n', "a log-in after the fault was mended")
-    lines = [line.split(" ", 1)[1] for line in server.said().splitlines()]
+    lines = [line.split(" ", 1)[1] for line in server.said().splitlines() if "can be guessed" not in line and "a wrong token" not in line]
     want(lines, [
         "pad_server: note: the accounts file accounts has changed and was read again",
         f"pad_server: warning: the accounts file accounts has changed, and the accounts stay as they were: line 2: {NO_TOKEN}",

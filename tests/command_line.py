@@ -86,7 +86,7 @@ CASES = [
         "--listen 7878 --replica 1 --accounts accounts",
         status=1,
         stderr="pad_server: cannot listen at 7878: HOST:PORT is needed, such as 127.0.0.1:7878\n",
-        files=(("accounts", "author ann t1\n"),),
+        files=(("accounts", "author ann a-long-enough-token\n"),),
     ),
     numbered(1),
     numbered(255),

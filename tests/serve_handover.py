@@ -218,7 +218,7 @@ def two_pages_type_meanwhile():
     script(PYTHON, "handover_test.py")
 
 
-def named(name, function, seconds=150):
+def named(name, function, seconds=240):
     return Test(f"handover: {name}", ends_machines(function), seconds)
 
 

@@ -216,7 +216,7 @@ const ORIGINS: &[(&str, Next)] = &[
     ("Origin: \r\n", Next::Close(403)),
     (
         "Origin: http://pads.lan:80\r\nOrigin: http://evil\r\n",
-        Next::Socket,
+        Next::Close(403),
     ),
     (
         "Origin: http://evil\r\nOrigin: http://pads.lan:80\r\n",

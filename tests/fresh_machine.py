@@ -155,9 +155,10 @@ def ends_machines(function):
     return tried
 
 
-def hear_ctrl_c():
-    """A program that was started in the background may have been told to ignore Ctrl-C, and passes that on."""
-    signal.signal(signal.SIGINT, signal.SIG_DFL)
+def hear_signals():
+    """What was started in the background may have been told to ignore Ctrl-C and a closed terminal, and passes that on."""
+    for number in (signal.SIGINT, signal.SIGHUP):
+        signal.signal(number, signal.SIG_DFL)
 
 
 class Machine:
@@ -173,7 +174,7 @@ class Machine:
         addresses = ["--listen", f"127.0.0.1:{self.port}", "--web", f"127.0.0.1:{self.web}"]
         streams = {"stdin": subprocess.DEVNULL, "stdout": subprocess.PIPE, "stderr": subprocess.STDOUT}
         self.process = subprocess.Popen(
-            ["./serve", *addresses, *words], env=self.variables, text=True, start_new_session=True, preexec_fn=hear_ctrl_c, **streams
+            ["./serve", *addresses, *words], env=self.variables, text=True, start_new_session=True, preexec_fn=hear_signals, **streams
         )
         threading.Thread(target=self.read, args=(self.process,), daemon=True).start()
 

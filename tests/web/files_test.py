@@ -148,7 +148,7 @@ def a_request_may_come_byte_by_byte():
 
 
 def a_page_of_another_origin_gets_no_socket():
-    server = WebServer("--web-origin https://pads.example/,http://other.example:8000")
+    server = WebServer("--web-origin https://pads.example,http://other.example:8000")
     allowed = [
         f"http://{server.host}", f"https://{server.host}", "https://pads.example", "http://other.example:8000",
     ]

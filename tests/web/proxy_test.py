@@ -102,7 +102,7 @@ class Proxy:
 
 
 def nginx_serves_the_page_over_tls():
-    server = WebServer()
+    server = WebServer("--unproved")
     proxy = Proxy(server)
     for path, text in files().items():
         response = proxy.request(head_of(f"GET {path} HTTP/1.1", f"Host: {proxy.host}", "Connection: close"))

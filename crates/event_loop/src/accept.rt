@@ -10,7 +10,7 @@ use journal::Journal;
 use log::warn;
 use mio::net::{TcpListener, TcpStream};
 use mio::{Events, Interest, Poll, Token, Waker};
-use std::alloc::Global;
+use std::alloc::{AllocError, Global};
 use std::io::{ErrorKind, Write};
 use std::net::Net;
 use std::sync::Wait;
@@ -209,7 +209,11 @@ fn take<R: Clock + Wait + Eprint>(
     count: &mut Count,
 ) {
     let number = count.accepted;
-    if let Some(full) = what_is_full(rt, address, entrance, hub, limits) {
+    let Ok(full) = what_is_full(rt, address, entrance, hub, limits) else {
+        warn!(Journal(rt); "connection {number} is not served: out of memory");
+        return;
+    };
+    if let Some(full) = full {
         if count.full.is_due(count.ticker.look(rt)) {
             let Full { most, of } = full;
             warn!(Journal(rt); "connection {number} is refused: {most} {of}");
@@ -261,25 +265,25 @@ fn what_is_full<R: Wait>(
     entrance: Entrance,
     hub: &Hub,
     limits: Limits,
-) -> Option<Full> {
+) -> Result<Option<Full>, AllocError> {
     let (has_room, most) = match entrance {
         Entrance::Lines => (hub.has_room(limits.clients), limits.clients),
         Entrance::Web => (hub.has_room_for_visit(), VISITS),
     };
     if !has_room {
         let of = "clients are connected";
-        return Some(Full { most, of });
+        return Ok(Some(Full { most, of }));
     }
     let most = limits.newcomers();
     if entrance == Entrance::Lines && !hub.lobby().has_room(most) {
         let of = "clients are connected that have not logged in";
-        return Some(Full { most, of });
+        return Ok(Some(Full { most, of }));
     }
     match limits.per_address {
-        Some(most) if !hub.lobby().connect(rt, address, most) => {
+        Some(most) if !hub.lobby().connect(rt, address, most)? => {
             let of = "connections of its address are there";
-            Some(Full { most, of })
+            Ok(Some(Full { most, of }))
         }
-        _ => None,
+        _ => Ok(None),
     }
 }

@@ -1,8 +1,8 @@
 //! Many connections for each thread, with workers that wait until sockets are ready.
 //!
 //! It depends on `workers`, which answers the lines of a connection, on `web_wire`, which turns what browsers send into
-//! lines, on `admission`, which counts wrong tokens, and on `mio`, which reports when sockets are ready. It knows nothing of stores and command lines: a `Settle`
-//! is what replies wait for.
+//! lines, on `admission`, which counts wrong tokens, and on `mio`, which reports when sockets are ready. It knows nothing
+//! of stores and command lines: a `Settle` is what replies wait for.
 #![tactic(auto)]
 
 mod accept;

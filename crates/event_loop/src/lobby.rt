@@ -83,13 +83,10 @@ impl Lobby {
         self.long.fetch_sub(1, Ordering::SeqCst);
     }
 
-    /// Counts one more connection of an address; returns false if it has `most` already, or if memory runs out.
-    pub fn connect<R: Wait>(&self, rt: &R, address: u128, most: u32) -> bool {
+    /// Counts one more connection of an address; returns false if it has `most` already.
+    pub fn connect<R: Wait>(&self, rt: &R, address: u128, most: u32) -> Result<bool, AllocError> {
         let mut connections = self.connections.lock(rt);
-        match connections.enter(address, most) {
-            Ok(is_counted) => is_counted,
-            Err(_) => false,
-        }
+        connections.enter(address, most)
     }
 
     /// Counts one connection of an address less.

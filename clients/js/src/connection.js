@@ -1,0 +1,116 @@
+// An author's connection: logs in, and connects again when the connection is lost. What uses it says what to do then.
+import { clock as realClock, pause } from "./clock.js";
+import { Lost, Refused } from "./errors.js";
+import { Wire } from "./wire.js";
+
+const FIRST_PAUSE = 300, LAST_PAUSE = 5000;
+// Refusals that pass: out of memory, a full disk, too many clients. When a pad is joined again, also that it is crowded: the
+// visits of connections that broke may still be counted.
+export const PASSING = [900, 901, 902];
+const CROWDED = 313;
+
+const NOTHING = () => {};
+
+export class Connection {
+  // `random` is from 0 to 1: pauses differ, so that not all pages come back at once.
+  constructor({ open, clock = realClock, random = Math.random }) {
+    Object.assign(this, { open, clock, random, wire: null, login: null, me: "", isLost: false, isOver: false, endedBy: null });
+    this.hurry = NOTHING;
+  }
+
+  // What has to stop when the connection is lost, what has to be done when it is there again, and what is told.
+  stop() {}
+  async goOn() {}
+  onState() {}
+  onOver() {}
+
+  ask = (request) => (this.wire ? this.wire.ask(request) : Promise.reject(new Lost("not connected")));
+
+  async call(request) {
+    const reply = await this.ask(request);
+    if (!reply.ok) throw new Refused(reply);
+    return reply;
+  }
+
+  async connect() {
+    let isLoggedIn = false; // what ends before that has failed, and whoever asked is told
+    const wire = new Wire(this.open, { clock: this.clock, onDown: () => { if (isLoggedIn && wire === this.wire) this.down(); } });
+    this.wire?.close();
+    this.wire = wire;
+    await wire.connect();
+    try {
+      const reply = await wire.ask({ do: "hello", ...this.login });
+      if (!reply.ok) throw new Refused(reply);
+      this.me = reply.author;
+      isLoggedIn = true;
+    } catch (error) {
+      if (wire === this.wire) this.wire = null;
+      wire.close();
+      throw error;
+    }
+  }
+
+  async logIn(name, token) {
+    const login = { name, token };
+    this.login = login;
+    try { await this.connect(); } catch (error) {
+      if (this.login === login) this.login = null;
+      throw error;
+    }
+    this.isLost = false;
+  }
+
+  logOut() { this.hangUp(); }
+
+  // Ends the connection, and makes no other one.
+  hangUp() {
+    this.login = null;
+    this.stop();
+    this.wire?.close();
+    this.wire = null;
+  }
+
+  down() {
+    if (!this.login || this.isLost) return;
+    this.isLost = true;
+    this.stop();
+    this.onState();
+    this.reconnect();
+  }
+
+  // Tries again until it works, with growing pauses. `hurry` ends a pause, or an attempt to connect that hangs.
+  async reconnect() {
+    for (let wait = FIRST_PAUSE, isHurried = false; this.login; wait = Math.min(wait * 1.7, LAST_PAUSE)) {
+      const hurried = new Promise((done) => { this.hurry = done; });
+      if (!isHurried) await Promise.race([pause(wait * (0.8 + 0.4 * this.random()), this.clock), hurried]);
+      isHurried = false;
+      this.hurry = () => {
+        isHurried = !this.wire?.isUp;
+        if (isHurried) this.wire?.giveUp();
+      };
+      try {
+        await this.connect();
+        await this.goOn();
+        this.isLost = false;
+        this.hurry = NOTHING;
+        this.onState();
+        return;
+      } catch (error) {
+        this.wire?.close();
+        if (error instanceof Lost || [...PASSING, CROWDED].includes(error.reply?.code)) continue;
+        this.endWith(error);
+        return;
+      }
+    }
+  }
+
+  // The session cannot go on: the account, the right or the pad is gone, or the page has a fault.
+  endWith(error) {
+    this.login = null;
+    Object.assign(this, { isOver: true, endedBy: error });
+    this.stop();
+    this.wire?.close();
+    this.wire = null;
+    this.onOver(error);
+  }
+}

@@ -1,0 +1,46 @@
+// The requests of docs/PROTOCOL.md, with their replies. Places and lengths here are the server's characters. A request that
+// is added to the server is added here alone.
+
+export type Right = "none" | "read" | "comment" | "write" | "own";
+/** The name of an operation or a comment: the number of its server, and which of that server's operations it is. */
+export type Name = [origin: number, number: number];
+export type Change = ["keep", number] | ["drop", number] | ["insert", string, string];
+export type Part = { at: number; text: string } | { at: number; len: number };
+export interface Entry { author: string; kind: "insert" | "delete" | "edit" | "comment" | "resolve"; name: Name; rev: number }
+export interface PlacedComment { at: number; author: string; len: number; name: Name; resolved: boolean; text: string }
+
+interface Request<Ask, Reply> { ask: Ask; reply: { ok: true } & Reply }
+type On<Ask, Reply> = Request<Ask, { now: number } & Reply>;
+type None = Record<never, never>;
+type Made = { name: Name };
+type Rev = { rev: number };
+
+/** Requests on a pad that is joined. `pad.call` adds the pad. */
+export interface PadRequests {
+  leave: On<None, None>;
+  insert: On<Rev & { at: number; text: string }, Made>;
+  delete: On<Rev & { at: number; len: number }, Made & { hidden: number }>;
+  edit: On<Rev & { parts: Part[] }, Made & { hidden: number }>;
+  comment: On<Rev & { at: number; len: number; text: string }, Made>;
+  resolve: On<{ comment: Name }, Made>;
+  text: On<Partial<Rev>, Rev & { text: string }>;
+  runs: On<Partial<Rev>, Rev & { runs: [author: string, characters: number][] }>;
+  comments: On<Partial<Rev>, Rev & { comments: PlacedComment[] }>;
+  changes: On<Rev & { to?: number; wait?: number }, Rev & { to: number; notes: number; changes: Change[] }>;
+  revs: On<None, { cells: number; length: number }>;
+  entries: On<{ from: number; count: number }, { entries: Entry[] }>;
+  caret: On<Rev & { at: number }, None>;
+  who: On<None, { who: { author: string; caret: number; visit: number }[] }>;
+  grant: On<{ author: string; right: Right }, None>;
+  rights: On<None, { rights: [author: string, right: Right][] }>;
+}
+
+type WithPad = { [Do in keyof PadRequests]: { ask: { pad: string } & PadRequests[Do]["ask"]; reply: PadRequests[Do]["reply"] } };
+
+/** All requests of an author. */
+export interface Requests extends WithPad {
+  hello: Request<{ name: string; token: string }, { author: string }>;
+  pads: Request<None, { pads: [name: string, right: Right, now: number][] }>;
+  create: On<{ pad: string }, { visit: number }>;
+  join: On<{ pad: string }, { visit: number }>;
+}

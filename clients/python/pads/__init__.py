@@ -1,0 +1,1 @@
+"""The command line `pads`: pads of a server, from a terminal and from scripts."""

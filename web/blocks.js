@@ -1,10 +1,13 @@
 // One line of a text as a block of the document, in the colours of its authors.
 import { colourOf } from "./colours.js";
 
-// The pieces of a text between two units: { text, author, kind, marks }, cut where an author or a mark begins or ends.
-export function piecesBetween(text, runs, marks, from, to) {
+// The pieces of a text between two units: { text, author, kind, marks, looks }, cut where an author, a mark or a stretch that
+// looks otherwise (looks.js) begins or ends.
+export function piecesBetween(text, runs, marks, from, to, spans = []) {
   const here = marks.filter((mark) => mark.from < to && mark.to > from && mark.from < mark.to), cuts = [from, to];
-  for (const mark of here) cuts.push(Math.max(from, mark.from), Math.min(to, mark.to));
+  const within = (unit) => Math.min(to, Math.max(from, unit));
+  for (const { from: start, to: end, out = [] } of here) cuts.push(within(start), within(end), ...out.map((unit) => within(start + unit)));
+  for (const [start, end] of spans) cuts.push(from + start, from + end);
   let end = 0;
   const owners = [];
   for (const [author, units, kind] of runs) {
@@ -24,24 +27,25 @@ export function piecesBetween(text, runs, marks, from, to) {
     while (owner + 1 < owners.length && owners[owner].end <= start) owner++;
     const { author = "", kind } = owners[owner] ?? {};
     const over = here.filter((mark) => mark.from <= start && mark.to >= stop);
-    out.push({ text: text.slice(start, stop), author, kind, marks: over });
+    const looks = spans.filter(([first, last]) => from + first <= start && from + last >= stop).map(([, , name]) => name);
+    out.push({ text: text.slice(start, stop), author, kind, marks: over, looks, start, stop });
   }
   return out;
 }
 
-export function makeBlock(pieces) {
+export function makeBlock(pieces, look = "") {
   const block = document.createElement("div");
-  block.className = "line";
+  block.className = look ? `line ${look}` : "line";
   block.dir = "auto";
-  for (const piece of pieces) block.append(makeRun(piece));
+  for (const piece of pieces) block.append(...proposed(piece, makeRun(piece)));
   if (!pieces.length) block.append(document.createElement("br"));
   return block;
 }
 
 // Words under a comment are told to be marked, and where the comment is; who wrote them is said at the caret (desk.js).
-function makeRun({ text, author, kind, marks }) {
+function makeRun({ text, author, kind, marks, looks }) {
   const node = document.createElement(kind === "insert" ? "ins" : kind === "drop" ? "del" : "span");
-  node.className = `run ${colourOf(author)}`;
+  node.className = ["run", colourOf(author), ...looks].join(" ");
   node.dataset.author = author;
   node.textContent = text;
   if (!marks.length) return node;
@@ -51,6 +55,22 @@ function makeRun({ text, author, kind, marks }) {
   node.setAttribute("role", "mark");
   node.setAttribute("aria-details", node.dataset.marks);
   return node;
+}
+
+// Where a mark suggests other words (suggesting.js), what goes is struck, and what comes is behind it. That is no text of the
+// document: style.css shows it.
+function proposed({ start, stop, marks }, run) {
+  const out = [run];
+  for (const { from, out: [first, last] = [], proposed: words } of marks) {
+    if (words === undefined) continue;
+    if (start >= from + first && stop <= from + last) run.classList.add("goes");
+    const node = document.createElement("span");
+    Object.assign(node, { className: "comes" });
+    node.dataset.words = words;
+    if (words && stop === from + last) out.push(node);
+    else if (words && last === 0 && start === from) out.unshift(node);
+  }
+  return out;
 }
 
 // The text of nodes that a browser may have changed, for an input method or by itself. Each block is a line; a trailing

@@ -5,77 +5,97 @@ import { authorsOf, colourOf, giveColours } from "./colours.js";
 import { Editor } from "./editor.js";
 import { reason } from "./enter.js";
 import { ExportMenu } from "./export_menu.js";
+import { FindBar } from "./find_bar.js";
+import { FormatBar } from "./format_bar.js";
 import { GoOnBox } from "./go_on.js";
 import { letterOf } from "./keys.js";
 import { Legend } from "./legend.js";
-import { Margin } from "./margin.js";
 import { Notice } from "./notice.js";
 import { $, element, gather, say } from "./page.js";
 import { Past } from "./past.js";
+import { Phone } from "./phone.js";
+import { Remarks } from "./remarks.js";
 import { RightsBox } from "./rights.js";
 import { StateLine } from "./state_line.js";
+import { Steps } from "./steps.js";
+import { timeOf } from "./times.js";
+import { Told } from "./told.js";
+import { Views } from "./views.js";
 import { WORDS, refusal } from "./words.js";
 
-const NEARLY_FULL = 0.9, LISTED = 300, SCROLLED = 150;
+const NEARLY_FULL = 0.9, LISTED = 300;
 // Refusals that say that a pad can take no more.
 const FULL = [314, 324, 325, 327, 328], DENIED = 312;
 
 export class Desk {
-  constructor(session, onClose) {
-    Object.assign(this, { session, onClose, isOpen: false, isShutOut: false, litId: null, showsResolved: false, percent: 0, told: "" });
+  // `onClose` is called when the pad is closed, and `onLogOut` when the author logs out though changes are lost.
+  constructor(session, { onClose, onLogOut }) {
+    Object.assign(this, { session, onClose, isOpen: false, isShutOut: false, percent: 0 });
     this.place = gather(() => this.placeAll());
     this.legend = new Legend();
+    this.told = new Told();
+    this.phone = new Phone();
     this.stateLine = new StateLine(session);
     this.list = gather(() => this.listAuthors(), (act) => setTimeout(act, LISTED));
     this.editor = new Editor($("text"), {
       author: () => session.me, runs: () => session.pad.runs,
-      onType: (delta) => this.type(delta),
-      onUndo: () => this.undo(false), onRedo: () => this.undo(true),
+      onType: (delta) => this.type(delta), onRestStep: () => session.pad?.steps.rest(),
+      onUndo: () => this.steps.undo(false), onRedo: () => this.steps.undo(true),
       // The browser can tell of the caret once more after the pad was closed.
       onCaret: (at) => { session.moveCaret(at); this.legend.sayWriter(session.pad?.runs ?? [], at); },
       onDrawn: () => { this.place(); this.list(); },
-      onNoText: () => this.notice.show(WORDS.onlyText), onRest: () => this.showComments(),
+      onNoText: () => this.notice.show(WORDS.onlyText), onRest: () => this.remarks.draw(),
+      onSuggest: (change) => this.remarks.box.open(change),
       roomAbove: () => Math.max(0, $("bar").getBoundingClientRect().bottom) + 10,
     });
-    this.margin = new Margin($("margin"), {
-      onResolve: (name) => this.resolve(name), onLit: (id) => this.light(id), onGo: (id) => this.goTo(id),
-    });
+    this.remarks = new Remarks(this);
     this.carets = new Carets($("carets"));
     this.past = new Past(session, {
-      onShow: () => { this.showEditable(); this.showComments(); this.place(); this.list(); },
-      onRestore: (delta, rev) => this.restore(delta, rev),
+      onShow: () => { this.showEditable(); this.views.other(); this.remarks.draw(); this.place(); this.list(); this.find.changed(); },
+      onRestore: (delta, rev) => this.steps.restore(delta, rev),
     });
     this.goOn = new GoOnBox(session, { onDone: () => this.open(), onGone: () => this.leave().then(() => this.onClose()) });
-    this.notice = new Notice(session.kept, { onGoOn: () => this.goOn.open(), onClose: () => this.close(true) });
+    this.notice = new Notice(session.kept, {
+      onGoOn: () => this.goOn.open(), onClose: () => this.close(true), onLogOut, onForget: () => session.drafts.dropRefused(),
+    });
     this.rights = new RightsBox(session, (text) => say($("news"), text));
-    this.exports = new ExportMenu(() => (this.isOpen ? this.revision : null));
+    this.steps = new Steps(this);
+    this.format = new FormatBar(this.editor);
+    this.find = new FindBar({
+      source: () => this.searched, onClose: () => (this.past.shown ? $("past") : $("text")).focus(),
+      onOpen: () => { if (this.views.mode === "minutes") this.views.setMode("text"); },
+    });
+    this.views = new Views(this);
+    this.exports = new ExportMenu(() => (this.isOpen ? this.revision : null), () => this.views.ready().then(() => $("minutes")));
+    this.acts = {
+      m: () => this.remarks.ask(), n: () => this.remarks.next(), s: () => this.remarks.suggest(), f: () => this.find.open(true),
+      o: () => this.views.outline.open(), v: () => this.views.next(), h: () => $("history").click(),
+    };
     this.listen();
   }
 
   listen() {
     const on = (id, act, kind = "click") => $(id).addEventListener(kind, act);
-    on("undo", () => this.undo(false));
-    on("redo", () => this.undo(true));
-    on("comment", () => this.askComment());
     // The mouse leaves the keyboard to the text.
-    for (const id of ["undo", "redo", "comment"]) on(id, (event) => event.preventDefault(), "mousedown");
-    on("comment-box", () => this.sendComment(), "close");
-    on("resolved", () => { this.showsResolved = !this.showsResolved; this.showComments(); });
+    for (const id of ["undo", "redo", "comment", "suggest"]) on(id, (event) => event.preventDefault(), "mousedown");
     on("close", () => this.close());
     addEventListener("keydown", (event) => this.keyDown(event));
+    // Colour alone does not say to everybody who wrote the words under the pointer.
+    for (const id of ["text", "past"]) on(id, ({ target }) => { $(id).title = target.dataset?.author ? WORDS.atCaret(named(target.dataset.author)) : ""; }, "pointerover");
     addEventListener("beforeunload", (event) => {
       if (this.session.isUnsent || this.session.kept.areWaiting) event.preventDefault();
     });
-    addEventListener("scroll", gather(() => { if (this.margin.isCut) this.showComments(); }, (act) => setTimeout(act, SCROLLED)));
     new ResizeObserver(() => this.place()).observe($("paper"));
+    new ResizeObserver(() => document.documentElement.style.setProperty("--bar", `${$("bar").offsetHeight}px`)).observe($("bar"));
   }
 
-  // Ctrl+Alt+M comments, unless these keys type a letter of the keyboard, as Alt Gr does. Escape closes the history.
+  // Letters with Ctrl and Alt, unless these keys type a letter of the keyboard, as Alt Gr does. Escape closes the history.
   keyDown(event) {
     if (!this.isOpen) return;
-    if (event.ctrlKey && event.altKey && !event.getModifierState("AltGraph") && letterOf(event) === "m") {
+    const act = event.ctrlKey && event.altKey && !event.getModifierState("AltGraph") && this.acts[letterOf(event)];
+    if (act) {
       event.preventDefault();
-      this.askComment();
+      act();
     }
     const isTaken = event.defaultPrevented || document.querySelector("dialog[open]");
     if (event.key === "Escape" && this.past.isOpen && !isTaken) this.past.close();
@@ -93,17 +113,24 @@ export class Desk {
     document.title = WORDS.title(pad.name);
     say($("pad-name"), pad.name);
     for (const id of ["enter", "log-out"]) $(id).hidden = true;
-    for (const id of ["work", "tools", "here", "pad-name"]) $(id).hidden = false;
+    $("log-in-again").hidden = !this.session.isAway;
+    for (const id of ["work", "tools", "tools-button", "here", "pad-name"]) $(id).hidden = false;
     // What was drawn of another pad can look the same by its key.
-    Object.assign(this, { litId: null, percent: 0, peopleKey: null, isShutOut: false, told: "" });
+    Object.assign(this, { percent: 0, peopleKey: null, isShutOut: false });
+    this.steps.forget();
+    this.find.open(false);
+    this.told.forget();
+    this.phone.open(false);
     this.legend.forget();
-    this.margin.forget();
+    this.remarks.forget();
     this.carets.clear();
     this.past.start(pad);
     this.notice.hide();
-    if (this.session.kept.areWaiting) this.notice.show(""); // of a full pad that goes on in this one
+    if (pad.isAdopted && pad.isUnsent && !this.session.isAway) this.notice.show(WORDS.adopted(timeOf(this.session.keptAt)));
+    else if (this.session.kept.areWaiting) this.notice.show(""); // of a full pad that goes on in this one, or of an earlier page
     giveColours(authorsOf(this.session));
     this.editor.show(pad.text);
+    this.views.start();
     this.showAll();
     this.warnWhenFull();
     say($("keys"), WORDS.keys);
@@ -119,14 +146,14 @@ export class Desk {
     this.editor.lines.recolour();
     this.past.lines.recolour();
     this.showPeople();
-    this.showComments();
+    this.remarks.draw();
     this.listAuthors();
   }
 
   showAll() {
     this.showRights();
     this.showPeople();
-    this.showComments();
+    this.remarks.draw();
     this.listAuthors();
     this.showState();
   }
@@ -138,19 +165,19 @@ export class Desk {
     if (!pad || pad !== session.pad) return false;
     if (!isSettled) { this.showUnsaved(); return false; }
     if (!isForced && session.kept.areWaiting) { this.notice.show(WORDS.uncopied, { canClose: true }); return false; }
-    await this.leave();
+    await this.leave(isForced);
     this.onClose();
     return true;
   }
 
   // From here on nothing can be typed, also while the server takes its time.
-  async leave() {
+  async leave(isLost = false) {
     if (this.past.isOpen) this.past.close();
     this.isOpen = false;
-    $("work").hidden = $("tools").hidden = true;
+    $("work").hidden = $("tools").hidden = $("tools-button").hidden = true;
     document.body.classList.remove("is-offline");
     this.notice.forget();
-    await this.session.leave();
+    await this.session.leave(isLost);
     history.replaceState(null, "", location.pathname);
   }
 
@@ -166,9 +193,10 @@ export class Desk {
     const { session } = this;
     if (!this.isOpen) return;
     this.stateLine.draw();
+    $("log-in-again").hidden = !session.isAway;
     if (session.state === "saved") this.notice.takeBack(WORDS.unsaved, WORDS.unsavedChange);
     else if (session.isUnsent && this.notice.canClose) this.showUnsaved();
-    this.showSteps();
+    this.steps.show();
   }
 
   showRights() {
@@ -182,41 +210,51 @@ export class Desk {
     this.showEditable();
     this.past.describe();
     this.rights.draw();
-    this.showComments();
+    this.remarks.draw();
     this.showState();
   }
 
   showEditable() {
-    const { session } = this, isEditable = session.mayWrite && !this.past.isOpen;
-    this.editor.isEditable = isEditable;
-    this.showSteps();
-    $("comment").disabled = !session.mayComment || this.past.isOpen;
-  }
-
-  // Whether there is something to undo and to redo. A button that has done its last step leaves the keyboard to the text.
-  showSteps() {
-    const undo = this.session.pad?.undo, { isEditable } = this.editor, { activeElement } = document;
-    $("undo").disabled = !isEditable || !undo?.canUndo;
-    $("redo").disabled = !isEditable || !undo?.canRedo;
-    if (activeElement?.disabled && ["undo", "redo"].includes(activeElement.id)) $("text").focus();
+    const { editor, session } = this, mayComment = session.mayComment && !this.past.isOpen, isEditable = session.mayWrite && !this.past.isOpen;
+    if (editor.suggests && !mayComment) { this.remarks.suggest(false); return; }
+    editor.isEditable = editor.suggests || isEditable;
+    this.format.isEnabled = isEditable && !editor.suggests;
+    this.views.minutes.setEditable(isEditable && !editor.suggests);
+    this.steps.show();
+    $("comment").disabled = $("suggest").disabled = !mayComment;
   }
 
   type(delta) {
     if (!this.isShowing) return;
     this.pad.type(delta);
-    this.told = "";
+    this.steps.told = "";
     this.showState();
   }
 
-  receive(delta) { this.editor.receive(delta); }
+  receive(delta) {
+    this.editor.receive(delta);
+    this.told.received(delta, this.session.me);
+  }
 
   // The pad was read again, since the page had another text than the server.
   reread() {
     this.past.start(this.pad);
     this.editor.show(this.pad.text);
+    this.views.other();
     this.notice.show(WORDS.reread);
     this.showAll();
   }
+
+  // A pad cannot be opened, and what was not sent of it can only be copied.
+  async notOpened(name) {
+    const { drafts, kept } = this.session, words = await drafts.wordsOf(name);
+    if (!words.length) return;
+    kept.addMissing(words);
+    this.notice.show(WORDS.notOpened(name));
+  }
+
+  // What an earlier page had not sent cannot be sent, and is kept.
+  returned() { this.notice.show(WORDS.returned); }
 
   moved({ from, to }) {
     this.past.note(from, to);
@@ -267,75 +305,11 @@ export class Desk {
     this.notice.show(used >= 1 ? WORDS.full : WORDS.nearlyFull(percent, left), { canGoOn: true });
   }
 
-  // ---- comments
-
-  // The comments that are seen: of the shown revision, resolved ones only if they are asked for.
-  get comments() {
-    const all = this.past.compared ? [] : this.past.shown?.comments ?? this.session.comments.all;
-    return all.filter(({ isResolved }) => this.showsResolved || !isResolved);
+  // What is searched: what is shown, and the editor if its text may be changed.
+  get searched() {
+    const { editor, lines, past } = this, mayChange = !past.shown && editor.isEditable && !editor.suggests;
+    return { text: lines.text ?? "", lines, editor: mayChange ? editor : null };
   }
-
-  // What is marked in the text: the words of comments, and those that the author is about to comment on.
-  get marks() {
-    const marks = this.comments.map(({ id, from, to }) => ({ id, from, to, isLit: id === this.litId }));
-    const { asked } = this.session.comments;
-    return asked && !this.past.shown ? [...marks, asked] : marks;
-  }
-
-  showComments() {
-    const { past, session } = this;
-    if (!this.isOpen || !session.pad) return;
-    this.giveColours();
-    const all = past.shown?.comments ?? session.comments.all;
-    const resolved = all.filter(({ isResolved }) => isResolved).length, { comments } = this;
-    $("resolved").hidden = !resolved;
-    say($("resolved"), (this.showsResolved ? WORDS.hideResolved : WORDS.showResolved)(resolved));
-    const { text } = past.shown ?? session.pad, mayResolve = session.mayComment && !past.isOpen;
-    this.margin.draw(comments, text, mayResolve, () => this.lines.unitAt(innerHeight / 2));
-    if (!past.shown) this.editor.setMarks(this.marks);
-    this.place();
-  }
-
-  light(id) {
-    if (id === this.litId) return;
-    this.litId = id;
-    this.margin.light(id);
-    if (this.past.compared) return;
-    if (this.past.shown) this.past.lines.setMarks(this.marks);
-    else this.editor.setMarks(this.marks);
-  }
-
-  // Selects the words of a comment.
-  goTo(id) {
-    const comment = this.comments.find((one) => one.id === id);
-    if (!comment || this.past.isOpen) return;
-    $("text").focus();
-    this.editor.select(comment.from, comment.to);
-    this.editor.reveal();
-  }
-
-  askComment() {
-    const selected = this.editor.selection(), { session } = this;
-    if ($("comment").disabled) return;
-    if (!selected || selected.from === selected.to) { this.notice.show(WORDS.selectFirst); return; }
-    this.notice.takeBack(WORDS.selectFirst);
-    session.comments.asked = { id: "asked", from: selected.from, to: selected.to, isLit: true };
-    this.showComments();
-    say($("comment-words"), session.pad.text.slice(selected.from, selected.to));
-    $("comment-text").value = "";
-    $("comment-box").returnValue = "";
-    $("comment-box").showModal();
-  }
-
-  sendComment() {
-    const { comments } = this.session, { asked } = comments, text = $("comment-text").value;
-    this.editor.root.focus();
-    comments.asked = null;
-    if ($("comment-box").returnValue === "send" && text.trim()) this.session.comment(() => asked, text);
-    this.showComments();
-  }
-
-  async resolve(name) { try { await this.session.resolve(name); } catch (error) { this.notice.show(reason(error)); } }
 
   // ---- places on the screen
 
@@ -343,12 +317,15 @@ export class Desk {
 
   // Once a frame at most: carets and cards go beside their words.
   placeAll() {
-    const { session, past } = this;
+    const { session, past, views } = this, isRead = views.mode === "minutes" && past.compared === null;
     if (!this.isOpen) return;
-    const { lines } = this, rectAt = (unit) => lines.rectAt(Math.min(unit, lines.text.length));
-    if (past.shown) this.carets.clear();
+    const { lines } = this, rectAt = (unit) => {
+      const place = Math.min(unit, lines.text.length);
+      return isRead ? { top: views.minutes.topOf(lines.lineAt(place).index) } : lines.rectAt(place);
+    };
+    if (past.shown || isRead) this.carets.clear();
     else if (!this.editor.isWaiting) this.carets.draw(session.presence.others, rectAt);
-    if (!past.compared) this.margin.place(this.comments, rectAt);
+    if (!past.compared) this.remarks.place(rectAt);
   }
 
   listAuthors() {
@@ -356,34 +333,6 @@ export class Desk {
     if (!this.isOpen || !session.pad) return;
     this.giveColours();
     this.legend.draw(past.shown ?? session.pad);
-  }
-
-  undo(isRedo) {
-    const { pad } = this.session;
-    if (!this.editor.isEditable) return;
-    this.editor.endComposition();
-    if (!this.mayTakeOver(isRedo)) return;
-    const delta = pad.stepBack(isRedo);
-    if (delta) this.editor.made(delta);
-    this.showState();
-  }
-
-  // Words that others wrote come back as the author's own. The page says so first, and does it when it is asked again.
-  mayTakeOver(isRedo) {
-    const { pad } = this.session, owners = pad.ownersOfStep(isRedo), { told } = this;
-    this.told = owners.length ? (isRedo ? WORDS.redoTakes : WORDS.undoTakes)(owners.map(named).join(", ")) : "";
-    if (this.told && this.told !== told) { this.notice.show(this.told); return false; }
-    if (told) this.notice.takeBack(told);
-    this.told = "";
-    return true;
-  }
-
-  // The text of an earlier revision comes back, as a change of the author's own.
-  restore(delta, rev) {
-    this.session.pad.type(delta);
-    this.editor.made(delta);
-    this.notice.show(WORDS.restored(rev));
-    this.showState();
   }
 
   // ---- exports

@@ -2,25 +2,27 @@
 // draws the lines that this changes. Only input methods write into the document themselves: the lines that they write into
 // are lent to the browser, and read. What others do in other lines is drawn meanwhile. What they do in the lent lines waits
 // until the input method ends or rests.
-import { add, apply, compose, extent, isEmpty, move, snapped, splice, transform, typed } from "./delta.js";
+import { add, apply, compose, extent, isEmpty, move, snapped, splice, transform, typed } from "./client/delta.js";
 import { Drag } from "./drag.js";
 import { insertedBy, isComposing, isDeleting } from "./input.js";
 import { letterOf } from "./keys.js";
 import { Lines } from "./lines.js";
-import { edgeAfter, edgeBefore } from "./units.js";
+import { edgeAfter, edgeBefore } from "./client/units.js";
+import { enter, once, tab } from "./writing.js";
 
 // An input method that does nothing for this long makes room for what others did in its lines.
 const REST = 5000;
 
 export class Editor {
   // `author` is a function, `runs` gives the author runs of what the pad shows, and `roomAbove` how many pixels above the
-  // text are covered. `onNoText` is called where something without a text was to be inserted, and `onRest` when lent lines
-  // are drawn again.
-  constructor(root, { author, runs, roomAbove, onType, onUndo, onRedo, onCaret, onDrawn, onNoText, onRest }) {
-    Object.assign(this, { root, author, runs, roomAbove, onType, onUndo, onRedo, onCaret, onDrawn, onNoText, onRest });
+  // text are covered. `onRestStep` ends a step of undo. `onNoText` is called where something without a text was to be inserted, and `onRest` when lent lines
+  // are drawn again. Where the editor `suggests`, nothing that is typed changes the text: `onSuggest` gets { from, to, text }.
+  constructor(root, { author, runs, roomAbove, onType, onRestStep, onUndo, onRedo, onCaret, onDrawn, onNoText, onRest, onSuggest }) {
+    Object.assign(this, { root, author, runs, roomAbove, onType, onRestStep, onUndo, onRedo, onCaret, onDrawn, onNoText, onRest, onSuggest });
+    this.suggests = false;
     this.lines = new Lines(root);
     this.text = ""; this.marks = []; this.late = []; this.isComposing = false; this.caret = 0;
-    this.place = null; this.resting = null;
+    this.place = null; this.resting = null; this.leavesTab = false;
     const on = (kind, act) => root.addEventListener(kind, act);
     on("beforeinput", (event) => this.beforeInput(event));
     on("input", () => this.read());
@@ -77,6 +79,8 @@ export class Editor {
     if (text === null) return;
     if (!text && !isDeleting(event)) { this.onNoText(); return; }
     const { from, to } = this.target(event);
+    if (event.inputType === "insertParagraph" && !this.suggests && this.edit(() => enter(this.text, from, to))) return;
+    if (text === " " && !this.suggests && this.edit(() => once(this.text, from, to))) return;
     if (from < to || text) this.replace(from, to, text);
   }
 
@@ -96,9 +100,38 @@ export class Editor {
   }
 
   replace(from, to, text) {
+    if (this.suggests) { this.onSuggest({ from, to, text }); return; }
     this.draw(this.make(splice(from, to - from, text, this.author())));
     this.select(from + text.length);
     this.reveal();
+  }
+
+  // Makes the changes [at, dropped, inserted] that `make` answers for the text and the selection, if it answers some.
+  edit(make) {
+    this.endComposition();
+    const selected = this.selection(), made = selected && make(this.text, selected.from, selected.to);
+    if (!made || this.suggests) return false;
+    this.put(made.changes);
+    this.select(made.from, made.to);
+    this.reveal();
+    return true;
+  }
+
+  // Changes that leave the caret with its words, as one step of undo.
+  put(changes) {
+    const selected = this.selection(), given = [];
+    let done = 0;
+    for (const [at, dropped, insert] of changes) {
+      add(given, { keep: at - done });
+      add(given, { drop: dropped });
+      add(given, { insert, author: this.author() });
+      done = at + dropped;
+    }
+    this.onRestStep();
+    const delta = this.make(given);
+    this.onRestStep();
+    this.draw(delta);
+    if (selected) this.select(move(selected.anchor, delta), move(selected.focus, delta));
   }
 
   replaceSelection(text) {
@@ -109,7 +142,7 @@ export class Editor {
 
   // Words go to another place of the text, as the author's own.
   moveWords({ from, to }, at) {
-    if (at >= from && at <= to) return;
+    if (this.suggests || (at >= from && at <= to)) return;
     const words = this.text.slice(from, to), goal = at < from ? at : at - words.length;
     this.draw(this.make(compose(splice(from, words.length, "", this.author()), splice(goal, 0, words, this.author()))));
     this.select(goal, goal + words.length);
@@ -139,11 +172,20 @@ export class Editor {
   }
 
   keyDown(event) {
+    if (event.key === "Tab") this.tab(event);
+    else if (event.key !== "Shift") this.leavesTab = event.key === "Escape";
     if (!(event.ctrlKey || event.metaKey) || event.altKey || !this.isEditable) return;
     const letter = letterOf(event), isRedo = letter === "y" || (letter === "z" && event.shiftKey);
     if (letter !== "z" && !isRedo) return;
     event.preventDefault();
     if (isRedo) this.onRedo(); else this.onUndo();
+  }
+
+  // Tab moves items of a list. Behind Escape, and elsewhere, it goes on to what is next on the page.
+  tab(event) {
+    const isHeld = event.ctrlKey || event.metaKey || event.altKey || event.isComposing;
+    if (isHeld || this.leavesTab || !this.isEditable || this.suggests) return;
+    if (this.edit((text, from, to) => tab(text, from, to, event.shiftKey))) event.preventDefault();
   }
 
   copy(event) {
@@ -178,12 +220,21 @@ export class Editor {
     const now = this.lines.readLent(), { from, to } = this.lines.lentStretch, before = this.text.slice(from, to);
     if (now !== before) {
       const caret = this.writtenCaret() ?? from + now.length, delta = typed(before, now, caret - from, this.author());
+      if (this.suggests) { this.suggestWritten(delta, from); return; }
       const behind = this.text.length - to;
       this.make(delta.reduce(add, add([], { keep: from })));
       this.lines.wrote(this.text.length - behind - from, this.drawn);
       this.onDrawn();
     }
     if (!this.isComposing) this.takeBack();
+  }
+
+  // What an input method has written is suggested, and the lines are drawn again as they were.
+  suggestWritten(delta, from) {
+    const { keep = 0 } = delta[0] ?? {}, { drop = 0 } = delta.find((step) => step.drop) ?? {}, { insert = "" } = delta.find((step) => step.insert) ?? {};
+    this.isComposing = false;
+    this.takeBack();
+    this.onSuggest({ from: from + keep, to: from + keep + drop, text: insert });
   }
 
   writtenCaret() {

@@ -1,9 +1,10 @@
 // The way in: log in, then choose a pad or create one.
 import { named, setOrigin } from "./authors.js";
-import { $, element, fill, say } from "./page.js";
-import { Superseded, Unsaved } from "./session.js";
+import { PadList } from "./pad_list.js";
+import { $, fill, say } from "./page.js";
+import { Lost, Superseded, Unsaved } from "./client/errors.js";
 import { forget } from "./storage.js";
-import { Lost } from "./wire.js";
+import { begin, offerTemplates, templateText } from "./templates.js";
 import { WORDS, refusal } from "./words.js";
 
 export const NAME = /^[a-z0-9-]{1,32}$/;
@@ -19,13 +20,15 @@ export function reason(error) {
 }
 
 export class Enter {
-  // `onPad` is called once a pad is open, and `onLeave` closes it.
-  constructor(session, { onPad, onLeave }) {
-    Object.assign(this, { session, onPad, onLeave, wasLost: false, isLoggingIn: false });
+  // `onPad` is called once a pad is open, and `onLeave` closes it. `onRefused` gets the name of a pad that is not opened though
+  // something of it was not sent.
+  constructor(session, kept, { onPad, onLeave, onRefused, onLogOut }) {
+    Object.assign(this, { session, kept, onPad, onLeave, onRefused, onLogOut, wasLost: false, isLoggingIn: false });
+    this.list = new PadList((name) => this.enter("join", name));
     $("log-in").addEventListener("submit", (event) => { event.preventDefault(); this.logIn(); });
     $("open").addEventListener("submit", (event) => { event.preventDefault(); this.enter("join", $("pad").value); });
-    $("create").addEventListener("click", () => { if ($("open").reportValidity()) this.enter("create", $("pad").value); });
-    $("log-out").addEventListener("click", () => { forget(); location.reload(); });
+    $("create").addEventListener("click", () => { if ($("open").reportValidity()) this.create($("pad").value); });
+    $("log-out").addEventListener("click", () => this.logOut());
     addEventListener("hashchange", () => this.follow());
   }
 
@@ -51,9 +54,19 @@ export class Enter {
     this.enterNamed();
   }
 
+  // Nothing of a pad stays in the browser. What is not sent of pads would be lost, so that is said first.
+  async logOut(isForced = false) {
+    const unsent = isForced ? [] : await this.kept.unsent();
+    if (unsent.length) { this.onLogOut(WORDS.unsentPads(unsent.join(", "))); return; }
+    forget();
+    await this.kept.forget();
+    location.reload();
+  }
+
   // The list of pads.
   async show() {
-    for (const id of ["log-in", "work", "tools", "here", "pad-name"]) $(id).hidden = true;
+    if (!this.session.login) { location.reload(); return; } // a pad was opened without a log-in
+    for (const id of ["log-in", "kept", "work", "tools", "tools-button", "here", "pad-name", "log-in-again"]) $(id).hidden = true;
     for (const id of ["enter", "choose", "log-out"]) $(id).hidden = false;
     document.title = WORDS.unnamed;
     $("state").className = "";
@@ -67,7 +80,9 @@ export class Enter {
   async read() {
     say($("state"), this.session.isLost ? WORDS.over : WORDS.loggedIn(named(this.session.me)));
     try {
-      this.list(await this.session.pads());
+      const pads = await this.session.pads(), kept = await this.kept.ofAuthor(), of = ({ name }) => kept.find(({ pad }) => pad === name);
+      this.list.show(pads.map((pad) => ({ ...pad, isUnsent: of(pad)?.isUnsent && !of(pad).isElsewhere, keptAt: of(pad)?.time ?? 0 })));
+      offerTemplates(pads);
       say($("open-error"), "");
     } catch (error) {
       $("no-pads").hidden = true;
@@ -80,16 +95,6 @@ export class Enter {
     const { isLost, login } = this.session, isOther = isLost !== this.wasLost;
     this.wasLost = isLost;
     if (isOther && login && !$("enter").hidden) this.read();
-  }
-
-  list(pads) {
-    $("no-pads").hidden = pads.length > 0;
-    $("pads").replaceChildren(...pads.map(({ name, right, now }) => {
-      const said = element("span", { textContent: WORDS.padLine(right, now) });
-      const button = element("button", { type: "button" }, element("b", { textContent: name }), said);
-      button.addEventListener("click", () => this.enter("join", name));
-      return element("li", {}, button);
-    }));
   }
 
   // The pad that the address names, if it names one.
@@ -112,15 +117,24 @@ export class Enter {
     this.enterNamed();
   }
 
+  // A new pad begins with the template that is chosen.
+  async create(name) {
+    let text = "";
+    try { text = await templateText(this.session); } catch (error) { say($("open-error"), reason(error)); return; }
+    await this.enter("create", name, text);
+  }
+
   // Where several pads are asked for, the last one is opened.
-  async enter(how, name) {
+  async enter(how, name, text = "") {
     say($("open-error"), "");
     if (this.session.pad && !this.session.entering && !(await this.onLeave())) return;
     try { await this.session[how](name); } catch (error) {
       if (error instanceof Superseded) return;
       say($("open-error"), error.reply?.code === DENIED ? WORDS.noRight : reason(error));
+      if (error.reply) this.onRefused(name);
       return;
     }
+    begin(this.session, text);
     this.onPad();
   }
 }

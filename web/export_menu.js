@@ -1,49 +1,50 @@
-// The menu that gives out the shown revision: as a text, as Markdown, or on paper. It is a button and a list of its own: in
-// Chromium, one closed `details` element anywhere on the page makes Ctrl+A in a long text take seconds, since each line of
-// the selection then looks for hidden content above it.
+// The menu that gives out the shown revision: as minutes in HTML, as a text, as Markdown, or on paper.
 import { save, toMarkdown } from "./exports.js";
-import { $, say } from "./page.js";
-import { WORDS } from "./words.js";
+import { letterOf } from "./keys.js";
+import { Menu } from "./menu.js";
+import { headOf, toHtml } from "./paper.js";
+import { $ } from "./page.js";
 
 export class ExportMenu {
-  // `revision` is a function that answers what is shown: { name, rev, text, runs, comments }, or null if nothing is.
-  constructor(revision) {
-    this.revision = revision;
-    $("export").addEventListener("click", () => this.show($("export-menu").hidden));
+  // `revision` is a function that answers what is shown: { name, rev, text, runs, comments }, or null if nothing is. `minutes`
+  // resolves to the element with its minutes.
+  constructor(revision, minutes) {
+    Object.assign(this, { revision, minutes, menu: new Menu("export", "export-menu") });
+    $("as-html").addEventListener("click", () => this.exportAs("html"));
     $("as-text").addEventListener("click", () => this.exportAs("txt"));
     $("as-markdown").addEventListener("click", () => this.exportAs("md"));
-    $("print").addEventListener("click", () => { this.show(false); print(); });
-    addEventListener("pointerdown", (event) => { if (!$("exports").contains(event.target)) this.show(false); });
-    addEventListener("keydown", (event) => { if (event.key === "Escape") this.escape(event); });
+    $("print").addEventListener("click", () => this.print());
+    addEventListener("keydown", (event) => this.keyDown(event));
     addEventListener("beforeprint", () => this.preparePrint());
+    addEventListener("afterprint", () => { document.body.classList.remove("prints-minutes"); });
   }
 
-  get isOpen() { return !$("export-menu").hidden; }
-
-  show(is) {
-    $("export-menu").hidden = !is;
-    $("export").setAttribute("aria-expanded", String(is));
-  }
-
-  // Closes the menu, and nothing else that Escape would close.
-  escape(event) {
-    if (!this.isOpen) return;
+  // Ctrl+P waits for the minutes. A browser's own menu prints them if they are seen, and else the text.
+  keyDown(event) {
+    if (!(event.ctrlKey || event.metaKey) || event.altKey || event.shiftKey || letterOf(event) !== "p" || !this.revision()) return;
     event.preventDefault();
-    this.show(false);
-    $("export").focus();
+    this.print();
   }
 
-  exportAs(ending) {
+  async exportAs(ending) {
     const revision = this.revision(), name = `${revision.name}-${revision.rev}.${ending}`;
-    this.show(false);
-    if (ending === "md") save(name, "text/markdown", toMarkdown(revision));
+    this.menu.show(false);
+    if (ending === "html") save(name, "text/html", toHtml(revision, await this.minutes()));
+    else if (ending === "md") save(name, "text/markdown", toMarkdown(revision));
     else save(name, "text/plain", revision.text);
+  }
+
+  async print() {
+    this.menu.show(false);
+    await this.minutes();
+    document.body.classList.add("prints-minutes");
+    print();
   }
 
   preparePrint() {
     const revision = this.revision();
     if (!revision) return;
-    const date = new Intl.DateTimeFormat(undefined, { dateStyle: "long" }).format(new Date());
-    say($("print-head"), WORDS.printed(revision.name, revision.rev, date));
+    $("print-head").replaceChildren(headOf(revision));
+    if (!$("minutes").hidden) document.body.classList.add("prints-minutes");
   }
 }

@@ -5,6 +5,7 @@
 import { makeBlock, piecesBetween, textOf } from "./blocks.js";
 import { colourOf } from "./colours.js";
 import { Groups } from "./groups.js";
+import { looksOf } from "./looks.js";
 
 export class Lines {
   constructor(root) {
@@ -55,7 +56,8 @@ export class Lines {
     const made = [];
     for (let at = from; at <= to;) {
       const found = this.text.indexOf("\n", at), end = found < 0 || found > to ? to : found;
-      made.push({ block: makeBlock(piecesBetween(this.text, this.runs, this.marks, at, end)), length: end - at });
+      const look = looksOf(this.text.slice(at, end)), pieces = piecesBetween(this.text, this.runs, this.marks, at, end, look.spans);
+      made.push({ block: makeBlock(pieces, look.name), length: end - at });
       at = end + 1;
     }
     const old = this.lines.slice(first, last + 1), gone = old.flatMap((line) => this.nodesOf(line));
@@ -77,7 +79,7 @@ export class Lines {
 
   // Makes the lines of other marks again.
   setMarks(marks) {
-    const key = (mark) => `${mark.id} ${mark.from} ${mark.to} ${Boolean(mark.isLit)}`;
+    const key = ({ id, from, to, isLit, out, proposed }) => JSON.stringify([id, from, to, Boolean(isLit), out, proposed]);
     const had = new Map(this.marks.map((mark) => [key(mark), mark])), have = new Map(marks.map((mark) => [key(mark), mark]));
     const changed = [...had, ...have].filter(([name]) => !had.has(name) || !have.has(name)).map(([, mark]) => mark);
     this.marks = marks;
@@ -218,15 +220,21 @@ export class Lines {
     return block ? this.unitOf(block, 0) : this.text.length;
   }
 
-  // The unit with which the line begins that is at a height of the window. Lines stand below one another.
-  unitAt(y) {
+  // The unit with which the line begins that is at a height of the window.
+  unitAt(y) { return this.startOf(this.indexAt(y)); }
+
+  // The line at a height of the window. Lines stand below one another.
+  indexAt(y) {
     let low = 0, high = this.lines.length - 1;
     while (low < high) {
       const middle = (low + high) >> 1;
       if (this.lines[middle].block.getBoundingClientRect().bottom < y) low = middle + 1; else high = middle;
     }
-    return this.startOf(low);
+    return low;
   }
+
+  // Where a line is on the screen.
+  boxOf(index) { return this.lines[Math.min(index, this.lines.length - 1)].block.getBoundingClientRect(); }
 
   // Where a unit is on the screen.
   rectAt(unit) {

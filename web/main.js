@@ -1,42 +1,52 @@
 // The page begins here.
 import { Desk } from "./desk.js";
+import { DraftStore } from "./draft_store.js";
 import { Enter, reason } from "./enter.js";
+import { KeptPads, LogInAgain } from "./kept_pads.js";
+import { KeysBox } from "./keys_box.js";
+import { offerLanguages } from "./language.js";
 import { $, label } from "./page.js";
-import { Session } from "./session.js";
-import { LostRevisions } from "./sync.js";
+import { LostRevisions, Taken } from "./client/errors.js";
+import { Session } from "./client/session.js";
 import { tellIfUnproved } from "./unproved.js";
-import { webSocket } from "./wire.js";
+import { webSocket } from "./client/wire.js";
 import { WORDS } from "./words.js";
 
 label();
 
-let desk = null, enter = null, wasLost = false;
-const whenOpen = (act) => (...given) => { if (desk?.isShowing) act(...given); };
-
-const session = new Session({
-  open: webSocket(`${location.protocol === "https:" ? "wss" : "ws"}://${location.host}/socket`),
-  view: {
-    onState: () => {
-      if (wasLost && !session.isLost) tellIfUnproved();
-      wasLost = session.isLost;
-      enter?.showState();
-      if (desk?.isOpen) desk.showState();
-    },
-    onReceive: whenOpen((delta) => desk.receive(delta)),
-    onMove: whenOpen((step) => desk.moved(step)),
-    onPeople: whenOpen(() => desk.showPeople()),
-    onCome: whenOpen((author) => desk.came(author)),
-    onGo: whenOpen((author) => desk.went(author)),
-    onComments: whenOpen(() => desk.showComments()),
-    onRights: whenOpen(() => desk.showRights()),
-    onRefused: whenOpen((reply, words) => desk.refused(reply, words)),
-    onReread: whenOpen(() => desk.reread()),
-    onOver: whenOpen((error) => desk.over(error instanceof LostRevisions ? WORDS.gone : reason(error))),
-  },
+const store = new DraftStore();
+const session = new Session({ store, open: webSocket(`${location.protocol === "https:" ? "wss" : "ws"}://${location.host}/socket`) });
+const kept = new KeptPads(session, store, { onPad: () => desk.open() });
+const enter = new Enter(session, kept, {
+  onPad: () => desk.open(), onLeave: () => desk.close(), onRefused: (name) => desk.notOpened(name),
+  onLogOut: (text) => desk.notice.show(text, { canLogOut: true }),
 });
+const desk = new Desk(session, { onClose: () => enter.show(), onLogOut: () => enter.logOut(true) });
+new LogInAgain(session, reason);
+new KeysBox();
+offerLanguages(() => { if (session.login) enter.show(); else kept.show(); });
 
-enter = new Enter(session, { onPad: () => desk.open(), onLeave: () => desk.close() });
-desk = new Desk(session, () => enter.show());
+const whenOpen = (event, act) => session.on(event, (...given) => { if (desk.isShowing) act(...given); });
+whenOpen("receive", (delta) => desk.receive(delta));
+whenOpen("change", (delta) => { desk.views.changed(delta); desk.remarks.changed(); desk.find.changed(); });
+whenOpen("revision", (step) => desk.moved(step));
+whenOpen("presence", () => desk.showPeople());
+whenOpen("come", (author) => desk.came(author));
+whenOpen("go", (author) => desk.went(author));
+whenOpen("comments", () => desk.remarks.draw());
+whenOpen("rights", () => desk.showRights());
+whenOpen("refused", (reply, words) => desk.refused(reply, words));
+whenOpen("returned", () => desk.returned());
+whenOpen("reread", () => desk.reread());
+whenOpen("over", (error) => desk.over(error instanceof LostRevisions ? WORDS.gone : error instanceof Taken ? WORDS.taken : reason(error)));
+
+let wasLost = false;
+session.on("state", () => {
+  if (wasLost && !session.isLost) tellIfUnproved();
+  wasLost = session.isLost;
+  enter.showState();
+  if (desk.isOpen) desk.showState();
+});
 
 document.addEventListener("visibilitychange", () => {
   session.isHidden = document.hidden;
@@ -48,4 +58,7 @@ $("skip").addEventListener("click", (event) => {
   $("text").focus();
 });
 tellIfUnproved();
+kept.show();
+// Without a service worker, as where the page is not secure, it opens only with a network.
+navigator.serviceWorker?.register("/sw.js", { updateViaCache: "none" }).catch(() => {});
 $("name").focus();

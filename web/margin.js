@@ -1,32 +1,31 @@
 // The comments beside their words.
-import { named } from "./authors.js";
+import { cardOf } from "./cards.js";
 import { colourOf } from "./colours.js";
 import { WORDS } from "./words.js";
-import { $, element, say, wordsOf } from "./page.js";
+import { $, say } from "./page.js";
 
 // A page with thousands of cards is slow. So it has those that are nearest to what is on the screen, until the author wants all.
-const MOST_CARDS = 300, GAP = 10, LONGEST_QUOTE = 80;
+const MOST_CARDS = 300, GAP = 10;
 
 export class Margin {
-  // `onResolve` gets a comment's name, `onLit` its id or null, and `onGo` its id when the author wants to see its words.
-  constructor(root, { onResolve, onLit, onGo }) {
-    Object.assign(this, { root, onResolve, onLit, onGo });
+  constructor(root) {
+    this.root = root;
     this.forget();
     $("all-comments").addEventListener("click", () => { this.most = Infinity; this.again(); });
   }
 
-  // Draws the cards of comments over a text. Where nothing differs they stay, so that a pressed button is not lost. `seen`
-  // answers which unit of the text is on the screen.
-  draw(comments, text, mayResolve, seen) {
-    this.again = () => this.draw(comments, text, mayResolve, seen);
-    const shown = this.nearest([...comments].sort((a, b) => a.from - b.from), seen);
-    const key = ({ id, author, text: words, isResolved, from, to }) => // an unsent one has another id
-      [id, author, colourOf(author), words, isResolved, text.slice(from, to)];
-    const keys = JSON.stringify([mayResolve, shown.map(key)]);
+  // Draws the cards of threads over a text. Where nothing differs they stay, so that a pressed button is not lost. `deeds` are what
+  // may be done (cards.js), and `seen` answers which unit of the text is on the screen.
+  draw(threads, text, deeds, seen) {
+    this.again = () => this.draw(threads, text, deeds, seen);
+    const shown = this.nearest([...threads].sort((a, b) => a.from - b.from), seen);
+    const key = ({ id, author, text: words, isResolved, from, to, replies = [] }) => // an unsent one has another id
+      [id, author, colourOf(author), words, isResolved, text.slice(from, to), replies.map(key)];
+    const keys = JSON.stringify([Object.keys(deeds), shown.map(key)]);
     if (keys === this.keys) return;
     this.keys = keys;
     const active = document.activeElement?.closest?.(".card")?.id;
-    this.cards = new Map(shown.map((comment) => [comment.id, this.card(comment, text, mayResolve)]));
+    this.cards = new Map(shown.map((thread) => [thread.id, cardOf(thread, text, deeds)]));
     this.root.replaceChildren(...this.cards.values());
     if (active) document.getElementById(active)?.focus();
   }
@@ -51,35 +50,6 @@ export class Margin {
     this.isCut = false;
     this.most = MOST_CARDS;
     this.root.replaceChildren();
-  }
-
-  card({ id, name, author, text: words, isResolved, isUnsent, from, to }, text, mayResolve) {
-    const quote = text.slice(from, to).replace(/\s+/g, " ");
-    const short = quote.length > LONGEST_QUOTE ? `${quote.slice(0, LONGEST_QUOTE)}…` : quote;
-    const card = element("article", { id, tabIndex: 0, className: `card ${colourOf(author)}` });
-    card.setAttribute("aria-label", WORDS.commentOn(named(author), short, isResolved));
-    const head = element("p", { className: "card-head" }, element("b", { textContent: named(author) }));
-    if (isUnsent) head.append(element("span", { className: "quiet", textContent: WORDS.notSent }));
-    else if (isResolved) head.append(element("span", { className: "quiet", textContent: WORDS.resolved }));
-    else if (mayResolve) {
-      const button = element("button", { type: "button", className: "small", textContent: WORDS.resolve });
-      button.setAttribute("aria-label", `${WORDS.resolve}: ${words}`);
-      button.addEventListener("click", (event) => { event.stopPropagation(); this.onResolve(name); });
-      head.append(button);
-    }
-    const quoted = from < to ? wordsOf("p", "card-quote", short) : element("p", { className: "card-quote", textContent: WORDS.erased });
-    card.append(head, quoted, wordsOf("p", "card-words", words));
-    card.classList.toggle("is-resolved", isResolved);
-    for (const [kind, lit] of [["mouseenter", id], ["focus", id], ["mouseleave", null], ["blur", null]]) {
-      card.addEventListener(kind, () => this.onLit(lit));
-    }
-    card.addEventListener("keydown", (event) => {
-      if (event.key !== "Enter" || event.target !== card) return;
-      event.preventDefault();
-      this.onGo(id);
-    });
-    card.addEventListener("dblclick", () => this.onGo(id));
-    return card;
   }
 
   // Puts each card beside its words, or below the card before it. Narrow pages list them under the text.

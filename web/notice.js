@@ -4,12 +4,15 @@ import { LABELS, WORDS } from "./words.js";
 
 export class Notice {
   // `kept` are words of the author's that were not taken. They are shown with any text until the author has copied or
-  // dismissed them. `onGoOn` opens the dialog for a new pad, and `onClose` closes the pad though words would be lost.
-  constructor(kept, { onGoOn, onClose }) {
-    Object.assign(this, { kept, text: "", canClose: false });
+  // dismissed them. `onGoOn` opens the dialog for a new pad, `onClose` closes the pad though words would be lost, and `onLogOut`
+  // logs out though changes would be. `onForget` is called when kept words are dismissed.
+  constructor(kept, { onGoOn, onClose, onLogOut, onForget }) {
+    Object.assign(this, { kept, onForget, text: "", canClose: false });
     $("notice-dismiss").addEventListener("click", () => this.forget());
     $("notice-go-on").addEventListener("click", () => onGoOn());
     $("notice-close").addEventListener("click", () => onClose());
+    $("notice-log-out").addEventListener("click", () => onLogOut());
+    $("notice-see").addEventListener("click", () => this.onSee?.());
     $("notice-copy").addEventListener("click", async () => {
       const words = $("notice-words");
       getSelection().selectAllChildren(words);
@@ -20,7 +23,7 @@ export class Notice {
   }
 
   // `unsent` words are still in the pad, and are shown with this text only.
-  show(text, { unsent = "", canGoOn = false, canClose = false } = {}) {
+  show(text, { unsent = "", canGoOn = false, canClose = false, canLogOut = false, onSee = null } = {}) {
     const shown = [this.kept.text, unsent].filter(Boolean).join("\n");
     $("notice").hidden = false;
     say($("notice-words"), shown);
@@ -28,8 +31,10 @@ export class Notice {
     say($("notice-copy"), LABELS.copy);
     $("notice-go-on").hidden = !canGoOn;
     $("notice-close").hidden = !canClose;
+    $("notice-log-out").hidden = !canLogOut;
+    $("notice-see").hidden = !onSee;
     say($("notice-text"), shown && !canClose ? `${text} ${WORDS.kept}`.trim() : text);
-    Object.assign(this, { text, canClose });
+    Object.assign(this, { text, canClose, onSee });
   }
 
   // Takes back these texts, once they do not hold any more. Words that are kept stay.
@@ -47,6 +52,7 @@ export class Notice {
   // The same, and the words that were kept are not needed any more.
   forget() {
     this.kept.clear();
+    this.onForget();
     this.hide();
   }
 }

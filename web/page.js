@@ -1,5 +1,5 @@
 // Small helpers for the document, which everything that is seen uses.
-import { LABELS, LANGUAGE } from "./words.js";
+import { LABELS, spoken } from "./words.js";
 
 // Where authors' words stand. The page itself is in the language of words.js; that of a pad is known to nobody, and the
 // browser's is the best guess for screen readers, hyphenation and the spelling checker.
@@ -24,10 +24,11 @@ export function say(node, text) { if (node.textContent !== text) node.textConten
 
 // Fills in the labels of index.html.
 export function label() {
-  document.documentElement.lang = LANGUAGE;
+  document.documentElement.lang = spoken();
   for (const node of document.querySelectorAll("[data-text]")) node.textContent = LABELS[node.dataset.text];
   for (const node of document.querySelectorAll("[data-label]")) node.setAttribute("aria-label", LABELS[node.dataset.label]);
   for (const node of document.querySelectorAll("[data-hint]")) node.title = LABELS[node.dataset.hint];
+  for (const node of document.querySelectorAll("[data-place]")) node.placeholder = LABELS[node.dataset.place];
   for (const id of WRITTEN) $(id).lang = navigator.language;
   document.querySelectorAll("input[pattern]").forEach(explain);
 }

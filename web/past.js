@@ -1,18 +1,17 @@
 // The slider: earlier revisions, who made them and when this page saw them, what differs between two of them, and the way
 // back to one.
 import { named } from "./authors.js";
-import { placed } from "./comments.js";
+import { placed } from "./client/comments.js";
 import { reason } from "./enter.js";
-import { History } from "./history.js";
+import { History } from "./client/history.js";
 import { Lines } from "./lines.js";
 import { $, say } from "./page.js";
-import { pause } from "./clock.js";
+import { pause } from "./client/clock.js";
 import { storage } from "./storage.js";
+import { timeOf } from "./times.js";
 import { LABELS, WORDS } from "./words.js";
 
 const STEP = 90, MOST_STEPS = 300, SAVE_EVERY = 5000;
-
-const clockTime = new Intl.DateTimeFormat(undefined, { dateStyle: "medium", timeStyle: "short" });
 
 export class Past {
   // `onShow` is called when another revision is shown, or none. `onRestore` gets what makes the text of a revision the
@@ -35,7 +34,7 @@ export class Past {
 
   // Another pad is open.
   start(pad) {
-    this.history = new History((request) => pad.call(request), pad.name, storage());
+    this.history = new History(pad, storage());
     this.pad = pad;
     if (this.isOpen) this.close();
   }
@@ -117,7 +116,7 @@ export class Past {
     }
     const { rev, entry } = shown, seen = this.history.when(rev), parts = [WORDS.old(rev, pad.now)];
     parts.push(entry ? WORDS.madeBy(entry.kind, named(entry.author)) : WORDS.start);
-    if (seen && rev) parts.push((seen.isBefore ? WORDS.seenBefore : WORDS.seenAt)(clockTime.format(seen.at)));
+    if (seen && rev) parts.push((seen.isBefore ? WORDS.seenBefore : WORDS.seenAt)(timeOf(seen.at)));
     say($("rev-made"), parts.join(" · "));
     $("rev").setAttribute("aria-valuetext", parts.slice(0, 2).join(", "));
   }

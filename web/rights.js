@@ -1,19 +1,18 @@
 // The dialog of rights: who has which, and, for owners, giving and taking them.
 import { reason } from "./enter.js";
 import { $, element, fill, say } from "./page.js";
-import { RIGHT_HELP, WORDS } from "./words.js";
+import { RIGHTS, WORDS } from "./words.js";
 
 const ORDER = ["own", "write", "comment", "read", "none"];
 
 function choices(select, chosen) {
-  select.replaceChildren(...ORDER.map((right) => element("option", { value: right, textContent: RIGHT_HELP[right] })));
+  select.replaceChildren(...ORDER.map((right) => element("option", { value: right, textContent: RIGHTS[right] })));
   select.value = chosen;
 }
 
 export class RightsBox {
   constructor(session, onGranted) {
     Object.assign(this, { session, onGranted, drawn: "" });
-    choices($("grant-right"), "write");
     $("rights").addEventListener("click", () => this.open());
     $("pad-address").addEventListener("focus", () => $("pad-address").select());
     $("grant").addEventListener("submit", (event) => {
@@ -24,6 +23,8 @@ export class RightsBox {
 
   async open() {
     say($("grant-error"), "");
+    choices($("grant-right"), $("grant-right").value || "write");
+    this.drawn = "";
     this.draw();
     $("pad-address").value = new URL(`#${this.session.pad.name}`, location.href).href;
     $("rights-box").showModal();
@@ -41,7 +42,7 @@ export class RightsBox {
   // The creator's right stays. A right of another author can be changed by an owner.
   row([name, right], isCreator) {
     const cell = element("td");
-    if (isCreator || this.session.right !== "own") cell.append(RIGHT_HELP[right], isCreator ? ` (${WORDS.creator})` : "");
+    if (isCreator || this.session.right !== "own") cell.append(RIGHTS[right], isCreator ? ` (${WORDS.creator})` : "");
     else {
       const select = element("select");
       choices(select, right);

@@ -1,5 +1,6 @@
 // The line that says how the pad is: saved, being saved, or why it is not.
 import { $, say } from "./page.js";
+import { timeOf } from "./times.js";
 import { WORDS, refusal } from "./words.js";
 
 const BAD = ["over", "lost", "held"];
@@ -17,8 +18,16 @@ export class StateLine {
 
   textOf(state) {
     const { heldBy, mayWrite, right } = this.session;
-    const held = heldBy && WORDS.held(refusal(heldBy)), lost = mayWrite ? WORDS.lost : WORDS.lostReading;
+    const held = heldBy && WORDS.held(refusal(heldBy)), lost = this.lostText(mayWrite);
     return { over: WORDS.over, lost, held, saving: WORDS.saving, saved: mayWrite ? WORDS.saved : WORDS.reading(right) }[state];
+  }
+
+  // What is typed outlives the page only if the browser keeps it.
+  lostText(mayWrite) {
+    const { drafts, isAway, keptAt } = this.session;
+    if (isAway) return WORDS.away(timeOf(keptAt));
+    if (!mayWrite) return WORDS.lostReading;
+    return drafts.areKept ? WORDS.lostKept : WORDS.lost;
   }
 
   // What a screen reader says of it: that something is wrong, and that it is right again. Each letter is saved, and to hear

@@ -1,129 +1,29 @@
-// All that the page says, in English. A translation is another file like this one.
-const plural = (n, one, many) => `${n.toLocaleString("en")} ${n === 1 ? one : many}`;
-const number = (n) => n.toLocaleString("en");
+// All that the page says, in the language that the reader has chosen, or that of the browser: languages/ has a file for each.
+import { storage } from "./storage.js";
 
-export const LANGUAGE = "en";
+export const KEY = "language", LANGUAGES = { en: "English", de: "Deutsch", fr: "Français", es: "Español" };
+export const LABELS = {}, RIGHTS = {}, WORDS = {}, REFUSALS = {}, TEMPLATES = {};
+let language = "en";
 
-// Labels of index.html: an element with data-text="KEY" gets it as its text, with data-label="KEY" as its name, and with
-// data-hint="KEY" as its tooltip.
-export const LABELS = {
-  skip: "Skip to the text",
-  logIn: "Log in", name: "Name", token: "Token", logOut: "Log out",
-  tokenHelp: "Whoever runs the server gives you both.",
-  pads: "Your pads", noPads: "You have no pads yet. Create one, or ask for a right on another.",
-  openOrCreate: "Open or create", open: "Open", create: "Create",
-  nameRule: "1 to 32 lowercase letters a–z, digits or hyphens, no spaces",
-  pad: "Pad", text: "Text of the pad", past: "Text of an earlier revision", here: "Here now", authors: "Authors",
-  undo: "Undo", redo: "Redo", undoHint: "Undo your last change (Ctrl+Z)", redoHint: "Redo your last change (Ctrl+Y)",
-  comment: "Comment", commentHint: "Comment on the selected words (Ctrl+Alt+M)",
-  history: "History", rights: "Rights", exports: "Export", close: "Close", closeHint: "Close this pad",
-  asText: "Text", asMarkdown: "Markdown, with authors and comments", print: "Print",
-  comments: "Comments",
-  revision: "Revision", older: "One revision earlier", newer: "One revision later", play: "Play", pauseIt: "Pause",
-  compareWith: "Compare with revision", compare: "Compare", endCompare: "Stop comparing", backToNow: "Back to the present",
-  restore: "Restore", restoreHint: "Give the pad this text again, for everybody",
-  yourComment: "Your comment", send: "Send", cancel: "Cancel", done: "Done",
-  who: "Who may do what", author: "Author", right: "Right", addAuthor: "Give another author a right", give: "Give",
-  grantHelp: "The name they log in with. The server doesn't check that it exists.",
-  padAddress: "Address of this pad, to send to people",
-  goOn: "Go on in a new pad", goOnHelp: "The text is copied, and its first line names this pad. The rights are the same. Authors, comments and history stay here.",
-  newName: "Name of the new pad", goOnButton: "Create and go on",
-  copy: "Copy", dismiss: "Dismiss", closeAnyway: "Close and lose these words",
-};
+export const spoken = () => language;
 
-export const RIGHT_HELP = {
-  own: "Owner", write: "Can write", comment: "Can comment", read: "Can read", none: "No right",
-};
-export const KINDS = { insert: "typed", delete: "erased", edit: "edited", comment: "commented", resolve: "resolved a comment" };
+// Everything is said in this language from now on.
+export async function speak(name) {
+  const words = await import(`./languages/${name}.js`);
+  language = name;
+  Object.assign(LABELS, words.LABELS);
+  Object.assign(RIGHTS, words.RIGHTS);
+  Object.assign(WORDS, words.WORDS);
+  Object.assign(REFUSALS, words.REFUSALS);
+  Object.assign(TEMPLATES, words.TEMPLATES);
+}
 
-export const WORDS = {
-  unnamed: "Vindrughe",
-  title: (pad) => `${pad} – Vindrughe`,
-  loggedIn: (me) => `Logged in as ${me}`,
-  padLine: (right, revisions) => `${RIGHT_HELP[right]} · ${plural(revisions, "revision", "revisions")}`,
-  saved: "All changes are saved", saving: "Saving…",
-  lost: "You're offline. Keep typing and keep this page open; your changes are sent when the connection is back.",
-  lostReading: "You're offline. This may not be the latest text.",
-  over: "Not connected",
-  held: (why) => `Not saved yet. ${why}`,
-  reading: (right) => ({ read: "You can read this pad", comment: "You can read and comment", none: "You don't have access to this pad" })[right],
-  old: (rev, now) => `Revision ${number(rev)} of ${number(now)}`,
-  noServer: "The server does not answer. Check your connection, and try again.",
-  connecting: "Connecting…",
-  came: (who) => `${who} is here.`,
-  went: (who) => `${who} has left.`,
-  you: (who) => `${who} (you)`,
-  share: (who, percent) => `${who}, ${percent} %`,
-  atCaret: (who) => `Written by ${who}`,
-  emptyPad: "The pad is empty.",
-  keys: "Ctrl+Z undoes only your own changes. Ctrl+Alt+M comments on selected words.",
-  selectFirst: "Select the words that you want to comment on first.",
-  commentOn: (who, words, isResolved) => `Comment by ${who} on “${words}”${isResolved ? ", resolved" : ""}`,
-  erased: "The words were erased",
-  resolve: "Resolve", resolved: "Resolved", notSent: "Not sent yet",
-  onlyText: "Only text can be put into a pad. What you pasted or dropped has none.",
-  someComments: (n, all) => `${number(n)} of ${number(all)} comments are shown, those nearest to the words on the screen.`,
-  allComments: (n) => `Show all ${number(n)} comments`,
-  showResolved: (n) => `Show ${plural(n, "resolved comment", "resolved comments")}`,
-  hideResolved: (n) => `Hide ${plural(n, "resolved comment", "resolved comments")}`,
-  madeBy: (kind, who) => `${who} ${KINDS[kind] ?? kind}`,
-  start: "The empty pad",
-  seenAt: (time) => `seen by this browser at ${time}`,
-  seenBefore: (time) => `seen by this browser before ${time}`,
-  dropped: (n) => `${plural(n, "character", "characters")} erased`,
-  inserted: (n) => `${plural(n, "character", "characters")} inserted`,
-  comparing: (from, to) => `From revision ${number(from)} to ${number(to)}`,
-  undoTakes: (who) => `Undo brings back words that ${who} wrote, and they will be yours. Undo again to do so.`,
-  redoTakes: (who) => `Redo brings back words that ${who} wrote, and they will be yours. Redo again to do so.`,
-  restored: (rev) => `The pad has the text of revision ${number(rev)} again. Words that had been erased came back as yours. Undo takes this back.`,
-  rightOf: (who) => `Right of ${who}`,
-  creator: "creator",
-  granted: (who, right) => `${who}: ${RIGHT_HELP[right].toLowerCase()}.`,
-  kept: "These changes were not accepted. Copy them before you close the page:",
-  unsaved: "These words are not saved yet. Stay until the server answers, or copy them:",
-  unsavedChange: "Your last change is not saved yet. Stay until the server answers.",
-  uncopied: "The server did not take these words. Copy or dismiss them before you leave this pad:",
-  unsavedForGood: "Your last changes were not saved, and this page can't send them any more.",
-  shutOut: "An owner removed your access. You are seeing the pad as it was before.",
-  noRight: "You don't have access to this pad. Ask its owner.",
-  gone: "The server no longer has what this page shows: it may have been restored from an older copy. Save your text with Export, then load the page again.",
-  reread: "This page showed another text than the server has, and has read the pad again. Check what you did last.",
-  fault: (why) => `Something went wrong on this page (${why}). Save your text with Export, then load the page again.`,
-  nearlyFull: (percent, left) => `This pad is ${percent} % full: it can take ${plural(left, "more change", "more changes")}.`,
-  full: "This pad is full: it takes no more changes.",
-  continues: (pad, rev) => `Continues the pad “${pad}” after its revision ${number(rev)}.`,
-  copied: "Copied.",
-  printed: (pad, rev, date) => `${pad}, revision ${number(rev)}, printed ${date}`,
-  markdownTitle: (pad, rev) => `${pad} (revision ${rev})`,
-};
+function wanted() {
+  const names = [storage().getItem(KEY), ...(globalThis.navigator?.languages ?? []).map((one) => one.slice(0, 2))];
+  return names.find((name) => name in LANGUAGES) ?? "en";
+}
+
+await speak(wanted());
 
 // What a refusal means, and what to do.
-export const REFUSALS = {
-  200: "You are not logged in any more. Load the page again, and log in.",
-  201: "The name or the token is wrong. Check both; the token is case-sensitive.",
-  202: "This connection is logged in already. Load the page again.",
-  300: "No pad has this name. Check the spelling, or press Create to make it.",
-  301: "A pad of this name exists already. Choose another name, or press Open.",
-  302: "The server has no room for another pad. Use an existing one, or ask whoever runs the server.",
-  303: "That name isn't valid. Use 1 to 32 lowercase letters, digits or hyphens.",
-  310: "This pad is no longer open here. Load the page again.",
-  311: "This pad is open here already.",
-  312: "You have no right to do this. Ask an owner of the pad for it.",
-  313: "As many people are on this pad as there is room for. Try again when somebody has left.",
-  314: "This pad has been opened as often as it can be. Continue in a new pad.",
-  315: "The right of the pad's creator cannot be changed.",
-  316: "256 authors have a right on this pad, and there is no room for more. Take one away first.",
-  320: "The pad has no such revision.",
-  321: "The text has changed meanwhile. Try again.",
-  322: "There is nothing selected any more. Select the words again.",
-  323: "That is too much at once. Do it in smaller parts.",
-  324: "The pad is full: it takes no more characters. Go on in a new pad.",
-  325: "The pad is full. Go on in a new pad.",
-  326: "This comment does not exist any more.",
-  327: "The pad is full: it takes no more changes. Go on in a new pad.",
-  328: "The pad takes no more comments. Go on in a new pad.",
-  900: "The server is out of memory. Your words are kept here and sent again.",
-  901: "The server's disk is full. Your words are kept here and sent again; tell whoever runs the server.",
-  902: "The server is full. Try again in a minute.",
-};
-export const refusal = ({ code, error }) => REFUSALS[code] ?? `The server refused this (${code} ${error}). Try again, or load the page again.`;
+export const refusal = ({ code, error }) => REFUSALS[code] ?? WORDS.refused(code, error);

@@ -1,0 +1,68 @@
+// Pads that the browser has kept: on the way in, those that can be opened without a connection, and in the list of pads, those of
+// which something is not sent.
+import { named, setOrigin } from "./authors.js";
+import { $, element, say } from "./page.js";
+import { timeOf } from "./times.js";
+import { WORDS } from "./words.js";
+
+export class KeptPads {
+  // `onPad` is called once a pad is open.
+  constructor(session, store, { onPad }) { Object.assign(this, { session, store, onPad }); }
+
+  async list() { try { return await this.store.list(); } catch { return []; } }
+
+  // Beside the log-in: pads of any author who has not logged out.
+  async show() {
+    const kept = (await this.list()).filter(({ isElsewhere }) => !isElsewhere);
+    $("kept").hidden = !kept.length;
+    $("kept-pads").replaceChildren(...kept.map((note) => {
+      const said = element("span", { textContent: WORDS.keptLine(note.name, timeOf(note.time), note.isUnsent) });
+      const button = element("button", { type: "button" }, element("b", { textContent: note.pad }), said);
+      button.addEventListener("click", () => this.open(note));
+      return element("li", {}, button);
+    }));
+  }
+
+  async open({ id, me, pad }) {
+    say($("log-in-error"), "");
+    setOrigin(me);
+    if (await this.session.openKept(id)) this.onPad();
+    else say($("log-in-error"), WORDS.keptElsewhere(pad));
+  }
+
+  // The author logs out.
+  async forget() { try { await this.store.forget(this.session.name); } catch { /* nothing is kept */ } }
+
+  // What is kept of the author's pads; and the names of those of which something is not sent in no window that is open.
+  async ofAuthor() { return (await this.list()).filter(({ name }) => name === this.session.name); }
+  async unsent() { return (await this.ofAuthor()).filter((note) => note.isUnsent && !note.isElsewhere).map(({ pad }) => pad); }
+}
+
+// The dialog that logs in again, once there is a connection, with a pad that was opened without one.
+export class LogInAgain {
+  constructor(session, reason) {
+    Object.assign(this, { session, reason });
+    $("log-in-again").addEventListener("click", () => this.open());
+    $("again").addEventListener("submit", (event) => { event.preventDefault(); this.logIn(); });
+    $("again-cancel").addEventListener("click", () => $("again-box").close());
+  }
+
+  open() {
+    say($("again-who"), WORDS.logInAs(named(this.session.me)));
+    say($("again-error"), "");
+    $("again-token").value = "";
+    $("again-box").showModal();
+  }
+
+  async logIn() {
+    say($("again-error"), "");
+    $("again-go").disabled = true;
+    try { await this.session.logInAgain($("again-token").value); } catch (error) {
+      say($("again-error"), this.reason(error));
+      $("again-token").select();
+      return;
+    } finally { $("again-go").disabled = false; }
+    $("again-token").value = "";
+    $("again-box").close();
+  }
+}

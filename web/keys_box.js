@@ -1,0 +1,32 @@
+// The page of keys, which `?` opens wherever it types nothing.
+import { $, element } from "./page.js";
+import { LABELS, WORDS } from "./words.js";
+
+// Keys, and the label of what they do.
+const KEYS = [
+  ["?", "keys"], ["Ctrl+Z", "undo"], ["Ctrl+Y", "redo"],
+  ["Ctrl+B", "bold"], ["Ctrl+I", "italic"], ["Ctrl+K", "link"], ["Ctrl+Shift+7", "heading"], ["Ctrl+Shift+8", "list"], ["Ctrl+Shift+9", "task"],
+  ["Tab", "itemIn"], ["Shift+Tab", "itemOut"], ["Esc, Tab", "leaveText"],
+  ["Ctrl+Alt+M", "comment"], ["Ctrl+Alt+N", "nextComment"], ["Ctrl+Alt+S", "suggest"], ["Enter", "commentWords"],
+  ["Ctrl+Alt+F", "find"], ["Ctrl+Alt+O", "outline"], ["Ctrl+Alt+V", "nextView"], ["Ctrl+Alt+H", "history"], ["Ctrl+P", "print"],
+];
+
+export class KeysBox {
+  constructor() {
+    $("keys-button").addEventListener("click", () => this.open());
+    addEventListener("keydown", (event) => {
+      const { target } = event, writes = target.isContentEditable || ["INPUT", "TEXTAREA", "SELECT"].includes(target.nodeName);
+      if (event.key !== "?" || event.ctrlKey || event.metaKey || writes || document.querySelector("dialog[open]")) return;
+      event.preventDefault();
+      this.open();
+    });
+  }
+
+  open() {
+    $("keys-list").replaceChildren(...KEYS.flatMap(([keys, label]) => {
+      const parts = keys.split(/([+,] ?)/).map((part, k) => (k % 2 ? part : element("kbd", { textContent: WORDS.key(part) })));
+      return [element("dt", {}, ...parts), element("dd", { textContent: LABELS[label] })];
+    }));
+    $("keys-box").showModal();
+  }
+}

@@ -1,0 +1,33 @@
+// What a new pad begins with: nothing, an agenda, minutes, or the text of a pad whose name begins with `template-`.
+import { named } from "./authors.js";
+import { splice } from "./client/delta.js";
+import { $, element } from "./page.js";
+import { TEMPLATE } from "./pad_list.js";
+import { dayOf } from "./times.js";
+import { LABELS, TEMPLATES } from "./words.js";
+
+const OWN = ["blank", "agenda", "minutesTemplate"];
+
+// Offers the templates, with those among these pads.
+export function offerTemplates(pads) {
+  const select = $("template"), chosen = select.value, names = pads.map(({ name }) => name).filter((name) => TEMPLATE.test(name));
+  select.replaceChildren(
+    ...OWN.map((key) => element("option", { value: key, textContent: LABELS[key] })),
+    ...names.map((name) => element("option", { value: `#${name}`, textContent: name.slice("template-".length) })),
+  );
+  if ([...select.options].some(({ value }) => value === chosen)) select.value = chosen;
+}
+
+// The text of the template that is chosen. A pad is read in a visit of its own.
+export async function templateText(session) {
+  const { value } = $("template");
+  if (!value.startsWith("#")) return TEMPLATES[value]?.(dayOf(Date.now()), named(session.me)) ?? "";
+  const pad = value.slice(1);
+  await session.call({ do: "join", pad });
+  const { text } = await session.call({ do: "text", pad });
+  await session.call({ do: "leave", pad });
+  return text;
+}
+
+// The new pad has this text, as its author's.
+export function begin({ pad, me }, text) { if (text) pad.type(splice(0, 0, text, me)); }

@@ -1,7 +1,8 @@
 """The map of the code in docs/ARCHITECTURE.md, compared with the folders, NOTICE, with what the programs depend on, and
 docs/PROOF.md and docs/DEFINITIONS.md, with the definitions that stand there.
 
-In the map a line `crates/NAME` begins a crate, and the indented lines below it name its source files.
+In the map a line `crates/NAME` begins a crate, and the indented lines below it name its source files. A line with a folder of
+clients/ does the same for a client.
 """
 import os
 import re
@@ -10,18 +11,20 @@ import subprocess
 from harness import ROOT, Test, want
 
 CRATE = re.compile(r"crates/(\w+)\b.*")
-FILE = re.compile(r"\b\w+\.rt\b")
+CLIENT = re.compile(r"(clients/[\w/]+).*")
+FILE = re.compile(r"\b\w+\.(?:rt|js|py)\b")
+CLIENTS = ["clients/js", "clients/js/bindings", "clients/js/src", "clients/python/pads", "clients/python/vindrughe"]
 PROGRAMS = ["pad_server", "pad_store", "pad_replay"]
 
 
 def mapped():
-    """The source files that the map names, by crate."""
+    """The source files that the map names, by crate, and by a client's folder."""
     files = {}
     crate = None
     with open(f"{ROOT}/docs/ARCHITECTURE.md", encoding="utf-8") as page:
         text = page.read().split("## The files", 1)[1].split("\n## ", 1)[0]
     for line in text.splitlines():
-        begun = CRATE.fullmatch(line)
+        begun = CRATE.fullmatch(line) or CLIENT.fullmatch(line)
         if begun:
             crate = begun[1]
             files[crate] = []
@@ -32,13 +35,27 @@ def mapped():
     return files
 
 
+def source_files(folder):
+    return [name for name in os.listdir(folder) if FILE.fullmatch(name)]
+
+
 def listed_crates():
+    return sorted(uses_of_crates())
+
+
+def uses_of_crates():
+    """What each crate of crates.txt depends on, by its name."""
     with open(f"{ROOT}/crates.txt", encoding="utf-8") as crates:
-        return sorted(line.split(":")[0].split()[0] for line in crates if line.strip())
+        lines = [line.partition("#")[0] for line in crates]
+    return {line.split(":")[0].split()[0]: line.split(":")[1].split() for line in lines if line.strip()}
 
 
 def map_is_whole():
     files = mapped()
+    clients = {folder: files.pop(folder) for folder in [*files] if folder.startswith("clients/")}
+    want(sorted(clients), CLIENTS, "the clients of the map")
+    for folder, named in clients.items():
+        want(sorted(named), sorted(source_files(f"{ROOT}/{folder}")), f"the map's files of {folder}")
     want(sorted(files), listed_crates(), "the crates of the map")
     for crate, named in files.items():
         if not crate.endswith("_tests"):
@@ -48,8 +65,7 @@ def map_is_whole():
 
 def below(program):
     """All that a program depends on by crates.txt: crates of this repository and of the kit."""
-    with open(f"{ROOT}/crates.txt", encoding="utf-8") as crates:
-        needs = {line.split(":")[0].split()[0]: line.split(":")[1].split() for line in crates if ":" in line}
+    needs = uses_of_crates()
     found, waiting = set(), [program]
     while waiting:
         name = waiting.pop()

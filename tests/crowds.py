@@ -80,6 +80,9 @@ def one_that_reads_nothing_holds_up_nobody_and_takes_no_memory():
     for _ in range(asked):
         if not greedy.replies.readline().endswith(b'"ok":true,"rev":1,"text":"' + b"x" * 10_000 + b'"}\n'):
             raise Failed("a reply that was taken late is not whole")
+    # What was written is not kept: 200 MB were.
+    more = resident(server) - before
+    want(more < 8_192, True, f"less than 8 MiB more once all was read, not {more} KiB")
 
 
 def lines_that_come_byte_by_byte():

@@ -31,7 +31,8 @@ if verb == "try":
     note("try", crate, str(os.getpid()))
     wait_for("BUILD")
     os.execv(os.environ["BUILT"], ["pad_server", *sys.argv[sys.argv.index("--") + 1 :]])
-lines = [line.partition(":") for line in open("../../crates.txt").read().splitlines() if ":" in line]
+heads = [line.partition("#")[0] for line in open("../../crates.txt").read().splitlines()]
+lines = [head.partition(":") for head in heads if ":" in head]
 listed = {name for name, _, _ in lines}
 uses = {name: [it for it in rest.split() if it in listed] for name, _, rest in lines}
 # Each rt locks the folders of its crate and of all below it, for its whole run.
@@ -76,7 +77,8 @@ def free_port():
 def crates_below():
     """What each crate of this repository depends on, of this repository and of the kit."""
     with open(f"{ROOT}/crates.txt", encoding="utf-8") as file:
-        rows = [line.partition("#")[0].partition(":") for line in file if ":" in line]
+        heads = [line.partition("#")[0] for line in file]
+    rows = [head.partition(":") for head in heads if ":" in head]
     return {head.split()[0]: rest.split() for head, _, rest in rows}
 
 

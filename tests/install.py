@@ -43,6 +43,16 @@ def linked_pages():
     return sorted(linked | there)
 
 
+def of_pads():
+    """The files of the command line pads, and of the library for Python on which it stands."""
+    share = f"root{PREFIX}/share"
+    due = {f"root{PREFIX}/bin/pads": "0o755", f"{share}/man/man1/pads.1": "0o644", f"{share}/bash-completion/completions/pads": "0o644"}
+    for package in ("pads", "vindrughe"):
+        names = [name for name in os.listdir(f"{ROOT}/clients/python/{package}") if name.endswith((".py", ".typed"))]
+        due |= {f"{share}/vindrughe/python/{package}/{name}": "0o644" for name in names}
+    return due
+
+
 def everything_is_installed():
     installed()
     found = {}
@@ -51,10 +61,10 @@ def everything_is_installed():
     due = {f"root{PREFIX}/bin/{name}": "0o755" for name in PROGRAMS}
     due |= {f"root{PREFIX}/share/man/man1/{name}.1": "0o644" for name in PROGRAMS}
     due |= {f"root{PREFIX}/share/doc/vindrughe/{name}": "0o644" for name in PAGES + linked_pages()}
-    due |= {UNIT: "0o644", EXAMPLE: "0o644"}
+    due |= {UNIT: "0o644", EXAMPLE: "0o644", **of_pads()}
     want(found, due, "the files that are installed, with their modes")
-    for name in PROGRAMS:
-        version = run([f"root{PREFIX}/bin/{name}", "--version"])
+    for name in [*PROGRAMS, "pads"]:
+        version = run([f"root{PREFIX}/bin/{name}", "--version"], PYTHONDONTWRITEBYTECODE="1")
         want((version.returncode, version.stdout), (0, f"{name} 0.1.0\n"), f"the version of the installed {name}")
 
 

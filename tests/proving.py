@@ -28,11 +28,11 @@ def a_killed_run_loses_nothing():
 
 
 def crates_that_share_one_are_proved_at_the_same_time():
-    """rights and slides both stand on pad_model, which a proof of either locks; each waits here until the other has begun."""
+    """rights and text_history both stand on pad_model, which a proof of either locks; each waits here until the other has begun."""
     below = crates_below()
-    want(all("pad_model" in below[name] for name in ["rights", "slides"]), True, "that both stand on pad_model")
-    variables = make_machine(TOGETHER="rights slides")
-    done = subprocess.run(["./prove", "--jobs", "2", "rights", "slides"], env=variables, capture_output=True, text=True)
+    want(all("pad_model" in below[name] for name in ["rights", "text_history"]), True, "that both stand on pad_model")
+    variables = make_machine(TOGETHER="rights text_history")
+    done = subprocess.run(["./prove", "--jobs", "2", "rights", "text_history"], env=variables, capture_output=True, text=True)
     want((done.returncode, done.stderr.splitlines()[-1]), (0, "prove: all 3 crates are proved"), "the status and the last line")
     nothing_is_left()
 

@@ -1,6 +1,6 @@
 """The code at the beginning of each library's README, compared with the file that it names.
 
-The first code block of a README is followed by a line such as `From crates/part_tests/src/held.rt.`: its lines stand one
+The first code block of a README is followed by a line such as `From crates/pad_part_tests/src/held.rt.`: its lines stand one
 after the other in that file, apart from their indentation. The file is one of another crate, which calls the library.
 """
 import os
@@ -9,7 +9,7 @@ import re
 from harness import ROOT, Test, want
 
 NAMED = re.compile(r"From (crates/(\w+)/src/[\w/]+\.rt)\.")
-WITHOUT_CODE = ["federation"]
+WITHOUT_CODE = ["federation_laws"]
 
 
 def libraries():

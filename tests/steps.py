@@ -2,6 +2,7 @@
 import collections
 import random
 import re
+import socket
 import subprocess
 
 from harness import Failed, Test, path_of, put_files, want
@@ -11,11 +12,13 @@ COMMENTS = 100
 EDITS = 120  # since the revision whose comments are listed
 
 
+CALLGRIND = ["valgrind", "--tool=callgrind", "--callgrind-out-file=calls"]
+
+
 def calls_of(program, args, given):
     """How often each function called each other one."""
-    words = ["valgrind", "--tool=callgrind", "--callgrind-out-file=calls", path_of(program), *args]
     try:
-        done = subprocess.run(words, input=given.encode(), capture_output=True)
+        done = subprocess.run([*CALLGRIND, path_of(program), *args], input=given.encode(), capture_output=True)
     except FileNotFoundError:
         raise Failed("valgrind is not there, which counts the calls")
     want(done.returncode, 0, "the status")
@@ -77,4 +80,30 @@ def places_of_an_older_revision_are_guessed():
     want(asked <= looks <= 3 * asked, True, f"that {asked} places take two looks each, mostly, and not {looks} in all")
 
 
-TESTS = [Test("steps: places of an older revision are guessed", places_of_an_older_revision_are_guessed, 120)]
+def instructions_for(lines):
+    """How many instructions a server executes that has one client, who sends these lines."""
+    words = [*CALLGRIND, path_of("pad_server"), "--listen", "127.0.0.1:0", "--connections", "1", *ARGS]
+    try:
+        server = subprocess.Popen(words, stdout=subprocess.PIPE, stderr=subprocess.DEVNULL)
+    except FileNotFoundError:
+        raise Failed("valgrind is not there, which counts the instructions")
+    port = int(server.stdout.readline().decode().rsplit(":", 1)[1])
+    with socket.create_connection(("127.0.0.1", port)) as client:
+        client.sendall(lines.encode())
+        client.shutdown(socket.SHUT_WR)
+        replies = b"".join(iter(lambda: client.recv(65_536), b""))
+    want(server.wait(60), 0, "the status")
+    want((replies.count(b"\n"), b'"ok":false' in replies), (3, False), "that three requests are answered and none refused")
+    return next(int(line.split()[1]) for line in open("calls") if line.startswith("totals:"))
+
+
+def a_long_line_in_pieces_is_searched_once():
+    """A line twice as long, which comes in twice as many pieces, takes twice as many instructions. If each piece were
+    searched from the beginning of the line, it would take three times as many."""
+    put_files([("accounts", "author solo solo\n")])
+    first = '{"do":"hello","name":"solo","token":"solo"}\n{"do":"create","pad":"p"}\n'
+    short, long = (instructions_for(first + '{"do":"revs","pad":"p"' + " " * size + "}\n") for size in (4_000_000, 8_000_000))
+    want(long < 2.2 * short, True, f"that 8 MB take twice as many instructions as 4 MB, and not {long} for {short}")
+
+
+TESTS = [Test("steps: places of an older revision are guessed", places_of_an_older_revision_are_guessed, 120), Test("steps: a long line in pieces is searched once", a_long_line_in_pieces_is_searched_once, 180)]

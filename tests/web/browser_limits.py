@@ -32,7 +32,7 @@ def log_out(test):
     make(test, "secret-project", "words")
     ann.type("more ", 0)
     ann.is_saved()
-    keys = lambda: ann.run("return Object.keys(localStorage)")
+    keys = lambda: ann.run("return Object.keys(localStorage).filter(key => key !== 'view')")
     check("the page keeps when it saw revisions", until(lambda: "seen secret-project" in keys(), 12), keys())
     ann.click("close")
     ann.click("log-out")

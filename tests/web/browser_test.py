@@ -13,12 +13,16 @@ import tempfile
 
 from browser_limits import browser_limits
 from compositions import compositions
+from drafts_checks import drafts
+from find_checks import finding
 from first_visit import first_visit
 from hard_cases import full_pad, hostile, lost_pad
 from kept_checks import kept_words
 from keyboard import by_hand
 from looks import exports, looks
+from minutes_checks import minutes
 from page_checks import plain
+from threads_checks import threads
 from windows import BROKEN, ON_DISK, PAST, Keys, Line, Server, Window, units, until
 
 BOB_MAY = "Can write"
@@ -132,7 +136,7 @@ def unusual_typing(test):
     check("and so does a letter before them", until(lambda: "茶 x🙂👩‍🚀" in ann.text), ann.text)
     bob.keys(Keys.BACKSPACE)
     ann.select(units(ann.text))
-    ann.keys(Keys.ENTER, Keys.ENTER, "4. Line", Keys.HOME, Keys.BACKSPACE)
+    ann.keys(Keys.ENTER, Keys.ENTER, Keys.ENTER, "4. Line", Keys.HOME, Keys.BACKSPACE)
     check("lines are split and joined", until(lambda: bob.text.endswith("done.\n4. Line")), bob.text[-30:])
     ann.keys(Keys.END, "s", Keys.LEFT, Keys.DELETE)
     ann.keys(Keys.LEFT, held=[Keys.CONTROL])
@@ -322,11 +326,15 @@ def play(program, folder, tally):
             for part in (way_in, typing, unusual_typing, comments, history, restoring, rights, broken, random_keys, looks):
                 part(test)
             exports(test, downloads)
+            minutes(test, downloads)
             hostile(test)
+            threads(test)
+            finding(test)
             first_visit(test)
             by_hand(test)
             compositions(test)
             browser_limits(test)
+            drafts(test)
             lost_pad(test)
             kept_words(test)
             full_pad(test, pages)

@@ -5,8 +5,8 @@
 // The server, number 1, has the accounts `author a0 ta0` and so on, one for each page; the peer has `author zed tzed`. The
 // last line is `N passed, M failed`.
 import { isDeepStrictEqual } from "node:util";
-import { pause } from "../../web/clock.js";
-import { PACE } from "../../web/sync.js";
+import { pause } from "../../clients/js/src/clock.js";
+import { PACE } from "../../clients/js/src/sync.js";
 import { dice as makeDice } from "./dice.mjs";
 import { Tally, areSettled, commentsOf, freshCharacters, openPage, runsOf, spotsOf, until } from "./pages.mjs";
 import { tcp } from "./tcp.mjs";
@@ -48,8 +48,7 @@ function act(one, dice) {
   stats.unmade += unsentIn(session.pad, session.pad.text.slice(spots[from], spots[to]));
   one.type(spots[from], spots[to] - spots[from], text);
   if (dice(40) || from === spots.length - 1) return;
-  const stretch = () => ({ from: 0, to: spotsOf(session.pad.text)[1] ?? 0 });
-  session.comment(stretch, `by ${session.me}`).then(() => { stats.comments++; }, () => {});
+  session.comment(0, spotsOf(session.pad.text)[1] ?? 0, `by ${session.me}`).then(() => { stats.comments++; }, () => {});
 }
 
 async function typeOn(one, dice, end) {

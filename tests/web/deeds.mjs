@@ -1,24 +1,39 @@
 // What authors do on pages at random, and what is known of it in the end. Each character and each comment is typed once, so
 // it is known whose it is, and whether it is lost or doubled.
+import { accept, stepped } from "../../clients/js/src/suggestions.js";
+import { reply, suggestion, suggestionIn } from "../../clients/js/src/threads.js";
 import { commentsOf, runsOf, spotsOf } from "./pages.mjs";
 
 const PLANE = 0x20000, SMALL = 0x4e00, json = JSON.stringify;
 
 export class Deeds {
-  // `modules` has the History and the deltas of some copy of web/. `isFull`: also undo, redo and restored revisions.
+  // `modules` has the History and the deltas of some copy of the library. `isFull`: also undo, redo and restored revisions.
   constructor({ dice, modules, padNames, isFull, pause }) {
     Object.assign(this, { dice, modules, padNames, isFull, pause, pages: [], written: new Map(), comments: new Map(), fresh: 0 });
-    this.seen = { switches: 0, undone: 0, restored: 0, comments: 0, typed: 0, saved: 0 };
+    this.seen = { switches: 0, undone: 0, restored: 0, comments: 0, suggested: 0, accepted: 0, late: 0, replies: 0, ticks: 0, typed: 0, saved: 0 };
   }
 
   fault(text) { throw Object.assign(new Error(text), { isFound: true }); }
 
   add(page) {
-    this.pages.push(Object.assign(page, { mine: new Map(), isSwitching: false, wantsPad: false }));
+    this.pages.push(Object.assign(page, { mine: new Map(), isSwitching: false, wantsPad: false, drawn: null }));
+    page.session.on("change", (delta) => { if (page.drawn) page.drawn.since = this.modules.delta.compose(page.drawn.since, delta); });
   }
   remove(page) { this.pages = this.pages.filter((one) => one !== page); }
 
   // ---- what an author does
+
+  // Characters that a page had kept when it ended. Answers how many of them have to be there in the end.
+  keep(words) {
+    const letters = [...words].map((character) => this.written.get(character)).filter((letter) => letter && !letter.isErased);
+    for (const letter of letters) letter.isKept = true;
+    return letters.length;
+  }
+
+  // A page ends before it was told what became of its comments.
+  forget(session) {
+    for (const { text } of session.comments.unsent.list) if (this.comments.has(text)) this.comments.get(text).isForgotten = true;
+  }
 
   // Characters that nobody has typed yet, most of them beyond 16 bits.
   characters(count) {
@@ -33,6 +48,10 @@ export class Deeds {
     if (isFull && dice(50) === 0) this.restoreAt(page);
     if (dice(25) === 0) this.commentAt(page);
     if (dice(60) === 0) this.resolveAt(page);
+    if (dice(30) === 0) this.suggestAt(page);
+    if (dice(12) === 0) this.acceptAt(page);
+    if (dice(40) === 0) this.replyAt(page);
+    if (dice(15) === 0) this.tickAt(page);
     if (dice(40) === 0) this.switchAt(page);
   }
 
@@ -68,16 +87,18 @@ export class Deeds {
   }
 
   undoAt(page) {
-    const { pad } = page.session, { undo } = pad, steps = this.dice(3) ? undo.undos : undo.redos, next = steps[steps.length - 1];
+    const { pad } = page.session, { undos, redos } = pad.steps, steps = this.dice(3) ? undos : redos, next = steps[steps.length - 1];
     if (!next?.length) return;
     this.makes(page, next, pad);
-    pad.stepBack(steps === undo.redos);
+    const delta = steps === redos ? pad.redo() : pad.undo(), made = delta.tag?.suggestion;
+    if (made && this.comments.has(made.text)) this.comments.get(made.text).isMadeAgain = true;
+    if (made) stepped(page.session, delta, steps === redos, this.modules.delta.extent(delta));
     this.seen.undone++;
   }
 
   async restoreAt(page) {
     const { pad } = page.session, rev = this.dice(pad.rev + 1), from = pad.rev;
-    const history = new this.modules.History((request) => pad.call(request), pad.name, { getItem: () => null });
+    const history = new this.modules.History(pad);
     let delta = null;
     try { delta = pad.carriedDelta(await history.back(rev, from, pad.me), from); } catch { return; } // the connection was lost
     if (!delta || page.session.pad !== pad || page.isSwitching) return;
@@ -91,9 +112,68 @@ export class Deeds {
     if (!last) return;
     const comment = { pad: session.pad.name, outcome: "" }, to = Math.min(last, from + 1 + this.dice(5));
     this.comments.set(text, comment);
-    const made = session.comment(() => ({ from: spots[from], to: spots[to] }), text);
+    const made = session.comment(spots[from], spots[to], text);
     made.then(() => { comment.outcome = "made"; }, (error) => { comment.outcome = `${error.reply?.code}`; });
     this.seen.comments++;
+  }
+
+  // Words of the text are to be others, which nobody has typed yet.
+  suggestAt(page) {
+    const { pad } = page.session, spots = spotsOf(pad.text), last = spots.length - 1;
+    if (!last) return;
+    const from = spots[this.dice(last)], to = spots[Math.min(last, spots.indexOf(from) + 1 + this.dice(4))];
+    this.say(page, from, to, suggestion(pad.text.slice(from, to), this.characters(this.dice(4))));
+    this.seen.suggested++;
+  }
+
+  // Says something on a stretch, and notes what becomes of it.
+  say(page, from, to, text) {
+    const comment = { pad: page.session.pad.name, outcome: "" };
+    if (this.comments.has(text)) return;
+    this.comments.set(text, comment);
+    page.session.comment(from, to, text).then(() => { comment.outcome = "made"; }, (error) => { comment.outcome = `${error.reply?.code}`; });
+  }
+
+  // Accepts a suggestion. Several pages can do so at the same time, and its words come once.
+  async acceptAt(page) {
+    const { session } = page, { pad } = session, open = session.comments.list.filter(({ isResolved, text }) => !isResolved && suggestionIn(text));
+    if (!open.length) return;
+    let change = null;
+    try { change = await (this.modules.accept ?? accept)(session, open[this.dice(open.length)]); } catch (error) { if (error.name === "Lost" || error.code) return; throw error; }
+    if (!change) this.seen.late++;
+    if (!change || session.pad !== pad || page.isSwitching || session.isOver) return;
+    const { delta, tag } = change();
+    this.makes(page, delta, pad);
+    this.note(page, pad, "", delta.map(({ insert = "" }) => insert).join(""));
+    pad.steps.rest();
+    pad.type(delta, true, tag);
+    pad.steps.rest();
+    this.seen.accepted++;
+  }
+
+  replyAt(page) {
+    const { list } = page.session.comments, one = list[this.dice(list.length)];
+    if (!one || one.from >= one.to) return;
+    this.say(page, one.from, one.to, reply(one.name, `r${this.comments.size}`));
+    this.seen.replies++;
+  }
+
+  // One character of the text as it was a while ago becomes another, as a box of minutes is ticked: it is found in the text as it
+  // is now by what has changed since.
+  tickAt(page) {
+    const { delta: { move } } = this.modules, { pad } = page.session;
+    if (page.drawn?.pad === pad && page.drawn.text) {
+      const { text, since } = page.drawn, spots = spotsOf(text), from = spots[this.dice(spots.length - 1)], [letter] = text.slice(from);
+      const at = move(from, since, true), is = pad.text.slice(at, at + letter.length) === letter;
+      if (!is && pad.text.includes(letter) && !this.isFull) this.fault(`${letter} is not found where it has moved`);
+      if (is) {
+        const mark = this.characters(1);
+        this.note(page, pad, letter, mark);
+        page.type(at, letter.length, mark);
+        this.seen.ticks++;
+      }
+    }
+    if (this.dice(2)) page.drawn = { pad, text: pad.text, since: [] };
   }
 
   resolveAt(page) {
@@ -143,10 +223,10 @@ export class Deeds {
   compareLetters(texts, isLost = () => false) {
     const times = new Map();
     for (const [pad, text] of texts) for (const character of text) times.set(`${pad} ${character}`, (times.get(`${pad} ${character}`) ?? 0) + 1);
-    for (const [character, { pad, isErased, isSaved }] of this.written) {
+    for (const [character, { pad, isErased, isSaved, isKept }] of this.written) {
       const there = times.get(`${pad} ${character}`) ?? 0;
       if (isSaved) this.seen.saved++;
-      if (isSaved && !isErased && there !== 1 && !isLost(pad)) this.fault(`${character} of ${pad} is there ${there} times`);
+      if ((isSaved || isKept) && !isErased && there !== 1 && !isLost(pad)) this.fault(`${character} of ${pad} is there ${there} times`);
       if (there > 1 && !(isErased && this.isFull)) this.fault(`${character} of ${pad} is there ${there} times`);
       for (const other of this.padNames) if (other !== pad && times.has(`${other} ${character}`)) this.fault(`${character} of ${pad} is in ${other}`);
     }
@@ -155,9 +235,9 @@ export class Deeds {
   // Each comment is made once, if its author was told so, and not at all if it was refused. `made` has the texts of those of
   // each pad.
   compareComments(made, isLost = () => false) {
-    for (const [text, { pad, outcome }] of this.comments) {
+    for (const [text, { pad, outcome, isForgotten, isMadeAgain }] of this.comments) {
       const times = made.get(pad).filter((one) => one === text).length;
-      if (isLost(pad)) continue;
+      if (isLost(pad) || isMadeAgain || (isForgotten && times <= 1)) continue;
       if (outcome === "made" ? times !== 1 : times) this.fault(`the comment ${text} of ${pad} is ${outcome || "open"}, and was made ${times} times`);
     }
   }

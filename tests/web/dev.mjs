@@ -18,16 +18,26 @@ const HEADERS = {
   "x-content-type-options": "nosniff", "referrer-policy": "no-referrer", "cache-control": "no-store",
 };
 
+const tagOf = (data) => `"${createHash("sha256").update(data).digest("hex").slice(0, 32)}"`;
+
+// The list of files for the service worker, as tests/pages writes it.
+function list() {
+  const names = fs.readdirSync(WEB, { recursive: true }).map(String).filter((name) => KINDS[path.extname(name)] && name !== "sw.js");
+  const files = [...names, ...fs.readdirSync(path.join(WEB, "client")).map((name) => `client/${name}`)];
+  return [...new Set(files)].map((name) => `${tagOf(fs.readFileSync(fileOf(name)))} /${name === "index.html" ? "" : name}\n`).join("");
+}
+
 function fileOf(name) {
   const own = folder && path.join(folder, name);
   return own && fs.existsSync(own) ? own : path.join(WEB, name);
 }
 
 const server = http.createServer((request, response) => {
-  const name = request.url === "/" ? "index.html" : path.basename(request.url.split("?")[0]);
+  const { pathname } = new URL(request.url, "http://localhost"), name = pathname === "/" ? "index.html" : pathname;
+  if (name === "/files.txt") { response.writeHead(200, { ...HEADERS, "content-type": "text/plain; charset=utf-8" }).end(list()); return; }
   fs.readFile(fileOf(name), (error, data) => {
     if (error) response.writeHead(404).end();
-    else response.writeHead(200, { ...HEADERS, "content-type": `${KINDS[path.extname(name)]}; charset=utf-8` }).end(data);
+    else response.writeHead(200, { ...HEADERS, etag: tagOf(data), "content-type": `${KINDS[path.extname(name)]}; charset=utf-8` }).end(data);
   });
 });
 

@@ -163,6 +163,23 @@ def comments(test):
     check("another's letter leaves the keyboard to a button", until(lambda: ann.text.startswith("!")) and ann.run("return document.activeElement.id") == "rights")
 
 
+def minutes(test):
+    """Minutes by a worker, and a box that ticks in the pad."""
+    ann, bob, check = test.ann, test.bob, test.check
+    ann.select(0, units(ann.text))
+    ann.run(PASTE, "# Minutes\n- [ ] a *task*\nThe crane is painted.", False)
+    test.agree("they agree before they look at minutes")
+    ann.run("document.getElementById('view-both').click()")
+    html = lambda: ann.run("return document.getElementById('minutes').innerHTML")
+    check("minutes are shown beside the text", until(lambda: "<h1" in html() and "<em>task</em>" in html()), html())
+    ann.run("document.querySelector('#minutes input').click()")
+    check("a box ticks in the pad", until(lambda: "- [x] a *task*" in bob.text), bob.text)
+    ann.run("document.getElementById('view-text').click()")
+    ann.select(units("# Minutes\n- [x] a *task*"))
+    ann.keys(ENTER + "next")
+    check("Enter goes on with a list", until(lambda: "\n- [ ] next\n" in bob.text), bob.text)
+
+
 def offline(test):
     ann, bob, check = test.ann, test.bob, test.check
     before = ann.text
@@ -180,13 +197,27 @@ def offline(test):
     check("the browser reports no fault", not faults, faults)
 
 
+def reloaded(test):
+    """A window is loaded again while words are not sent."""
+    ann, bob, check = test.ann, test.bob, test.check
+    before = ann.text
+    test.server.kill()
+    until(lambda: "offline" in ann.text_of("state"), 30)
+    ann.select(0)
+    ann.keys("kept ")
+    check("words that are not sent are kept", until(lambda: "kept on this device" in ann.text_of("state")), ann.text_of("state"))
+    test.server.start()
+    check("ann logs in again", ann.log_in("ann", "t1") and ann.open("minutes"), ann.text_of("log-in-error"))
+    check("and they are sent, once", until(lambda: test.server_text() == f"kept {before}", 30), test.server_text())
+
+
 def main(program):
     with tempfile.TemporaryDirectory() as home:
         server, browser = Server(program, home), None
         try:
             browser = Firefox()
             test = Test(server, browser)
-            for part in (way_in, typing, pasting, composing, emoji, comments, offline):
+            for part in (way_in, typing, pasting, composing, emoji, comments, minutes, offline, reloaded):
                 part(test)
         finally:
             if browser:

@@ -98,7 +98,7 @@ def offline(test):
     ann.is_saved()
     server.kill()
     until(lambda: "offline" in ann.state)
-    check("a writer is told to keep the page open", "keep this page open" in ann.state, ann.state)
+    check("a writer is told to keep typing", "Keep typing" in ann.state, ann.state)
     check("and one who is offline sees so on people, too", "is-offline" in ann.run("return document.body.className"))
     ann.type(" fifth", units(ann.text))
     ann.run("location.hash = '#other-pad'")

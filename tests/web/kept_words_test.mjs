@@ -16,15 +16,15 @@ const madeComments = (world) => {
   const model = world.model(), cells = [...world.text()];
   return model.comments(model.now).map(({ at, len, text }) => `${text} on ${cells.slice(at, at + len).join("")}`).sort().join("; ");
 };
-const stretch = (page, words) => () => {
+const stretch = (page, words) => {
   const from = page.session.pad.text.indexOf(words);
   return { from, to: from + words.length };
 };
 // The author comments on words, as the page's dialog does it.
 function remark(page, words, text) {
-  const asked = { id: "asked", ...stretch(page, words)() }, { session } = page;
+  const asked = { id: "asked", ...stretch(page, words) }, { session } = page;
   session.comments.asked = asked;
-  const made = session.comment(() => asked, text);
+  const made = session.comment(asked.from, asked.to, text);
   made.catch(() => {});
   return made;
 }
@@ -174,7 +174,7 @@ async function whoseWords() {
   await world.settle();
   tell("also after others' changes", pad.ownersOfStep?.().join() === "bob@1", pad.ownersOfStep?.().join());
   ann.shown = "";
-  pad.stepBack();
+  pad.undo();
   ann.shown = pad.text;
   await world.settle();
   tell("they come back as the author's own", JSON.stringify(world.model().runs(world.model().now)) === '[["ann@1",30],["bob@1",1]]' && agree(world), JSON.stringify(world.model().runs(world.model().now)));
@@ -187,8 +187,8 @@ async function whoseWords() {
 async function writersCaret() {
   const world = new World(), [ann, bob] = await world.open("one two", "ann", "bob");
   await world.advance(5 * SECOND);
-  const seen = [], caret = () => ann.session.presence.others[0].at, { onReceive } = ann.session.view;
-  ann.session.view.onReceive = (delta) => { onReceive(delta); seen.push(caret()); };
+  const seen = [], caret = () => ann.session.presence.others[0].at;
+  ann.session.on("receive", () => seen.push(caret()));
   bob.session.moveCaret(3);
   await world.advance(5 * SECOND);
   bob.type(3, 0, "🙂!");

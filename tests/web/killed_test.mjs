@@ -9,8 +9,8 @@ import fs from "node:fs";
 import net from "node:net";
 import os from "node:os";
 import path from "node:path";
-import { pause } from "../../web/clock.js";
-import { WEB, loadWeb } from "./copies.mjs";
+import { pause } from "../../clients/js/src/clock.js";
+import { LIBRARY, loadLibrary } from "./copies.mjs";
 import { Deeds } from "./deeds.mjs";
 import { dice as makeDice } from "./dice.mjs";
 import { Tally, openPage, until } from "./pages.mjs";
@@ -119,7 +119,7 @@ async function compare(deeds) {
 }
 
 async function play(server) {
-  const deeds = await openAll(server.port, await loadWeb(WEB)), end = Date.now() + SECOND * Number(seconds), killing = killNowAndThen(server, end);
+  const deeds = await openAll(server.port, await loadLibrary(LIBRARY)), end = Date.now() + SECOND * Number(seconds), killing = killNowAndThen(server, end);
   while (Date.now() < end) {
     for (const page of deeds.pages) { deeds.act(page); deeds.look(page); disturb(page); }
     await pause(50 + dice(200));

@@ -3,7 +3,7 @@
 //     node tests/web/lost_words_test.mjs
 //
 // The last line is `N passed, M failed`.
-import { clock } from "../../web/clock.js";
+import { clock } from "../../clients/js/src/clock.js";
 import { Tally } from "./pages.mjs";
 import { World, agree, kept } from "./world.mjs";
 

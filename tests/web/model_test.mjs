@@ -1,9 +1,9 @@
-// The client algorithm of web/ against a reference model of the server, at random, with seeds:
+// The client algorithm of clients/js against a reference model of the server, at random, with seeds:
 //
 //     node tests/web/model_test.mjs [ROUNDS]
 //
 // Then the same with planted faults, each of which has to be found. The last line is `N passed, M failed`.
-import { WEB, loadWeb as load, planted } from "./copies.mjs";
+import { LIBRARY, loadLibrary as load, planted } from "./copies.mjs";
 import { ModelPad } from "./model.mjs";
 import { round } from "./simulation.mjs";
 
@@ -40,7 +40,7 @@ async function findsFault(name, modules, Model) {
 
 const sums = { edits: 0, checks: 0, breaks: 0, undone: 0, restored: 0, typed: 0 };
 try {
-  const modules = await load(WEB);
+  const modules = await load(LIBRARY);
   for (let number = 1; number <= rounds; number++) {
     const seen = await round(number, modules);
     for (const key in sums) sums[key] += seen[key];
@@ -69,6 +69,6 @@ await findsFault("a restored revision, without what others did meanwhile",
   await planted("sync.js", "return [...steps, this.flight ?? [], this.pending].reduce(", "return [this.flight ?? [], this.pending].reduce("));
 await findsFault("a restored revision that keeps what came since", await planted("history.js",
   "return invert(deltaOf(changes, old.text), old.text, author);", "return invert(deltaOf(changes, old.text), old.text, author).filter((step) => !step.drop);"));
-await findsFault("insertions listed before the drop beside them", await load(WEB), InsertionsFirst);
+await findsFault("insertions listed before the drop beside them", await load(LIBRARY), InsertionsFirst);
 console.log(`${passed} passed, ${failed} failed`);
 process.exit(failed ? 1 : 0);

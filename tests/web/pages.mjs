@@ -1,8 +1,8 @@
 // Pages without a display: a session of the page's modules, and what its editor would show.
-import { pause } from "../../web/clock.js";
-import { apply, splice } from "../../web/delta.js";
-import { Session } from "../../web/session.js";
-import { count } from "../../web/units.js";
+import { pause } from "../../clients/js/src/clock.js";
+import { apply, splice } from "../../clients/js/src/delta.js";
+import { Session } from "../../clients/js/src/session.js";
+import { count } from "../../clients/js/src/units.js";
 
 export async function until(what, milliseconds = 20000) {
   for (const end = Date.now() + milliseconds; Date.now() < end;) {
@@ -32,24 +32,21 @@ export class Tally {
   }
 }
 
-// Logs in over a connection that `open` opens, and creates or joins a pad. The session can be of another copy of web/, and
-// run by another clock and other random numbers.
-export async function openPage({ open, name, token, pad, how, pace, clock, random, Kind = Session }) {
+// Logs in over a connection that `open` opens, and creates or joins a pad; or shows a note of the store without a log-in. The
+// session can be of another copy of the library, and run by another clock and other random numbers.
+export async function openPage({ open, name, token, pad, how, pace, clock, random, store, note, Kind = Session }) {
   const out = { shown: "", faults: [], refusals: [], said: [], rereads: 0 };
-  const session = new Kind({
-    open, pace, clock, random,
-    view: {
-      onReceive: (delta) => { out.shown = apply(out.shown, delta); },
-      onOver: (error) => out.faults.push(error),
-      onRefused: (reply, kept) => out.refusals.push([reply.code, kept]),
-      onReread: () => { out.rereads++; out.shown = session.pad.text; },
-      onCome: (author) => out.said.push(`${author} came`),
-      onGo: (author) => out.said.push(`${author} went`),
-    },
-  });
+  const session = new Kind({ open, pace, clock, random, store });
+  session.on("receive", (delta) => { out.shown = apply(out.shown, delta); });
+  session.on("over", (error) => out.faults.push(error));
+  session.on("refused", (reply, kept) => out.refusals.push([reply.code, kept]));
+  session.on("reread", () => { out.rereads++; out.shown = session.pad.text; });
+  session.on("come", (author) => out.said.push(`${author} came`));
+  session.on("go", (author) => out.said.push(`${author} went`));
   out.session = session;
-  await session.logIn(name, token);
-  if (pad) await session[how](pad);
+  if (note) await session.openKept(note);
+  else await session.logIn(name, token);
+  if (pad && !note) await session[how](pad);
   out.shown = session.pad?.text ?? "";
   out.type = (at, dropped, text) => {
     const delta = splice(at, dropped, text, session.me);

@@ -8,13 +8,13 @@ import path from "node:path";
 import { fileURLToPath } from "node:url";
 import { named, setOrigin } from "../../web/authors.js";
 import { authorsOf, colourOf, giveColours } from "../../web/colours.js";
-import { apply, applyRuns, compose, invert, move, snapped, splice, split, transform, typed } from "../../web/delta.js";
+import { apply, applyRuns, compose, invert, move, snapped, splice, split, transform, typed } from "../../clients/js/src/delta.js";
 import { toMarkdown } from "../../web/exports.js";
-import { History, merged } from "../../web/history.js";
+import { History, merged } from "../../clients/js/src/history.js";
 import { letterOf } from "../../web/keys.js";
-import { Undo } from "../../web/undo.js";
-import { count, deltaOf, partsOf, unit } from "../../web/units.js";
-import { LABELS, REFUSALS, WORDS } from "../../web/words.js";
+import { Undo } from "../../clients/js/src/undo.js";
+import { count, deltaOf, partsOf, unit } from "../../clients/js/src/units.js";
+import { LABELS, LANGUAGES, REFUSALS, WORDS, speak, spoken } from "../../web/words.js";
 import { dice as makeDice } from "./dice.mjs";
 
 const WEB = path.join(path.dirname(fileURLToPath(import.meta.url)), "..", "..", "web");
@@ -118,18 +118,19 @@ function undo() {
 
 async function history() {
   const storage = { getItem: () => null, setItem: () => {} }, asked = [];
-  const past = new History(async (request) => {
+  const call = async (request) => {
     asked.push([request.rev, request.to]);
     return { changes: [...(request.rev ? [["keep", request.rev]] : []), ["insert", "abcdef".slice(request.rev, request.to), "a@1"]] };
-  }, "p", storage);
+  };
+  const past = new History({ name: "p", call }, storage);
   tell("a revision is read by what changed since one that is known", [(await past.at(2)).text, (await past.at(5)).text, (await past.at(5)).text, asked], ["ab", "abcde", "abcde", [[0, 2], [2, 5]]]);
   past.note(0, 3, 1000);
   past.note(3, 4, 2000);
   past.note(6, 7, 90000);
   const at = [past.when(2), past.when(4), past.when(6), past.when(7), past.when(9)];
   tell("the page knows when it saw a revision", at.map((one) => one && [one.at, one.isBefore]), [[1000, false], [1000, false], [90000, true], [90000, false], null]);
-  const call = async ({ rev }) => ({ changes: rev ? [["keep", 2], ["drop", 2], ["insert", "X", "c@1"], ["keep", 3]] : [["insert", "one two", "a@1"]] });
-  const back = await new History(call, "p", storage).back(4, 6, "d@1");
+  const callOther = async ({ rev }) => ({ changes: rev ? [["keep", 2], ["drop", 2], ["insert", "X", "c@1"], ["keep", 3]] : [["insert", "one two", "a@1"]] });
+  const back = await new History({ name: "p", call: callOther }, storage).back(4, 6, "d@1");
   tell("the way back brings what was erased, as the author's words", back, [{ keep: 2 }, { insert: "e ", author: "d@1" }, { drop: 1 }]);
   const old = { text: "one two", runs: [["a@1", 4], ["b@1", 3]] };
   const both = merged(old, [["keep", 2], ["drop", 3], ["insert", "X", "c@1"], ["keep", 2]]);
@@ -162,12 +163,23 @@ function keys() {
   tell("a shortcut's letter is what a Latin key types, or else its place", letters.map(([key, code]) => letterOf({ key, code })), ["z", ";", "z", "z", "z", "z", "enter"]);
 }
 
+// The files of the page, with those of the library behind its link.
+function filesOf(folder) {
+  return fs.readdirSync(folder).flatMap((name) => {
+    const here = path.join(folder, name);
+    return fs.statSync(here).isDirectory() ? filesOf(here).map((inner) => `${name}/${inner}`) : [name];
+  });
+}
+
 // Every module is named in the document, so that a browser fetches all of them at once, and not one behind the other.
+// What workers load, and what a page loads only if it needs it.
+const LATER = /^(sw\.js|vendor\/.*|languages\/.*|minutes\/(rules|worker)\.js)$/;
+
 function modules() {
   const html = fs.readFileSync(path.join(WEB, "index.html"), "utf8");
-  const named = [...html.matchAll(/<link rel="modulepreload" href="\/(\w+\.js)">/g)].map(([, name]) => name);
+  const named = [...html.matchAll(/<link rel="modulepreload" href="\/([\w/]+\.js)">/g)].map(([, name]) => name);
   const main = html.match(/<script type="module" src="\/(\w+\.js)">/)[1];
-  tell("all modules are loaded at once", [main, ...named].sort(), fs.readdirSync(WEB).filter((name) => name.endsWith(".js")).sort());
+  tell("all modules are loaded at once", [main, ...named].sort(), filesOf(WEB).filter((name) => name.endsWith(".js") && !LATER.test(name)).sort());
 }
 
 // Colours depend on who the authors are, whatever happened before.
@@ -192,18 +204,62 @@ function colours() {
   tell("authors of this server are named without its number", ["ann@1", "bob@1", "bob@2", "ann@11"].map(named), ["ann", "bob", "bob@2", "ann@11"]);
 }
 
-// What the modules and index.html say comes from words.js, and nothing in it is left over.
+const LISTS = ["LABELS", "RIGHTS", "WORDS", "REFUSALS", "TEMPLATES"];
+
+// What the modules and index.html say comes from a language's file, and nothing in it is left over.
 function words() {
-  const files = fs.readdirSync(WEB).filter((name) => name !== "words.js").map((name) => fs.readFileSync(path.join(WEB, name), "utf8")).join("\n");
-  const used = [...files.matchAll(/data-(?:text|label|hint)="(\w+)"/g), ...files.matchAll(/LABELS\.(\w+)/g)].map(([, key]) => key);
-  tell("each label has its word", used.filter((key) => !LABELS[key]), []);
-  tell("each label is used", Object.keys(LABELS).filter((key) => !used.includes(key)), []);
-  const said = [...files.matchAll(/WORDS\.(\w+)/g)].map(([, key]) => key);
-  tell("each word is there", said.filter((key) => !WORDS[key]), []);
+  const isOwn = (name) => /\.(js|html)$/.test(name) && !/^(languages|vendor|client)\/|^words\.js$/.test(name);
+  const read = (name) => fs.readFileSync(path.join(WEB, name), "utf8"), files = filesOf(WEB).filter(isOwn).map(read).join("\n");
+  const named = [...files.matchAll(/data-(?:text|label|hint|place)="(\w+)"/g), ...files.matchAll(/LABELS\.(\w+)/g)].map(([, key]) => key);
+  const listed = [...`${read("keys_box.js")}${read("templates.js")}`.matchAll(/"(\w+)"/g)].map(([, key]) => key);
+  tell("each label has its word", named.filter((key) => !LABELS[key]), []);
+  tell("each label is used", Object.keys(LABELS).filter((key) => !named.includes(key) && !listed.includes(key)), []);
+  const said = [...`${files}${read("words.js")}`.matchAll(/WORDS\.(\w+)/g)].map(([, key]) => key);
+  tell("each word is there", said.filter((key) => key !== "words" && !WORDS[key] && !LISTS.includes(key)), []);
   tell("and used", Object.keys(WORDS).filter((key) => !said.includes(key)), []);
-  const html = fs.readFileSync(path.join(WEB, "index.html"), "utf8");
+  const html = read("index.html");
   tell("the document has no script, style or handler of its own", html.match(/<script(?! type="module" src=)|<style| style=| on\w+=/g), null);
   tell("each refusal says what to do", Object.values(REFUSALS).filter((text) => text.split(/[.:;]/).length < 2), []);
+  const texts = [...html.matchAll(/>([^<>]*\p{L}{2}[^<>]*)</gu)].map(([, text]) => text.trim()).filter(Boolean);
+  tell("the document says nothing by itself but its name", [...new Set(texts)].sort(), ["This page needs JavaScript.", "Vindrughe"]);
+  const inCode = filesOf(WEB).filter((name) => isOwn(name) && name.endsWith(".js")).flatMap((name) => read(name).split("\n"))
+    .filter((line) => !/^\s*(\/\/|import )/.test(line)).map((line) => line.replace(/new (Error|Taken)\([^)]*\)|\/\/ .*$/g, ""))
+    .flatMap((line) => line.match(/["`](?:\p{Lu}\p{Ll}+|\p{Ll}+(?: \p{L}+)+[.!?…])(?: [^"`]*)?["`]/gu) ?? []).filter((text) => !NAMES.includes(text.slice(1, -1)));
+  tell("no word stands in code", inCode, []);
+}
+
+// Names of keys, nodes and the like, which nobody reads.
+const NAMES = [
+  "Escape", "Enter", "Shift", "Tab", "Control", "Alt", "AltGraph", "Digit7", "Digit8", "Digit9", "Vindrughe", "Content-Security-Policy", "Backspace", "Delete", "Ctrl", "Esc",
+];
+
+// What a function of a language answers for arguments that can be recognized, whatever its language does with them.
+function sample(act) {
+  const names = act.toString().match(/^\(([^)]*)\)/)[1].split(",").map((name) => name.trim()).filter(Boolean);
+  const args = names.map((name) => ({ right: "own", kind: "insert", name: "Shift" })[name] ?? (/^is|^n$|^percent$|^revisions$|^left$/.test(name) ? 2 : `«${name}»`));
+  return { names: names.length, text: String(act(...args)) };
+}
+
+// Each language has all words, as functions of the same, and with the same names in them.
+async function languages() {
+  const english = await import("../../web/languages/en.js");
+  for (const language of Object.keys(LANGUAGES)) {
+    const other = await import(`../../web/languages/${language}.js`), wrong = [];
+    for (const list of LISTS) {
+      for (const key of new Set([...Object.keys(english[list]), ...Object.keys(other[list] ?? {})])) {
+        const [a, b] = [english[list][key], other[list]?.[key]];
+        if (typeof a !== typeof b || (typeof b === "string" && !b.trim())) wrong.push(`${list}.${key}`);
+        else if (typeof a === "function") {
+          const [one, two] = [sample(a), sample(b)], kept = one.text.match(/«\w+»/g) ?? [];
+          if (one.names !== two.names || kept.some((name) => !two.text.includes(name))) wrong.push(`${list}.${key}: ${two.text}`);
+        } else if (language !== "en" && a === b && a.length > 12) wrong.push(`${list}.${key} is English`);
+      }
+    }
+    tell(`${LANGUAGES[language]} has all words, and those that they are functions of`, wrong, []);
+  }
+  await speak("de");
+  tell("the page can be changed to another language", [spoken(), LABELS.logIn !== english.LABELS.logIn], ["de", true]);
+  await speak("en");
 }
 
 deltas();
@@ -217,5 +273,6 @@ keys();
 modules();
 colours();
 words();
+await languages();
 console.log(`${passed} passed, ${failed} failed`);
 process.exit(failed ? 1 : 0);

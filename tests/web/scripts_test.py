@@ -46,6 +46,22 @@ def nor_what_the_server_did_not_take():
     script(NODE, "kept_words_test.mjs")
 
 
+def threads_and_suggestions_come_once():
+    script(NODE, "threads_test.mjs")
+
+
+def minutes_are_what_markdown_says():
+    script(NODE, "minutes_test.mjs")
+
+
+def what_is_typed_outlives_the_page():
+    script(NODE, "drafts_test.mjs")
+
+
+def a_browser_is_killed_while_its_author_types(kills=12, seed=1):
+    script(PYTHON, "killed_browser.py", path_of("pad_server"), kills, seed)
+
+
 def pages_agree_with_a_model_over_a_bad_network(rounds=40):
     script(NODE, "storm_test.mjs", rounds)
 
@@ -99,12 +115,16 @@ TESTS = [
     named(the_pages_show_what_a_model_of_the_server_has, 120),
     named(no_words_of_an_author_are_lost_by_the_page, 60),
     named(nor_what_the_server_did_not_take, 60),
+    named(threads_and_suggestions_come_once, 60),
+    named(minutes_are_what_markdown_says, 60),
+    named(what_is_typed_outlives_the_page, 60),
     named(pages_agree_with_a_model_over_a_bad_network, 300),
     named(pages_whose_connections_break_make_each_character_once, 150),
     named(another_client_library_speaks_with_the_socket, 60),
     named(forty_pages_type_beside_a_peer, 180),
     named(two_windows_of_a_browser, 700),
     named(two_windows_of_firefox, 200),
+    named(a_browser_is_killed_while_its_author_types, 300),
 ]
 
 # These take minutes: tests/run --long.
@@ -114,6 +134,7 @@ LONG_TESTS = [
     named(lambda: pages_whose_connections_break_make_each_character_once(60), 400, "connections break for two minutes"),
     named(lambda: the_same_over_tcp(30), 300, "connections over TCP break for a minute"),
     named(lambda: forty_pages_type_beside_a_peer(60), 400, "forty pages type for a minute beside a peer"),
+    named(lambda: a_browser_is_killed_while_its_author_types(60, 7), 900, "a browser is killed sixty times"),
     named(lambda: pages_outlive_a_server_that_is_killed(90), 500, "pages outlive a server that is killed"),
     named(a_large_pad_in_a_browser, 400),
     named(lambda: compositions_at_random(400), 400, "400 compositions at random"),

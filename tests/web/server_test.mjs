@@ -4,8 +4,8 @@
 //
 // They reach it over TCP, or over a WebSocket. The
 // server's accounts are `author ann tann`, `author bob tbob` and `author cid tcid`. The last line is `N passed, M failed`.
-import { pause } from "../../web/clock.js";
-import { PACE } from "../../web/sync.js";
+import { pause } from "../../clients/js/src/clock.js";
+import { PACE } from "../../clients/js/src/sync.js";
 import { dice as makeDice } from "./dice.mjs";
 import { Tally, areSettled, fragile, freshCharacters, openPage, runsOf, spotsOf, until } from "./pages.mjs";
 import { connections, tcp } from "./tcp.mjs";
@@ -67,7 +67,7 @@ async function comments() {
   await grantAll(ann);
   const bob = await page(1, pad, "join");
   ann.type(0, 0, "one 🙂 two three");
-  await ann.session.comment(() => ({ from: 7, to: 10 }), "which two?");
+  await ann.session.comment(7, 10, "which two?");
   const words = ({ session }) => session.comments.list.map(({ from, to, isResolved }) => `${session.pad.text.slice(from, to)} ${isResolved}`).join();
   tell("a comment is on its words in another window", await until(() => words(bob) === "two false"), words(bob));
   bob.type(0, 0, "🙂 zero ");
@@ -80,7 +80,7 @@ async function comments() {
   tell("carets are seen, in units", await until(() => caretOf(ann) === 11 && caretOf(bob) === 3), `${caretOf(ann)}, ${caretOf(bob)}`);
   bob.type(0, 0, "ab");
   tell("and move with the text at once", caretOf(bob) === 5 && await until(() => caretOf(ann) === 13, 1500), `${caretOf(ann)}, ${caretOf(bob)}`);
-  const undone = ann.session.pad.stepBack();
+  const undone = ann.session.pad.undo();
   tell("undo takes back one's own words only", undone && await until(() => bob.shown === "ab🙂 zero "), bob.shown);
   bob.session.logOut();
   tell("coming and going is told", await until(() => ann.said.join() === "bob@1 came,bob@1 went"), ann.said.join());

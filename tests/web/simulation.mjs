@@ -1,23 +1,38 @@
 // Several pages type at random into one pad of the model, over connections that keep their order, delay, and break. Time
 // is simulated, so a round of minutes takes milliseconds.
+//
+// tests/clients/simulation.py plays the same rounds with the library for Python, request by request. So what happens depends
+// on the number of a round alone, and not on how a language orders what happens at one moment: each connection has dice of its
+// own, and moments are multiples of 1/1024 ms, which add up exactly and hardly ever meet.
 import { dice as makeDice } from "./dice.mjs";
 import { ModelPad } from "./model.mjs";
 import { SimulatedClock } from "./simulated_clock.mjs";
 
+// The shortest time, and a time of so many milliseconds at most.
+const MOMENT = 1 / 1024;
+const upTo = (dice, milliseconds) => dice(milliseconds * 1024) * MOMENT;
 const LETTERS = ["a", "b", "c", "d", "\n", "é", "🙂", "👩‍🚀", "語"];
+
+// A request with its fields in the order of their names.
+const sorted = (value) => JSON.stringify(value, (_, one) => (one === null || typeof one !== "object" || Array.isArray(one) ? one
+  : Object.fromEntries(Object.entries(one).sort(([a], [b]) => (a < b ? -1 : 1)))));
+
+// What was just done has its consequences, at the same moment.
+const consequences = () => new Promise((done) => { setImmediate(done); });
 
 // One connection to the model. Each direction delays at random and keeps its order.
 class Connection {
-  constructor(clock, dice, model, author, seen) {
-    Object.assign(this, { clock, dice, model, author, seen });
+  constructor(clock, dice, model, page, seen) {
+    Object.assign(this, { clock, dice, model, page, seen });
     this.inbox = []; this.isBroken = false; this.isCut = false; this.lastIn = 0; this.lastOut = 0;
     this.failures = new Set();
   }
   ask = (request) => new Promise((done, failed) => {
     if (this.isBroken) { failed(new Error("lost")); return; }
     this.failures.add(failed);
+    this.page.asked.push([this.clock.now(), sorted(request)]);
     const line = { request: structuredClone(request), done: (reply) => { this.failures.delete(failed); done(reply); } };
-    this.lastIn = Math.max(this.lastIn, this.clock.now() + 1 + this.dice(200));
+    this.lastIn = Math.max(this.lastIn + MOMENT, this.clock.now() + 1 + upTo(this.dice, 200));
     this.clock.after(this.lastIn - this.clock.now(), () => { if (!this.isCut) { this.inbox.push(line); this.serve(); } });
   });
   // Answers lines in order. A wait is over when the pad moves, when another line is there, or after its time.
@@ -31,8 +46,8 @@ class Connection {
       }
       this.inbox.shift();
       if (["insert", "delete", "edit"].includes(request.do)) this.seen.edits++;
-      const before = this.model.now, reply = structuredClone(this.model.reply(this.author, request));
-      this.lastOut = Math.max(this.lastOut, this.clock.now() + 1 + this.dice(200));
+      const before = this.model.now, reply = structuredClone(this.model.reply(this.page.author, request));
+      this.lastOut = Math.max(this.lastOut + MOMENT, this.clock.now() + 1 + upTo(this.dice, 200));
       this.clock.after(this.lastOut - this.clock.now(), () => { if (!this.isBroken) done(reply); });
       if (this.model.now > before) for (const other of this.seen.connections) if (other !== this) other.serve();
     }
@@ -68,13 +83,14 @@ class Round {
   }
 
   connect(page) {
-    page.connection = new Connection(this.clock, this.dice, this.model, page.author, this.seen);
+    const dice = makeDice(10000 * this.number + 100 * page.number + ++page.connections);
+    page.connection = new Connection(this.clock, dice, this.model, page, this.seen);
     this.seen.connections.push(page.connection);
   }
 
   // Now and then a page is another window of the first author.
   addPage(k) {
-    const { clock, dice } = this, page = { author: dice(4) || this.insertsOnly ? `u${k}@1` : "u0@1", shown: "", failure: null };
+    const { clock, dice } = this, page = { author: dice(4) || this.insertsOnly ? `u${k}@1` : "u0@1", shown: "", failure: null, number: k, connections: 0, asked: [] };
     this.connect(page);
     page.pad = new this.Pad({
       name: "p", me: page.author, clock, ask: (request) => page.connection.ask(request),
@@ -82,7 +98,7 @@ class Round {
       onReceive: (delta) => { page.shown = this.delta.apply(page.shown, delta); },
       onMove: () => this.check(page),
     });
-    page.history = new this.History((request) => page.pad.call(request), "p", { getItem: () => null });
+    page.history = new this.History(page.pad);
     this.pages.push(page);
     this.keepGoing(page).catch((error) => { page.failure ??= error.reply || error.constructor.name === "Misfit" ? this.found(error.message) : error; });
   }
@@ -115,7 +131,7 @@ class Round {
   }
 
   undoAt(page, isRedo) {
-    const delta = page.pad.stepBack(isRedo);
+    const delta = isRedo ? page.pad.redo() : page.pad.undo();
     if (!delta) return;
     this.seen.undone++;
     page.shown = this.delta.apply(page.shown, delta);
@@ -125,6 +141,7 @@ class Round {
   async restoreAt(page) {
     const { pad } = page, rev = this.dice(pad.rev + 1), from = pad.rev;
     let delta;
+    await consequences();
     try {
       delta = pad.carriedDelta(await page.history.back(rev, from, page.author), from);
     } catch (error) {
@@ -141,6 +158,7 @@ class Round {
 
   async advanceTo(time) {
     let isReached = false;
+    await consequences();
     this.clock.after(time - this.clock.now(), () => { isReached = true; });
     while (!isReached) {
       await this.clock.step();
@@ -159,7 +177,7 @@ class Round {
         if (breaks && dice(60) === 0) { this.seen.breaks++; page.connection.break(); }
         if (dice(80) === 0) this.model.remark("u9@1");
       }
-      await this.advanceTo(clock.now() + dice(300));
+      await this.advanceTo(clock.now() + upTo(dice, 300));
     }
     for (let tries = 0; tries < 100 && pages.some(({ pad }) => pad.isUnsent || pad.rev !== this.model.now); tries++) {
       await this.advanceTo(clock.now() + 1000);
@@ -176,6 +194,8 @@ class Round {
       pad.stop();
     }
     if (this.insertsOnly && made !== this.seen.typed) this.fault(`${this.seen.typed} characters were typed, and ${made} were made`);
+    this.seen.end = end;
+    this.seen.pages = this.pages;
   }
 }
 

@@ -1,5 +1,6 @@
 // Six pages of four authors on three pads, before a model of a server that is killed and started, over a network that
 // delays, holds, loses and ends connections: one round, at random with a seed, in simulated time.
+import { Browsers } from "./browsers.mjs";
 import { Deeds } from "./deeds.mjs";
 import { dice as makeDice } from "./dice.mjs";
 import { World } from "./world.mjs";
@@ -14,7 +15,7 @@ export const KINDS = {
 };
 
 export class Storm {
-  // `modules` has the Session, the History, the LIMITS and the deltas of some copy of web/.
+  // `modules` has the Session, the History, the LIMITS and the deltas of some copy of the library.
   constructor(number, modules) {
     const dice = makeDice(number), most = [4, 11, 40, 10000][dice(4)], kind = Object.keys(KINDS)[number % 4];
     modules.LIMITS.edit = most;
@@ -22,6 +23,7 @@ export class Storm {
     const pause = (milliseconds) => new Promise((done) => { this.world.clock.after(milliseconds, done); });
     this.deeds = new Deeds({ dice, modules, padNames: PADS, isFull: kind === "full" || kind === "numbers", pause });
     Object.assign(this, { number, dice, kind, failure: null, stores: new Set(), missing: [] }); // pads that were restored; authors whose page ended
+    this.browsers = new Browsers({ world: this.world, deeds: this.deeds, dice, modules, names: AUTHORS, prepare: (page) => this.prepare(page) });
     this.seen = { edits: 0, cuts: 0, breaks: 0, held: 0, kills: 0, numbers: 0, stores: 0, over: 0 };
     this.world.network.served = (request) => { if (["insert", "delete", "edit"].includes(request.do)) this.seen.edits++; };
   }
@@ -38,11 +40,11 @@ export class Storm {
       error.message = `round ${this.number} (${this.kind}): ${error.message}`;
       throw error;
     } finally { this.world.end(); }
-    return { ...this.seen, ...this.deeds.seen };
+    return { ...this.seen, ...this.deeds.seen, ...this.browsers.seen };
   }
 
   async start() {
-    const { world } = this, owner = await world.page("ann", null);
+    const { world } = this, owner = await world.page("ann", null, { store: this.browsers.disks.get("ann").window() });
     for (const pad of PADS) {
       await world.clock.finish(owner.session.create(pad));
       for (const name of AUTHORS.slice(1)) await world.clock.finish(owner.session.grant(name, "write"));
@@ -52,10 +54,10 @@ export class Storm {
     for (const name of ["bob", "cyd", "dan", "ann", "bob"]) await this.addPage(name);
   }
 
-  async addPage(name) { this.prepare(await this.world.page(name, PADS[this.dice(PADS.length)])); }
+  addPage(name, pad = PADS[this.dice(PADS.length)]) { return this.browsers.open(name, pad); }
 
   prepare(page) {
-    page.session.view.onMove = () => this.check(page);
+    page.session.on("revision", () => this.check(page));
     this.deeds.add(page);
   }
 
@@ -78,6 +80,8 @@ export class Storm {
       if (page.session.isOver) this.end(page);
     }
     this.disturb();
+    await this.browsers.comeBack();
+    this.browsers.logIn();
     await this.advance(this.dice(1000));
   }
 
@@ -102,6 +106,7 @@ export class Storm {
       world.clock.after(dice(15) * SECOND, () => { network.isSilent = false; });
     }
     if (deed === 5) page.session.hurry?.();
+    if (deed === 6 && dice(2)) this.browsers.kill(page);
   }
 
   killServer() {
@@ -135,6 +140,7 @@ export class Storm {
     if (!this.stores.has(session.pad.name)) this.fault("a page has lost revisions that the server has");
     this.seen.over++;
     session.logOut();
+    page.store.end();
     this.world.pages.splice(this.world.pages.indexOf(page), 1);
     this.deeds.remove(page);
     this.missing.push(session.name);
@@ -149,19 +155,29 @@ export class Storm {
 
   // Nothing is disturbed any more: everything is sent, everybody has it, and nothing is left of connections that broke.
   async calm() {
-    for (let tries = 0; tries < 400 && !this.deeds.pages.every((page) => this.isCalm(page)); tries++) {
+    await this.rest();
+    await this.advance(60 * SECOND);
+    for (const name of this.missing) await this.addPage(name);
+    for (const { name, pad } of this.browsers.left) await this.addPage(name, pad);
+    await this.rest();
+    await this.advance(25 * SECOND); // comments are read again
+    for (const page of this.deeds.pages) this.deeds.look(page);
+    const late = this.deeds.pages.find((page) => !this.isCalm(page));
+    if (late) this.fault(`a page of ${late.session.name} does not end: ${late.session.state} ${late.session.pad?.name} ${late.isSwitching}`);
+  }
+
+  // Until all pages are calm, or it takes too long.
+  async rest() {
+    const { browsers } = this, isOver = () => browsers.areBack && this.deeds.pages.every((page) => this.isCalm(page));
+    for (let tries = 0; tries < 400 && !isOver(); tries++) {
+      await browsers.comeBack();
+      browsers.logIn();
       for (const page of [...this.deeds.pages]) {
         this.deeds.look(page);
         if (page.session.isOver) this.end(page);
       }
       await this.advance(SECOND);
     }
-    await this.advance(60 * SECOND);
-    for (const name of this.missing) await this.addPage(name);
-    await this.advance(10 * SECOND);
-    for (const page of this.deeds.pages) this.deeds.look(page);
-    const late = this.deeds.pages.find((page) => !this.isCalm(page));
-    if (late) this.fault(`a page of ${late.session.name} does not end: ${late.session.state} ${late.session.pad?.name} ${late.isSwitching}`);
   }
 
   compare() {
@@ -173,6 +189,7 @@ export class Storm {
     }
     deeds.compareLetters(new Map(PADS.map((pad) => [pad, world.text(pad)])), isLost);
     deeds.compareComments(new Map(PADS.map((pad) => [pad, world.model(pad).remarks.map(({ text }) => text)])), isLost);
+    if (this.browsers.left.length) this.fault(`something is not sent: ${JSON.stringify(this.browsers.left)}`);
     this.comparePresence();
   }
 

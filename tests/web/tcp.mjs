@@ -1,28 +1,9 @@
-// A connection over TCP for the page's modules: a line each way is what a WebSocket's message is.
-import net from "node:net";
+// The library's connections over TCP, which count the lines that are sent.
+import { tcp as open } from "../../clients/js/tcp.js";
 
 export const connections = { lines: 0 };
 
 export const tcp = (port) => () => {
-  const socket = net.connect(Number(port), "127.0.0.1");
-  let buffer = "", handlers = {};
-  socket.setNoDelay(true);
-  socket.setEncoding("utf8");
-  socket.on("connect", () => handlers.onopen());
-  socket.on("data", (data) => {
-    buffer += data;
-    for (let end; (end = buffer.indexOf("\n")) >= 0;) {
-      const line = buffer.slice(0, end);
-      buffer = buffer.slice(end + 1);
-      handlers.onmessage({ data: line });
-    }
-  });
-  socket.on("error", () => {});
-  socket.on("close", () => handlers.onclose());
-  return {
-    socket,
-    send: (text) => { connections.lines++; socket.write(`${text}\n`); },
-    close: () => socket.destroy(),
-    listen: (given) => { handlers = given; },
-  };
+  const channel = open(`tcp://127.0.0.1:${port}`)(), { send } = channel;
+  return Object.assign(channel, { send: (text) => { connections.lines++; send(text); } });
 };

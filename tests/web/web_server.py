@@ -200,9 +200,13 @@ class Socket:
 
 
 def files():
-    """The files of web/, each with the path at which it is served."""
+    """The files of web/ with those of the library, each with the path at which it is served, and the list of them."""
     out = {}
-    for name in os.listdir(WEB):
-        with open(os.path.join(WEB, name), "rb") as file:
-            out["/" if name == "index.html" else f"/{name}"] = file.read()
+    for folder, _, names in os.walk(WEB, followlinks=True):
+        for name in names:
+            path = os.path.relpath(os.path.join(folder, name), WEB)
+            with open(os.path.join(WEB, path), "rb") as file:
+                out["/" if path == "index.html" else f"/{path}"] = file.read()
+    listed = sorted((path for path in out if path not in ("/unproved.txt", "/sw.js")), key=lambda path: (path != "/", path))
+    out["/files.txt"] = "".join(f'"{hashlib.sha256(out[path]).hexdigest()[:32]}" {path}\n' for path in listed).encode()
     return out

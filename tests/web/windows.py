@@ -194,10 +194,11 @@ class Server:
     """The program in a folder of its own. It can be killed and started again, at the same addresses.
 
     With `--disk` among the words of the command line, windows get the page as it is on disk, and not that of the program.
+    `more` are further words of the program's own command line.
     """
 
-    def __init__(self, program, folder):
-        self.program, self.folder, self.port, self.web = program, folder, free_port(), free_port()
+    def __init__(self, program, folder, more=()):
+        self.program, self.folder, self.port, self.web, self.more = program, folder, free_port(), free_port(), more
         self.page = ChangedPage(self, folder) if ON_DISK in sys.argv else None
         self.url = self.page.url if self.page else f"http://127.0.0.1:{self.web}/"
         with open(os.path.join(folder, "accounts"), "w", encoding="utf-8") as file:
@@ -206,7 +207,7 @@ class Server:
 
     def start(self):
         words = ["--listen", f"127.0.0.1:{self.port}", "--web", f"127.0.0.1:{self.web}", "--replica", "1"]
-        words += ["--accounts", "accounts", "--store", "store"]
+        words += ["--accounts", "accounts", "--store", "store", *self.more]
         self.process = subprocess.Popen([self.program, *words], cwd=self.folder, stdout=subprocess.PIPE)
         for _ in range(2):
             self.process.stdout.readline()
@@ -227,7 +228,11 @@ class ChangedPage:
     def __init__(self, server, folder):
         port = free_port()
         self.url = f"http://127.0.0.1:{port}/"
-        self.process = subprocess.Popen(["node", os.path.join(HERE, "dev.mjs"), str(port), str(server.port), folder], stdout=subprocess.PIPE)
+        self.words = ["node", os.path.join(HERE, "dev.mjs"), str(port), str(server.port), folder]
+        self.start()
+
+    def start(self):
+        self.process = subprocess.Popen(self.words, stdout=subprocess.PIPE)
         self.process.stdout.readline()
 
     def end(self):

@@ -22,10 +22,10 @@ export class World {
   }
 
   // A page of an author, which opens a pad if one is named.
-  async page(name, pad = PAD, { how = "join", pace } = {}) {
+  async page(name, pad = PAD, { how = "join", pace, store, note } = {}) {
     const random = () => this.dice(1000) / 1000, { clock, network: { open }, Kind } = this;
-    const page = await clock.finish(openPage({ open, name, token: `t${name}`, pad, how, pace, clock, random, Kind }));
-    this.pages.push(page);
+    const page = await clock.finish(openPage({ open, name, token: `t${name}`, pad, how, pace, clock, random, store, note, Kind }));
+    this.pages.push(Object.assign(page, { store }));
     return page;
   }
 
@@ -41,12 +41,24 @@ export class World {
     return pages;
   }
 
+  // A page ends as if its browser were killed. What it sent may still arrive so many milliseconds later.
+  kill(page, milliseconds = 0, isLost = false) {
+    this.network.of(page)?.break(milliseconds, isLost);
+    page.store?.end();
+    page.session.logOut();
+    this.pages = this.pages.filter((one) => one !== page);
+  }
+
   model(pad = PAD) { return this.server.rooms.get(pad).pad; }
   text(pad = PAD) { return this.model(pad).text(this.model(pad).now); }
   // Who is on a pad, by the server.
   present(pad = PAD) { return [...this.server.rooms.get(pad).present.values()].map(({ author }) => author); }
 
-  advance(milliseconds) { return this.clock.advance(milliseconds); }
+  // What follows at once from what was done is done before.
+  async advance(milliseconds) {
+    await new Promise((done) => { setImmediate(done); });
+    return this.clock.advance(milliseconds);
+  }
   until(what, milliseconds = 60000) { return this.clock.until(what, milliseconds); }
 
   // Everything is sent, and everybody has the newest revision.

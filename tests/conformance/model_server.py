@@ -1,0 +1,249 @@
+"""A reference model of a whole server: sessions, pads, visits, rights and carets, around model.py."""
+from __future__ import annotations
+
+import re
+from collections.abc import Callable
+from dataclasses import dataclass, field
+from typing import Any
+
+from model import EDITS, Cell, ModelPad, Request
+
+RIGHTS = ["none", "read", "comment", "write", "own"]
+NEEDS = {"insert": "write", "delete": "write", "edit": "write", "comment": "comment", "resolve": "comment", "grant": "own"}
+NAMES = {
+    101: "NotJson", 102: "NotRequest", 200: "NoSession", 201: "BadToken", 202: "HaveSession", 300: "NoPad", 301: "PadExists",
+    303: "BadName", 310: "NotJoined", 311: "Joined", 312: "Denied", 313: "Crowded", 320: "NoRevision", 321: "OutOfRange",
+    322: "Empty", 323: "TooMuch", 326: "NoComment", 900: "Memory", 901: "StoreFull", 902: "Full",
+}
+MOST = {"edit": 10_000, "comment": 2_000, "parts": 16, "entries": 100, "wait": 60}
+NAME = re.compile(r"[a-z0-9-]{1,32}")
+LONE = re.compile("[\ud800-\udfff]")
+
+
+def is_number(value: Any) -> bool:
+    return isinstance(value, int) and not isinstance(value, bool) and value >= 0
+
+
+def is_text(value: Any) -> bool:
+    return isinstance(value, str) and not LONE.search(value)
+
+
+def is_part(value: Any) -> bool:
+    return isinstance(value, dict) and is_number(value.get("at")) and (is_number(value.get("len")) != is_text(value.get("text")))
+
+
+def is_absent_or_number(value: Any) -> bool:
+    return value is None or is_number(value)
+
+
+def is_name(value: Any) -> bool:
+    return isinstance(value, list) and len(value) == 2 and all(map(is_number, value))
+
+
+# The fields that a request has to have, and what each has to be.
+PAD = {"pad": is_text}
+REV = {**PAD, "rev": is_number}
+FORMS: dict[str, dict[str, Callable[[Any], bool]]] = {
+    "hello": {"name": is_text, "token": is_text}, "pads": {},
+    **{do: PAD for do in ("create", "join", "leave", "revs", "who", "rights")},
+    "insert": {**REV, "at": is_number, "text": is_text}, "delete": {**REV, "at": is_number, "len": is_number},
+    "edit": {**REV, "parts": lambda value: isinstance(value, list) and all(map(is_part, value))},
+    "comment": {**REV, "at": is_number, "len": is_number, "text": is_text}, "resolve": {**PAD, "comment": is_name},
+    **{do: {**PAD, "rev": is_absent_or_number} for do in ("text", "runs", "comments")},
+    "changes": {**REV, "to": is_absent_or_number, "wait": is_absent_or_number},
+    "entries": {**PAD, "from": is_number, "count": is_number}, "caret": {**REV, "at": is_number},
+    "grant": {**PAD, "author": is_text, "right": lambda value: value in RIGHTS},
+}
+
+
+def refuse(code: int) -> Request:
+    return {"ok": False, "code": code, "error": NAMES[code]}
+
+
+def has_form(request: Any) -> bool:
+    if not isinstance(request, dict) or request.get("do") not in FORMS:
+        return False
+    return all(is_right(request.get(field)) for field, is_right in FORMS[request["do"]].items())
+
+
+@dataclass(eq=False)
+class Session:
+    """A connection: who has logged in, and the visit on each pad that is joined."""
+
+    name: str | None = None
+    visits: dict[str, int] = field(default_factory=dict)
+
+
+@dataclass
+class Visitor:
+    name: str
+    caret: Cell | None = None
+
+
+@dataclass
+class Room:
+    """A pad, who is there by their visits, and who has which right."""
+
+    pad: ModelPad
+    rights: dict[str, str]
+    visits: int = 0
+    present: dict[int, Visitor] = field(default_factory=dict)
+
+
+class ModelServer:
+    """A token is `t` and the author's name. `most_present` is how many may be on a pad at once."""
+
+    def __init__(self, most_present: int = 64) -> None:
+        self.most_present = most_present
+        self.replica = 1
+        self.rooms: dict[str, Room] = {}
+        self.sessions: set[Session] = set()
+
+    def connect(self) -> Session:
+        session = Session()
+        self.sessions.add(session)
+        return session
+
+    def end(self, session: Session) -> None:
+        self.sessions.discard(session)
+        for pad, visit in session.visits.items():
+            if pad in self.rooms:
+                self.rooms[pad].present.pop(visit, None)
+        session.visits.clear()
+
+    def restart(self, replica: int | None = None) -> None:
+        """The server ends and starts again, perhaps with another number. Nobody is present then."""
+        for session in list(self.sessions):
+            self.end(session)
+        self.replica = replica or self.replica
+        for room in self.rooms.values():
+            room.pad.replica = self.replica
+
+    def author(self, name: str) -> str:
+        return f"{name}@{self.replica}"
+
+    def may(self, name: str, room: Room, right: str) -> bool:
+        return RIGHTS.index(room.rights.get(name, "none")) >= RIGHTS.index(right)
+
+    # ---- requests, refused in the order of docs/PROTOCOL.md
+
+    def reply(self, session: Session, request: Any) -> Request:
+        if not has_form(request):
+            return refuse(102)
+        if request["do"] == "hello":
+            return self._hello(session, request)
+        if session.name is None:
+            return refuse(200)
+        if request["do"] == "pads":
+            return {"ok": True, "pads": self._pads(session.name)}
+        name = request["pad"]
+        if not NAME.fullmatch(name):
+            return refuse(303)
+        if request["do"] == "create":
+            return refuse(301) if name in self.rooms else self._create(session, session.name, name)
+        room = self.rooms.get(name)
+        if room is None:
+            return refuse(300)
+        return self._on_pad(session, session.name, name, room, request)
+
+    def _hello(self, session: Session, request: Request) -> Request:
+        if session.name is not None:
+            return refuse(202)
+        if request["token"] != f"t{request['name']}":
+            return refuse(201)
+        session.name = request["name"]
+        return {"ok": True, "author": self.author(request["name"])}
+
+    def _pads(self, name: str) -> list[list[Any]]:
+        return [[pad, room.rights[name], room.pad.now] for pad, room in self.rooms.items() if self.may(name, room, "read")]
+
+    def _create(self, session: Session, author: str, name: str) -> Request:
+        room = self.rooms[name] = Room(ModelPad(), {author: "own"})
+        room.pad.replica = self.replica
+        return self._join(session, author, name, room)
+
+    def _on_pad(self, session: Session, author: str, name: str, room: Room, request: Request) -> Request:
+        do = request["do"]
+        if do == "join":
+            return self._join(session, author, name, room)
+        if name not in session.visits:
+            return refuse(310)
+        if do == "leave":
+            room.present.pop(session.visits.pop(name), None)
+            return {"ok": True, "now": room.pad.now}
+        if not self.may(author, room, NEEDS.get(do, "read")):
+            return refuse(312)
+        return self._refusal(room.pad, request) or self._answer(session, author, room, request)
+
+    def _join(self, session: Session, author: str, name: str, room: Room) -> Request:
+        if name in session.visits:
+            return refuse(311)
+        if not self.may(author, room, "read"):
+            return refuse(312)
+        if len(room.present) >= self.most_present:
+            return refuse(313)
+        room.visits += 1
+        session.visits[name] = room.visits
+        room.present[room.visits] = Visitor(author)
+        return {"ok": True, "now": room.pad.now, "visit": room.visits}
+
+    def _refusal(self, pad: ModelPad, request: Request) -> Request | None:
+        """Why a request is refused for what it asks of the text: the revision, the places, emptiness and size."""
+        do, now = request["do"], pad.now
+        rev = now if request.get("rev") is None else request["rev"]
+        to = now if request.get("to") is None else request["to"]
+        if rev > now or to > now or to < rev:
+            return refuse(320)
+        if do == "entries":
+            if not 1 <= request["from"] <= now + 1:
+                return refuse(320)
+            return refuse(322) if request["count"] == 0 else refuse(323) if request["count"] > MOST["entries"] else None
+        if do in ("insert", "delete", "edit", "comment", "caret"):
+            return self._refusal_of_parts(pad, rev, do, request.get("parts", [request]))
+        if do == "resolve":
+            return None if any(one.name == request["comment"] for one in pad.remarks) else refuse(326)
+        return refuse(323) if do == "changes" and (request.get("wait") or 0) > MOST["wait"] else None
+
+    def _refusal_of_parts(self, pad: ModelPad, rev: int, do: str, parts: list[Request]) -> Request | None:
+        length = len(pad.at(rev))
+        if any(part["at"] + part.get("len", 0) > length for part in parts):
+            return refuse(321)
+        if do == "caret":
+            return None
+        sizes = [part["len"] if "len" in part else len(part["text"]) for part in parts]
+        if not sizes or 0 in sizes or (do == "comment" and not parts[0]["text"]):
+            return refuse(322)
+        is_long = len(parts[0]["text"]) > MOST["comment"] if do == "comment" else sum(sizes) > MOST["edit"] or len(sizes) > MOST["parts"]
+        return refuse(323) if is_long else None
+
+    def _answer(self, session: Session, author: str, room: Room, request: Request) -> Request:
+        do, pad, visit = request["do"], room.pad, session.visits[request["pad"]]
+        answer: Request
+        if do == "who":
+            answer = {"who": self._who(room)}
+        elif do == "rights":
+            answer = {"rights": [list(one) for one in room.rights.items()]}
+        elif do == "grant":
+            room.rights[request["author"]] = request["right"]
+            answer = {}
+        elif do == "caret":
+            room.present[visit].caret = pad.at(request["rev"])[request["at"] - 1] if request["at"] else None
+            answer = {}
+        else:
+            return pad.reply(self.author(author), request)
+        return {"ok": True, "now": pad.now, **answer}
+
+    def _who(self, room: Room) -> list[Request]:
+        """A caret is behind its character, or behind the one before it that is still shown."""
+        order = room.pad.order()
+        out: list[Request] = []
+        for visit, visitor in room.present.items():
+            before = order[: order.index(visitor.caret) + 1] if visitor.caret else []
+            caret = sum(cell.is_shown(room.pad.now) for cell in before)
+            out.append({"visit": visit, "author": self.author(visitor.name), "caret": caret})
+        return out
+
+
+def is_edit(request: Any) -> bool:
+    """Whether a request changes the text."""
+    return isinstance(request, dict) and request.get("do") in EDITS

@@ -3,8 +3,8 @@ ghost use Rattle.std.specs.Prelude.{◌≡◌, IfOk, Ok};
 ghost use Rattle.sessions.specs.Accounts.{accounts_of};
 
 use crate::accounts_error::AccountsFileError;
-use journal::Journal;
 use log::warn;
+use server_log::ServerLog;
 use sessions::Accounts;
 use std::fs;
 use std::rt::Files;
@@ -35,7 +35,7 @@ pub fn warn_of_ports<R: Clock + Eprint>(rt: &R, path: &str, accounts: &Accounts)
     for peer in accounts.peers() {
         let (number, address) = (peer.number, peer.address.as_str());
         if !has_port(address) {
-            warn!(Journal(rt); "the accounts file {path}: peer {number}: the port of {address} is not a number from 0 to 65535");
+            warn!(ServerLog(rt); "the accounts file {path}: peer {number}: the port of {address} is not a number from 0 to 65535");
         }
     }
 }

@@ -1,7 +1,7 @@
 //! The accounts file of a server: it is read, mistakes are explained in words, and peers with invalid ports and tokens
 //! that can be guessed are warned of.
 //!
-//! It depends on `sessions`, which defines the lines of the file, and on `journal` for warnings.
+//! It depends on `sessions`, which defines the lines of the file, and on `server_log` for warnings.
 #![tactic(auto)]
 
 mod accounts;

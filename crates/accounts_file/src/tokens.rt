@@ -1,6 +1,6 @@
 //! Tokens that are short enough to be guessed.
-use journal::Journal;
 use log::warn;
+use server_log::ServerLog;
 use std::str;
 use std::time::Clock;
 
@@ -14,7 +14,7 @@ pub fn warn_of_tokens<R: Clock + Eprint>(rt: &R, path: &str, bytes: &[u8]) {
         .filter_map(|line| name_with_short_token(line));
     if let Some(first) = short.next() {
         let more = short.count();
-        warn!(Journal(rt); "the accounts file {path}: the token of {first} and of {more} more has fewer than {LONG_ENOUGH} characters, and can be guessed");
+        warn!(ServerLog(rt); "the accounts file {path}: the token of {first} and of {more} more has fewer than {LONG_ENOUGH} characters, and can be guessed");
     }
 }
 

@@ -10,4 +10,4 @@ mod wrong_tokens;
 
 pub use address::key_of;
 pub use connections::Connections;
-pub use wrong_tokens::{Count, FORGOTTEN_AFTER, MOST_ADDRESSES, MOST_NAMES, WrongTokens};
+pub use wrong_tokens::{FORGOTTEN_AFTER, MOST_ADDRESSES, MOST_NAMES, TokenCount, WrongTokens};

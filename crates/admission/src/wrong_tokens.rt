@@ -21,7 +21,7 @@ pub const FORGOTTEN_AFTER: u64 = 600_000;
 
 /// How many wrong tokens came one after the other, and when the last one did, in milliseconds.
 #[derive(Clone, Copy, Debug, PartialEq, Eq)]
-pub struct Count {
+pub struct TokenCount {
     pub tokens: u32,
     pub last: u64,
 }
@@ -30,8 +30,8 @@ pub struct Count {
 /// `MOST_NAMES` names.
 #[derive(Drop)]
 pub struct WrongTokens {
-    addresses: LruCache<u128, Count>,
-    names: LruCache<Name, Count>,
+    addresses: LruCache<u128, TokenCount>,
+    names: LruCache<Name, TokenCount>,
     total: u64,
 }
 
@@ -96,7 +96,8 @@ impl WrongTokens {
     {
         self.total = self.total.saturating_add(1);
         let tokens = self.of_address(address, now).saturating_add(1);
-        self.addresses.put(address, Count { tokens, last: now })?;
+        self.addresses
+            .put(address, TokenCount { tokens, last: now })?;
         Ok(tokens)
     }
 
@@ -109,13 +110,13 @@ impl WrongTokens {
         ensures others { (self.new.addresses ≡ self.old.addresses) × (self.new.total ≡ self.old.total) }
     {
         let tokens = self.for_name(&name, now).saturating_add(1);
-        self.names.put(name, Count { tokens, last: now })?;
+        self.names.put(name, TokenCount { tokens, last: now })?;
         Ok(tokens)
     }
 }
 
 // How many tokens of a count are remembered at a time.
-fn tokens_at(count: Option<&Count>, now: u64) -> u32
+fn tokens_at(count: Option<&TokenCount>, now: u64) -> u32
     ensures { result ≡ tokens_at now (option_copied count.entry) }
 {
     match count {

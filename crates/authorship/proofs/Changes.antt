@@ -5,16 +5,16 @@ use Rattle.std.proofs.Common.{arith, length-append, length-take, length-drop}
 use Rattle.std.specs.List.{AllByRecursion}
 use Rattle.std.specs.Option.{IsSomeAnd, IfSome}
 use Rattle.std.proofs.Math.ListN.{replicate}
-use Rattle.std.proofs.lemmas.List.{map-append, take-map, drop-map, length-map, length-replicate, take-append-drop}
+use Rattle.std.proofs.lemmas.List.{map-append, take-map, drop-map, length-replicate, take-append-drop}
 use Rattle.pad_model.proofs.Each.{each-append, each-left, each-right, each-imply}
 use Rattle.pad_model.specs.declared.refusal.Refusal.{Refusal}
 use Rattle.pad_model.specs.declared.refusal.Refusal.TheVariants.{Memory}
 use Rattle.pad_model.specs.declared.who.Author.{Author}
 use Rattle.authorship.specs.Authors.{Authored, Spare, put_in, taken_out, used, reserved, deleted}
-use Rattle.authorship.specs.Kept.{characters, places, author_in, spare_in, authored, AuthorPlaces, IsOnce}
-use Rattle.authorship.specs.Kept.{HasRoom, IsKept}
-use Rattle.authorship.specs.declared.kept.KeptRun.{KeptRun}
-use Rattle.authorship.specs.declared.kept.KeptSpare.{KeptSpare}
+use Rattle.authorship.specs.StoredRuns.{characters, places, author_in, spare_in, authored, AuthorPlaces, IsOnce}
+use Rattle.authorship.specs.StoredRuns.{HasRoom, IsKept}
+use Rattle.authorship.specs.declared.stored_run.StoredRun.{StoredRun}
+use Rattle.authorship.specs.declared.stored_run.KeptSpare.{KeptSpare}
 use Rattle.authorship.proofs.Cuts.{length-places}
 use Rattle.authorship.proofs.Fewest.{map-replicate}
 use Rattle.authorship.proofs.Known.{grown, same_authors, same_spare}
@@ -29,14 +29,8 @@ each-replicate : {A : Type 0} (P : A → Type 0) (n : ℕ) (x : A) → P x → A
 each-replicate P zero x h = tt
 each-replicate P (suc n) x h = (h, each-replicate P n x h)
 
--- there are as many authors as places
-pub count : (table : List Author) (ps : List ℕ) (spare : Option KeptSpare) (now : Authored) →
-    authored table ps spare ≡ now → length now.authors ≡ length ps
-count table ps spare now is =
-    ap (λ (v : Authored). length v.authors) (sym is) ∙ length-map ps (author_in table)
-
 -- what an insertion leaves can be counted
-pub fits_put : (runs new : List KeptRun) (pos author n : ℕ) → characters runs + n < 2 ^ 64 → pos ≤ characters runs →
+pub fits_put : (runs new : List StoredRun) (pos author n : ℕ) → characters runs + n < 2 ^ 64 → pos ≤ characters runs →
     places new ≡ take pos (places runs) ++ replicate n author ++ drop pos (places runs) → characters new < 2 ^ 64
 fits_put runs new pos author n fits within is =
     let front = take pos (places runs) in
@@ -56,7 +50,7 @@ fits_put runs new pos author n fits within is =
     )
 
 -- and so can what a deletion leaves
-pub fits_take : (runs new : List KeptRun) (pos n : ℕ) → characters runs < 2 ^ 64 → pos + n ≤ characters runs →
+pub fits_take : (runs new : List StoredRun) (pos n : ℕ) → characters runs < 2 ^ 64 → pos + n ≤ characters runs →
     places new ≡ take pos (places runs) ++ drop (pos + n) (places runs) → characters new < 2 ^ 64
 fits_take runs new pos n fits within is =
     let front = take pos (places runs) in

@@ -5,14 +5,14 @@ use Rattle.std.proofs.Math.ListN.{replicate}
 use Rattle.std.proofs.Math.Seq.{take-append-add, drop-append-add}
 use Rattle.std.proofs.lemmas.List.{take-append-le, drop-append-le, take-replicate, drop-replicate, length-replicate}
 use Rattle.std.proofs.lemmas.List.Sums.{sum_by-cons}
-use Rattle.authorship.specs.Kept.{characters, places, StartsApart, IsProper}
+use Rattle.authorship.specs.StoredRuns.{characters, places, StartsApart, IsProper}
 use Rattle.authorship.specs.Cut.{first_part, without_part, IsInside}
-use Rattle.authorship.specs.declared.kept.KeptRun.{KeptRun}
+use Rattle.authorship.specs.declared.stored_run.StoredRun.{StoredRun}
 
-pub characters-cons : (run : KeptRun) (runs : List KeptRun) → characters (run ∷ runs) ≡ run.len + characters runs
-characters-cons run runs = sum_by-cons (λ (r : KeptRun). r.len) run runs
+pub characters-cons : (run : StoredRun) (runs : List StoredRun) → characters (run ∷ runs) ≡ run.len + characters runs
+characters-cons run runs = sum_by-cons (λ (r : StoredRun). r.len) run runs
 
-pub length-places : (runs : List KeptRun) → length (places runs) ≡ characters runs
+pub length-places : (runs : List StoredRun) → length (places runs) ≡ characters runs
 length-places [] = refl
 length-places (run ∷ runs) =
     length-append (replicate run.len run.author) (places runs) ∙ ap₂ (λ a b. a + b)
@@ -28,7 +28,7 @@ drop-nil zero = refl
 drop-nil (suc n) = refl
 
 -- a whole run and more, taken from the front of runs
-pub take_past : (run : KeptRun) (rest : List ℕ) (n o : ℕ) →
+pub take_past : (run : StoredRun) (rest : List ℕ) (n o : ℕ) →
     take ((run.len + n) + o) (replicate run.len run.author ++ rest) ≡ replicate run.len run.author ++ take (n + o) rest
 take_past run rest n o =
     let front = replicate run.len run.author in
@@ -36,7 +36,7 @@ take_past run rest n o =
     (sym (length-replicate run.len run.author)))
     ∙ take-append-add front rest (n + o)
 
-pub drop_past : (run : KeptRun) (rest : List ℕ) (n o : ℕ) →
+pub drop_past : (run : StoredRun) (rest : List ℕ) (n o : ℕ) →
     drop ((run.len + n) + o) (replicate run.len run.author ++ rest) ≡ drop (n + o) rest
 drop_past run rest n o =
     let front = replicate run.len run.author in
@@ -45,20 +45,20 @@ drop_past run rest n o =
     ∙ drop-append-add front rest (n + o)
 
 -- less than a run, taken from the front of runs
-pub take_part : (run : KeptRun) (rest : List ℕ) (o : ℕ) → o ≤ run.len → take o (replicate run.len run.author ++ rest)
+pub take_part : (run : StoredRun) (rest : List ℕ) (o : ℕ) → o ≤ run.len → take o (replicate run.len run.author ++ rest)
     ≡ replicate o run.author
 take_part run rest o h =
     take-append-le o (replicate run.len run.author) rest (omega (arith, length-replicate run.len run.author))
     ∙ take-replicate o run.len run.author h
 
-pub drop_part : (run : KeptRun) (rest : List ℕ) (o : ℕ) → o ≤ run.len → drop o (replicate run.len run.author ++ rest)
+pub drop_part : (run : StoredRun) (rest : List ℕ) (o : ℕ) → o ≤ run.len → drop o (replicate run.len run.author ++ rest)
     ≡ replicate (run.len - o) run.author ++ rest
 drop_part run rest o h =
     drop-append-le o (replicate run.len run.author) rest (omega (arith, length-replicate run.len run.author))
     ∙ ap (λ l. l ++ rest) (drop-replicate o run.len run.author)
 
 -- what comes before a place
-pub places-front : (runs : List KeptRun) (i o : ℕ) → IsInside (drop i runs) o
+pub places-front : (runs : List StoredRun) (i o : ℕ) → IsInside (drop i runs) o
     → places (take i runs ++ first_part (drop i runs) o) ≡ take (characters (take i runs) + o) (places runs)
 places-front [] zero o h = sym (take-nil (0 + o))
 places-front [] (suc i) o h = sym (take-nil (0 + o))
@@ -72,7 +72,7 @@ places-front (run ∷ runs) (suc i) o h =
     ∙ take_past run (places runs) (characters (take i runs)) o)
 
 -- what comes from a place on
-pub places-back : (runs : List KeptRun) (i o : ℕ) → IsInside (drop i runs) o
+pub places-back : (runs : List StoredRun) (i o : ℕ) → IsInside (drop i runs) o
     → places (without_part (drop i runs) o) ≡ drop (characters (take i runs) + o) (places runs)
 places-back [] zero o h = sym (drop-nil (0 + o))
 places-back [] (suc i) o h = sym (drop-nil (0 + o))
@@ -84,7 +84,7 @@ places-back (run ∷ runs) (suc i) o h =
     ∙ sym (ap (λ n. drop (n + o) (replicate run.len run.author ++ places runs)) (characters-cons run (take i runs))
     ∙ drop_past run (places runs) (characters (take i runs)) o)
 
-starts-front : (author : ℕ) (runs : List KeptRun) (i o : ℕ) → StartsApart author runs →
+starts-front : (author : ℕ) (runs : List StoredRun) (i o : ℕ) → StartsApart author runs →
     StartsApart author (take i runs ++ first_part (drop i runs) o)
 starts-front author [] zero o h = tt
 starts-front author [] (suc i) o h = tt
@@ -92,7 +92,7 @@ starts-front author (run ∷ runs) zero zero h = tt
 starts-front author (run ∷ runs) zero (suc o) h = h
 starts-front author (run ∷ runs) (suc i) o h = h
 
-pub proper-front : (runs : List KeptRun) (i o : ℕ) → IsProper runs →
+pub proper-front : (runs : List StoredRun) (i o : ℕ) → IsProper runs →
     IsProper (take i runs ++ first_part (drop i runs) o)
 proper-front [] zero o h = tt
 proper-front [] (suc i) o h = tt
@@ -100,7 +100,7 @@ proper-front (run ∷ runs) zero zero h = tt
 proper-front (run ∷ runs) zero (suc o) h = (omega arith, tt, tt)
 proper-front (run ∷ runs) (suc i) o h = (h.0, starts-front run.author runs i o h.1, proper-front runs i o h.2)
 
-pub proper-back : (runs : List KeptRun) (i o : ℕ) → IsProper runs → IsInside (drop i runs) o →
+pub proper-back : (runs : List StoredRun) (i o : ℕ) → IsProper runs → IsInside (drop i runs) o →
     IsProper (without_part (drop i runs) o)
 proper-back [] zero o h inside = tt
 proper-back [] (suc i) o h inside = tt

@@ -8,8 +8,8 @@ use Rattle.pad_model.proofs.Each.{each-right}
 use Rattle.pad_model.specs.Visible.{same_author, join_run, runs}
 use Rattle.pad_model.specs.declared.who.Author.{Author}
 use Rattle.pad_model.specs.declared.who.AuthorRun.{AuthorRun}
-use Rattle.authorship.specs.Kept.{places, author_in, authors_in, author_run, AreKnown, StartsApart, IsProper, IsOnce}
-use Rattle.authorship.specs.declared.kept.KeptRun.{KeptRun}
+use Rattle.authorship.specs.StoredRuns.{places, author_in, authors_in, author_run, AreKnown, StartsApart, IsProper, IsOnce}
+use Rattle.authorship.specs.declared.stored_run.StoredRun.{StoredRun}
 use Rattle.authorship.proofs.Known.{same_author-refl, same_author-apart}
 
 pub map-replicate : {A B : Type 0} (f : A → B) (n : ℕ) (a : A) → map f (replicate n a) ≡ replicate n (f a)
@@ -17,7 +17,7 @@ map-replicate f zero a = refl
 map-replicate f (suc n) a = ap (λ xs. f a ∷ xs) (map-replicate f n a)
 
 -- each run has a character, so its author is in the table
-pub known_runs : (n : ℕ) (kept : List KeptRun) → IsProper kept → AllByRecursion (λ p. p < n) (places kept) →
+pub known_runs : (n : ℕ) (kept : List StoredRun) → IsProper kept → AllByRecursion (λ p. p < n) (places kept) →
     AreKnown n kept
 known_runs n [] proper known = tt
 known_runs n (run ∷ kept) proper known = (
@@ -56,7 +56,7 @@ runs_front : (author : Author) (n : ℕ) (rest : List Author) (rows : List Autho
 runs_front author zero rest rows some are apart = absurd (omega arith)
 runs_front author (suc n) rest rows some are apart = runs_stretch author n rest rows are apart
 
-starts_known : (table : List Author) (kept : List KeptRun) (author : ℕ) → IsOnce table → author < length table →
+starts_known : (table : List Author) (kept : List StoredRun) (author : ℕ) → IsOnce table → author < length table →
     AreKnown (length table) kept → StartsApart author kept
     → Starts (author_in table author) (map (author_run table) kept)
 starts_known table [] author once here known apart = tt
@@ -65,7 +65,7 @@ starts_known table (run ∷ kept) author once here known apart =
     (λ same. apart (once author run.author here known.0 same))
 
 -- proper runs of a table that has each author once are the fewest
-pub fewest : (table : List Author) (kept : List KeptRun) → IsOnce table → IsProper kept → AreKnown (length table) kept →
+pub fewest : (table : List Author) (kept : List StoredRun) → IsOnce table → IsProper kept → AreKnown (length table) kept →
     runs (authors_in table kept) ≡ map (author_run table) kept
 fewest table [] once proper known = refl
 fewest table (run ∷ kept) once proper known =

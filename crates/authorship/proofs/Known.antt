@@ -9,8 +9,8 @@ use Rattle.std.proofs.lemmas.Slice.Eq.{bytes_eq-Decides}
 use Rattle.pad_model.specs.Visible.{same_author}
 use Rattle.pad_model.specs.declared.who.Author.{Author}
 use Rattle.authorship.specs.Authors.{Spare}
-use Rattle.authorship.specs.Kept.{author_in, spare_in, HasRoom}
-use Rattle.authorship.specs.declared.kept.KeptSpare.{KeptSpare}
+use Rattle.authorship.specs.StoredRuns.{author_in, spare_in, HasRoom}
+use Rattle.authorship.specs.declared.stored_run.KeptSpare.{KeptSpare}
 
 -- an author is the same as itself
 pub same_author-refl : (a : Author) → same_author a a ≡ true

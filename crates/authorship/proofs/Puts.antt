@@ -7,27 +7,27 @@ use Rattle.std.proofs.lemmas.List.{replicate-append-replicate}
 use Rattle.std.proofs.lemmas.List.Concat.{flat_map-append}
 use Rattle.weight_tree.proofs.CallerLemmas.{sum_replaced}
 use Rattle.weight_tree.specs.Find.{FallsIn}
-use Rattle.authorship.specs.Kept.{characters, places, StartsApart, EndsApart, IsProper}
+use Rattle.authorship.specs.StoredRuns.{characters, places, StartsApart, EndsApart, IsProper}
 use Rattle.authorship.specs.Cut.{first_part, without_part, front, back, position, run_at, IsInside, IsPlace, IsApart}
 use Rattle.authorship.specs.Cut.{Touches}
-use Rattle.authorship.specs.declared.kept.KeptRun.{KeptRun}
-use Rattle.authorship.specs.declared.kept.Place.{Place}
+use Rattle.authorship.specs.declared.stored_run.StoredRun.{StoredRun}
+use Rattle.authorship.specs.declared.stored_run.RunPlace.{RunPlace}
 use Rattle.authorship.proofs.At.{read}
 use Rattle.authorship.proofs.Cuts.{characters-cons, take_past, drop_past, take_part, drop_part, places-front}
 use Rattle.authorship.proofs.Cuts.{places-back, proper-front, proper-back}
 
 -- how many characters there are when a run is replaced by another
-pub characters-set : (runs : List KeptRun) (i : ℕ) (run new : KeptRun) → slice_get runs i ≡ Some run →
+pub characters-set : (runs : List StoredRun) (i : ℕ) (run new : StoredRun) → slice_get runs i ≡ Some run →
     characters (set runs i new) + run.len ≡ characters runs + new.len
-characters-set runs i run new is = sum_replaced (λ (r : KeptRun). r.len) runs i run new is
+characters-set runs i run new is = sum_replaced (λ (r : StoredRun). r.len) runs i run new is
 
-pub one_fits : (runs : List KeptRun) (i : ℕ) (run : KeptRun) → slice_get runs i ≡ Some run → run.len ≤ characters runs
+pub one_fits : (runs : List StoredRun) (i : ℕ) (run : StoredRun) → slice_get runs i ≡ Some run → run.len ≤ characters runs
 one_fits runs i run is =
-    let none : KeptRun = record run { len = 0 } in
+    let none : StoredRun = record run { len = 0 } in
     omega (arith, characters-set runs i run none is)
 
 -- how many characters there are when a run is put in
-pub characters-insert : (runs : List KeptRun) (i : ℕ) (run : KeptRun) → characters (insert runs i run) ≡ characters runs
+pub characters-insert : (runs : List StoredRun) (i : ℕ) (run : StoredRun) → characters (insert runs i run) ≡ characters runs
     + run.len
 characters-insert [] zero run = omega (arith, characters-cons run [])
 characters-insert [] (suc i) run = omega (arith, characters-cons run [])
@@ -37,7 +37,7 @@ characters-insert (r ∷ runs) (suc i) run =
     omega (arith, characters-cons r (insert runs i run), characters-cons r runs, characters-insert runs i run)
 
 -- a run that comes and becomes another
-pub set-insert : (runs : List KeptRun) (i : ℕ) (run new : KeptRun) → i ≤ length runs → set (insert runs i run) i new
+pub set-insert : (runs : List StoredRun) (i : ℕ) (run new : StoredRun) → i ≤ length runs → set (insert runs i run) i new
     ≡ insert runs i new
 set-insert [] zero run new h = refl
 set-insert [] (suc i) run new h = absurd (omega arith)
@@ -45,14 +45,14 @@ set-insert (r ∷ runs) zero run new h = refl
 set-insert (r ∷ runs) (suc i) run new h = ap (λ l. r ∷ l) (set-insert runs i run new (omega arith))
 
 -- a run cut in two, and another one between its parts
-pub put_between : (runs : List KeptRun) (i j o : ℕ) (whole run : KeptRun) → slice_get runs i ≡ Some whole → j ≡ suc i →
+pub put_between : (runs : List StoredRun) (i j o : ℕ) (whole run : StoredRun) → slice_get runs i ≡ Some whole → j ≡ suc i →
     0 < o
     → insert (insert (set runs i (record whole { len = o })) j (record whole { len = whole.len - o })) j run
     ≡ (take i runs ++ first_part (drop i runs) o) ++ run ∷ without_part (drop i runs) o
 put_between runs i j o whole run is next some =
     rw next (between runs i o whole run is some)
   where
-    between : (runs : List KeptRun) (i o : ℕ) (whole run : KeptRun) → slice_get runs i ≡ Some whole → 0 < o
+    between : (runs : List StoredRun) (i o : ℕ) (whole run : StoredRun) → slice_get runs i ≡ Some whole → 0 < o
         → insert (insert (set runs i (record whole { len = o })) (suc i) (record whole { len = whole.len - o })) (suc i) run
         ≡ (take i runs ++ first_part (drop i runs) o) ++ run ∷ without_part (drop i runs) o
     between [] i o whole run is some = absurd (cc)
@@ -63,12 +63,12 @@ put_between runs i j o whole run is next some =
     between (r ∷ runs) (suc i) o whole run is some = ap (λ l. r ∷ l) (between runs i o whole run is some)
 
 -- no more runs than characters
-pub few_runs : (runs : List KeptRun) → IsProper runs → length runs ≤ characters runs
+pub few_runs : (runs : List StoredRun) → IsProper runs → length runs ≤ characters runs
 few_runs [] p = omega arith
 few_runs (run ∷ runs) p = omega (arith, characters-cons run runs, few_runs runs p.2, p.0)
 
 -- there are fewer runs than characters if a place is inside a run
-pub fewer_runs : (runs : List KeptRun) (i o : ℕ) → IsProper runs → IsInside (drop i runs) o → 0 < o → length runs
+pub fewer_runs : (runs : List StoredRun) (i o : ℕ) → IsProper runs → IsInside (drop i runs) o → 0 < o → length runs
     < characters runs
 fewer_runs [] zero o p inside some = absurd (omega arith)
 fewer_runs [] (suc i) o p inside some = absurd (omega arith)
@@ -76,11 +76,11 @@ fewer_runs (run ∷ runs) zero o p inside some = omega (arith, characters-cons r
 fewer_runs (run ∷ runs) (suc i) o p inside some =
     omega (arith, characters-cons run runs, fewer_runs runs i o p.2 inside some, p.0)
 
-pub places-append : (xs ys : List KeptRun) → places (xs ++ ys) ≡ places xs ++ places ys
-places-append xs ys = flat_map-append (λ (run : KeptRun). replicate run.len run.author) xs ys
+pub places-append : (xs ys : List StoredRun) → places (xs ++ ys) ≡ places xs ++ places ys
+places-append xs ys = flat_map-append (λ (run : StoredRun). replicate run.len run.author) xs ys
 
 -- more characters in a run, seen from a place in it or at either end of it
-places-longer : (run : KeptRun) (rest : List ℕ) (o n : ℕ) → o ≤ run.len →
+places-longer : (run : StoredRun) (rest : List ℕ) (o n : ℕ) → o ≤ run.len →
     replicate (run.len + n) run.author ++ rest
     ≡ take o (replicate run.len run.author ++ rest) ++ replicate n run.author
     ++ drop o (replicate run.len run.author ++ rest)
@@ -95,7 +95,7 @@ places-longer run rest o n h =
     ∙ sym (append_assoc (replicate (o + n) a) (replicate (run.len - o) a) rest)
     ∙ ap (λ l. l ++ rest) whole)
 
-pub places-set : (runs : List KeptRun) (i o n : ℕ) → i < length runs → o ≤ (run_at runs i).len →
+pub places-set : (runs : List StoredRun) (i o n : ℕ) → i < length runs → o ≤ (run_at runs i).len →
     places (set runs i (record (run_at runs i) { len = (run_at runs i).len + n }))
     ≡ take (characters (take i runs) + o) (places runs) ++ replicate n (run_at runs i).author
     ++ drop (characters (take i runs) + o) (places runs)
@@ -111,21 +111,21 @@ places-set (run ∷ runs) (suc i) o n within h =
     ∙ sym (append_assoc front (take (k + o) (places runs) ++ mid) (drop (k + o) (places runs)))
     ∙ ap (λ l. l ++ drop (k + o) (places runs)) (sym (append_assoc front (take (k + o) (places runs)) mid))))
 
-starts-set : (author : ℕ) (runs : List KeptRun) (i n : ℕ) → StartsApart author runs →
+starts-set : (author : ℕ) (runs : List StoredRun) (i n : ℕ) → StartsApart author runs →
     StartsApart author (set runs i (record (run_at runs i) { len = n }))
 starts-set author [] i n h = tt
 starts-set author (run ∷ runs) zero n h = h
 starts-set author (run ∷ runs) (suc i) n h = h
 
 -- runs after one gets another length
-pub proper-set : (runs : List KeptRun) (i n : ℕ) → 1 ≤ n → IsProper runs →
+pub proper-set : (runs : List StoredRun) (i n : ℕ) → 1 ≤ n → IsProper runs →
     IsProper (set runs i (record (run_at runs i) { len = n }))
 proper-set [] i n some h = tt
 proper-set (run ∷ runs) zero n some h = (some, h.1, h.2)
 proper-set (run ∷ runs) (suc i) n some h = (h.0, starts-set run.author runs i n h.1, proper-set runs i n some h.2)
 
 -- runs before and after a run of another author
-pub proper-between : (xs : List KeptRun) (run : KeptRun) (ys : List KeptRun) → IsProper xs → IsProper ys →
+pub proper-between : (xs : List StoredRun) (run : StoredRun) (ys : List StoredRun) → IsProper xs → IsProper ys →
     EndsApart xs run.author → StartsApart run.author ys → 1 ≤ run.len
     → IsProper (xs ++ run ∷ ys)
 proper-between [] run ys p q ends starts some = (some, starts, q)
@@ -134,7 +134,7 @@ proper-between (x ∷ y ∷ xs) run ys p q ends starts some =
     (p.0, p.1, proper-between (y ∷ xs) run ys p.2 q ends starts some)
 
 -- what comes before a place that is apart from an author ends with another one's run
-ends-apart : (runs : List KeptRun) (i o author : ℕ) → i ≤ length runs → IsInside (drop i runs) o →
+ends-apart : (runs : List StoredRun) (i o author : ℕ) → i ≤ length runs → IsInside (drop i runs) o →
     (i < length runs → (run_at runs i).author ≢ author)
     → ((j : ℕ) → i ≡ suc j → o ≡ 0 → (run_at runs j).author ≢ author) →
     EndsApart (take i runs ++ first_part (drop i runs) o) author
@@ -151,7 +151,7 @@ ends-apart (run ∷ next ∷ runs) (suc (suc i)) o author le inside here before 
     (λ j e none. before (suc j) (ap suc e) none)
 
 -- what comes from such a place on begins with another one's run
-starts-apart : (runs : List KeptRun) (i o author : ℕ) → (i < length runs → (run_at runs i).author ≢ author) →
+starts-apart : (runs : List StoredRun) (i o author : ℕ) → (i < length runs → (run_at runs i).author ≢ author) →
     StartsApart author (without_part (drop i runs) o)
 starts-apart [] zero o author here = tt
 starts-apart [] (suc i) o author here = tt
@@ -159,7 +159,7 @@ starts-apart (run ∷ runs) zero o author here = λ e. here (omega arith) (sym e
 starts-apart (run ∷ runs) (suc i) o author here = starts-apart runs i o author (λ h. here (omega arith))
 
 -- a run put in at a place that is apart from its author
-pub proper-put : (runs : List KeptRun) (place : Place) (run : KeptRun) → IsPlace runs place →
+pub proper-put : (runs : List StoredRun) (place : RunPlace) (run : StoredRun) → IsPlace runs place →
     IsApart runs place run.author → IsProper runs → 1 ≤ run.len
     → IsProper (front runs place ++ run ∷ back runs place)
 proper-put runs place run at apart p some =
@@ -170,7 +170,7 @@ proper-put runs place run at apart p some =
     subst (λ k. (run_at runs k).author ≢ run.author) before (apart.before none (omega arith))))
     (starts-apart runs place.index place.offset run.author apart.here) some
 
-pub places-put : (runs : List KeptRun) (place : Place) (run : KeptRun) → IsPlace runs place →
+pub places-put : (runs : List StoredRun) (place : RunPlace) (run : StoredRun) → IsPlace runs place →
     places (front runs place ++ run ∷ back runs place)
     ≡ take (position runs place) (places runs) ++ replicate run.len run.author ++ drop (position runs place)
     (places runs)
@@ -182,7 +182,7 @@ places-put runs place run at =
     (drop (position runs place) (places runs)))
 
 -- lengthening a run that a place is in or at either end of
-pub places-touched : (runs : List KeptRun) (place : Place) (author index n : ℕ) → Touches runs place author index →
+pub places-touched : (runs : List StoredRun) (place : RunPlace) (author index n : ℕ) → Touches runs place author index →
     places (set runs index (record (run_at runs index) { len = (run_at runs index).len + n }))
     ≡ take (position runs place) (places runs) ++ replicate n author ++ drop (position runs place) (places runs)
 places-touched runs place author index n at =
@@ -193,37 +193,37 @@ places-touched runs place author index n at =
     ∙ ap₂ (λ k a. take k (places runs) ++ replicate n a ++ drop k (places runs)) sum at.same
 
 -- the run made longer in which the character before a place is
-pub places-read : (runs : List KeptRun) (pos i o n author : ℕ) (run : KeptRun) → FallsIn (λ (r : KeptRun). r.len) runs
+pub places-read : (runs : List StoredRun) (pos i o n author : ℕ) (run : StoredRun) → FallsIn (λ (r : StoredRun). r.len) runs
     (pos - 1) i o → 0 < pos → slice_get runs i ≡ Some run → run.author ≡ author
     → places (set runs i (record run { len = run.len + n }))
     ≡ take pos (places runs) ++ replicate n author ++ drop pos (places runs)
 places-read runs pos i o n author run falls some is same =
     let there = read runs i run is in
-    let inside : o < run.len = subst (λ x. IsSomeAnd x (λ (r : KeptRun). o < r.len)) is falls.within in
-    let len = ap (λ (r : KeptRun). r.len) there.1 in
+    let inside : o < run.len = subst (λ x. IsSomeAnd x (λ (r : StoredRun). o < r.len)) is falls.within in
+    let len = ap (λ (r : StoredRun). r.len) there.1 in
     let place : characters (take i runs) + (o + 1) ≡ pos = omega (arith, falls.before) in
-    ap (λ (r : KeptRun). places (set runs i (record r { len = r.len + n }))) (sym there.1)
+    ap (λ (r : StoredRun). places (set runs i (record r { len = r.len + n }))) (sym there.1)
     ∙ places-set runs i (o + 1) n there.0 (omega (arith, inside, len))
     ∙ ap₂ (λ k a. take k (places runs) ++ replicate n a ++ drop k (places runs)) place
-    (ap (λ (r : KeptRun). r.author) there.1 ∙ same)
+    (ap (λ (r : StoredRun). r.author) there.1 ∙ same)
 
-pub proper-read : (runs : List KeptRun) (i n : ℕ) (run : KeptRun) → slice_get runs i ≡ Some run → 0 < n → IsProper runs
+pub proper-read : (runs : List StoredRun) (i n : ℕ) (run : StoredRun) → slice_get runs i ≡ Some run → 0 < n → IsProper runs
     → IsProper (set runs i (record run { len = run.len + n }))
 proper-read runs i n run is some p =
-    subst (λ (r : KeptRun). IsProper (set runs i (record r { len = r.len + n }))) (read runs i run is).1
+    subst (λ (r : StoredRun). IsProper (set runs i (record r { len = r.len + n }))) (read runs i run is).1
     (proper-set runs i ((run_at runs i).len + n) (omega arith) p)
 
-first_part-none : (runs : List KeptRun) → first_part runs 0 ≡ []
+first_part-none : (runs : List StoredRun) → first_part runs 0 ≡ []
 first_part-none [] = refl
 first_part-none (run ∷ runs) = refl
 
-without_part-none : (runs : List KeptRun) → without_part runs 0 ≡ runs
+without_part-none : (runs : List StoredRun) → without_part runs 0 ≡ runs
 without_part-none [] = refl
 without_part-none (run ∷ runs) = let same : run.len - 0 ≡ run.len = omega arith in
     ap (λ (n : ℕ). record run { len = n } ∷ runs) same
 
 -- a run put in between two others is at its place
-pub put-seam : (runs new : List KeptRun) (place : Place) (run : KeptRun) → new ≡ insert runs place.index run →
+pub put-seam : (runs new : List StoredRun) (place : RunPlace) (run : StoredRun) → new ≡ insert runs place.index run →
     place.offset ≡ 0
     → new ≡ front runs place ++ run ∷ back runs place
 put-seam runs new place run is seam =

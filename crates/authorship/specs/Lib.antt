@@ -1,4 +1,4 @@
 -- The definitions that the contracts cite, by topic.
 pub mod Authors
 pub mod Cut
-pub mod Kept
+pub mod StoredRuns

@@ -1,14 +1,14 @@
 //! Taking characters out of runs.
 ghost use Rattle.std.specs.Prelude.{◌≡◌, ◌^◌, ◌+◌, ◌-◌, ◌≤◌, ◌<◌, ◌++◌, length, take, drop, slice_set};
-ghost use Rattle.authorship.specs.Kept.{characters, places, IsProper};
+ghost use Rattle.authorship.specs.StoredRuns.{characters, places, IsProper};
 ghost use Rattle.authorship.specs.Cut.{front, back, position, run_at, joined, IsPlace};
 
 use crate::find::place_of;
-use crate::kept::{KeptRun, Place};
+use crate::stored_run::{RunPlace, StoredRun};
 use weight_tree::WeightTree;
 
 /// Shortens the run at an index, or leaves its length as it is.
-fn shorten(runs: &mut WeightTree<KeptRun>, index: usize, len: u64)
+fn shorten(runs: &mut WeightTree<StoredRun>, index: usize, len: u64)
     requires within { index < length runs.old.items }
     requires shorter { len ≤ (run_at runs.old.items index).len }
     requires fits { characters runs.old.items < 2 ^ 64 }
@@ -16,11 +16,11 @@ fn shorten(runs: &mut WeightTree<KeptRun>, index: usize, len: u64)
         (record (run_at runs.old.items index) { len = len }) }
 {
     let run = *runs.get(index);
-    runs.replace(index, KeptRun { len, ..run });
+    runs.replace(index, StoredRun { len, ..run });
 }
 
 /// Takes characters out of the run at an index.
-fn cut_out(runs: &mut WeightTree<KeptRun>, index: usize, len: u64)
+fn cut_out(runs: &mut WeightTree<StoredRun>, index: usize, len: u64)
     requires within { index < length runs.old.items }
     requires enough { len ≤ (run_at runs.old.items index).len }
     requires fits { characters runs.old.items < 2 ^ 64 }
@@ -30,7 +30,7 @@ fn cut_out(runs: &mut WeightTree<KeptRun>, index: usize, len: u64)
     let run = *runs.get(index);
     runs.replace(
         index,
-        KeptRun {
+        StoredRun {
             len: run.len - len,
             ..run
         },
@@ -38,7 +38,7 @@ fn cut_out(runs: &mut WeightTree<KeptRun>, index: usize, len: u64)
 }
 
 /// Takes out the runs from one index to before another.
-fn remove_runs(runs: &mut WeightTree<KeptRun>, from: usize, to: usize)
+fn remove_runs(runs: &mut WeightTree<StoredRun>, from: usize, to: usize)
     requires order { from ≤ to }
     requires within { to ≤ length runs.old.items }
     ensures items { runs.new.items ≡ take from runs.old.items ++ drop to runs.old.items }
@@ -51,7 +51,7 @@ fn remove_runs(runs: &mut WeightTree<KeptRun>, from: usize, to: usize)
 }
 
 /// Takes out what is between two places in two runs. The runs next to the gap may be of one author.
-fn take_between(runs: &mut WeightTree<KeptRun>, first: Place, last: Place) -> usize
+fn take_between(runs: &mut WeightTree<StoredRun>, first: RunPlace, last: RunPlace) -> usize
     requires first { IsPlace runs.old.items first }
     requires last { IsPlace runs.old.items last }
     requires order { first.index < last.index }
@@ -72,7 +72,7 @@ fn take_between(runs: &mut WeightTree<KeptRun>, first: Place, last: Place) -> us
 }
 
 /// Makes one run of the two next to a seam.
-fn merge(runs: &mut WeightTree<KeptRun>, seam: usize)
+fn merge(runs: &mut WeightTree<StoredRun>, seam: usize)
     requires between { 0 < seam }
     requires within { seam < length runs.old.items }
     requires fits { characters runs.old.items < 2 ^ 64 }
@@ -82,7 +82,7 @@ fn merge(runs: &mut WeightTree<KeptRun>, seam: usize)
     let run = *runs.get(seam - 1);
     runs.replace(
         seam - 1,
-        KeptRun {
+        StoredRun {
             len: run.len + right.len,
             ..run
         },
@@ -90,7 +90,7 @@ fn merge(runs: &mut WeightTree<KeptRun>, seam: usize)
 }
 
 /// Makes one run of the two next to a seam if they are of one author.
-fn join(runs: &mut WeightTree<KeptRun>, seam: usize)
+fn join(runs: &mut WeightTree<StoredRun>, seam: usize)
     requires before { IsProper (take seam runs.old.items) }
     requires behind { IsProper (drop seam runs.old.items) }
     requires fits { characters runs.old.items < 2 ^ 64 }
@@ -103,7 +103,7 @@ fn join(runs: &mut WeightTree<KeptRun>, seam: usize)
 }
 
 /// Takes characters out. It takes no memory.
-pub fn take_out(runs: &mut WeightTree<KeptRun>, pos: u64, len: u64)
+pub fn take_out(runs: &mut WeightTree<StoredRun>, pos: u64, len: u64)
     requires proper { IsProper runs.old.items }
     requires stretch { pos + len ≤ characters runs.old.items }
     requires fits { characters runs.old.items < 2 ^ 64 }

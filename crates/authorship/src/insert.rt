@@ -1,15 +1,15 @@
 //! Putting characters into runs.
 ghost use Rattle.std.specs.Prelude.{◌≡◌, ℕ, ◌+◌, ◌-◌, ◌^◌, ◌≤◌, ◌<◌, ◌∷◌, ◌++◌, length, take, drop, replicate, slice_set, false, IsTrue, IfSome, IfNone};
 ghost use Rattle.std.specs.List.{insert};
-ghost use Rattle.authorship.specs.Kept.{characters, places, AreEmpty, IsProper};
+ghost use Rattle.authorship.specs.StoredRuns.{characters, places, AreEmpty, IsProper};
 ghost use Rattle.authorship.specs.Cut.{front, back, position, run_at, IsPlace, Touches, IsApart};
 
 use crate::find::place_of;
-use crate::kept::{KeptRun, Place};
+use crate::stored_run::{RunPlace, StoredRun};
 use weight_tree::{Node, WeightTree};
 
 /// The run of an author that a place is in, or at either end of.
-fn touching(runs: &WeightTree<KeptRun>, place: Place, author: usize) -> Option<usize>
+fn touching(runs: &WeightTree<StoredRun>, place: RunPlace, author: usize) -> Option<usize>
     requires { IsPlace runs.now.items place }
     ensures found { IfSome result (λ index. Touches runs.now.items place author index) }
     ensures none { IfNone result (IsApart runs.now.items place author) }
@@ -25,7 +25,7 @@ fn touching(runs: &WeightTree<KeptRun>, place: Place, author: usize) -> Option<u
 }
 
 /// Adds characters to the run at an index.
-fn lengthen(runs: &mut WeightTree<KeptRun>, index: usize, len: u64)
+fn lengthen(runs: &mut WeightTree<StoredRun>, index: usize, len: u64)
     requires within { index < length runs.old.items }
     requires fits { characters runs.old.items + len < 2 ^ 64 }
     ensures items { let run = run_at runs.old.items index in runs.new.items
@@ -34,7 +34,7 @@ fn lengthen(runs: &mut WeightTree<KeptRun>, index: usize, len: u64)
     let run = *runs.get(index);
     runs.replace(
         index,
-        KeptRun {
+        StoredRun {
             len: run.len + len,
             ..run
         },
@@ -43,10 +43,10 @@ fn lengthen(runs: &mut WeightTree<KeptRun>, index: usize, len: u64)
 
 /// Puts in a run, for which a node must be ready, so that it cannot fail.
 fn put_run(
-    runs: &mut WeightTree<KeptRun>,
-    spare: &mut Vec<Node<KeptRun>>,
+    runs: &mut WeightTree<StoredRun>,
+    spare: &mut Vec<Node<StoredRun>>,
     index: usize,
-    run: KeptRun,
+    run: StoredRun,
 )
     requires within { index ≤ length runs.old.items }
     requires fits { characters runs.old.items + run.len < 2 ^ 64 }
@@ -65,10 +65,10 @@ fn put_run(
 
 /// Cuts a run in two, and puts another one between its parts.
 fn put_inside(
-    runs: &mut WeightTree<KeptRun>,
-    spare: &mut Vec<Node<KeptRun>>,
-    place: Place,
-    run: KeptRun,
+    runs: &mut WeightTree<StoredRun>,
+    spare: &mut Vec<Node<StoredRun>>,
+    place: RunPlace,
+    run: StoredRun,
 )
     requires place { IsPlace runs.old.items place }
     requires cut { 0 < place.offset }
@@ -81,11 +81,11 @@ fn put_inside(
     ensures empty { AreEmpty spare.new.items }
 {
     let whole = *runs.get(place.index);
-    let left = KeptRun {
+    let left = StoredRun {
         len: place.offset,
         ..whole
     };
-    let right = KeptRun {
+    let right = StoredRun {
         len: whole.len - place.offset,
         ..whole
     };
@@ -95,7 +95,7 @@ fn put_inside(
 }
 
 /// Extends the run of the character before a place, if it is this author's; returns whether it is.
-fn lengthen_before(runs: &mut WeightTree<KeptRun>, pos: u64, author: usize, len: u64) -> bool
+fn lengthen_before(runs: &mut WeightTree<StoredRun>, pos: u64, author: usize, len: u64) -> bool
     requires proper { IsProper runs.old.items }
     requires fits { characters runs.old.items + len < 2 ^ 64 }
     requires some { 0 < len }
@@ -117,7 +117,7 @@ fn lengthen_before(runs: &mut WeightTree<KeptRun>, pos: u64, author: usize, len:
     }
     runs.replace(
         found.rank,
-        KeptRun {
+        StoredRun {
             len: run.len + len,
             ..run
         },
@@ -127,8 +127,8 @@ fn lengthen_before(runs: &mut WeightTree<KeptRun>, pos: u64, author: usize, len:
 
 /// Puts in characters of one author: in a run on either side, or as a run of their own.
 fn put_beside(
-    runs: &mut WeightTree<KeptRun>,
-    spare: &mut Vec<Node<KeptRun>>,
+    runs: &mut WeightTree<StoredRun>,
+    spare: &mut Vec<Node<StoredRun>>,
     pos: u64,
     author: usize,
     len: u64,
@@ -147,7 +147,7 @@ fn put_beside(
     ensures empty { AreEmpty spare.new.items }
 {
     let place = place_of(runs, pos);
-    let run = KeptRun { author, len };
+    let run = StoredRun { author, len };
     if let Some(index) = touching(runs, place, author) {
         lengthen(runs, index, len);
     } else if place.offset == 0 {
@@ -159,8 +159,8 @@ fn put_beside(
 
 /// Puts in characters of one author. Two nodes must be ready. Most of the time, the characters extend a run.
 pub fn put_in(
-    runs: &mut WeightTree<KeptRun>,
-    spare: &mut Vec<Node<KeptRun>>,
+    runs: &mut WeightTree<StoredRun>,
+    spare: &mut Vec<Node<StoredRun>>,
     pos: u64,
     author: usize,
     len: u64,

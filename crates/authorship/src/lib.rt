@@ -6,9 +6,9 @@
 mod delete;
 mod find;
 mod insert;
-mod kept;
 mod run_list;
 mod run_tree;
+mod stored_run;
 mod table;
 
 pub use run_list::RunList;

@@ -4,10 +4,10 @@ ghost use Rattle.pad_model.specs.Visible.{runs};
 ghost use Rattle.std.specs.Option.{IsSomeAnd};
 ghost use Rattle.authorship.specs.Authors.{left_for, inserted, reserved, used, deleted};
 
-use crate::kept::KeptSpare;
 use crate::run_tree::RunTree;
+use crate::stored_run::KeptSpare;
 use crate::table::place_author;
-use pad_model::{Author, AuthorRun, Refusal, Row};
+use pad_model::{Author, AuthorRun, Items, Refusal};
 use std::alloc::Global;
 use std::marker::Model;
 
@@ -24,7 +24,7 @@ impl Model for RunList {
 
     ghost Value = { Authored };
 
-    ghost use Rattle.authorship.specs.Kept.{authored, IsKept};
+    ghost use Rattle.authorship.specs.StoredRuns.{authored, IsKept};
 
     ghost view = { λ l. authored l.table.items l.runs.places l.spare };
 
@@ -59,12 +59,12 @@ impl RunList {
     }
 
     /// The fewest runs of one author each.
-    pub fn runs(&self, alloc: Global) -> Result<Row<AuthorRun>, Refusal>
+    pub fn runs(&self, alloc: Global) -> Result<Items<AuthorRun>, Refusal>
         ensures { MatchResult result (λ rows. rows ≡ runs self.now.authors)
             (λ e. e ≡ Refusal.Memory) }
     {
         let rows = self.runs.author_runs(alloc, self.table.as_slice())?;
-        Ok(Row::from_vec(rows))
+        Ok(Items::from_vec(rows))
     }
 
     /// Makes room for the next `n` insertions of an author, so that they cannot fail. A deletion keeps the room.

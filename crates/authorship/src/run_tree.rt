@@ -1,13 +1,13 @@
 //! The places of the authors of a text's visible characters, as runs in a balanced tree.
 ghost use Rattle.std.specs.Prelude.{◌≡◌, ◌+◌, ◌*◌, ◌≤◌, ◌<◌, ◌++◌, [], Some, length, map, replicate, take, drop, slice_get, IfOk, OnOk};
 ghost use Rattle.std.specs.List.{AllByRecursion};
-ghost use Rattle.pad_model.specs.Visible.{runs as runs_of_authors};
-ghost use Rattle.authorship.specs.Kept.{author_in, author_run, AreEmpty, AreKnown, IsOnce};
+ghost use Rattle.pad_model.specs.Visible as visible;
+ghost use Rattle.authorship.specs.StoredRuns.{author_in, author_run, AreEmpty, AreKnown, IsOnce};
 
 use crate::delete::take_out;
 use crate::find::place_of;
 use crate::insert::put_in;
-use crate::kept::KeptRun;
+use crate::stored_run::StoredRun;
 use pad_model::{Author, AuthorRun};
 use std::alloc::{AllocError, Global};
 use std::marker::Model;
@@ -16,12 +16,12 @@ use weight_tree::{Node, WeightTree};
 /// The place of each character's author in a table, as the fewest runs, and nodes for more runs.
 #[derive(Drop)]
 pub struct RunTree {
-    runs: WeightTree<KeptRun>,
-    spare: Vec<Node<KeptRun>>,
+    runs: WeightTree<StoredRun>,
+    spare: Vec<Node<StoredRun>>,
 }
 
 impl Model for RunTree {
-    ghost use Rattle.authorship.specs.Kept.{AuthorPlaces, author_places, IsRunTree};
+    ghost use Rattle.authorship.specs.StoredRuns.{AuthorPlaces, author_places, IsRunTree};
 
     ghost Value = { AuthorPlaces };
 
@@ -62,7 +62,7 @@ impl RunTree {
         requires known { AllByRecursion (λ place. place < length table.now) self.now.places }
         requires once { IsOnce table.now }
         ensures { IfOk result (λ rows. rows.items
-            ≡ runs_of_authors (map (author_in table.now) self.now.places)) }
+            ≡ visible.runs (map (author_in table.now) self.now.places)) }
     {
         list_runs(alloc, &self.runs, table)
     }
@@ -104,7 +104,7 @@ impl RunTree {
 }
 
 /// Makes nodes until there are this many.
-fn fill(spare: &mut Vec<Node<KeptRun>>, alloc: Global, wanted: usize) -> Result<(), AllocError>
+fn fill(spare: &mut Vec<Node<StoredRun>>, alloc: Global, wanted: usize) -> Result<(), AllocError>
     requires { AreEmpty spare.old.items }
     ensures empty { AreEmpty spare.new.items }
     ensures ok { OnOk result (wanted ≤ length spare.new.items) }
@@ -113,7 +113,7 @@ fn fill(spare: &mut Vec<Node<KeptRun>>, alloc: Global, wanted: usize) -> Result<
     let missing = wanted.saturating_sub(spare.len());
     spare.reserve(missing)?;
     while spare.len() < wanted {
-        spare.push_reserved(Node::make(alloc, KeptRun { author: 0, len: 0 })?);
+        spare.push_reserved(Node::make(alloc, StoredRun { author: 0, len: 0 })?);
     }
     Ok(())
 }
@@ -121,7 +121,7 @@ fn fill(spare: &mut Vec<Node<KeptRun>>, alloc: Global, wanted: usize) -> Result<
 /// The author runs that runs represent.
 fn list_runs(
     alloc: Global,
-    runs: &WeightTree<KeptRun>,
+    runs: &WeightTree<StoredRun>,
     table: &[Author],
 ) -> Result<Vec<AuthorRun>, AllocError>
     requires { AreKnown (length table.now) runs.now.items }

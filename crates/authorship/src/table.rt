@@ -1,6 +1,6 @@
 //! A table of authors, each once.
 ghost use Rattle.std.specs.Prelude.{◌≡◌, ◌≢◌, ℕ, ◌<◌, ◌⊎◌, [], ◌∷◌, ◌++◌, length, IfOk, IfSome, IfNone};
-ghost use Rattle.authorship.specs.Kept.{author_in, IsOnce};
+ghost use Rattle.authorship.specs.StoredRuns.{author_in, IsOnce};
 
 use pad_model::{Author, Name};
 use std::alloc::{AllocError, Global};

@@ -23,7 +23,6 @@ use Rattle.ident_index.specs.Index.{Index, Covers, Holds, HoldsNone, IsPlace, st
 use Rattle.ident_index.specs.declared.place.Place.{Place}
 use Rattle.ident_index.proofs.Sound.{some_entry}
 use Rattle.blocks.specs.declared.block.Block.{Block}
-use Rattle.blocks.specs.declared.find.Spot.{Spot}
 use Rattle.blocks.specs.Blocks.{IsListed, IsSpot}
 use Rattle.blocks.specs.Cells.{author_at, run_cells, stretch, block_cells, cells_of, IsWithin}
 use Rattle.blocks.proofs.Parts.{holds_here, what_holds, some_block}
@@ -199,15 +198,6 @@ spot_block bs s rank offset h =
     let counter = ap (λ (x : Stamp). x.counter) found.2.0 in
     let inside = found.2.1 in
     (found.0, found.1, (sym (ap (λ (x : Stamp). x.replica) found.2.0), omega arith, omega arith))
-
-pub found_has : (authors : List Author) (text : List ℕ) (m : Index) (bs : List Block) (s : Stamp) (o : Option Spot) →
-    IsListed m bs → AllByRecursion (IsWithin (length authors) (length text)) bs
-    → MatchOption o (HoldsNone m s) (λ spot. IsSpot bs s spot.rank spot.offset) → is_some o
-    ≡ has_stamp character_of (cells_of authors text bs) s
-found_has authors text m bs s None k w h = sym (none_held authors text m bs s k w h)
-found_has authors text m bs s (Some spot) k w h =
-    let found = spot_block bs s spot.rank spot.offset h in
-    sym (held_cell authors text m bs s found.0.first k w (holds_here m bs spot.rank found.0 s k found.1 found.2))
 
 -- the same, where the index alone was asked
 pub located_has : (authors : List Author) (text : List ℕ) (m : Index) (bs : List Block) (s : Stamp) (o : Option Place) →

@@ -1,7 +1,7 @@
 -- The kept cells of a run.
-use Rattle.std.proofs.Common.{◌≡◌, ◌⊎◌, inl, inr, ℕ, zero, suc, ◌+◌, ◌<◌, Bool, true, false, cond, ◌||◌, ◌&&◌, ◌-◌}
-use Rattle.std.proofs.Common.{flat_map, Result, Ok, Err, count_by, List, [], ◌∷◌, ◌++◌, length, take, drop, get_or}
-use Rattle.std.proofs.Common.{Option, Some, None, refl, sym, ap, ap₂, ◌∙◌, subst, drop-cons, add-one, arith}
+use Rattle.std.proofs.Common.{◌≡◌, ◌⊎◌, inl, inr, ℕ, zero, suc, ◌+◌, ◌<◌, Bool, true, false, cond, ◌&&◌}
+use Rattle.std.proofs.Common.{flat_map, Ok, Err, count_by, List, [], ◌∷◌, ◌++◌, length, take, drop}
+use Rattle.std.proofs.Common.{Option, Some, None, refl, sym, ap, ap₂, ◌∙◌, subst, arith}
 use Rattle.std.proofs.Common.{length-append, filter, map, slice_get, option_map, IsPermutation}
 use Rattle.std.proofs.lemmas.List.{length-map, get_or_append_left, drop-map, take-map}
 use Rattle.pad_model.specs.Stamp.{Stamp}

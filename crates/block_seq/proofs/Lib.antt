@@ -11,7 +11,6 @@ pub mod RowRanks
 pub mod RowPieces
 pub mod RowAuthors
 pub mod RowCell
-pub mod RowCounts
 pub mod RowErase
 pub mod RowKills
 pub mod RowLists
@@ -29,3 +28,4 @@ pub mod PartSteps
 pub mod Spans
 pub mod RowRuns
 pub mod Sends
+pub mod Views

@@ -1,6 +1,6 @@
 -- The places of the authors of the visible characters: how they follow the slides, and what they tell.
 use Rattle.std.proofs.Common.{◌≡◌, ℕ, zero, suc, ◌+◌, ◌≤◌, ◌<◌, Bool, true, false, cond, List, [], ◌∷◌, ◌++◌, length}
-use Rattle.std.proofs.Common.{take, drop, map, flat_map, sum_by, Option, Some, None, is_none, refl, sym, ap, ap₂, ◌∙◌}
+use Rattle.std.proofs.Common.{take, drop, map, flat_map, sum_by, Some, None, is_none, refl, sym, ap, ap₂, ◌∙◌}
 use Rattle.std.proofs.Common.{subst, arith, slice_get, slice_set, get_or, length-append, append_assoc, append-nil}
 use Rattle.std.specs.List.{AllByRecursion, IsDistinct, insert}
 use Rattle.std.proofs.Math.ListN.{replicate}
@@ -14,12 +14,12 @@ use Rattle.pad_model.specs.declared.who.Author.{Author}
 use Rattle.pad_model.proofs.Each.{each-append}
 use Rattle.pad_model.proofs.Pieces.{same_author-refl}
 use Rattle.ident_index.specs.Index.{Index}
-use Rattle.slides.specs.Slide.{Slide}
+use Rattle.text_history.specs.Slide.{Slide}
 use Rattle.blocks.specs.declared.block.Block.{Block}
 use Rattle.blocks.specs.Blocks.{IsKept, weight_of, without_labels, unlabelled}
-use Rattle.blocks.specs.Cells.{cells_of, IsWithin, SameCells}
-use Rattle.authorship.specs.Kept.{author_in, IsOnce}
-use Rattle.block_seq.specs.Rows.{IsBlockSeq, IsDated, shows}
+use Rattle.blocks.specs.Cells.{IsWithin, SameCells}
+use Rattle.authorship.specs.StoredRuns.{author_in, IsOnce}
+use Rattle.block_seq.specs.Rows.{IsBlockSeq, IsDated}
 use Rattle.block_seq.specs.RowLists.{shown_by}
 use Rattle.block_seq.specs.RowAuthors.{live_by, live_authors, with_shown, without_hidden, MayShow, MayHide, Goes}
 use Rattle.block_seq.specs.RowAuthors.{Shows, Hides, IsAuthoredRow}

@@ -9,7 +9,7 @@ use Rattle.ident_index.specs.Index.{stamp_behind}
 use Rattle.ident_index.proofs.Order.{same_stamps}
 use Rattle.blocks.specs.declared.block.Block.{Block}
 use Rattle.blocks.specs.Cells.{author_at, run_cells, stretch, block_cells, cells_of}
-use Rattle.slides.proofs.Carrying.{get_front, get_back}
+use Rattle.text_history.proofs.Carrying.{get_back}
 use Rattle.block_seq.proofs.BlockCells.{length-stretch, length-run_cells}
 
 -- what the character so far behind the first was inserted after

@@ -20,7 +20,7 @@ use Rattle.ident_index.specs.Index.{stamp_behind}
 use Rattle.ident_index.proofs.Order.{same_stamps}
 use Rattle.blocks.specs.declared.block.Block.{Block}
 use Rattle.blocks.specs.Cells.{author_at, run_cells, stretch, cells_of, IsWithin}
-use Rattle.slides.proofs.Carrying.{length-stamps}
+use Rattle.text_history.proofs.Carrying.{length-stamps}
 use Rattle.block_seq.specs.Rows.{shows, shown_len}
 use Rattle.block_seq.specs.RowLists.{shown_by, shown_stamps, with_more, with_stamps}
 use Rattle.block_seq.proofs.BlockCells.{length-stretch}

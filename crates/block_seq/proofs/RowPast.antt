@@ -15,9 +15,9 @@ use Rattle.blocks.specs.Blocks.{IsListed, IsSpot, weight_of}
 use Rattle.blocks.specs.declared.find.Spot.{Spot}
 use Rattle.blocks.proofs.Entries.{each_get, weight-le-len}
 use Rattle.blocks.proofs.Parts.{holds_here, some_block}
-use Rattle.slides.specs.Slide.{Slide}
-use Rattle.slides.specs.Slides.{LeadTo, Leads, since}
-use Rattle.slides.proofs.Carrying.{get_front, get_back, get_stamp, length-stamps}
+use Rattle.text_history.specs.Slide.{Slide}
+use Rattle.text_history.specs.Slides.{LeadTo, Leads, since}
+use Rattle.text_history.proofs.Carrying.{get_front, get_back, get_stamp, length-stamps}
 use Rattle.block_seq.specs.RowLists.{IsSeenAt, shown_front, shown_stamps}
 use Rattle.block_seq.specs.RowSlides.{IsSlid, live_stamps}
 use Rattle.block_seq.specs.Rows.{IsDated, shows, shown_len, stamp_in}

@@ -3,7 +3,6 @@ use Rattle.std.proofs.Common.{◌≡◌, ℕ, ◌+◌, ◌-◌, ◌≤◌, ◌<�
 use Rattle.std.proofs.Common.{Some, slice_get, refl, sym, ap, ◌∙◌, arith, sum_by, get_or}
 use Rattle.std.specs.List.{AllByRecursion}
 use Rattle.std.specs.List.Sorted.{IsNonDecreasing}
-use Rattle.std.specs.Prelude.{Contains}
 use Rattle.std.proofs.lemmas.Bool.{cases_lt}
 use Rattle.std.proofs.lemmas.List.Sums.{sum_by-append, sum_by-cons, sum_by-take-le}
 use Rattle.std.proofs.lemmas.Option.{get_or_from_slice_get}
@@ -11,8 +10,8 @@ use Rattle.pad_model.proofs.Newer.{split}
 use Rattle.ident_index.specs.Index.{Index, IsSound}
 use Rattle.blocks.specs.declared.block.Block.{Block}
 use Rattle.blocks.specs.Blocks.{IsListed, IsSized, weight_of}
-use Rattle.slides.specs.Slide.{Slide}
-use Rattle.slides.specs.Slides.{since}
+use Rattle.text_history.specs.Slide.{Slide}
+use Rattle.text_history.specs.Slides.{since}
 use Rattle.block_seq.specs.RowPieces.{is_touched}
 use Rattle.block_seq.specs.RowSlides.{IsSlid}
 use Rattle.block_seq.proofs.RowGaps.{gap}

@@ -18,7 +18,7 @@ use Rattle.ident_index.specs.Index.{Covers, stamp_behind}
 use Rattle.ident_index.proofs.Order.{same_stamps}
 use Rattle.blocks.specs.declared.block.Block.{Block}
 use Rattle.blocks.specs.Cells.{author_at, run_cells, stretch, block_cells, cells_of, IsWithin}
-use Rattle.slides.proofs.Carrying.{get_front, get_back}
+use Rattle.text_history.proofs.Carrying.{get_front, get_back}
 use Rattle.block_seq.specs.Rows.{shows, shown_len, shown_stretch, stamp_in}
 use Rattle.block_seq.proofs.BlockCells.{length-run_cells, length-stretch}
 

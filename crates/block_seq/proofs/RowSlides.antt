@@ -20,10 +20,10 @@ use Rattle.blocks.specs.declared.block.Block.{Block}
 use Rattle.ident_index.specs.Index.{Index}
 use Rattle.blocks.specs.Blocks.{IsKept, IsSized, weight_of, without_labels, unlabelled}
 use Rattle.blocks.specs.Cells.{author_at, run_cells, stretch, block_cells, cells_of, SameCells}
-use Rattle.slides.specs.Slides.{Leads, Moves, since}
-use Rattle.slides.specs.Slide.{Slide}
-use Rattle.slides.proofs.Carrying.{length-stamps}
-use Rattle.slides.proofs.Slides.{leads-then, since-later, since-none, sorted-then}
+use Rattle.text_history.specs.Slides.{Leads, Moves, since}
+use Rattle.text_history.specs.Slide.{Slide}
+use Rattle.text_history.proofs.Carrying.{length-stamps}
+use Rattle.text_history.proofs.Slides.{leads-then, since-later, since-none, sorted-then}
 use Rattle.block_seq.specs.Rows.{IsBlockSeq, IsDated}
 use Rattle.block_seq.specs.RowLists.{shown_stamps}
 use Rattle.block_seq.specs.RowSlides.{live_stamps, live_blocks, IsSlid}

@@ -24,9 +24,9 @@ use Rattle.block_seq.proofs.RowLists.{get_here}
 use Rattle.blocks.specs.declared.block.Block.{Block}
 use Rattle.blocks.specs.Blocks.{IsListed, IsSized, weight_of}
 use Rattle.blocks.proofs.Entries.{each_get}
-use Rattle.slides.specs.Slide.{Slide}
-use Rattle.slides.specs.Slides.{Leads, Moves, since}
-use Rattle.slides.proofs.Slides.{since-here, since-passed}
+use Rattle.text_history.specs.Slide.{Slide}
+use Rattle.text_history.specs.Slides.{Leads, Moves, since}
+use Rattle.text_history.proofs.Slides.{since-here, since-passed}
 use Rattle.block_seq.specs.PieceLists.{block_pieces}
 use Rattle.block_seq.specs.RowPieces.{is_of, is_touched, kept_pieces}
 use Rattle.block_seq.specs.RowLists.{shown_stamps}

@@ -7,7 +7,7 @@ use Rattle.pad_model.specs.declared.who.Author.{Author}
 use Rattle.ident_index.specs.Index.{Index}
 use Rattle.blocks.specs.Blocks.{weight_of}
 use Rattle.blocks.specs.declared.block.Block.{Block}
-use Rattle.slides.specs.Slide.{Slide}
+use Rattle.text_history.specs.Slide.{Slide}
 use Rattle.block_seq.specs.Rows.{IsBlockSeq}
 use Rattle.block_seq.specs.RowSlides.{IsSlid}
 

@@ -1,11 +1,8 @@
--- The runs of one operation among blocks, and what they do to the blocks and their labels.
-use Rattle.std.specs.Prelude.{◌≡◌, ℕ, ◌+◌, ◌*◌, ◌≤◌, ◌<◌, true, List, [], ◌∷◌, length, sum_by, Option, Some, None}
-use Rattle.std.specs.Prelude.{Result, OnOk, OnErr}
+-- The runs of one operation among blocks.
+use Rattle.std.specs.Prelude.{◌≡◌, ℕ, ◌+◌, ◌≤◌, ◌<◌, true, List, [], ◌∷◌, length, sum_by, Option, Some, None}
 use Rattle.std.specs.List.{AllByRecursion, list_all, remove}
 use Rattle.ident_index.specs.Index.{Index, stamp_behind}
 use Rattle.blocks.specs.Blocks.{IsEdge}
-use Rattle.blocks.specs.Counts.{KeepsLabels, Labelled}
-use Rattle.blocks.specs.declared.block.Block.{Block}
 use Rattle.pad_model.specs.Checked.{is_run}
 use Rattle.pad_model.specs.Legal.{has_parent}
 use Rattle.pad_model.specs.Stamp.{Stamp}
@@ -15,7 +12,6 @@ use Rattle.pad_model.specs.Parts.{AllJoin, runs_in, spans_in}
 use Rattle.pad_model.specs.declared.op.Part.{Part}
 use Rattle.pad_model.specs.declared.op.Run.{Run}
 use Rattle.pad_model.specs.declared.who.Author.{Author}
-use Rattle.block_seq.specs.Rows.{CellsInBlocks}
 
 -- how many runs the parts insert, and how many spans they erase, together
 abbrev pub count_changes : List Part → ℕ
@@ -36,25 +32,6 @@ pub record MayPut (rev : ℕ) (author : Author) (cells : List Cell) (m : Index)
   pub rooted : list_all (λ run. has_parent character_of cells run.after) runs ≡ true
   pub cut : AllByRecursion (λ run. IsCutBehind m run.after) runs
   pub room : length cells + sum_by (λ run. length run.text) runs ≤ MAX_CHARACTERS
-
--- how blocks came about, and a count of respacings, where those that were put are taken out again: what is left keeps
--- its labels
-abbrev pub IsUndone : List Block → ℕ → List Block → ℕ → Type 0
-IsUndone old n new m = (mid : List Block) × Labelled old n mid m × KeepsLabels new mid
-
--- what so many changes, each a run or a span, did to blocks and their labels
-pub record IsCounted {A E : Type 0} (changes : ℕ) (result : Result A E)
-    (old new : CellsInBlocks) : Type 0 where
-  -- each change adds at most two blocks
-  pub rises : new.blocks ≤ old.blocks + 2 * changes
-  -- after a success, labels changed only where none was free, and each such time was counted
-  pub labelled : OnOk result (Labelled old.tree old.respaced new.tree new.respaced)
-  -- after an error the same holds, though blocks that were put may be gone again
-  pub undone : OnErr result (IsUndone old.tree old.respaced new.tree new.respaced)
-  -- the count of respacings never falls
-  pub counts : old.respaced ≤ new.respaced
-  -- each change respaces at most twice
-  pub few : new.respaced ≤ old.respaced + 2 * changes
 
 -- the items without those at some ranks, the last rank taken first
 abbrev pub without_ranks : {A : Type 0} → List A → List ℕ → List A

@@ -7,7 +7,7 @@ use Rattle.pad_model.specs.Visible.{is_erased}
 use Rattle.pad_model.specs.declared.piece.Piece.{Piece}
 use Rattle.pad_model.specs.declared.piece.Piece.TheVariants.{Keep}
 use Rattle.blocks.specs.declared.block.Block.{Block}
-use Rattle.slides.specs.Slide.{Slide}
+use Rattle.text_history.specs.Slide.{Slide}
 
 -- whether a stamp is of the stretch of a slide
 abbrev pub is_of : Stamp → Slide → Bool

@@ -8,8 +8,8 @@ use Rattle.pad_model.specs.declared.op.Span.{Span}
 use Rattle.pad_model.specs.declared.who.Author.{Author}
 use Rattle.ident_index.specs.Index.{Index}
 use Rattle.blocks.specs.declared.block.Block.{Block}
-use Rattle.slides.specs.Slides.{IsSorted, Leads, since}
-use Rattle.slides.specs.Slide.{Slide}
+use Rattle.text_history.specs.Slides.{IsSorted, Leads, since}
+use Rattle.text_history.specs.Slide.{Slide}
 use Rattle.block_seq.specs.RowLists.{shown_stamps}
 use Rattle.block_seq.specs.Rows.{IsBlockSeq, IsDated}
 

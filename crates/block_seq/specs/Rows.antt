@@ -26,21 +26,18 @@ pub record IsBlockSeq (latest clock : ℕ) (authors : List Author) (text : List 
   pub dated : AllByRecursion (IsBy latest) (cells_of authors text bs)
   pub newest : clock_of (cells_of authors text bs) ≡ clock
 
--- what callers see of a sequence of blocks: its cells, the blocks that keep them and their number, and how often blocks
--- got new labels
+-- what callers see of a sequence of blocks: its cells, the blocks that keep them and their number
 pub record CellsInBlocks : Type 0 where
   pub cells : List Cell
   pub tree : List Block
   pub blocks : ℕ
-  pub respaced : ℕ
 
--- the cells of blocks, the blocks and their number, and a count of respacings
-abbrev pub cells_in : List Author → List ℕ → List Block → ℕ → CellsInBlocks
-cells_in authors text bs n = record {
+-- the cells of blocks, the blocks and their number
+abbrev pub cells_in : List Author → List ℕ → List Block → CellsInBlocks
+cells_in authors text bs = record {
   cells = cells_of authors text bs;
   tree = bs;
   blocks = length bs;
-  respaced = n;
 }
 
 -- the cells are those of these blocks, each a stretch of some text by one of some authors, and the index has just these

@@ -3,7 +3,7 @@ ghost use Rattle.std.specs.Prelude.{◌≡◌, ℕ, ◌+◌, ◌≤◌, ◌<◌,
 ghost use Rattle.std.specs.List.{IsDistinct, list_all, list_any};
 ghost use Rattle.pad_model.specs.Checked.{is_span};
 ghost use Rattle.pad_model.specs.Legal.{has_stamp, same_item};
-ghost use Rattle.pad_model.specs.Log.{has_spans as holds_spans};
+ghost use Rattle.pad_model.specs.Log as log;
 ghost use Rattle.pad_model.specs.Operation.{span_stamps};
 ghost use Rattle.pad_model.specs.Visible.{is_erased};
 ghost use Rattle.pad_model.proofs.Erase.{in_span};
@@ -56,7 +56,7 @@ fn has_span(cells: &[PlainCell], span: &Span) -> bool
 pub fn has_spans(cells: &[PlainCell], spans: &[Span]) -> bool
     requires checked { IsTrue (list_all is_span spans.now) }
     requires distinct { IsDistinct (same_item kept_character) cells.now }
-    ensures { result ≡ holds_spans kept_character cells.now spans.now }
+    ensures { result ≡ log.has_spans kept_character cells.now spans.now }
 {
     for span in spans {
         if !has_span(cells, span) {

@@ -1,8 +1,9 @@
 //! Counting in the plain sequence.
 ghost use Rattle.std.specs.Prelude.{◌≡◌, ℕ, ◌+◌, ◌≤◌, ◌<◌, length, map, filter, take, drop, IfOk};
-ghost use Rattle.pad_model.specs.Log.{stands_before as is_first};
+ghost use Rattle.pad_model.specs.Log as log;
 ghost use Rattle.pad_model.specs.Visible.{shown_before, shown_through};
-ghost use Rattle.block_seq.specs.Plain.{kept_character, is_shown as shown};
+ghost use Rattle.block_seq.specs.Plain.{kept_character};
+ghost use Rattle.block_seq.specs.Plain as plain;
 
 use crate::place::PlainCell;
 use crate::readers::is_shown;
@@ -10,7 +11,7 @@ use pad_model::Stamp;
 
 /// How many cells visible at a revision stand before a stamp; all, where it is missing.
 pub fn count_before(cells: &[PlainCell], rev: u64, stamp: Stamp) -> u64
-    ensures { result ≡ shown_before kept_character (shown rev) cells.now stamp }
+    ensures { result ≡ shown_before kept_character (plain.is_shown rev) cells.now stamp }
 {
     let mut count = 0;
     for cell in cells {
@@ -26,7 +27,7 @@ pub fn count_before(cells: &[PlainCell], rev: u64, stamp: Stamp) -> u64
 
 /// How many cells visible at a revision stand up to and including a stamp; all, where it is missing.
 pub fn count_through(cells: &[PlainCell], rev: u64, stamp: Stamp) -> u64
-    ensures { result ≡ shown_through kept_character (shown rev) cells.now stamp }
+    ensures { result ≡ shown_through kept_character (plain.is_shown rev) cells.now stamp }
 {
     let mut count = 0;
     for cell in cells {
@@ -42,7 +43,7 @@ pub fn count_through(cells: &[PlainCell], rev: u64, stamp: Stamp) -> u64
 
 /// Whether `first` is `last` or stands before it. Both are there.
 pub fn stands_before(cells: &[PlainCell], first: Stamp, last: Stamp) -> bool
-    ensures { result ≡ is_first kept_character cells.now first last }
+    ensures { result ≡ log.stands_before kept_character cells.now first last }
 {
     let mut passed = false;
     for cell in cells {

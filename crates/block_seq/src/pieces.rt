@@ -1,6 +1,7 @@
 //! What leads from one revision to another, in the fewest pieces: lists that grow at their end, and the walk along cells.
 ghost use Rattle.std.specs.Prelude.{◌≡◌, [], ◌+◌, ◌≤◌, length, sum_by, IfOk, OnOk};
-ghost use Rattle.pad_model.specs.Pieces.{are_alike, changes as cells_changes, old_len};
+ghost use Rattle.pad_model.specs.Pieces.{are_alike, old_len};
+ghost use Rattle.pad_model.specs.Pieces as pieces_spec;
 ghost use Rattle.block_seq.specs.PieceLists.{dropped_in, kept_in, longer_by, with_piece};
 ghost use Rattle.block_seq.specs.Plain.{AreKnown, cells_of};
 
@@ -121,7 +122,7 @@ pub fn plain_pieces(
 ) -> Result<Vec<Piece>, AllocError>
     requires { AreKnown authors.now cells.now }
     ensures { IfOk result (λ pieces. pieces.items
-        ≡ cells_changes rev to (cells_of authors.now cells.now)) }
+        ≡ pieces_spec.changes rev to (cells_of authors.now cells.now)) }
 {
     let mut pieces = Vec::new(alloc);
     for cell in cells {

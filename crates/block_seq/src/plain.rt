@@ -14,7 +14,7 @@ use crate::readers::{
 };
 use crate::stretches::{runs_of, spans_of};
 use pad_model::{
-    Author, AuthorRun, CellView, MAX_CHARACTERS, Part, Piece, Refusal, Row, Run, Sequence, Span,
+    Author, AuthorRun, CellView, Items, MAX_CHARACTERS, Part, Piece, Refusal, Run, Sequence, Span,
     Stamp, Text,
 };
 use std::alloc::{AllocError, Global};
@@ -115,21 +115,21 @@ impl Sequence for PlainSeq {
         Ok(Text::from_vec(shown_text(alloc, self.cells.as_slice(), rev)?))
     }
 
-    fn authors_at(&self, alloc: Global, rev: u64) -> Result<Row<AuthorRun>, Refusal> {
+    fn authors_at(&self, alloc: Global, rev: u64) -> Result<Items<AuthorRun>, Refusal> {
         let cells = self.cells.as_slice();
         let authors = shown_authors(alloc, cells, self.authors.as_slice(), rev)?;
-        Ok(Row::from_vec(runs_of(alloc, authors.as_slice())?))
+        Ok(Items::from_vec(runs_of(alloc, authors.as_slice())?))
     }
 
-    fn changes(&self, alloc: Global, rev: u64, to: u64) -> Result<Row<Piece>, Refusal> {
+    fn changes(&self, alloc: Global, rev: u64, to: u64) -> Result<Items<Piece>, Refusal> {
         let cells = self.cells.as_slice();
         let authors = self.authors.as_slice();
-        Ok(Row::from_vec(plain_pieces(alloc, cells, authors, rev, to)?))
+        Ok(Items::from_vec(plain_pieces(alloc, cells, authors, rev, to)?))
     }
 
-    fn spans_at(&self, alloc: Global, rev: u64, at: u64, len: u64) -> Result<Row<Span>, Refusal> {
+    fn spans_at(&self, alloc: Global, rev: u64, at: u64, len: u64) -> Result<Items<Span>, Refusal> {
         let stamps = shown_stamps(alloc, self.cells.as_slice(), rev, at, len)?;
-        Ok(Row::from_vec(spans_of(alloc, stamps.as_slice())?))
+        Ok(Items::from_vec(spans_of(alloc, stamps.as_slice())?))
     }
 
     fn before(&self, stamp: Stamp, rev: u64) -> Option<u64> {

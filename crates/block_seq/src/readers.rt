@@ -1,6 +1,7 @@
 //! What the cells of the plain sequence show at a revision.
 ghost use Rattle.std.specs.Prelude.{◌≡◌, ◌==◌, if◌then◌else◌, max, length, map, filter, fold, take, drop, IfOk, slice_get, option_map, Some, None};
-ghost use Rattle.block_seq.specs.Plain.{AreKnown, author_at, is_shown as shown};
+ghost use Rattle.block_seq.specs.Plain.{AreKnown, author_at};
+ghost use Rattle.block_seq.specs.Plain as plain;
 
 use crate::place::PlainCell;
 use pad_model::{Author, Stamp};
@@ -8,7 +9,7 @@ use std::alloc::{AllocError, Global};
 
 /// Whether a cell is visible: it is born, and did not die yet.
 pub fn is_shown(cell: &PlainCell, rev: u64) -> bool
-    ensures { result ≡ shown rev cell.now }
+    ensures { result ≡ plain.is_shown rev cell.now }
 {
     let dead = match cell.died {
         None => false,
@@ -18,14 +19,14 @@ pub fn is_shown(cell: &PlainCell, rev: u64) -> bool
 }
 
 pub fn count_shown(cells: &[PlainCell], rev: u64) -> usize
-    ensures { result ≡ length (filter (shown rev) cells.now) }
+    ensures { result ≡ length (filter (plain.is_shown rev) cells.now) }
 {
     cells.iter().filter(|c| is_shown(c, rev)).count()
 }
 
 /// The stamp of the visible character at a place.
 pub fn shown_stamp(cells: &[PlainCell], rev: u64, place: u64) -> Option<Stamp>
-    ensures { result ≡ option_map (λ c. c.stamp) (slice_get (filter (shown rev) cells.now) place) }
+    ensures { result ≡ option_map (λ c. c.stamp) (slice_get (filter (plain.is_shown rev) cells.now) place) }
 {
     let mut left = place;
     for cell in cells {
@@ -41,7 +42,7 @@ pub fn shown_stamp(cells: &[PlainCell], rev: u64, place: u64) -> Option<Stamp>
 
 pub fn shown_text(alloc: Global, cells: &[PlainCell], rev: u64) -> Result<Vec<char>, AllocError>
     ensures { IfOk result (λ text. text.items
-        ≡ map (λ c. c.character) (filter (shown rev) cells.now)) }
+        ≡ map (λ c. c.character) (filter (plain.is_shown rev) cells.now)) }
 {
     cells
         .iter()
@@ -59,7 +60,7 @@ pub fn shown_stamps(
     len: u64,
 ) -> Result<Vec<Stamp>, AllocError>
     ensures { IfOk result (λ stamps. stamps.items
-        ≡ map (λ c. c.stamp) (take len (drop at (filter (shown rev) cells.now)))) }
+        ≡ map (λ c. c.stamp) (take len (drop at (filter (plain.is_shown rev) cells.now)))) }
 {
     cells
         .iter()
@@ -79,7 +80,7 @@ pub fn shown_authors<'a>(
 ) -> Result<Vec<&'a Author>, AllocError>
     requires { AreKnown authors.now cells.now }
     ensures { IfOk result (λ shown_by. map (λ author. author.now) shown_by.items
-        ≡ map (λ c. author_at authors.now c.author) (filter (shown rev) cells.now)) }
+        ≡ map (λ c. author_at authors.now c.author) (filter (plain.is_shown rev) cells.now)) }
 {
     let mut shown = Vec::new(alloc);
     for cell in cells {

@@ -3,7 +3,7 @@ ghost use Rattle.std.specs.Prelude.{◌≡◌, ℕ, ◌*◌, ◌≤◌, List, dr
 ghost use Rattle.block_seq.specs.RowAuthors.{Goes, MayHide, MayShow, with_shown, without_hidden};
 
 use authorship::RunTree;
-use slides::Slide;
+use text_history::Slide;
 
 /// Puts in what the slides from a place on show, all of it by one author. It takes no memory.
 pub fn follow_shown(runs: &mut RunTree, slides: &[Slide], from: usize, author: usize)

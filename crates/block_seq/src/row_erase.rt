@@ -4,14 +4,12 @@ ghost use Rattle.std.specs.List.{AllByRecursion, list_all};
 ghost use Rattle.pad_model.specs.Cell.{character_of};
 ghost use Rattle.pad_model.specs.Checked.{is_span};
 ghost use Rattle.pad_model.specs.Legal.{has_stamp};
-ghost use Rattle.pad_model.specs.Log.{has_spans as holds_spans};
+ghost use Rattle.pad_model.specs.Log as log;
 ghost use Rattle.pad_model.specs.Operation.{span_stamps};
-ghost use Rattle.pad_model.specs.declared.who.Author.{Author as AuthorValue};
+ghost use Rattle.pad_model.specs.declared.who.Author as author;
 ghost use Rattle.blocks.specs.Blocks.{IsKept, KeepsEdges};
-ghost use Rattle.blocks.specs.Counts.{Labelled};
 ghost use Rattle.blocks.specs.Cells.{cells_of, IsWithin, SameCells};
 ghost use Rattle.block_seq.specs.Rows.{IsCutOut, is_killed, killed, hidden_len};
-ghost use Rattle.blocks.specs.declared.block.Block.{Block as BlockValue};
 
 use blocks::{Block, cut_at, find_block};
 use ident_index::IdentIndex;
@@ -23,7 +21,7 @@ use weight_tree::WeightTree;
 fn has_span(tree: &WeightTree<Block>, index: &IdentIndex, span: &Span) -> bool
     requires kept { IsKept index.now tree.now.items }
     requires checked { IsTrue (is_span span.now) }
-    ensures { (authors : List AuthorValue) (text : List ℕ)
+    ensures { (authors : List author.Author) (text : List ℕ)
         → AllByRecursion (IsWithin (length authors) (length text)) tree.now.items
         → result ≡ list_all (λ s. has_stamp character_of (cells_of authors text tree.now.items) s)
         (span_stamps span.now) }
@@ -42,9 +40,9 @@ fn has_span(tree: &WeightTree<Block>, index: &IdentIndex, span: &Span) -> bool
 pub fn has_spans(tree: &WeightTree<Block>, index: &IdentIndex, spans: &[Span]) -> bool
     requires kept { IsKept index.now tree.now.items }
     requires checked { IsTrue (list_all is_span spans.now) }
-    ensures { (authors : List AuthorValue) (text : List ℕ)
+    ensures { (authors : List author.Author) (text : List ℕ)
         → AllByRecursion (IsWithin (length authors) (length text)) tree.now.items
-        → result ≡ holds_spans character_of (cells_of authors text tree.now.items) spans.now }
+        → result ≡ log.has_spans character_of (cells_of authors text tree.now.items) spans.now }
 {
     for span in spans {
         if !has_span(tree, index, span) {
@@ -59,7 +57,6 @@ fn cut_span(
     alloc: Global,
     tree: &mut WeightTree<Block>,
     index: &mut IdentIndex,
-    respacings: &mut u64,
     span: &Span,
 ) -> Result<(), Refusal>
     requires kept { IsKept index.old tree.old.items }
@@ -70,13 +67,10 @@ fn cut_span(
     ensures cut { OnOk result (IsCutOut index.new span.now) }
     ensures memory { IfErr result (λ e. e ≡ Refusal.Memory) }
     ensures more { length tree.new.items ≤ length tree.old.items + 2 }
-    ensures labelled { Labelled tree.old.items respacings.old tree.new.items respacings.new }
-    ensures counts { respacings.old ≤ respacings.new }
-    ensures few { respacings.new ≤ respacings.old + 2 }
 {
-    cut_at(alloc, tree, index, respacings, span.first)?;
+    cut_at(alloc, tree, index, span.first)?;
     match Stamp::new(span.first.counter() + span.len, span.first.replica()) {
-        Ok(end) => cut_at(alloc, tree, index, respacings, end),
+        Ok(end) => cut_at(alloc, tree, index, end),
         Err(_) => Ok(()),
     }
 }
@@ -86,7 +80,6 @@ pub fn cut_spans(
     alloc: Global,
     tree: &mut WeightTree<Block>,
     index: &mut IdentIndex,
-    respacings: &mut u64,
     spans: &[Span],
 ) -> Result<(), Refusal>
     requires kept { IsKept index.old tree.old.items }
@@ -96,12 +89,9 @@ pub fn cut_spans(
     ensures cut { OnOk result (AllByRecursion (IsCutOut index.new) spans.now) }
     ensures memory { IfErr result (λ e. e ≡ Refusal.Memory) }
     ensures more { length tree.new.items ≤ length tree.old.items + 2 * length spans.now }
-    ensures labelled { Labelled tree.old.items respacings.old tree.new.items respacings.new }
-    ensures counts { respacings.old ≤ respacings.new }
-    ensures few { respacings.new ≤ respacings.old + 2 * length spans.now }
 {
     for span in spans {
-        cut_span(alloc, tree, index, respacings, span)?;
+        cut_span(alloc, tree, index, span)?;
     }
     Ok(())
 }

@@ -11,7 +11,7 @@ ghost use Rattle.block_seq.specs.Rows.{IsCutOut, IsDated, killed, hidden_len, sp
 use blocks::{Block, find_block, kill};
 use ident_index::IdentIndex;
 use pad_model::{Span, Stamp};
-use slides::Slide;
+use text_history::Slide;
 use weight_tree::WeightTree;
 
 /// How many stamps a step along a span has passed, and how many characters have died there.

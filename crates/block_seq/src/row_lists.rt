@@ -3,7 +3,7 @@
 ghost use Rattle.std.specs.Prelude.{◌≡◌, ◌+◌, ◌≤◌, ◌<◌, ℕ, Some, List, length, sum_by, flat_map, take, drop, slice_get, IfOk, OnOk};
 ghost use Rattle.std.specs.List.{AllByRecursion};
 ghost use Rattle.pad_model.specs.Views.{IsViewOf};
-ghost use Rattle.pad_model.specs.Visible.{runs as runs_of_authors, spans as spans_of_stamps};
+ghost use Rattle.pad_model.specs.Visible as visible;
 ghost use Rattle.pad_model.specs.declared.limits.TheConstants.{MAX_CHARACTERS};
 ghost use Rattle.blocks.specs.Blocks.{IsSized};
 ghost use Rattle.blocks.specs.Cells.{IsWithin, block_cells, cells_of};
@@ -46,7 +46,7 @@ pub fn read_authors(
     requires sized { AllByRecursion IsSized tree.now.items }
     requires small { sum_by (λ b. b.len) tree.now.items ≤ MAX_CHARACTERS }
     ensures { IfOk result (λ runs. runs.items
-        ≡ runs_of_authors (flat_map (shown_by rev authors.now) tree.now.items)) }
+        ≡ visible.runs (flat_map (shown_by rev authors.now) tree.now.items)) }
 {
     let mut runs = Vec::new(alloc);
     for block in tree.iter() {

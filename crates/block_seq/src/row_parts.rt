@@ -4,7 +4,7 @@ ghost use Rattle.std.specs.List.{AllByRecursion, list_all};
 ghost use Rattle.pad_model.specs.Cell.{character_of};
 ghost use Rattle.pad_model.specs.Parts.{part_fits, part_runs, part_spans, runs_in, spans_in};
 ghost use Rattle.pad_model.specs.declared.limits.TheConstants.{MAX_CHARACTERS};
-ghost use Rattle.pad_model.specs.declared.who.Author.{Author as AuthorValue};
+ghost use Rattle.pad_model.specs.declared.who.Author as author;
 ghost use Rattle.blocks.specs.Blocks.{IsKept};
 ghost use Rattle.blocks.specs.Cells.{cells_of, IsWithin};
 ghost use Rattle.block_seq.specs.KeptParts.{are_part_spans};
@@ -21,7 +21,7 @@ use weight_tree::WeightTree;
 fn one_fits(tree: &WeightTree<Block>, index: &IdentIndex, part: &Part) -> bool
     requires kept { IsKept index.now tree.now.items }
     requires checked { IsTrue (are_part_spans part.now) }
-    ensures { (authors : List AuthorValue) (text : List ℕ)
+    ensures { (authors : List author.Author) (text : List ℕ)
         → AllByRecursion (IsWithin (length authors) (length text)) tree.now.items
         → result ≡ part_fits character_of (cells_of authors text tree.now.items) part.now }
 {
@@ -36,7 +36,7 @@ fn one_fits(tree: &WeightTree<Block>, index: &IdentIndex, part: &Part) -> bool
 pub fn parts_fit(tree: &WeightTree<Block>, index: &IdentIndex, parts: &[Part]) -> bool
     requires kept { IsKept index.now tree.now.items }
     requires checked { IsTrue (list_all are_part_spans parts.now) }
-    ensures { (authors : List AuthorValue) (text : List ℕ)
+    ensures { (authors : List author.Author) (text : List ℕ)
         → AllByRecursion (IsWithin (length authors) (length text)) tree.now.items
         → result ≡ list_all (part_fits character_of (cells_of authors text tree.now.items))
         parts.now }

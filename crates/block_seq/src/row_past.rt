@@ -1,10 +1,10 @@
 //! What the blocks showed at a revision, by the slides since it: a step for each of these, and not for each block.
 ghost use Rattle.std.specs.Prelude.{◌≡◌, ◌+◌, ◌<◌, ◌≤◌, length, sum_by, flat_map, take, drop, slice_get, Some, is_none, nat_lt, if◌then◌else◌, IfOk, MatchOption};
 ghost use Rattle.std.specs.List.{AllByRecursion};
-ghost use Rattle.pad_model.specs.Visible.{spans as spans_of_stamps};
+ghost use Rattle.pad_model.specs.Visible as visible_spec;
 ghost use Rattle.pad_model.specs.declared.limits.TheConstants.{MAX_CHARACTERS};
 ghost use Rattle.blocks.specs.Blocks.{IsKept, IsSized, weight_of};
-ghost use Rattle.blocks.specs.declared.block.Block.{Block as BlockValue};
+ghost use Rattle.blocks.specs.declared.block.Block as block_spec;
 ghost use Rattle.block_seq.specs.RowLists.{IsSeenAt, shown_front, shown_stamps};
 ghost use Rattle.block_seq.specs.RowSlides.{IsSlid, live_stamps};
 ghost use Rattle.block_seq.specs.Rows.{IsDated, shown_len, stamp_in};
@@ -14,8 +14,8 @@ use crate::row_readers::{is_at_most, visible_len};
 use blocks::{Block, Spot, find_block};
 use ident_index::IdentIndex;
 use pad_model::{Span, Stamp};
-use slides::{Carried, Slide, carry, count_before, since};
 use std::alloc::{AllocError, Global};
+use text_history::{Carried, Slide, carry, count_before, since};
 use weight_tree::WeightTree;
 
 /// The blocks of a row, the index of their stamps, what came and went among them, and the last revision that changed
@@ -89,7 +89,7 @@ pub fn read_spans(
     requires kept { IsKept row.index.now row.tree.now.items }
     requires slid { IsSlid row.slides.now row.tree.now.items }
     ensures { IfOk result (λ spans. spans.items
-        ≡ spans_of_stamps (take len (drop at
+        ≡ visible_spec.spans (take len (drop at
         (flat_map (shown_stamps rev) row.entry.tree.now.items)))) }
 {
     let mut spans = Vec::new(alloc);
@@ -120,7 +120,7 @@ fn count_alive(tree: &WeightTree<Block>, spot: Spot) -> u64
     requires within { spot.rank < length tree.now.items }
     requires inside { spot.offset ≤ MAX_CHARACTERS }
     requires small { sum_by (λ b. b.len) tree.now.items ≤ MAX_CHARACTERS }
-    ensures { (b : BlockValue) → slice_get tree.now.items spot.rank ≡ Some b
+    ensures { (b : block_spec.Block) → slice_get tree.now.items spot.rank ≡ Some b
         → result ≡ sum_by weight_of (take spot.rank tree.now.items)
         + (if is_none b.died then spot.offset else 0) }
 {
@@ -186,9 +186,9 @@ fn stood_before(row: PastRow<'_>, rev: u64, place: u64, spot: Spot) -> bool
     requires kept { IsKept row.index.now row.tree.now.items }
     requires slid { IsSlid row.slides.now row.tree.now.items }
     requires there { place < sum_by (shown_len rev) row.tree.now.items }
-    requires inside { (b : BlockValue) → slice_get row.tree.now.items spot.rank ≡ Some b
+    requires inside { (b : block_spec.Block) → slice_get row.tree.now.items spot.rank ≡ Some b
         → spot.offset ≤ b.len }
-    ensures { (b : BlockValue) → slice_get row.entry.tree.now.items spot.rank ≡ Some b
+    ensures { (b : block_spec.Block) → slice_get row.entry.tree.now.items spot.rank ≡ Some b
         → result ≡ nat_lt place (shown_front rev row.entry.tree.now.items spot.rank spot.offset b) }
 {
     match find_spot(row, rev, place) {
@@ -204,9 +204,9 @@ pub fn count_front(row: PastRow<'_>, spot: Spot, rev: u64) -> u64
     requires slid { IsSlid row.slides.now row.tree.now.items }
     requires dated { AllByRecursion (IsDated row.latest) row.tree.now.items }
     requires within { spot.rank < length row.tree.now.items }
-    requires inside { (b : BlockValue) → slice_get row.tree.now.items spot.rank ≡ Some b
+    requires inside { (b : block_spec.Block) → slice_get row.tree.now.items spot.rank ≡ Some b
         → spot.offset ≤ b.len }
-    ensures { (b : BlockValue) → slice_get row.entry.tree.now.items spot.rank ≡ Some b
+    ensures { (b : block_spec.Block) → slice_get row.entry.tree.now.items spot.rank ≡ Some b
         → result ≡ shown_front rev row.entry.tree.now.items spot.rank spot.offset b }
 {
     let alive = count_alive(row.tree, spot);

@@ -6,7 +6,7 @@ ghost use Rattle.pad_model.specs.Pieces.{fewest, old_len};
 ghost use Rattle.pad_model.specs.declared.limits.TheConstants.{MAX_CHARACTERS, MAX_COUNTER};
 ghost use Rattle.ident_index.specs.Index.{Covers};
 ghost use Rattle.blocks.specs.Blocks.{IsKept, weight_of};
-ghost use Rattle.blocks.specs.declared.block.Block.{Block as BlockValue};
+ghost use Rattle.blocks.specs.declared.block.Block as block_spec;
 ghost use Rattle.blocks.specs.Cells.{IsWithin};
 ghost use Rattle.block_seq.specs.PieceLists.{block_pieces, with_pieces};
 ghost use Rattle.block_seq.specs.RowPieces.{HasTouched, kept_pieces};
@@ -18,8 +18,8 @@ use crate::row_view::KeptRow;
 use blocks::{Block, find_block};
 use ident_index::IdentIndex;
 use pad_model::{Author, Piece};
-use slides::{Slide, since};
 use std::alloc::{AllocError, Global};
+use text_history::{Slide, since};
 use weight_tree::WeightTree;
 
 /// Adds what became of a block.
@@ -80,7 +80,7 @@ fn add_ranks(
     requires within { AllByRecursion (λ r. r < length tree.now.items) ranks.old.items }
     ensures within { AllByRecursion (λ r. r < length tree.now.items) ranks.new.items }
     ensures more { OnOk result ((r : ℕ) → Contains ranks.old.items r → Contains ranks.new.items r) }
-    ensures there { OnOk result ((r : ℕ) (b : BlockValue) → slice_get tree.now.items r ≡ Some b
+    ensures there { OnOk result ((r : ℕ) (b : block_spec.Block) → slice_get tree.now.items r ≡ Some b
         → Covers slide.now.first slide.now.len b.first → Contains ranks.new.items r) }
 {
     let mut offset = 0;

@@ -1,6 +1,5 @@
 //! What the blocks show at a revision, by one walk along the tree.
 ghost use Rattle.std.specs.Prelude.{◌≡◌, ℕ, ◌+◌, ◌≤◌, ◌++◌, [], ◌-◌, length, sum_by, flat_map, fold, max, IfOk, ◌<◌, Some, take, slice_get, if◌then◌else◌, nat_lt, nat_le, ◌==◌, ◌&&◌, ◌||◌};
-ghost use Rattle.blocks.specs.declared.block.Block.{Block as BlockValue};
 ghost use Rattle.std.specs.List.{AllByRecursion};
 ghost use Rattle.blocks.specs.Cells.{IsWithin};
 ghost use Rattle.block_seq.specs.Rows.{IsDated, shows, shown_len, shown_stretch, stamp_in};

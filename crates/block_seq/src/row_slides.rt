@@ -1,12 +1,11 @@
 //! Slides of a row of blocks: how many may come, and the one of a run.
 ghost use Rattle.std.specs.Prelude.{◌≡◌, ◌+◌, ◌≤◌, ◌<◌, ◌++◌, ◌∷◌, [], length, min, vec_len, vec_capacity};
 ghost use Rattle.pad_model.specs.declared.limits.TheConstants.{MAX_CHARACTERS};
-ghost use Rattle.slides.specs.Slide.{Slide as SlideValue};
 ghost use Rattle.block_seq.specs.RowSlides.{live_blocks, named_len, slide_of};
 
 use blocks::Block;
 use pad_model::{Run, Span};
-use slides::Slide;
+use text_history::Slide;
 use weight_tree::WeightTree;
 
 /// How many stamps the spans name together, at most `u64::MAX`.

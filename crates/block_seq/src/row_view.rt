@@ -5,7 +5,7 @@ ghost use Rattle.pad_model.specs.Visible.{same_author};
 ghost use Rattle.ident_index.specs.Index.{Index};
 ghost use Rattle.blocks.specs.Blocks.{IsKept};
 ghost use Rattle.blocks.specs.Cells.{cells_of, IsWithin};
-ghost use Rattle.blocks.specs.declared.block.Block.{Block as BlockValue};
+ghost use Rattle.blocks.specs.declared.block.Block as block;
 ghost use Rattle.block_seq.specs.Rows.{IsRowOf};
 
 use crate::rows::BlockSeq;
@@ -61,18 +61,9 @@ impl BlockSeq {
         &self.index
     }
 
-    /// How many times blocks got new labels because one was sought where none was free: those of a window, or all. It stops
-    /// at `u64::MAX`. What a call cuts or labels before memory is refused stays, so that is counted too.
-    pub fn respaced(&self) -> u64
-        ensures { result ≡ self.now.respaced }
-    {
-        let _kept = &self.tree;
-        self.respaced
-    }
-
     /// How many blocks there are. An edit adds at most two for each insertion and each span of a deletion.
     pub fn blocks(&self) -> u64
-        ensures row { (m : Index) × (bs : List BlockValue) × IsRowOf self.now.cells m bs
+        ensures row { (m : Index) × (bs : List block.Block) × IsRowOf self.now.cells m bs
             × (result ≡ length bs) }
         ensures number { result ≡ self.now.blocks }
     {

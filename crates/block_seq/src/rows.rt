@@ -1,13 +1,16 @@
 //! The sequence of blocks: a balanced tree of them, an index of their stamps, and one text that they only add to.
-ghost use Rattle.std.specs.Prelude.{◌≡◌, ◌+◌, ◌≤◌, [], IsTrue, MatchResult, Ok, IfOk, count_by, length, map, sum_by};
+ghost use Rattle.std.specs.Prelude.{◌≡◌, ◌+◌, ◌*◌, ◌≤◌, [], IsTrue, MatchResult, Ok, count_by, length, map, sum_by};
 ghost use Rattle.std.specs.List.{AllByRecursion, list_all};
 ghost use Rattle.pad_model.specs.Answers.{Answers};
-ghost use Rattle.pad_model.specs.Cell.{IsBy, character_of, delete_spans as delete_cells, insert_run as insert_cells, is_hidden_by, with_run, without_spans};
+ghost use Rattle.pad_model.specs.Cell.{IsBy, character_of, is_hidden_by, with_run, without_spans};
+ghost use Rattle.pad_model.specs.Cell as cell;
 ghost use Rattle.pad_model.specs.Checked.{are_parts, is_edit, is_run, is_span};
-ghost use Rattle.pad_model.specs.Log.{has_spans as holds_spans, run_may_join};
-ghost use Rattle.pad_model.specs.Parts.{AllJoin, apply as apply_parts, with_all};
+ghost use Rattle.pad_model.specs.Log.{run_may_join};
+ghost use Rattle.pad_model.specs.Log as log;
+ghost use Rattle.pad_model.specs.Parts.{AllJoin, with_all};
+ghost use Rattle.pad_model.specs.Parts as parts_spec;
 ghost use Rattle.pad_model.specs.declared.limits.TheConstants.{MAX_CHARACTERS};
-ghost use Rattle.block_seq.specs.RowParts.{IsCounted, count_changes};
+ghost use Rattle.block_seq.specs.RowParts.{count_changes};
 
 use crate::authors::place_author;
 use crate::parts::count_inserted;
@@ -27,12 +30,12 @@ use authorship::RunTree;
 use blocks::{Block, Spot, find_block};
 use ident_index::IdentIndex;
 use pad_model::{
-    Author, AuthorRun, CellView, MAX_CHARACTERS, Part, Piece, Refusal, Row, Run, Sequence, Span,
+    Author, AuthorRun, CellView, Items, MAX_CHARACTERS, Part, Piece, Refusal, Run, Sequence, Span,
     Stamp, Text,
 };
-use slides::Slide;
 use std::alloc::Global;
 use std::marker::Model;
+use text_history::Slide;
 use weight_tree::WeightTree;
 
 /// A text in blocks.
@@ -50,8 +53,6 @@ pub struct BlockSeq {
     latest: u64,
     /// The greatest counter of any character, or 0.
     clock: u64,
-    /// How many times blocks got new labels, of one window or of all.
-    pub(crate) respaced: u64,
 }
 
 impl Model for BlockSeq {
@@ -61,7 +62,7 @@ impl Model for BlockSeq {
 
     ghost use Rattle.block_seq.specs.RowAuthors.{IsAuthoredRow};
 
-    ghost view = { λ s. cells_in s.authors.items s.text.items s.tree.items s.respaced };
+    ghost view = { λ s. cells_in s.authors.items s.text.items s.tree.items };
 
     ghost invariant = { λ s. IsAuthoredRow s.latest s.clock s.authors.items s.text.items
         s.slides.items s.index s.tree.items s.runs.places };
@@ -78,7 +79,7 @@ impl BlockSeq {
         rev: u64,
     ) -> Result<u64, Refusal>
         requires spans { IsTrue (list_all is_span spans.now) }
-        requires there { IsTrue (holds_spans character_of self.old.cells spans.now) }
+        requires there { IsTrue (log.has_spans character_of self.old.cells spans.now) }
         requires runs { IsTrue (list_all (λ run. is_run author.now.origin run.now) runs.now) }
         requires fit { IsTrue (list_all (λ run. run_may_join character_of self.old.cells
             run.now.first run.now.after) runs.now) }
@@ -91,13 +92,12 @@ impl BlockSeq {
           with_all rev author.now (without_spans rev spans.now self.old.cells)
               (map (λ run. run.now) runs.now),
         ) result self.new.cells }
-        ensures counted { IsCounted (length runs.now + length spans.now) result self.old self.new }
+        ensures blocks { self.new.blocks
+            ≤ self.old.blocks + 2 * (length runs.now + length spans.now) }
     {
         self.runs.reserve(alloc, runs.len() as u64)?;
-        let counted = &mut self.respaced;
-        cut_spans(alloc, &mut self.tree, &mut self.index, counted, spans)?;
-        let counted = &mut self.respaced;
-        cut_parents(alloc, &mut self.tree, &mut self.index, counted, runs)?;
+        cut_spans(alloc, &mut self.tree, &mut self.index, spans)?;
+        cut_parents(alloc, &mut self.tree, &mut self.index, runs)?;
         let author = place_author(&mut self.authors, author)?;
         self.text.reserve(count_text(runs))?;
         let kills = count_kills(&self.tree, spans);
@@ -112,7 +112,6 @@ impl BlockSeq {
         let clock = put_runs(
             &mut self.tree,
             &mut self.index,
-            &mut self.respaced,
             &mut self.text,
             &mut self.slides,
             runs,
@@ -136,7 +135,7 @@ impl BlockSeq {
         requires latest { AllByRecursion (IsBy rev) self.old.cells }
         ensures answers { Answers self.old.cells
             (Ok tt, with_run rev run.now author.now self.old.cells) result self.new.cells }
-        ensures counted { IsCounted 1 result self.old self.new }
+        ensures blocks { self.new.blocks ≤ self.old.blocks + 2 }
     {
         self.change(alloc, &[], &[run], author, rev)?;
         Ok(())
@@ -145,16 +144,15 @@ impl BlockSeq {
     /// Erases the characters of the spans.
     fn erase(&mut self, alloc: Global, spans: &[Span], rev: u64) -> Result<u64, Refusal>
         requires checked { IsTrue (list_all is_span spans.now) }
-        requires there { IsTrue (holds_spans character_of self.old.cells spans.now) }
+        requires there { IsTrue (log.has_spans character_of self.old.cells spans.now) }
         requires latest { AllByRecursion (IsBy rev) self.old.cells }
         ensures answers { Answers self.old.cells (
           Ok (count_by (is_hidden_by spans.now) self.old.cells),
           without_spans rev spans.now self.old.cells,
         ) result self.new.cells }
-        ensures counted { IsCounted (length spans.now) result self.old self.new }
+        ensures blocks { self.new.blocks ≤ self.old.blocks + 2 * length spans.now }
     {
-        let counted = &mut self.respaced;
-        cut_spans(alloc, &mut self.tree, &mut self.index, counted, spans)?;
+        cut_spans(alloc, &mut self.tree, &mut self.index, spans)?;
         let kills = count_kills(&self.tree, spans);
         self.slides.reserve(kills)?;
         let known = self.slides.len();
@@ -168,10 +166,7 @@ impl BlockSeq {
 impl Sequence for BlockSeq {
     ghost cells = { λ s. s.cells };
 
-    fn empty(alloc: Global) -> Result<BlockSeq, Refusal>
-        ensures empty { MatchResult result (λ s. s.cells ≡ []) (λ e. e ≡ Refusal.Memory) }
-        ensures uncounted { IfOk result (λ s. s.respaced ≡ 0) }
-    {
+    fn empty(alloc: Global) -> Result<BlockSeq, Refusal> {
         Ok(BlockSeq {
             tree: WeightTree::new(),
             index: IdentIndex::new(alloc),
@@ -180,7 +175,6 @@ impl Sequence for BlockSeq {
             slides: Vec::new(alloc),
             latest: 0,
             clock: 0,
-            respaced: 0,
             runs: RunTree::new(alloc),
         })
     }
@@ -195,8 +189,8 @@ impl Sequence for BlockSeq {
         requires checked { IsTrue (is_run author.now.origin run.now) }
         requires latest { AllByRecursion (IsBy rev) self.old.cells }
         ensures answers { Answers self.old.cells
-            (insert_cells rev run.now author.now self.old.cells) result self.new.cells }
-        ensures counted { IsCounted 1 result self.old self.new }
+            (cell.insert_run rev run.now author.now self.old.cells) result self.new.cells }
+        ensures blocks { self.new.blocks ≤ self.old.blocks + 2 }
     {
         if !run_fits(&self.tree, &self.index, run.first, run.after) {
             return Err(Refusal::PeerFault);
@@ -210,9 +204,9 @@ impl Sequence for BlockSeq {
     fn delete_spans(&mut self, spans: &[Span], rev: u64) -> Result<u64, Refusal>
         requires checked { IsTrue (list_all is_span spans.now) }
         requires latest { AllByRecursion (IsBy rev) self.old.cells }
-        ensures answers { Answers self.old.cells (delete_cells rev spans.now self.old.cells) result
+        ensures answers { Answers self.old.cells (cell.delete_spans rev spans.now self.old.cells) result
             self.new.cells }
-        ensures counted { IsCounted (length spans.now) result self.old self.new }
+        ensures blocks { self.new.blocks ≤ self.old.blocks + 2 * length spans.now }
     {
         if !has_spans(&self.tree, &self.index, spans) {
             return Err(Refusal::PeerFault);
@@ -232,8 +226,8 @@ impl Sequence for BlockSeq {
         requires edits { IsTrue (list_all is_edit parts.now) }
         requires latest { AllByRecursion (IsBy rev) self.old.cells }
         ensures answers { Answers self.old.cells
-            (apply_parts rev parts.now author.now self.old.cells) result self.new.cells }
-        ensures counted { IsCounted (count_changes parts.now) result self.old self.new }
+            (parts_spec.apply rev parts.now author.now self.old.cells) result self.new.cells }
+        ensures blocks { self.new.blocks ≤ self.old.blocks + 2 * count_changes parts.now }
     {
         if !parts_fit(&self.tree, &self.index, parts) {
             return Err(Refusal::PeerFault);
@@ -270,32 +264,32 @@ impl Sequence for BlockSeq {
         Ok(Text::from_vec(read_text(alloc, &self.tree, text, self.authors.len(), rev)?))
     }
 
-    fn authors_at(&self, alloc: Global, rev: u64) -> Result<Row<AuthorRun>, Refusal> {
+    fn authors_at(&self, alloc: Global, rev: u64) -> Result<Items<AuthorRun>, Refusal> {
         let authors = self.authors.as_slice();
         if self.latest <= rev {
-            return Ok(Row::from_vec(self.runs.author_runs(alloc, authors)?));
+            return Ok(Items::from_vec(self.runs.author_runs(alloc, authors)?));
         }
-        Ok(Row::from_vec(read_authors(alloc, &self.tree, authors, self.text.len(), rev)?))
+        Ok(Items::from_vec(read_authors(alloc, &self.tree, authors, self.text.len(), rev)?))
     }
 
-    fn changes(&self, alloc: Global, rev: u64, to: u64) -> Result<Row<Piece>, Refusal> {
+    fn changes(&self, alloc: Global, rev: u64, to: u64) -> Result<Items<Piece>, Refusal> {
         let row = KeptRow {
             tree: &self.tree,
             index: &self.index,
             text: self.text.as_slice(),
             authors: self.authors.as_slice(),
         };
-        Ok(Row::from_vec(list_pieces(alloc, row, self.slides.as_slice(), rev, to)?))
+        Ok(Items::from_vec(list_pieces(alloc, row, self.slides.as_slice(), rev, to)?))
     }
 
-    fn spans_at(&self, alloc: Global, rev: u64, at: u64, len: u64) -> Result<Row<Span>, Refusal> {
+    fn spans_at(&self, alloc: Global, rev: u64, at: u64, len: u64) -> Result<Items<Span>, Refusal> {
         let row = PastRow {
             tree: &self.tree,
             index: &self.index,
             slides: self.slides.as_slice(),
             latest: self.latest,
         };
-        Ok(Row::from_vec(read_spans(alloc, row, rev, at, len)?))
+        Ok(Items::from_vec(read_spans(alloc, row, rev, at, len)?))
     }
 
     fn before(&self, stamp: Stamp, rev: u64) -> Option<u64> {

@@ -4,10 +4,9 @@ ghost use Rattle.std.specs.List.{AllByRecursion, list_all};
 ghost use Rattle.pad_model.specs.Cell.{character_of};
 ghost use Rattle.pad_model.specs.Legal.{has_stamp, has_parent, counter_of};
 ghost use Rattle.pad_model.specs.Log.{run_may_join};
-ghost use Rattle.pad_model.specs.declared.who.Author.{Author as AuthorValue};
+ghost use Rattle.pad_model.specs.declared.who.Author as author;
 ghost use Rattle.ident_index.specs.Index.{stamp_behind};
 ghost use Rattle.blocks.specs.Blocks.{IsEdge, IsKept, KeepsEdges};
-ghost use Rattle.blocks.specs.Counts.{Labelled};
 ghost use Rattle.blocks.specs.Cells.{cells_of, IsWithin, SameCells};
 ghost use Rattle.block_seq.specs.RowParts.{IsCutBehind};
 ghost use Rattle.block_seq.specs.Rows.{IsBehind, StartsAt, IsPlaceFor, passes};
@@ -21,7 +20,7 @@ use weight_tree::WeightTree;
 /// Whether a character is there. The index alone tells: no block is looked up.
 pub fn has_character(tree: &WeightTree<Block>, index: &IdentIndex, stamp: Stamp) -> bool
     requires { IsKept index.now tree.now.items }
-    ensures { (authors : List AuthorValue) (text : List ℕ)
+    ensures { (authors : List author.Author) (text : List ℕ)
         → AllByRecursion (IsWithin (length authors) (length text)) tree.now.items
         → result ≡ has_stamp character_of (cells_of authors text tree.now.items) stamp }
 {
@@ -37,7 +36,7 @@ fn hangs_below(
     counter: u64,
 ) -> bool
     requires { IsKept index.now tree.now.items }
-    ensures { (authors : List AuthorValue) (text : List ℕ)
+    ensures { (authors : List author.Author) (text : List ℕ)
         → AllByRecursion (IsWithin (length authors) (length text)) tree.now.items
         → result ≡ (has_parent character_of (cells_of authors text tree.now.items) parent
         && nat_lt (counter_of parent) counter) }
@@ -51,7 +50,7 @@ fn hangs_below(
 /// Whether all characters of a stamp's replica have smaller counters.
 fn is_above(tree: &WeightTree<Block>, index: &IdentIndex, first: Stamp) -> bool
     requires { IsKept index.now tree.now.items }
-    ensures { (authors : List AuthorValue) (text : List ℕ)
+    ensures { (authors : List author.Author) (text : List ℕ)
         → AllByRecursion (IsWithin (length authors) (length text)) tree.now.items
         → result ≡ list_all (λ c. not (c.stamp.replica == first.replica)
         || nat_lt c.stamp.counter first.counter) (cells_of authors text tree.now.items) }
@@ -69,7 +68,7 @@ pub fn run_fits(
     parent: Option<Stamp>,
 ) -> bool
     requires { IsKept index.now tree.now.items }
-    ensures { (authors : List AuthorValue) (text : List ℕ)
+    ensures { (authors : List author.Author) (text : List ℕ)
         → AllByRecursion (IsWithin (length authors) (length text)) tree.now.items
         → result ≡ run_may_join character_of (cells_of authors text tree.now.items) first parent }
 {
@@ -95,7 +94,6 @@ pub fn cut_parent(
     alloc: Global,
     tree: &mut WeightTree<Block>,
     index: &mut IdentIndex,
-    respacings: &mut u64,
     first: Stamp,
     parent: Option<Stamp>,
 ) -> Result<(), Refusal>
@@ -107,14 +105,11 @@ pub fn cut_parent(
     ensures cut { OnOk result (IsCutBehind index.new parent) }
     ensures memory { IfErr result (λ e. e ≡ Refusal.Memory) }
     ensures more { length tree.new.items ≤ length tree.old.items + 1 }
-    ensures labelled { Labelled tree.old.items respacings.old tree.new.items respacings.new }
-    ensures counts { respacings.old ≤ respacings.new }
-    ensures few { respacings.new ≤ respacings.old + 1 }
 {
     let _limit = first.counter();
     match parent {
         None => Ok(()),
-        Some(stamp) => cut_at(alloc, tree, index, respacings, stamp.plus(1)),
+        Some(stamp) => cut_at(alloc, tree, index, stamp.plus(1)),
     }
 }
 
@@ -123,7 +118,6 @@ pub fn cut_parents(
     alloc: Global,
     tree: &mut WeightTree<Block>,
     index: &mut IdentIndex,
-    respacings: &mut u64,
     runs: &[&Run],
 ) -> Result<(), Refusal>
     requires kept { IsKept index.old tree.old.items }
@@ -136,12 +130,9 @@ pub fn cut_parents(
         runs.now) }
     ensures memory { IfErr result (λ e. e ≡ Refusal.Memory) }
     ensures more { length tree.new.items ≤ length tree.old.items + length runs.now }
-    ensures labelled { Labelled tree.old.items respacings.old tree.new.items respacings.new }
-    ensures counts { respacings.old ≤ respacings.new }
-    ensures few { respacings.new ≤ respacings.old + length runs.now }
 {
     for run in runs {
-        cut_parent(alloc, tree, index, respacings, run.first, run.after)?;
+        cut_parent(alloc, tree, index, run.first, run.after)?;
     }
     Ok(())
 }
@@ -150,7 +141,7 @@ pub fn cut_parents(
 fn rank_behind(tree: &WeightTree<Block>, index: &IdentIndex, stamp: Stamp) -> usize
     requires kept { IsKept index.now tree.now.items }
     requires cut { IsEdge index.now (stamp_behind stamp 1) }
-    ensures behind { (authors : List AuthorValue) (text : List ℕ)
+    ensures behind { (authors : List author.Author) (text : List ℕ)
         → AllByRecursion (IsWithin (length authors) (length text)) tree.now.items
         → has_stamp character_of (cells_of authors text tree.now.items) stamp ≡ true
         → IsBehind tree.now.items stamp result }
@@ -166,7 +157,7 @@ fn rank_behind(tree: &WeightTree<Block>, index: &IdentIndex, stamp: Stamp) -> us
 fn start_run(tree: &WeightTree<Block>, index: &IdentIndex, parent: Option<Stamp>) -> usize
     requires kept { IsKept index.now tree.now.items }
     requires cut { IsCutBehind index.now parent }
-    ensures start { (authors : List AuthorValue) (text : List ℕ)
+    ensures start { (authors : List author.Author) (text : List ℕ)
         → AllByRecursion (IsWithin (length authors) (length text)) tree.now.items
         → has_parent character_of (cells_of authors text tree.now.items) parent ≡ true
         → StartsAt parent tree.now.items result }
@@ -187,7 +178,7 @@ pub fn find_place(
 ) -> usize
     requires kept { IsKept index.now tree.now.items }
     requires cut { IsCutBehind index.now parent }
-    ensures place { (authors : List AuthorValue) (text : List ℕ)
+    ensures place { (authors : List author.Author) (text : List ℕ)
         → AllByRecursion (IsWithin (length authors) (length text)) tree.now.items
         → has_parent character_of (cells_of authors text tree.now.items) parent ≡ true
         → IsPlaceFor parent first tree.now.items result }

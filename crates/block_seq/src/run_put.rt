@@ -3,16 +3,16 @@ ghost use Rattle.std.specs.Prelude.{◌≡◌, ℕ, ◌+◌, ◌-◌, ◌≤◌,
 ghost use Rattle.std.specs.List.{AllByRecursion, list_all, remove};
 ghost use Rattle.pad_model.specs.Cell.{character_of, with_run};
 ghost use Rattle.pad_model.specs.Checked.{is_run, is_span};
-ghost use Rattle.pad_model.specs.Log.{has_spans as holds_spans, run_may_join};
+ghost use Rattle.pad_model.specs.Log.{run_may_join};
+ghost use Rattle.pad_model.specs.Log as log;
 ghost use Rattle.pad_model.specs.Parts.{with_all};
-ghost use Rattle.pad_model.specs.Stamp.{Stamp as StampValue};
+ghost use Rattle.pad_model.specs.Stamp as stamp;
 ghost use Rattle.pad_model.specs.declared.limits.TheConstants.{MAX_CHARACTERS};
-ghost use Rattle.pad_model.specs.declared.op.Span.{Span as SpanValue};
+ghost use Rattle.pad_model.specs.declared.op.Span as span;
 ghost use Rattle.ident_index.specs.Index.{Covers};
 ghost use Rattle.blocks.specs.Blocks.{IsEdge, IsKept, without_labels};
-ghost use Rattle.blocks.specs.Counts.{KeepsLabels, Labelled};
 ghost use Rattle.blocks.specs.Cells.{author_at, cells_of};
-ghost use Rattle.block_seq.specs.RowParts.{AreRanks, IsCutBehind, IsUndone, MayPut, without_ranks};
+ghost use Rattle.block_seq.specs.RowParts.{AreRanks, IsCutBehind, MayPut, without_ranks};
 ghost use Rattle.block_seq.specs.RowAuthors.{Shows};
 ghost use Rattle.block_seq.specs.Rows.{IsCutOut};
 ghost use Rattle.block_seq.specs.RowSlides.{IsSlidRow, live_blocks};
@@ -23,7 +23,7 @@ use crate::run_place::find_place;
 use blocks::{Block, put_block, take_block};
 use ident_index::IdentIndex;
 use pad_model::{Author, Refusal, Run};
-use slides::Slide;
+use text_history::Slide;
 use weight_tree::WeightTree;
 
 /// What the runs of one operation have in common.
@@ -41,7 +41,6 @@ pub struct Batch<'a> {
 fn put_run(
     tree: &mut WeightTree<Block>,
     index: &mut IdentIndex,
-    respacings: &mut u64,
     text: &mut Vec<char>,
     slides: &mut Vec<Slide>,
     run: &Run,
@@ -66,7 +65,7 @@ fn put_run(
     ensures cells { OnOk result (cells_of batch.now.authors.now text.new.items tree.new.items
         ≡ with_run batch.now.rev run.now (author_at batch.now.authors.now batch.now.author)
         (cells_of batch.now.authors.now text.old.items tree.old.items)) }
-    ensures edges { OnOk result ((s : StampValue) → IsEdge index.old s
+    ensures edges { OnOk result ((s : stamp.Stamp) → IsEdge index.old s
         → (Covers run.now.first (length run.now.text) s → run.now.first ≡ s) → IsEdge index.new s) }
     ensures within { IfOk result (λ rank. rank < length (without_labels tree.new.items)) }
     ensures block { IfOk result (λ rank. remove (without_labels tree.new.items) rank
@@ -85,9 +84,6 @@ fn put_run(
         (without_labels tree.new.items ≡ without_labels tree.old.items) }
     ensures same_text { OnErr result (text.new.items ≡ text.old.items) }
     ensures same_slides { OnErr result (slides.new.items ≡ slides.old.items) }
-    ensures labelled { Labelled tree.old.items respacings.old tree.new.items respacings.new }
-    ensures counts { respacings.old ≤ respacings.new }
-    ensures few { respacings.new ≤ respacings.old + 1 }
     ensures memory { IfErr result (λ e. e ≡ Refusal.Memory) }
 {
     let rank = find_place(tree, index, run.first, run.after);
@@ -103,7 +99,7 @@ fn put_run(
         start,
         len: run.text.len() as u64,
     };
-    put_block(*text.allocator(), tree, index, respacings, rank, block)?;
+    put_block(*text.allocator(), tree, index, rank, block)?;
     push_text(text, run.text.as_slice());
     push_shown(slides, batch.rev, at, run);
     Ok(rank)
@@ -116,7 +112,6 @@ fn take_blocks(tree: &mut WeightTree<Block>, index: &mut IdentIndex, ranks: &[us
     ensures kept { IsKept index.new tree.new.items }
     ensures taken { without_labels tree.new.items
         ≡ without_ranks (without_labels tree.old.items) ranks.now }
-    ensures labels { KeepsLabels tree.new.items tree.old.items }
 {
     let mut left = ranks.len();
     while 0 < left {
@@ -130,7 +125,6 @@ fn take_blocks(tree: &mut WeightTree<Block>, index: &mut IdentIndex, ranks: &[us
 pub fn put_runs(
     tree: &mut WeightTree<Block>,
     index: &mut IdentIndex,
-    respacings: &mut u64,
     text: &mut Vec<char>,
     slides: &mut Vec<Slide>,
     runs: &[&Run],
@@ -151,8 +145,8 @@ pub fn put_runs(
         ≡ with_all batch.now.rev (author_at batch.now.authors.now batch.now.author)
         (cells_of batch.now.authors.now text.old.items tree.old.items)
         (map (λ run. run.now) runs.now)) }
-    ensures cut { (spans : List SpanValue)
-        → holds_spans character_of (cells_of batch.now.authors.now text.old.items tree.old.items)
+    ensures cut { (spans : List span.Span)
+        → log.has_spans character_of (cells_of batch.now.authors.now text.old.items tree.old.items)
         spans ≡ true → list_all is_span spans ≡ true → AllByRecursion (IsCutOut index.old) spans
         → OnOk result (AllByRecursion (IsCutOut index.new) spans) }
     ensures slides { OnOk result (vec_len slides.new ≡ vec_len slides.old + length runs.now) }
@@ -167,12 +161,6 @@ pub fn put_runs(
         (without_labels tree.new.items ≡ without_labels tree.old.items) }
     ensures same_text { OnErr result (text.new.items ≡ text.old.items) }
     ensures same_slides { OnErr result (slides.new.items ≡ slides.old.items) }
-    ensures labelled { OnOk result (Labelled tree.old.items respacings.old tree.new.items
-        respacings.new) }
-    ensures undone { OnErr result (IsUndone tree.old.items respacings.old tree.new.items
-        respacings.new) }
-    ensures counts { respacings.old ≤ respacings.new }
-    ensures few { respacings.new ≤ respacings.old + length runs.now }
     ensures memory { IfErr result (λ e. e ≡ Refusal.Memory) }
 {
     let (start, known) = (text.len(), slides.len());
@@ -181,7 +169,7 @@ pub fn put_runs(
     let mut clock = batch.clock;
     for run in runs {
         let next = Batch { clock, ..*batch };
-        match put_run(tree, index, respacings, text, slides, run, &next) {
+        match put_run(tree, index, text, slides, run, &next) {
             Ok(rank) => ranks.push_reserved(rank),
             Err(refusal) => {
                 take_blocks(tree, index, ranks.as_slice());

@@ -3,7 +3,8 @@ ghost use Rattle.std.specs.Prelude.{◌≡◌, ◌≤◌, length, map, IfOk};
 ghost use Rattle.std.specs.List.{prefix_len};
 ghost use Rattle.pad_model.specs.Character.{next};
 ghost use Rattle.pad_model.specs.Stamp.{same_stamp};
-ghost use Rattle.pad_model.specs.Visible.{runs as runs_of_authors, spans as spans_of_stamps, same_author};
+ghost use Rattle.pad_model.specs.Visible.{same_author};
+ghost use Rattle.pad_model.specs.Visible as visible;
 ghost use Rattle.block_seq.specs.KeptParts.{following};
 
 use pad_model::{Author, AuthorRun, Span, Stamp};
@@ -20,7 +21,7 @@ fn count_same(authors: &[&Author], author: &Author) -> usize
 /// The author runs of a list of authors.
 pub fn runs_of(alloc: Global, authors: &[&Author]) -> Result<Vec<AuthorRun>, AllocError>
     ensures { IfOk result (λ runs. runs.items
-        ≡ runs_of_authors (map (λ author. author.now) authors.now)) }
+        ≡ visible.runs (map (λ author. author.now) authors.now)) }
 {
     let mut runs = Vec::new(alloc);
     let mut place = 0;
@@ -62,7 +63,7 @@ fn count_following(first: Stamp, stamps: &[Stamp]) -> usize
 
 /// The spans of a list of stamps.
 pub fn spans_of(alloc: Global, stamps: &[Stamp]) -> Result<Vec<Span>, AllocError>
-    ensures { IfOk result (λ spans. spans.items ≡ spans_of_stamps stamps.now) }
+    ensures { IfOk result (λ spans. spans.items ≡ visible.spans stamps.now) }
 {
     let mut spans = Vec::new(alloc);
     let mut place = 0;

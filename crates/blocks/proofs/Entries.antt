@@ -9,7 +9,7 @@ use Rattle.pad_model.specs.Stamp.{Stamp}
 use Rattle.pad_model.specs.declared.limits.TheConstants.{MAX_CHARACTERS}
 use Rattle.pad_model.proofs.Newer.{split}
 use Rattle.ident_index.specs.Index.{Index, stamp_cmp}
-use Rattle.ident_index.specs.declared.place.Entry.{Entry}
+use Rattle.ident_index.specs.declared.place.BlockEntry.{BlockEntry}
 use Rattle.ident_index.proofs.Order.{same_from_tied, tied, apart_stamps}
 use Rattle.weight_tree.proofs.CallerLemmas.{sum_replaced, sum_replaced_le}
 use Rattle.blocks.specs.declared.block.Block.{Block}
@@ -148,7 +148,7 @@ pub listed_same : (m : Index) (bs : List Block) (i : ℕ) (b c : Block) → IsLi
     c.first ≡ b.first → entry c ≡ entry b → c.start ≡ b.start → IsListed m (slice_set bs i c)
 listed_same m bs i b c k e f same start =
     let was = each_get IsSized bs i b k.sized e in
-    let len : c.len ≡ b.len = ap (λ (x : Entry). x.len) same in
+    let len : c.len ≡ b.len = ap (λ (x : BlockEntry). x.len) same in
     let counters : c.first.counter ≡ b.first.counter = ap (λ (s : Stamp). s.counter) f in
     listed_set m m bs i b c k e f (omega arith, omega arith, omega arith) (omega arith)
     (λ q. sym (ap (λ x. cond (eq_by_cmp stamp_cmp q b.first) (Some x) (get m q)) same
@@ -217,7 +217,7 @@ listed_removed m n bs i b k e changed =
     }
 
 -- a stamp where a block begins, by the index
-pub found_block : (bs : List Block) (s : Stamp) (x : Entry) → entry_of bs s ≡ Some x → (i : ℕ) × (b : Block)
+pub found_block : (bs : List Block) (s : Stamp) (x : BlockEntry) → entry_of bs s ≡ Some x → (i : ℕ) × (b : Block)
     × (slice_get bs i ≡ Some b) × (b.first ≡ s) × (entry b ≡ x)
 found_block [] s x e = absurd (cc)
 found_block (b ∷ bs) s x e =

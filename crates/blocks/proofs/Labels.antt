@@ -155,10 +155,6 @@ Rises-removed low high (x ∷ bs) zero b r e = let first = r.0 in rises_from low
 Rises-removed low high (x ∷ bs) (suc i) b r e = (r.0, Rises-removed x.label high bs i b r.1 e)
 
 -- ---- labels at even steps
-pub Rises-weaker : (step low high : ℕ) (bs : List Block) → 1 ≤ step → Rises step low bs high → Rises 1 low bs high
-Rises-weaker step low high [] s r = omega arith
-Rises-weaker step low high (b ∷ bs) s r = let first = r.0 in (omega arith, Rises-weaker step b.label high bs s r.1)
-
 length-spread : (step low n : ℕ) (bs : List Block) → length (spread step low n bs) ≡ length bs
 length-spread step low zero bs = refl
 length-spread step low (suc n) [] = refl

@@ -9,7 +9,7 @@ use Rattle.std.proofs.Math.ListN.{length-set}
 use Rattle.pad_model.specs.Stamp.{Stamp}
 use Rattle.pad_model.specs.declared.limits.TheConstants.{MAX_CHARACTERS}
 use Rattle.ident_index.specs.Index.{Index, stamp_behind, Covers, Holds, IsSound, IsNew}
-use Rattle.ident_index.specs.declared.place.Entry.{Entry}
+use Rattle.ident_index.specs.declared.place.BlockEntry.{BlockEntry}
 use Rattle.ident_index.proofs.CallerLemmas.{covers_itself, get-from_new}
 use Rattle.ident_index.proofs.Order.{stamp_cmp_total, apart_stamps}
 use Rattle.ident_index.proofs.Sound.{holds_insert, not_tied}
@@ -19,9 +19,7 @@ use Rattle.blocks.specs.declared.block.TheConstants.{LAST_LABEL}
 use Rattle.blocks.specs.Blocks.{entry, entry_of, weight_of, IsSized, IsListed, IsKept, IsEdge, KeepsEdges, below, above}
 use Rattle.blocks.specs.Blocks.{left_part, right_part, without_labels, unlabelled}
 use Rattle.blocks.specs.Cells.{SameCells}
-use Rattle.blocks.specs.Counts.{KeepsLabels}
 use Rattle.blocks.proofs.Cells.{cells-cut, within_cut}
-use Rattle.blocks.proofs.Counts.{keeps_insert, keeps_set, keeps_then}
 use Rattle.blocks.proofs.Entries.{entry_here, entry_set, listed_set, listed_insert, listed_removed, each_get}
 use Rattle.blocks.proofs.Entries.{weights_small, weight-le-len, len_small, count_small}
 use Rattle.blocks.proofs.Labels.{Rises-insert, Rises-removed, Rises-set, below-get, above-set, get-set}
@@ -34,7 +32,7 @@ some_block (Some b) P h = (b, refl, h)
 -- what a block holds, by the index
 pub holds_here : (m : Index) (bs : List Block) (i : ℕ) (b : Block) (s : Stamp) → IsListed m bs → slice_get bs i
     ≡ Some b → Covers b.first b.len s → Holds m b.first s
-holds_here m bs i b s k e covers = subst (λ o. IsSomeAnd o (λ (x : Entry). Covers b.first x.len s))
+holds_here m bs i b s k e covers = subst (λ o. IsSomeAnd o (λ (x : BlockEntry). Covers b.first x.len s))
     (sym (k.index b.first ∙ entry_here bs i b k.apart e)) covers
 
 -- each block of the index is in the row
@@ -43,7 +41,7 @@ pub what_holds : (m : Index) (bs : List Block) (first s : Stamp) → IsListed m 
 what_holds m bs first s k held =
     let some = Rattle.ident_index.proofs.Sound.some_entry (get m first) (λ e. Covers first e.len s) held in
     let found = Rattle.blocks.proofs.Entries.found_block bs first some.0 (sym (k.index first) ∙ some.1) in
-    let len : some.0.len ≡ found.1.len = sym (ap (λ (e : Entry). e.len) found.4) in (
+    let len : some.0.len ≡ found.1.len = sym (ap (λ (e : BlockEntry). e.len) found.4) in (
       found.0,
       found.1,
       found.2,
@@ -53,12 +51,12 @@ what_holds m bs first s k held =
     )
 
 -- the edges of an index in which a block is cut
-module _ (m n : Index) (k : Stamp) (e left right : Entry) (offset : ℕ) (sound : IsSound m) (is : get m k ≡ Some e)
+module _ (m n : Index) (k : Stamp) (e left right : BlockEntry) (offset : ℕ) (sound : IsSound m) (is : get m k ≡ Some e)
     (lo : 0 < offset) (hi : offset < e.len)
     (left_len : left.len ≡ offset) (right_len : right.len ≡ e.len - offset)
     (cut : n ≡ map.insert (map.insert m k left) (stamp_behind k offset) right) where
   whole : (s : Stamp) → Covers k e.len s → Holds m k s
-  whole s covers = subst (λ o. IsSomeAnd o (λ (x : Entry). Covers k x.len s)) (sym is) covers
+  whole s covers = subst (λ o. IsSomeAnd o (λ (x : BlockEntry). Covers k x.len s)) (sym is) covers
 
   pub edges_cut : KeepsEdges m n
   edges_cut s edge first held =
@@ -90,11 +88,11 @@ module _ (m n : Index) (k : Stamp) (e left right : Entry) (offset : ℕ) (sound 
       ]
 
 -- no block begins inside another
-no_start : (m : Index) (k : Stamp) (e : Entry) (offset : ℕ) → IsSound m → get m k ≡ Some e → 0 < offset →
+no_start : (m : Index) (k : Stamp) (e : BlockEntry) (offset : ℕ) → IsSound m → get m k ≡ Some e → 0 < offset →
     offset < e.len → get m (stamp_behind k offset) ≡ None
 no_start m k e offset sound is lo hi =
     let s = stamp_behind k offset in
-    let held : Holds m k s = subst (λ o. IsSomeAnd o (λ (x : Entry). Covers k x.len s)) (sym is)
+    let held : Holds m k s = subst (λ o. IsSomeAnd o (λ (x : BlockEntry). Covers k x.len s)) (sym is)
     (refl, omega arith, omega arith) in
     covers_itself m s (get m s) refl (sound.blocks s) (λ h. let same : k.counter + offset
     ≡ k.counter = ap (λ (x : Stamp). x.counter) (sound.apart s s k h held) in omega arith)
@@ -105,7 +103,6 @@ pub record IsCutBlock (m n : Index) (bs after : List Block) (s : Stamp) : Type 0
   pub cells : SameCells bs after
   pub edges : KeepsEdges m n
   pub edge : IsEdge n s
-  pub labels : KeepsLabels bs after
 
 pub cut_leaves : (m n : Index) (bs : List Block) (i j : ℕ) (b : Block) (offset label : ℕ) → IsSound m → IsKept m bs →
     slice_get bs i ≡ Some b → j ≡ suc i → i < length bs → 0 < offset → offset < b.len
@@ -147,8 +144,6 @@ cut_leaves m n bs i j b offset label sound k e is within lo hi under over cut =
       };
       edges = edges_cut m n b.first (entry b) (entry l) (entry r) offset sound here lo hi refl refl cut;
       edge = edge_cut m n b.first (entry b) (entry l) (entry r) offset sound here lo hi refl refl cut;
-      labels = keeps_then bs (slice_set bs i l) (insert (slice_set bs i l) j r)
-          (keeps_set bs i b l k.listed.apart e refl refl) (keeps_insert (slice_set bs i l) j r fresh);
     }
 
 -- one more block fits
@@ -174,12 +169,6 @@ put_leaves m n bs i b sound k within sized fresh room under over put = record {
       ∙ get-insert stamp_cmp_total m b.first (entry b) q);
   rises = Rises-insert 0 LAST_LABEL bs i b k.rises within under over;
 }
-
--- and the labels stay
-pub put_keeps : (m : Index) (bs : List Block) (i : ℕ) (b : Block) → IsSound m → IsKept m bs → IsSized b →
-    IsNew m b.first b.len → KeepsLabels bs (insert bs i b)
-put_keeps m bs i b sound k sized fresh =
-    keeps_insert bs i b (sym (k.listed.index b.first) ∙ get-from_new m b.first b.len sound sized.0 fresh)
 
 -- what a block less leaves
 pub take_leaves : (m n : Index) (bs : List Block) (i : ℕ) (b : Block) → IsKept m bs → slice_get bs i ≡ Some b →

@@ -1,13 +1,13 @@
 -- A row of blocks, and the index that finds them.
 use Rattle.std.specs.Prelude.{◌≡◌, ℕ, zero, suc, ◌+◌, ◌-◌, ◌*◌, ◌≤◌, ◌<◌, List, [], ◌∷◌, ◌++◌, length, take, drop, map}
-use Rattle.std.specs.Prelude.{sum_by, Option, Some, None, if◌then◌else◌, is_none, slice_get, IsSomeAnd}
+use Rattle.std.specs.Prelude.{sum_by, Option, Some, None, Bool, nat_lt, if◌then◌else◌, is_none, slice_get, IsSomeAnd}
 use Rattle.std.specs.FinMap.{get}
 use Rattle.std.specs.List.{AllByRecursion}
 use Rattle.std.specs.Ordering.{eq_by_cmp}
 use Rattle.pad_model.specs.Stamp.{Stamp}
 use Rattle.pad_model.specs.declared.limits.TheConstants.{MAX_CHARACTERS, MAX_COUNTER}
 use Rattle.ident_index.specs.Index.{Index, stamp_cmp, stamp_behind, Holds}
-use Rattle.ident_index.specs.declared.place.Entry.{Entry}
+use Rattle.ident_index.specs.declared.place.BlockEntry.{BlockEntry}
 use Rattle.blocks.specs.declared.block.Block.{Block}
 use Rattle.blocks.specs.declared.block.TheConstants.{LAST_LABEL}
 use Rattle.blocks.specs.declared.label.Window.{Window}
@@ -17,11 +17,11 @@ abbrev pub weight_of : Block → ℕ
 weight_of b = if is_none b.died then b.len else 0
 
 -- what the index keeps of a block
-abbrev pub entry : Block → Entry
+abbrev pub entry : Block → BlockEntry
 entry b = record { len = b.len; label = b.label }
 
 -- what the index keeps of the first block that begins with a stamp
-abbrev pub entry_of : List Block → Stamp → Option Entry
+abbrev pub entry_of : List Block → Stamp → Option BlockEntry
 entry_of [] s = None
 entry_of (b ∷ bs) s = if eq_by_cmp stamp_cmp s b.first then Some (entry b) else entry_of bs s
 
@@ -63,6 +63,10 @@ abbrev pub above : List Block → ℕ → ℕ → ℕ
 above [] i high = high
 above (b ∷ bs) zero high = b.label
 above (b ∷ bs) (suc i) high = above bs i high
+
+-- whether no label is free at a rank
+abbrev pub is_full : List Block → ℕ → Bool
+is_full bs rank = nat_lt (above bs rank LAST_LABEL) (below 0 bs rank + 2)
 
 -- the blocks, with labels that rise by one step each for the first n
 abbrev pub spread : ℕ → ℕ → ℕ → List Block → List Block

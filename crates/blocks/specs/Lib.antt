@@ -1,4 +1,3 @@
 -- The definitions that the contracts cite, by topic.
 pub mod Blocks
 pub mod Cells
-pub mod Counts

@@ -4,11 +4,10 @@ ghost use Rattle.std.specs.List.{remove};
 ghost use Rattle.std.specs.Option.{IsSomeAnd};
 ghost use Rattle.pad_model.specs.declared.limits.TheConstants.{MAX_CHARACTERS};
 ghost use Rattle.ident_index.specs.Index.{Covers, IsNew, stamp_behind};
-ghost use Rattle.pad_model.specs.Stamp.{Stamp as StampValue};
+ghost use Rattle.pad_model.specs.Stamp as stamp_spec;
 ghost use Rattle.blocks.specs.Blocks.{IsKept, IsSized, HoldsNoMore, IsEdge, KeepsEdges, left_part, right_part, unlabelled, without_labels};
-ghost use Rattle.blocks.specs.Counts.{IsCutCounted, KeepsLabels, Labelled, counted};
 ghost use Rattle.blocks.specs.Cells.{SameCells};
-ghost use Rattle.blocks.specs.declared.block.Block.{Block as BlockValue};
+ghost use Rattle.blocks.specs.declared.block.Block as block_spec;
 
 use crate::block::Block;
 use crate::find::find_block;
@@ -49,7 +48,6 @@ fn cut_block(
     alloc: Global,
     tree: &mut WeightTree<Block>,
     index: &mut IdentIndex,
-    respacings: &mut u64,
     rank: usize,
     offset: u64,
 ) -> Result<(), Refusal>
@@ -60,15 +58,11 @@ fn cut_block(
     ensures cells { SameCells tree.old.items tree.new.items }
     ensures more { length tree.new.items ≤ length tree.old.items + 1 }
     ensures edges { KeepsEdges index.old index.new }
-    ensures edge { (b : BlockValue) → slice_get tree.old.items rank ≡ Some b
+    ensures edge { (b : block_spec.Block) → slice_get tree.old.items rank ≡ Some b
         → OnOk result (IsEdge index.new (stamp_behind b.first offset)) }
-    ensures counted { respacings.new ≡ counted respacings.old tree.old.items (rank + 1) }
-    ensures labelled { Labelled tree.old.items respacings.old tree.new.items respacings.new }
-    ensures counts { respacings.old ≤ respacings.new }
-    ensures few { respacings.new ≤ respacings.old + 1 }
     ensures memory { IfErr result (λ e. e ≡ Refusal.Memory) }
 {
-    let label = free_label(tree, index, respacings, rank + 1);
+    let label = free_label(tree, index, rank + 1);
     let whole = tree.get(rank);
     let first = whole.first;
     let left = left_of(whole, offset);
@@ -81,13 +75,12 @@ fn cut_block(
     Ok(())
 }
 
-/// Cuts the block that holds a stamp so that a block begins with the stamp. No character changes. A respacing is
-/// counted even if memory runs out after it.
+/// Cuts the block that holds a stamp so that a block begins with the stamp. No character changes. Labels that change stay
+/// changed even if memory runs out after it.
 pub fn cut_at(
     alloc: Global,
     tree: &mut WeightTree<Block>,
     index: &mut IdentIndex,
-    respacings: &mut u64,
     stamp: Stamp,
 ) -> Result<(), Refusal>
     requires kept { IsKept index.old tree.old.items }
@@ -96,10 +89,6 @@ pub fn cut_at(
     ensures more { length tree.new.items ≤ length tree.old.items + 1 }
     ensures edges { KeepsEdges index.old index.new }
     ensures edge { OnOk result (IsEdge index.new stamp) }
-    ensures counted { IsCutCounted index.old tree.old.items stamp respacings.old respacings.new }
-    ensures labelled { Labelled tree.old.items respacings.old tree.new.items respacings.new }
-    ensures counts { respacings.old ≤ respacings.new }
-    ensures few { respacings.new ≤ respacings.old + 1 }
     ensures memory { IfErr result (λ e. e ≡ Refusal.Memory) }
 {
     let Some(spot) = find_block(tree, index, stamp) else {
@@ -108,15 +97,14 @@ pub fn cut_at(
     if spot.offset == 0 {
         return Ok(());
     }
-    cut_block(alloc, tree, index, respacings, spot.rank, spot.offset)
+    cut_block(alloc, tree, index, spot.rank, spot.offset)
 }
 
-/// Inserts a block at a rank and gives it a label. A respacing is counted even if memory runs out after it.
+/// Inserts a block at a rank and gives it a label. Other labels that change stay changed even if memory runs out after it.
 pub fn put_block(
     alloc: Global,
     tree: &mut WeightTree<Block>,
     index: &mut IdentIndex,
-    respacings: &mut u64,
     rank: usize,
     block: Block,
 ) -> Result<(), Refusal>
@@ -129,15 +117,11 @@ pub fn put_block(
     ensures ok { OnOk result (without_labels tree.new.items
         ≡ insert (without_labels tree.old.items) rank (unlabelled block)) }
     ensures err { OnErr result (without_labels tree.new.items ≡ without_labels tree.old.items) }
-    ensures edges { OnOk result ((s : StampValue) → IsEdge index.old s
+    ensures edges { OnOk result ((s : stamp_spec.Stamp) → IsEdge index.old s
         → (Covers block.first block.len s → block.first ≡ s) → IsEdge index.new s) }
-    ensures counted { respacings.new ≡ counted respacings.old tree.old.items rank }
-    ensures labelled { Labelled tree.old.items respacings.old tree.new.items respacings.new }
-    ensures counts { respacings.old ≤ respacings.new }
-    ensures few { respacings.new ≤ respacings.old + 1 }
     ensures memory { IfErr result (λ e. e ≡ Refusal.Memory) }
 {
-    let label = free_label(tree, index, respacings, rank);
+    let label = free_label(tree, index, rank);
     let first = block.first;
     let len = block.len;
     index.note_sound();
@@ -153,7 +137,6 @@ pub fn take_block(tree: &mut WeightTree<Block>, index: &mut IdentIndex, rank: us
     requires within { rank < length tree.old.items }
     ensures kept { IsKept index.new tree.new.items }
     ensures taken { tree.new.items ≡ remove tree.old.items rank }
-    ensures labels { KeepsLabels tree.new.items tree.old.items }
 {
     let block = tree.remove(rank);
     index.remove(block.first);
@@ -164,7 +147,7 @@ pub fn kill(tree: &mut WeightTree<Block>, index: &IdentIndex, rank: usize, rev: 
     requires kept { IsKept index.now tree.old.items }
     requires within { rank < length tree.old.items }
     ensures kept { IsKept index.now tree.new.items }
-    ensures dead { (b : BlockValue) → slice_get tree.old.items rank ≡ Some b
+    ensures dead { (b : block_spec.Block) → slice_get tree.old.items rank ≡ Some b
         → tree.new.items ≡ slice_set tree.old.items rank (record b { died = Some rev }) }
 {
     let block = Block {

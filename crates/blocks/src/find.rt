@@ -2,7 +2,7 @@
 ghost use Rattle.std.specs.Prelude.{◌≡◌, ℕ, slice_get, Some, MatchOption};
 ghost use Rattle.ident_index.specs.Index.{HoldsNone, IsSound};
 ghost use Rattle.blocks.specs.Blocks.{Rises, IsKept, IsSpot};
-ghost use Rattle.blocks.specs.declared.block.Block.{Block as BlockValue};
+ghost use Rattle.blocks.specs.declared.block.Block as block_spec;
 
 use crate::block::{Block, LAST_LABEL};
 use ident_index::IdentIndex;
@@ -19,7 +19,7 @@ pub struct Spot {
 /// The rank of the block with a label.
 fn rank_of(tree: &WeightTree<Block>, label: u64) -> usize
     requires { Rises 1 0 tree.now.items LAST_LABEL }
-    ensures { (r : ℕ) (b : BlockValue) → slice_get tree.now.items r ≡ Some b → b.label ≡ label
+    ensures { (r : ℕ) (b : block_spec.Block) → slice_get tree.now.items r ≡ Some b → b.label ≡ label
         → result ≡ r }
 {
     tree.rank_by(|block| block.label.cmp(&label)).rank

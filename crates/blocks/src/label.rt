@@ -1,10 +1,9 @@
 //! Labels for new blocks.
 ghost use Rattle.std.specs.Prelude.{◌≡◌, ℕ, true, false, ◌+◌, ◌-◌, ◌*◌, ◌/◌, ◌<◌, ◌≤◌, length, slice_get, slice_set, Some, MatchOption};
-ghost use Rattle.blocks.specs.Blocks.{Rises, IsListed, IsKept, IsWindow, below, above, respaced, without_labels, HoldsNoMore};
-ghost use Rattle.blocks.specs.Counts.{counted, is_full};
+ghost use Rattle.blocks.specs.Blocks.{Rises, IsListed, IsKept, IsWindow, below, above, is_full, respaced, without_labels, HoldsNoMore};
 ghost use Rattle.pad_model.specs.declared.limits.TheConstants.{MAX_CHARACTERS};
-ghost use Rattle.blocks.specs.declared.block.Block.{Block as BlockValue};
-ghost use Rattle.blocks.specs.declared.label.Window.{Window as WindowValue};
+ghost use Rattle.blocks.specs.declared.block.Block as block_spec;
+ghost use Rattle.blocks.specs.declared.label.Window as window_spec;
 
 use crate::block::{Block, LAST_LABEL};
 use ident_index::IdentIndex;
@@ -41,7 +40,7 @@ fn relabel(tree: &mut WeightTree<Block>, index: &mut IdentIndex, rank: usize, la
     requires within { rank < length tree.old.items }
     ensures listed { IsListed index.new tree.new.items }
     ensures held { HoldsNoMore index.old index.new }
-    ensures set { (b : BlockValue) → slice_get tree.old.items rank ≡ Some b
+    ensures set { (b : block_spec.Block) → slice_get tree.old.items rank ≡ Some b
         → tree.new.items ≡ slice_set tree.old.items rank (record b { label = label }) }
 {
     let block = Block {
@@ -138,14 +137,8 @@ fn label_between(tree: &WeightTree<Block>, rank: usize) -> Option<u64>
     Some(left + (gap / 2).min(STRIDE))
 }
 
-/// A label for a new block at a rank. If there is none, the blocks around the rank are relabelled first, which is
-/// counted.
-pub fn free_label(
-    tree: &mut WeightTree<Block>,
-    index: &mut IdentIndex,
-    respacings: &mut u64,
-    rank: usize,
-) -> u64
+/// A label for a new block at a rank. If there is none, the blocks around the rank are relabelled first.
+pub fn free_label(tree: &mut WeightTree<Block>, index: &mut IdentIndex, rank: usize) -> u64
     requires kept { IsKept index.old tree.old.items }
     requires within { rank ≤ length tree.old.items }
     ensures kept { IsKept index.new tree.new.items }
@@ -153,12 +146,9 @@ pub fn free_label(
     ensures labels { without_labels tree.new.items ≡ without_labels tree.old.items }
     ensures above { below 0 tree.new.items rank < result }
     ensures below { result < above tree.new.items rank LAST_LABEL }
-    ensures counted { respacings.new ≡ counted respacings.old tree.old.items rank }
-    ensures counts { respacings.old ≤ respacings.new }
-    ensures few { respacings.new ≤ respacings.old + 1 }
     ensures free { is_full tree.old.items rank ≡ false → tree.new.items ≡ tree.old.items }
     ensures full { is_full tree.old.items rank ≡ true
-        → (w : WindowValue) × IsWindow tree.old.items rank w
+        → (w : window_spec.Window) × IsWindow tree.old.items rank w
         × (tree.new.items ≡ respaced w tree.old.items) }
 {
     if let Some(label) = label_between(tree, rank) {
@@ -166,7 +156,6 @@ pub fn free_label(
     }
     let window = window_round(tree, rank);
     respace(tree, index, window);
-    *respacings = respacings.saturating_add(1);
     let Some(label) = label_between(tree, rank) else {
         unreachable!()
     };

@@ -7,7 +7,7 @@ use Rattle.clap.specs.declared.builder.value_parser.ValueParser.TheVariants as p
 use Rattle.clap.specs.declared.error.kind.ErrorKind.{ErrorKind}
 use Rattle.clap.specs.declared.error.kind.ErrorKind.TheVariants as kind
 use Rattle.clap.specs.declared.parser.matches.ArgMatches.{ArgMatches}
-use Rattle.sessions.specs.declared.presence.TheConstants.{MAX_PRESENT}
+use Rattle.presence.specs.declared.presence.TheConstants.{MAX_PRESENT}
 use Rattle.server_core.specs.declared.limits.TheConstants.{MAX_CELLS}
 
 -- an option `--name` that takes one value, in the terms of clap

@@ -1,12 +1,12 @@
 //! The numbers that the options give.
 ghost use Rattle.std.specs.Prelude.{◌≡◌, ◌≤◌, codes};
 ghost use Rattle.server_core.specs.declared.limits.TheConstants.{DEFAULT_CELLS, MAX_CELLS};
-ghost use Rattle.sessions.specs.declared.presence.TheConstants.{DEFAULT_PRESENT, MAX_PRESENT};
+ghost use Rattle.presence.specs.declared.presence.TheConstants.{DEFAULT_PRESENT, MAX_PRESENT};
 ghost use Rattle.command_line.specs.Options.{Holds, named_or};
 
 use clap::ArgMatches;
+use presence::{DEFAULT_PRESENT, MAX_PRESENT};
 use server_core::{DEFAULT_CELLS, MAX_CELLS};
-use sessions::{DEFAULT_PRESENT, MAX_PRESENT};
 
 /// `named`, or `other` if it is None or 0.
 pub fn replica_or(named: Option<u16>, other: u16) -> u16

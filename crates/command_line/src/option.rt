@@ -4,8 +4,8 @@ ghost use Rattle.clap.specs.Words.{rule_of};
 ghost use Rattle.command_line.specs.Options.{accounts_rule, cells_rule, present_rule, replica_rule};
 
 use clap::{Arg, value_parser};
+use presence::MAX_PRESENT;
 use server_core::MAX_CELLS;
-use sessions::MAX_PRESENT;
 use std::alloc::Global;
 
 /// `--replica N`, which is required.

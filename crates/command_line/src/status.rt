@@ -2,7 +2,8 @@
 ghost use Rattle.std.specs.Prelude.{◌≡◌, ◌⊎◌, true, false};
 ghost use Rattle.std.specs.Process.{exit_status};
 ghost use Rattle.clap.specs.Words.{kind_of};
-ghost use Rattle.command_line.specs.Options.{is_text as is_asked_text, status};
+ghost use Rattle.command_line.specs.Options.{status};
+ghost use Rattle.command_line.specs.Options as options;
 
 use clap::Error;
 use clap::error::ErrorKind;
@@ -21,7 +22,7 @@ pub fn status_of(error: &Error) -> ExitCode
 }
 
 fn is_text(kind: ErrorKind) -> bool
-    ensures { result ≡ is_asked_text kind }
+    ensures { result ≡ options.is_text kind }
 {
     matches!(kind, ErrorKind::DisplayHelp | ErrorKind::DisplayVersion)
 }
@@ -30,9 +31,9 @@ fn is_text(kind: ErrorKind) -> bool
 /// If the help or the version cannot be printed, the status is 1; a fault keeps its status even if standard error is
 /// closed.
 pub fn report<R: Print + Eprint + AllocGlobal>(rt: &R, program: &str, error: &Error) -> ExitCode
-    ensures fault { is_asked_text (kind_of error.now) ≡ false
+    ensures fault { options.is_text (kind_of error.now) ≡ false
         → exit_status result ≡ status (kind_of error.now) }
-    ensures text { is_asked_text (kind_of error.now) ≡ true
+    ensures text { options.is_text (kind_of error.now) ≡ true
         → (exit_status result ≡ 0) ⊎ (exit_status result ≡ 1) }
 {
     if is_text(error.kind()) {

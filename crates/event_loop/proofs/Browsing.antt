@@ -6,11 +6,11 @@ use Rattle.web_wire.specs.Laws.{Follows, PiecesLaw}
 use Rattle.web_wire.specs.Laws.Follows.{begun, received, gone_on}
 use Rattle.web_wire.specs.Messages.{is_line, with_feed}
 use Rattle.web_wire.specs.Socket.{Socket}
-use Rattle.workers.specs.Laws.{CourseLaw, Course as Conversing}
-use Rattle.workers.specs.Laws.Course.{begins as talk_begins, came as talk_came, answered as talk_answered}
-use Rattle.workers.specs.Laws.Course.{was_long as talk_was_long, written as talk_written, passed as talk_passed}
-use Rattle.workers.specs.Session.{Answer}
-use Rattle.workers.specs.Talk.{Talk, heard}
+use Rattle.conversation.specs.Laws.{CourseLaw, Course as Conversing}
+use Rattle.conversation.specs.Laws.Course.{begins as talk_begins, came as talk_came, answered as talk_answered}
+use Rattle.conversation.specs.Laws.Course.{was_long as talk_was_long, written as talk_written, passed as talk_passed}
+use Rattle.conversation.specs.Session.{Answer}
+use Rattle.conversation.specs.Talk.{Talk, heard}
 use Rattle.event_loop.specs.Laws.{AreLines, BrowserLaw, Course, joined}
 use Rattle.event_loop.specs.Laws.Course.{begins, came, quiet, spoke, answered, was_long, said, passed}
 use Rattle.event_loop.proofs.Spoken.{spoken_lines}

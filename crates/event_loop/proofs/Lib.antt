@@ -1,4 +1,9 @@
 -- The lemmas, by topic.
+pub mod BrowserClients
 pub mod Browsing
+pub mod KnownEnds
+pub mod LineClients
+pub mod Places
 pub mod Said
 pub mod Spoken
+pub mod Steps

@@ -1,4 +1,4 @@
--- The first reply, up to its line feed; and bytes that were written after others.
+-- The first reply, up to its line feed.
 use Rattle.std.proofs.Common.{◌≡◌, ℕ, ◌-◌, min, ◌+◌, ◌<◌, ◌≤◌, suc, true, false, ◌||◌, List, [], ◌∷◌, ◌++◌, length, take, drop}
 use Rattle.std.proofs.Common.{Option, Some, None, get_or, refl, ap, ◌∙◌, sym, append_assoc, take-append-drop, drop-drop, arith}
 use Rattle.std.proofs.lemmas.List.{drop_more, get_or-take, length-drop, length-take, take_all}
@@ -65,17 +65,5 @@ says_first replies output put rest end first behind said =
     (take end replies, first.0, first.1 ∙ ap (λ l. with_feed (take end replies) ++ l) (sym behind), said)
 
 -- everything from a place on
-behind : (bytes : List ℕ) (from : ℕ) → take (length bytes - from) (drop from bytes) ≡ drop from bytes
+pub behind : (bytes : List ℕ) (from : ℕ) → take (length bytes - from) (drop from bytes) ≡ drop from bytes
 behind bytes from = take_all (length bytes - from) (drop from bytes) (omega (arith, length-drop from bytes))
-
--- what was written of the rest follows what was there, and the others are still to be written
-pub written : (old new : Option (List ℕ)) (bytes : List ℕ) (from count : ℕ)
-    → Appends old new (take count (take (length bytes - from) (drop from bytes)))
-    → Keeps (append_known old (drop from bytes)) (append_known new (drop (from + count) bytes))
-written None new bytes from count is = tt
-written (Some xs) None bytes from count is = is
-written (Some xs) (Some ys) bytes from count is =
-    ap (λ l. l ++ drop (from + count) bytes) (is ∙ ap (λ l. xs ++ take count l) (behind bytes from))
-    ∙ append_assoc xs (take count (drop from bytes)) (drop (from + count) bytes)
-    ∙ ap (λ l. xs ++ (take count (drop from bytes) ++ l)) (sym (drop-drop count from bytes))
-    ∙ ap (λ l. xs ++ l) (take-append-drop count (drop from bytes))

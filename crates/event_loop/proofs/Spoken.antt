@@ -6,7 +6,7 @@ use Rattle.std.specs.List.{list_any}
 use Rattle.wire_lines.specs.Lines.{behind_line, first_line, is_too_long, line_end, without_return}
 use Rattle.wire_lines.specs.Served.{LinesLaw, is_long, lines}
 use Rattle.wire_lines.specs.declared.feed.TheConstants.{MAX_LINE}
-use Rattle.wire_lines.specs.declared.buffer.Found.TheVariants.{Text, TooLong}
+use Rattle.wire_lines.specs.declared.buffer.FoundLine.TheVariants.{Text, TooLong}
 use Rattle.web_wire.specs.Messages.{is_feed, is_line}
 use Rattle.event_loop.specs.Laws.{AreLines, joined, spoken}
 

@@ -6,9 +6,9 @@ use Rattle.wire_lines.specs.Served.{is_long, lines}
 use Rattle.web_wire.specs.Course.{before}
 use Rattle.web_wire.specs.Messages.{is_line, with_feed}
 use Rattle.web_wire.specs.Socket.{Comes, Socket, course, fed}
-use Rattle.workers.specs.Laws.{GaveOut}
-use Rattle.workers.specs.Session.{Answer}
-use Rattle.workers.specs.Talk.{AnswersFirst, Talk, TellsLong, heard, silent, unwritten}
+use Rattle.conversation.specs.Laws.{GaveOut}
+use Rattle.conversation.specs.Session.{Answer}
+use Rattle.conversation.specs.Talk.{AnswersFirst, Talk, TellsLong, heard, silent, unwritten}
 
 -- the texts of messages, each followed by a line feed
 abbrev pub joined : List (List ℕ) → List ℕ

@@ -1,4 +1,8 @@
 -- The definitions that the contracts cite, by topic.
+pub mod Delays
 pub mod Laws
 pub mod Messages
 pub mod Newcomers
+pub mod Party
+pub mod Transfers
+pub mod Turns

@@ -3,7 +3,7 @@ use Rattle.std.specs.Prelude.{◌≡◌, ℕ, ◌+◌, true, false, List, [], �
 use Rattle.std.specs.List.{list_any}
 use Rattle.web_wire.specs.Messages.{is_feed, is_line, message_bytes, with_feed}
 use Rattle.web_wire.specs.Socket.{GoesOn, Socket}
-use Rattle.workers.specs.Talk.{Talk, heard}
+use Rattle.conversation.specs.Talk.{Talk, heard}
 
 -- the conversation was given the line of the next message, with its line feed
 abbrev pub GivesTo : Socket → Talk → List ℕ → Socket → Talk → List ℕ → Type 0

@@ -2,14 +2,14 @@
 use crate::arrivals::{Arrival, Entrance};
 use crate::clients::WAKING;
 use crate::hub::Hub;
-use crate::limits::{Limits, VISITS};
+use crate::limits::{Limits, PAGE_REQUESTS};
 use crate::rarely::Rarely;
 use crate::ticker::Ticker;
 use admission::key_of;
-use journal::Journal;
 use log::warn;
 use mio::net::{TcpListener, TcpStream};
 use mio::{Events, Interest, Poll, Token, Waker};
+use server_log::ServerLog;
 use std::alloc::{AllocError, Global};
 use std::io::{ErrorKind, Write};
 use std::net::Net;
@@ -107,7 +107,7 @@ impl Round {
 
 /// The counts and the log state of accepting.
 #[derive(Drop)]
-struct Count {
+struct AcceptCount {
     accepted: u64,
     ticker: Ticker,
     full: Rarely,
@@ -123,7 +123,7 @@ pub fn accept_all<R: Clock + Wait + Eprint>(
     hub: &Hub,
     limits: Limits,
 ) {
-    let mut count = Count {
+    let mut count = AcceptCount {
         accepted: 0,
         ticker: Ticker::new(hub.began()),
         full: Rarely::new(EVERY),
@@ -138,7 +138,7 @@ pub fn accept_all<R: Clock + Wait + Eprint>(
             Round::Last => break,
         };
         if let Err(cause) = acceptor.poll.poll(&mut acceptor.events, timeout) {
-            warn!(Journal(rt); "no more connections are accepted: {cause}");
+            warn!(ServerLog(rt); "no more connections are accepted: {cause}");
             break;
         }
         if hub.has_stopped() {
@@ -167,7 +167,7 @@ fn accept_some<R: Clock + Wait + Eprint>(
     entrance: Entrance,
     hub: &Hub,
     limits: Limits,
-    count: &mut Count,
+    count: &mut AcceptCount,
 ) -> Round {
     for _ in 0..AT_ONCE {
         match listener.accept() {
@@ -181,7 +181,7 @@ fn accept_some<R: Clock + Wait + Eprint>(
                 ErrorKind::Interrupted | ErrorKind::ConnectionAborted => {}
                 _ => {
                     if count.refused.is_due(count.ticker.look(rt)) {
-                        warn!(Journal(rt); "cannot accept connections: {error}");
+                        warn!(ServerLog(rt); "cannot accept connections: {error}");
                     }
                     return Round::Refused;
                 }
@@ -206,17 +206,17 @@ fn take<R: Clock + Wait + Eprint>(
     entrance: Entrance,
     hub: &Hub,
     limits: Limits,
-    count: &mut Count,
+    count: &mut AcceptCount,
 ) {
     let number = count.accepted;
     let Ok(full) = what_is_full(rt, address, entrance, hub, limits) else {
-        warn!(Journal(rt); "connection {number} is not served: out of memory");
+        warn!(ServerLog(rt); "connection {number} is not served: out of memory");
         return;
     };
     if let Some(full) = full {
         if count.full.is_due(count.ticker.look(rt)) {
             let Full { most, of } = full;
-            warn!(Journal(rt); "connection {number} is refused: {most} {of}");
+            warn!(ServerLog(rt); "connection {number} is refused: {most} {of}");
         }
         let refusal = match entrance {
             Entrance::Lines => FULL,
@@ -226,7 +226,7 @@ fn take<R: Clock + Wait + Eprint>(
         return;
     }
     if let Err(cause) = stream.set_nodelay(true) {
-        warn!(Journal(rt); "connection {number}: cannot set its socket options: {cause}");
+        warn!(ServerLog(rt); "connection {number}: cannot set its socket options: {cause}");
     }
     let (home, connected) = (hub.least_busy(), entrance.connected());
     hub.enter(home, connected);
@@ -240,7 +240,7 @@ fn take<R: Clock + Wait + Eprint>(
         address,
     };
     if hub.send(rt, home, arrival).is_some() {
-        warn!(Journal(rt); "connection {number} is not served: out of memory");
+        warn!(ServerLog(rt); "connection {number} is not served: out of memory");
         if entrance == Entrance::Lines {
             hub.lobby().leave();
         }
@@ -268,7 +268,7 @@ fn what_is_full<R: Wait>(
 ) -> Result<Option<Full>, AllocError> {
     let (has_room, most) = match entrance {
         Entrance::Lines => (hub.has_room(limits.clients), limits.clients),
-        Entrance::Web => (hub.has_room_for_visit(), VISITS),
+        Entrance::Web => (hub.has_room_for_page_request(), PAGE_REQUESTS),
     };
     if !has_room {
         let of = "clients are connected";

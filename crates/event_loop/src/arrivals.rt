@@ -1,11 +1,11 @@
 //! What is sent to a worker: clients, and new accounts.
 use crate::client::Client;
 use crate::hub::Connected;
-use crate::link::Link;
+use crate::protocol::Protocol;
 use mio::net::TcpStream;
 use sessions::Accounts;
 use std::alloc::Global;
-use web_wire::Visit;
+use web_wire::PageRequest;
 
 /// The listener at which a connection was accepted.
 #[derive(Clone, Copy, Debug, PartialEq, Eq)]
@@ -18,10 +18,10 @@ pub enum Entrance {
 
 impl Entrance {
     /// What a connection accepted there speaks.
-    pub fn link(self, alloc: Global) -> Link {
+    pub fn protocol(self, alloc: Global) -> Protocol {
         match self {
-            Entrance::Lines => Link::Lines,
-            Entrance::Web => Link::Visit(Visit::new(alloc)),
+            Entrance::Lines => Protocol::Lines,
+            Entrance::Web => Protocol::PageRequest(PageRequest::new(alloc)),
         }
     }
 
@@ -29,7 +29,7 @@ impl Entrance {
     pub fn connected(self) -> Connected {
         match self {
             Entrance::Lines => Connected::Client,
-            Entrance::Web => Connected::Visit,
+            Entrance::Web => Connected::PageRequest,
         }
     }
 }

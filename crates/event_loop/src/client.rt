@@ -1,23 +1,22 @@
 //! One client of a worker: its socket, its conversation and its session.
 use crate::buffers::{Buffers, first_bytes};
-use crate::hold::{BAD_TOKEN, Hold, Wanted, pause_after};
+use crate::delay::{BAD_TOKEN, Delay, Wanted, pause_after};
 use crate::hub::Connected;
 use crate::limits::{LOG_IN, REQUEST};
-use crate::link::Link;
 use crate::lobby::Lobby;
 use crate::newcomer::Newcomer;
-use crate::outbox::Outbox;
-use crate::serve::Step;
+use crate::party::Party;
+use crate::protocol::Protocol;
+use crate::serve::ClientStep;
 use crate::times::{Late, Times};
-use crate::transfer::{Broken, Passage, read_into};
+use crate::transfer::{BrokenSocket, Transfer};
+use conversation::{Gate, Shared};
 use mio::net::TcpStream;
 use pad_model::{Sequence, Who};
-use sessions::Session;
 use std::alloc::Global;
 use std::sync::Wait;
 use std::{io, mem};
 use wire_lines::Fault;
-use workers::{Conversation, Gate, Shared};
 
 /// The state of a client's connection.
 #[derive(Clone, Copy, Debug, PartialEq, Eq)]
@@ -39,13 +38,8 @@ pub struct Client {
     pub(crate) home: usize,
     /// The key of the address that it comes from.
     pub(crate) address: u128,
-    pub(crate) stream: TcpStream,
-    pub(crate) link: Link,
-    /// The bytes to be written to a browser. Replies to a client that speaks lines are written directly from its
-    /// conversation.
-    pub(crate) outbox: Outbox,
-    pub(crate) conversation: Conversation,
-    pub(crate) session: Session,
+    /// Its socket, its conversation and its session.
+    pub(crate) party: Party<TcpStream>,
     pub(crate) phase: Phase,
     /// Whether a read may give bytes.
     pub(crate) is_readable: bool,
@@ -55,7 +49,7 @@ pub struct Client {
     is_listed: bool,
     pub(crate) moves: bool,
     pub(crate) failures: u32,
-    pub(crate) hold: Hold,
+    pub(crate) delay: Delay,
     pub(crate) newcomer: Newcomer,
     pub(crate) times: Times,
     pub(crate) cause: Option<io::Error>,
@@ -68,26 +62,22 @@ impl Client {
         number: u64,
         home: usize,
         stream: TcpStream,
-        link: Link,
+        protocol: Protocol,
         address: u128,
     ) -> Client {
-        let is_counted = link.connected() == Connected::Client;
+        let is_counted = protocol.connected() == Connected::Client;
         Client {
             number,
             home,
             address,
-            stream,
-            link,
-            outbox: Outbox::new(alloc),
-            conversation: Conversation::new(alloc),
-            session: Session::new(alloc),
+            party: Party::new(alloc, stream, protocol),
             phase: Phase::Open,
             is_readable: true,
             is_queued: true,
             is_listed: false,
             moves: false,
             failures: 0,
-            hold: Hold::Free,
+            delay: Delay::Free,
             newcomer: Newcomer::new(is_counted),
             times: Times::new(),
             cause: None,
@@ -109,14 +99,9 @@ impl Client {
         self.address
     }
 
-    /// How its connection counts.
+    /// Whether its connection counts as a client or as a request for a page.
     pub fn connected(&self) -> Connected {
-        self.link.connected()
-    }
-
-    /// The client's socket.
-    pub fn stream(&mut self) -> &mut TcpStream {
-        &mut self.stream
+        self.party.protocol().connected()
     }
 
     /// The fault that ended its connection, if one did, and the system's error.
@@ -150,15 +135,15 @@ impl Client {
 
     /// Whether replies wait to be written, including replies held back.
     pub fn owes(&self) -> bool {
-        !self.conversation.replies().is_empty() || !self.outbox.is_empty()
+        !self.party.replies().is_empty() || self.party.outbox_len() > 0
     }
 
     /// The number of bytes of replies that wait to be written.
     pub(crate) fn owed(&self) -> usize {
-        self.conversation
+        self.party
             .replies()
             .len()
-            .saturating_add(self.outbox.len())
+            .saturating_add(self.party.outbox_len())
     }
 
     /// Whether the client has to move to another worker now: it moves once its replies are written.
@@ -181,13 +166,13 @@ impl Client {
 
     fn has_more(&self) -> bool {
         match self.phase {
-            Phase::Open => match self.hold {
-                Hold::Over => true,
-                Hold::LogIn { .. } => false,
+            Phase::Open => match self.delay {
+                Delay::Over => true,
+                Delay::LogIn { .. } => false,
                 _ => self.is_readable && !self.newcomer.is_stalled,
             },
-            Phase::Ended => match self.hold {
-                Hold::LogIn { .. } => false,
+            Phase::Ended => match self.delay {
+                Delay::LogIn { .. } => false,
                 _ => true,
             },
             Phase::Over | Phase::Broken(_) => false,
@@ -195,37 +180,37 @@ impl Client {
     }
 
     /// Reads once, if a read may give bytes; for a WebSocket, takes the next message.
-    pub(crate) fn read_more(&mut self, lobby: &Lobby, buffers: &mut Buffers) -> Step {
+    pub(crate) fn read_more(&mut self, lobby: &Lobby, buffers: &mut Buffers) -> ClientStep {
         if self.phase != Phase::Open {
-            return Step::Rests;
+            return ClientStep::Rests;
         }
-        if let Link::Socket(_) = self.link {
+        if let Protocol::Socket(_) = self.party.protocol() {
             return self.listen(lobby, buffers);
         }
         if !self.is_readable {
-            return Step::Rests;
+            return ClientStep::Rests;
         }
         let Some(most) = self.may_read(lobby) else {
-            return Step::Rests;
+            return ClientStep::Rests;
         };
         let before = self.waiting();
         let chunk = first_bytes(buffers.chunk.as_mut_slice(), most);
-        let read = read_into(&mut self.conversation, &mut self.stream, chunk);
+        let read = self.party.read(chunk);
         self.note_read(before);
         self.has_read(read)
     }
 
     /// Handles the result of a read.
-    pub(crate) fn has_read(&mut self, read: Result<Passage, Broken>) -> Step {
+    pub(crate) fn has_read(&mut self, read: Result<Transfer, BrokenSocket>) -> ClientStep {
         match read {
-            Ok(Passage::Passed | Passage::Again) => Step::Goes,
-            Ok(Passage::Over) => {
+            Ok(Transfer::Passed | Transfer::Again) => ClientStep::Goes,
+            Ok(Transfer::Over) => {
                 self.phase = Phase::Ended;
-                Step::Goes
+                ClientStep::Goes
             }
-            Ok(Passage::Blocked) => {
+            Ok(Transfer::Blocked) => {
                 self.is_readable = false;
-                Step::Rests
+                ClientStep::Rests
             }
             Err(broken) => {
                 self.cause = broken.cause;
@@ -235,19 +220,19 @@ impl Client {
     }
 
     /// Ends the connection with a fault. If memory ran out, the client is told so, if the socket takes it at once.
-    pub(crate) fn fail(&mut self, fault: Fault) -> Step {
+    pub(crate) fn fail(&mut self, fault: Fault) -> ClientStep {
         if fault == Fault::Memory && !self.owes() {
-            self.tell_of_memory();
+            self.party.tell_of_memory();
         }
         self.phase = Phase::Broken(fault);
-        Step::Rests
+        ClientStep::Rests
     }
 
     /// Holds back the reply to a wrong token if it was not the first one of the connection, or for this name, and
     /// returns the time until which it does. `for_name` is how many came for the name.
     pub fn pause(&mut self, now: u64, for_name: u32) -> Option<u64> {
         let until = now.saturating_add(pause_after(self.failures.max(for_name))?);
-        self.hold = Hold::Pause {
+        self.delay = Delay::Pause {
             until,
             bytes: BAD_TOKEN.len(),
         };
@@ -257,22 +242,22 @@ impl Client {
     /// Holds back the first line, and returns the time until which it does.
     pub fn wait(&mut self, now: u64, wanted: Wanted) -> u64 {
         let until = now.saturating_add(wanted.seconds.saturating_mul(1_000));
-        self.hold = Hold::Change { wanted, until };
+        self.delay = Delay::Change { wanted, until };
         until
     }
 
     /// What holds the client back.
-    pub fn hold(&self) -> Hold {
-        self.hold
+    pub fn delay(&self) -> Delay {
+        self.delay
     }
 
-    /// Ends the hold. Returns true if a reply is to be written, and false if the first line is to be answered.
+    /// Ends the delay. Returns true if a reply is to be written, and false if the first line is to be answered.
     pub fn release(&mut self) -> bool {
-        match mem::replace(&mut self.hold, Hold::Free) {
-            Hold::Pause { .. } => true,
+        match mem::replace(&mut self.delay, Delay::Free) {
+            Delay::Pause { .. } => true,
             // The client was not silent: its line is answered now.
             _ => {
-                self.hold = Hold::Over;
+                self.delay = Delay::Over;
                 self.times.note_line();
                 false
             }
@@ -291,10 +276,8 @@ impl Client {
     /// Returns the time limit that the client has exceeded, if any. `idle` is how long it may be silent, in
     /// milliseconds. It also frees the memory that the client does not need until it sends more.
     pub fn check(&mut self, now: u64, idle: Option<u64>) -> Option<Late> {
-        self.conversation.rest();
-        self.outbox.rest();
-        self.link.rest();
-        if let Hold::Change { .. } = self.hold {
+        self.party.rest();
+        if let Delay::Change { .. } = self.delay {
             self.times.note_line();
         }
         let (owes, patience) = (self.owes(), self.patience());
@@ -303,16 +286,16 @@ impl Client {
 
     // How long the client may be connected without logging in, or without sending a request, in milliseconds.
     fn patience(&self) -> Option<u64> {
-        match (&self.link, self.session.who()) {
-            (Link::Over, _) => None,
-            (Link::Visit(_), _) => Some(REQUEST),
+        match (self.party.protocol(), self.party.session().who()) {
+            (Protocol::Over, _) => None,
+            (Protocol::PageRequest(_) | Protocol::Upgrading(_), _) => Some(REQUEST),
             (_, Who::Nobody) => Some(LOG_IN),
             _ => None,
         }
     }
 
-    /// Ends the client's session.
-    pub fn end_session<S: Sequence, R: Wait, G: Gate>(&mut self, pads: &mut Shared<'_, S, R, G>) {
-        pads.end_session(&mut self.session);
+    /// Ends the client's session, and closes its socket.
+    pub fn end<S: Sequence, R: Wait, G: Gate>(self, pads: &mut Shared<'_, S, R, G>) {
+        let _closed = self.party.end(pads);
     }
 }

@@ -2,6 +2,7 @@
 use crate::buffers::Buffers;
 use crate::client::Client;
 use crate::hub::Hub;
+use crate::settle::Settle;
 use mio::{Events, Interest, Registry, Token};
 use sessions::Accounts;
 use slab::Slab;
@@ -20,12 +21,12 @@ pub struct Clients {
     pub later: Vec<usize>,
     /// The clients that may have replies to be written.
     pub owed: Vec<usize>,
+    /// Whether one of them has.
+    pub owes: bool,
     /// The clients that are held back, and the time at which the first is released, in milliseconds of a `Ticker`.
     pub held: Vec<usize>,
     pub deadline: Option<u64>,
     pub buffers: Buffers,
-    /// Whether replies were made and not yet settled.
-    pub has_spoken: bool,
     /// The accounts that may log in from now on, if they have changed.
     pub accounts: Option<Accounts>,
 }
@@ -45,10 +46,10 @@ impl Clients {
             queue: Vec::new(alloc),
             later: Vec::new(alloc),
             owed: Vec::new(alloc),
+            owes: false,
             held: Vec::new(alloc),
             deadline: None,
             buffers: Buffers::new(alloc)?,
-            has_spoken: false,
             accounts: None,
         })
     }
@@ -73,7 +74,7 @@ impl Clients {
         self.reserve()?;
         let key = self.all.vacant_key();
         let both = Interest::READABLE | Interest::WRITABLE;
-        registry.register(client.stream(), Token(key), both)?;
+        client.party.register(registry, Token(key), both)?;
         self.queue.push(key)?;
         Ok(())
     }
@@ -101,6 +102,7 @@ impl Clients {
                 continue;
             };
             if event.is_writable() && client.owes() {
+                self.owes = true;
                 self.owed.push(token.0)?;
             }
             let ends = event.is_read_closed() || event.is_error();
@@ -112,7 +114,7 @@ impl Clients {
     }
 
     /// Holds back a client until this time.
-    pub fn hold(&mut self, key: usize, until: u64) -> Result<(), AllocError> {
+    pub fn delay(&mut self, key: usize, until: u64) -> Result<(), AllocError> {
         self.deadline = Some(self.deadline.map_or(until, |first| first.min(until)));
         if let Some(client) = self.all.get_mut(key) {
             if client.list() {
@@ -134,14 +136,15 @@ impl Clients {
             let Some(client) = self.all.get_mut(key) else {
                 continue;
             };
-            let hold = client.hold();
-            let Some(until) = hold.until() else {
+            let delay = client.delay();
+            let Some(until) = delay.until() else {
                 client.unlist();
                 continue;
             };
-            if until <= now || !hub.holds(place, hold) {
+            if until <= now || !hub.holds(place, delay) {
                 client.unlist();
                 if client.release() {
+                    self.owes = true;
                     self.owed.push(key)?;
                 } else if client.queue() {
                     self.queue.push(key)?;
@@ -157,6 +160,15 @@ impl Clients {
         self.held.truncate(kept);
         self.deadline = deadline;
         Ok(())
+    }
+
+    /// Waits until everything that the replies to be written can reveal is stored. None: there are no such replies.
+    pub fn settle<T: Settle>(&mut self, settle: &T) -> io::Result<Option<T::Settled>> {
+        if mem::replace(&mut self.owes, false) {
+            Ok(Some(settle.settle()?))
+        } else {
+            Ok(None)
+        }
     }
 
     /// Begins the next turn.

@@ -1,10 +1,10 @@
 //! What the threads of a server share: how to reach each worker, the number of clients, and whether the server is
 //! ending.
 use crate::arrivals::Arrival;
-use crate::cells::CellSet;
-use crate::hold::{Hold, Wanted};
-use crate::limits::VISITS;
+use crate::delay::{Delay, Wanted};
+use crate::limits::PAGE_REQUESTS;
 use crate::lobby::Lobby;
+use cell_set::CellSet;
 use crossbeam_channel::Sender;
 use mio::Waker;
 use sessions::Accounts;
@@ -55,7 +55,7 @@ pub enum Connected {
     /// A client, which speaks lines or has a socket.
     Client,
     /// A browser whose request is read or answered.
-    Visit,
+    PageRequest,
 }
 
 /// What the threads of a server share.
@@ -69,7 +69,7 @@ pub struct Hub {
     /// The number of connected clients: those that speak lines, and the sockets of browsers.
     clients: AtomicU64,
     /// The number of HTTP requests being read or answered.
-    visits: AtomicU64,
+    page_requests: AtomicU64,
     /// Whether the server has stopped accepting connections.
     is_closed: AtomicBool,
     has_stopped: AtomicBool,
@@ -98,7 +98,7 @@ impl Hub {
             acceptor,
             began,
             clients: AtomicU64::new(0),
-            visits: AtomicU64::new(0),
+            page_requests: AtomicU64::new(0),
             is_closed: AtomicBool::new(false),
             has_stopped: AtomicBool::new(false),
             lobby,
@@ -123,8 +123,8 @@ impl Hub {
     }
 
     /// Whether there is room for one more request over HTTP.
-    pub fn has_room_for_visit(&self) -> bool {
-        self.visits.load(Ordering::SeqCst) < u64::from(VISITS)
+    pub fn has_room_for_page_request(&self) -> bool {
+        self.page_requests.load(Ordering::SeqCst) < u64::from(PAGE_REQUESTS)
     }
 
     /// Notes that a worker is running.
@@ -181,7 +181,7 @@ impl Hub {
             self.clients.fetch_sub(1, Ordering::SeqCst);
             return false;
         }
-        self.visits.fetch_sub(1, Ordering::SeqCst);
+        self.page_requests.fetch_sub(1, Ordering::SeqCst);
         true
     }
 
@@ -199,7 +199,7 @@ impl Hub {
     fn count_of(&self, connected: Connected) -> &AtomicU64 {
         match connected {
             Connected::Client => &self.clients,
-            Connected::Visit => &self.visits,
+            Connected::PageRequest => &self.page_requests,
         }
     }
 
@@ -255,7 +255,7 @@ impl Hub {
 
     // Whether there are no connections. A browser that becomes a client is briefly counted twice, but never left out.
     fn is_empty(&self) -> bool {
-        self.visits.load(Ordering::SeqCst) == 0 && self.clients.load(Ordering::SeqCst) == 0
+        self.page_requests.load(Ordering::SeqCst) == 0 && self.clients.load(Ordering::SeqCst) == 0
     }
 
     /// Publishes that operations were delivered at a cell, while its lock is still held. Wakes each worker that watches
@@ -315,11 +315,11 @@ impl Hub {
     }
 
     /// Whether a client stays held back, apart from its time limit.
-    pub fn holds(&self, place: usize, hold: Hold) -> bool {
-        match hold {
-            Hold::Pause { .. } | Hold::LogIn { .. } => true,
-            Hold::Change { wanted, .. } => self.has_to_wait(place, wanted),
-            Hold::Free | Hold::Over => false,
+    pub fn holds(&self, place: usize, delay: Delay) -> bool {
+        match delay {
+            Delay::Pause { .. } | Delay::LogIn { .. } => true,
+            Delay::Change { wanted, .. } => self.has_to_wait(place, wanted),
+            Delay::Free | Delay::Over => false,
         }
     }
 

@@ -1,6 +1,6 @@
 //! Many connections for each thread, with workers that wait until sockets are ready.
 //!
-//! It depends on `workers`, which answers the lines of a connection, on `web_wire`, which turns what browsers send into
+//! It depends on `conversation`, which answers the lines of a connection, on `web_wire`, which turns what browsers send into
 //! lines, on `admission`, which counts wrong tokens, and on `mio`, which reports when sockets are ready. It knows nothing
 //! of stores and command lines: a `Settle` is what replies wait for.
 #![tactic(auto)]
@@ -9,18 +9,19 @@ mod accept;
 mod arrivals;
 mod browser;
 mod buffers;
-mod cells;
+mod byte_socket;
 mod client;
 mod clients;
-mod hold;
+mod delay;
 mod hub;
 pub mod laws;
 mod limits;
-mod link;
 mod lobby;
 mod messages;
 mod newcomer;
 mod outbox;
+mod party;
+mod protocol;
 mod rarely;
 mod serve;
 mod settle;
@@ -33,9 +34,12 @@ mod work;
 mod written;
 
 pub use accept::{Acceptor, accept_all};
-pub use cells::CellSet;
+pub use byte_socket::ByteSocket;
 pub use hub::Hub;
 pub use limits::Limits;
+pub use party::{Party, Stage};
+pub use protocol::Protocol;
 pub use settle::Settle;
 pub use threads::{SetUp, set_up};
+pub use transfer::{BrokenSocket, Transfer};
 pub use work::{Service, Worker, serve_all};

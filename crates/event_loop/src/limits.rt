@@ -51,7 +51,7 @@ pub const LOG_IN: u64 = 60_000;
 pub const REQUEST: u64 = 10_000;
 
 /// The most HTTP requests that are read or answered at once. They do not count as clients.
-pub const VISITS: u32 = 512;
+pub const PAGE_REQUESTS: u32 = 512;
 
 /// The time between two checks of the clients' time limits, in milliseconds.
 pub const CHECK: u64 = 1_000;

@@ -1,17 +1,17 @@
 //! A WebSocket's messages as the lines of a conversation, and its replies as messages.
 ghost use Rattle.std.specs.Prelude.{◌≡◌, ◌⊎◌, ◌<◌, ◌≤◌, [], true, IfSome, Ok, min, length};
 ghost use Rattle.std.specs.List.{position};
-ghost use Rattle.web_wire.specs.Course.{waits as nothing_comes};
+ghost use Rattle.web_wire.specs.Course as course_spec;
 ghost use Rattle.web_wire.specs.Messages.{is_feed};
 ghost use Rattle.web_wire.specs.Socket.{GoesOn, course};
-ghost use Rattle.web_wire.specs.declared.frames.Turn.TheVariants as Taken;
-ghost use Rattle.workers.specs.Talk.{unwritten};
+ghost use Rattle.web_wire.specs.declared.frames.NextMessage.TheVariants as Taken;
+ghost use Rattle.conversation.specs.Talk.{unwritten};
 ghost use Rattle.event_loop.specs.Messages.{GivesTo, IsFirst, SaysFirst};
 
+use conversation::Conversation;
 use std::alloc::AllocError;
-use web_wire::{Frames, Turn, put_message};
+use web_wire::{Frames, NextMessage, put_message};
 use wire_lines::Fault;
-use workers::Conversation;
 
 /// The capacity of the line buffer that is kept after a long message.
 const KEPT: usize = 65_536;
@@ -23,12 +23,12 @@ pub fn hear(
     conversation: &mut Conversation,
     line: &mut Vec<u8>,
     output: &mut Vec<u8>,
-) -> Result<Turn, Fault>
+) -> Result<NextMessage, Fault>
     ensures line { result ≡ Ok Taken.Line → GivesTo frames.old conversation.old output.old.items
         frames.new conversation.new output.new.items }
     ensures none { result ≡ Ok Taken.Read
         → GoesOn [] frames.old output.old.items frames.new output.new.items
-        × (course frames.new [] ≡ nothing_comes) }
+        × (course frames.new [] ≡ course_spec.waits) }
     ensures end { result ≡ Ok Taken.Close
         → GoesOn [] frames.old output.old.items frames.new output.new.items
         × (frames.new.ended ≡ true) }
@@ -36,7 +36,7 @@ pub fn hear(
 {
     line.clear();
     let turn = frames.next_line(line, output)?;
-    if turn == Turn::Line {
+    if turn == NextMessage::Line {
         conversation.receive(line.as_slice())?;
     }
     line.clear();

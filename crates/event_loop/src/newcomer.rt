@@ -4,10 +4,10 @@ ghost use Rattle.event_loop.specs.Newcomers.{is_nobody};
 ghost use Rattle.event_loop.specs.declared.limits.TheConstants.{UNFINISHED};
 
 use crate::client::{Client, Phase};
-use crate::hold::{Hold, claim_in, pause_after};
+use crate::delay::{Delay, claim_in, pause_after};
 use crate::limits::{CHUNK, UNFINISHED};
-use crate::link::Link;
 use crate::lobby::{Lobby, PATIENT};
+use crate::protocol::Protocol;
 use pad_model::Who;
 use std::alloc::Global;
 use std::sync::Wait;
@@ -40,9 +40,9 @@ impl Newcomer {
 impl Client {
     /// Whether nobody has logged in.
     pub(crate) fn is_nobody(&self) -> bool
-        ensures { result ≡ is_nobody self.now.session.who }
+        ensures { result ≡ is_nobody self.now.party.session.who }
     {
-        match self.session.who() {
+        match self.party.session().who() {
             Who::Nobody => true,
             _ => false,
         }
@@ -51,7 +51,7 @@ impl Client {
     /// The most bytes that may be read now. None: the client has not logged in, has begun a line of more than
     /// `UNFINISHED` bytes, and as many others as may have done so too. It is asked again after a while.
     pub(crate) fn may_read(&mut self, lobby: &Lobby) -> Option<usize>
-        ensures bounded { IfSome result (λ most. (is_nobody self.old.session.who ≡ false)
+        ensures bounded { IfSome result (λ most. (is_nobody self.old.party.session.who ≡ false)
             ⊎ ((self.new.newcomer.may_be_long ≡ true)
             ⊎ (most + self.old.newcomer.unfinished ≤ UNFINISHED))) }
     {
@@ -83,9 +83,9 @@ impl Client {
 
     /// The bytes that wait to be answered, or to become a line.
     pub(crate) fn waiting(&self) -> usize {
-        let lines = self.conversation.waiting();
-        match &self.link {
-            Link::Socket(frames) => lines.saturating_add(frames.len()),
+        let lines = self.party.waiting();
+        match self.party.protocol() {
+            Protocol::Socket(frames) => lines.saturating_add(frames.len()),
             _ => lines,
         }
     }
@@ -136,9 +136,9 @@ impl Client {
         if !lobby.has_wrong() || !self.is_nobody() {
             return false;
         }
-        match self.conversation.first_line() {
+        match self.party.first_line() {
             Some(line) => line.len() > UNFINISHED || claim_in(alloc, line).is_some(),
-            None => self.phase == Phase::Ended && self.conversation.waiting() > 0,
+            None => self.phase == Phase::Ended && self.party.waiting() > 0,
         }
     }
 
@@ -147,12 +147,12 @@ impl Client {
     pub fn knock<R: Wait>(&mut self, rt: &R, lobby: &Lobby, now: u64) -> Option<u64> {
         let tokens = lobby.wrong_of(rt, self.address, now);
         if tokens < PATIENT {
-            self.hold = Hold::Over;
+            self.delay = Delay::Over;
             return None;
         }
         let pause = pause_after(tokens.saturating_add(1)).unwrap_or(0);
         let until = now.saturating_add(pause);
-        self.hold = Hold::LogIn { until };
+        self.delay = Delay::LogIn { until };
         Some(until)
     }
 }

@@ -1,5 +1,5 @@
 //! Bytes that are waiting to be written.
-ghost use Rattle.std.specs.Prelude.{◌≡◌, [], drop, length, nat_le};
+ghost use Rattle.std.specs.Prelude.{◌≡◌, ◌≤◌, ◌-◌, [], drop, length, nat_le};
 
 use std::alloc::Global;
 
@@ -19,7 +19,9 @@ pub struct Outbox {
 
 impl Outbox {
     /// An empty outbox. It allocates no memory.
-    pub fn new(alloc: Global) -> Outbox {
+    pub fn new(alloc: Global) -> Outbox
+        ensures { (result.sent ≡ 0) × (result.bytes.items ≡ []) }
+    {
         Outbox {
             bytes: Vec::new(alloc),
             sent: 0,
@@ -33,25 +35,31 @@ impl Outbox {
         Outbox { bytes, sent: 0 }
     }
 
-    /// The number of bytes that wait to be written.
-    pub fn len(&self) -> usize {
-        self.bytes.len().saturating_sub(self.sent)
+    /// Drops all bytes.
+    pub fn clear(&mut self)
+        ensures { (self.new.sent ≡ 0) × (self.new.bytes.items ≡ []) }
+    {
+        self.bytes.clear();
+        self.sent = 0;
     }
 
-    /// Whether all bytes were written.
-    pub fn is_empty(&self) -> bool
-        ensures { result ≡ nat_le (length self.now.bytes.items) self.now.sent }
+    /// The number of bytes that wait to be written.
+    pub fn len(&self) -> usize
+        ensures { result ≡ length self.now.bytes.items - self.now.sent }
     {
-        self.sent >= self.bytes.len()
+        self.bytes.len().saturating_sub(self.sent)
     }
 
     /// Drops the bytes once all were written.
     pub fn settle(&mut self)
-        ensures { drop self.new.sent self.new.bytes.items ≡ drop self.old.sent self.old.bytes.items }
+        ensures rest { drop self.new.sent self.new.bytes.items
+            ≡ drop self.old.sent self.old.bytes.items }
+        ensures within { self.old.sent ≤ length self.old.bytes.items
+            → self.new.sent ≤ length self.new.bytes.items }
+        ensures none { self.old.bytes.items ≡ [] → self.new.bytes.items ≡ [] }
     {
-        if self.is_empty() {
-            self.bytes.clear();
-            self.sent = 0;
+        if self.sent >= self.bytes.len() {
+            self.clear();
             self.bytes.shrink_to(KEPT);
         }
     }

@@ -3,20 +3,20 @@ ghost use Rattle.wire_lines.specs.Buffer.{IsPart};
 
 use crate::buffers::Buffers;
 use crate::client::{Client, Phase};
-use crate::hold::{BAD_TOKEN, Claim, Hold, Wanted, claim_in, wanted_by};
+use crate::delay::{BAD_TOKEN, Delay, LogIn, Wanted, claim_in, wanted_by};
 use crate::hub::{Connected, Hub};
 use crate::limits::{LINES, LONG_LINE, MOST_OWED, UNFINISHED};
 use crate::lobby::Lobby;
 use crate::settle::Settle;
 use crate::work::Service;
+use conversation::{Gate, LineOutcome, Shared};
 use pad_model::Sequence;
 use std::alloc::Global;
 use std::sync::Wait;
-use workers::{Gate, Shared, Turn};
 
 /// The result of a step of a client's turn.
 #[derive(Drop)]
-pub enum Step {
+pub enum ClientStep {
     /// The turn may go on.
     Goes,
     /// There is nothing to do, or others have their turn.
@@ -24,7 +24,7 @@ pub enum Step {
     /// The client has to move, because a long line has begun or was answered.
     Moves,
     /// A wrong token was answered. The claim is who the client said it is, if it is known.
-    Fails(Option<Claim>),
+    Fails(Option<LogIn>),
     /// A log-in comes next, and is to be held back if its address has sent wrong tokens.
     Knocks,
     /// The first line is to be held back.
@@ -40,7 +40,7 @@ impl Client {
         place: usize,
         pads: &mut Shared<'_, S, R, G>,
         buffers: &mut Buffers,
-    ) -> Step
+    ) -> ClientStep
     where
         S: Sequence,
         R: AllocGlobal + Wait,
@@ -48,14 +48,14 @@ impl Client {
         T: Settle,
     {
         if self.owes() {
-            return Step::Rests;
+            return ClientStep::Rests;
         }
         for _line in 0..LINES {
             if self.owed() >= MOST_OWED {
                 break;
             }
             match self.step(service, place, pads, buffers) {
-                Step::Goes => {}
+                ClientStep::Goes => {}
                 end => {
                     self.review(service.hub.lobby());
                     return end;
@@ -63,7 +63,7 @@ impl Client {
             }
         }
         self.review(service.hub.lobby());
-        Step::Rests
+        ClientStep::Rests
     }
 
     // Makes one step: answers one line, or reads once.
@@ -73,7 +73,7 @@ impl Client {
         place: usize,
         pads: &mut Shared<'_, S, R, G>,
         buffers: &mut Buffers,
-    ) -> Step
+    ) -> ClientStep
     where
         S: Sequence,
         R: AllocGlobal + Wait,
@@ -81,13 +81,19 @@ impl Client {
         T: Settle,
     {
         let alloc = service.row.rt.alloc();
-        if self.connected() == Connected::Visit {
-            return self.visit(alloc, service.site, service.hub, service.limits, buffers);
+        if self.connected() == Connected::PageRequest {
+            return self.serve_page_request(
+                alloc,
+                service.site,
+                service.hub,
+                service.limits,
+                buffers,
+            );
         }
         if self.is_misplaced(service.hub, place) {
             self.moves = true;
-            self.conversation.rest();
-            return Step::Moves;
+            self.party.rest();
+            return ClientStep::Moves;
         }
         match self.hold_line(alloc, service.hub, place, buffers) {
             Some(held) => held,
@@ -102,22 +108,17 @@ impl Client {
         lobby: &Lobby,
         pads: &mut Shared<'_, S, R, G>,
         buffers: &mut Buffers,
-    ) -> Step {
-        let before = self.conversation.replies().len();
+    ) -> ClientStep {
+        let before = self.party.replies().len();
         let claim = self.claim(alloc);
-        let number = self.number;
-        if self.conversation.is_cut() {
-            self.phase = Phase::Over;
-            return Step::Rests;
-        }
-        match pads.answer(alloc, &mut self.session, &mut self.conversation, number) {
-            Ok(Turn::Answered) => self.answered(before, claim),
-            Ok(Turn::Waits) if self.phase == Phase::Ended => self.end(alloc, pads),
-            Ok(Turn::Waits) => self.read_more(lobby, buffers),
-            Ok(Turn::Full) => Step::Rests,
-            Ok(Turn::Cut) => {
+        match self.party.answer(alloc, pads, self.number) {
+            Ok(LineOutcome::Answered) => self.answered(before, claim),
+            Ok(LineOutcome::Waits) if self.phase == Phase::Ended => self.answer_last(alloc, pads),
+            Ok(LineOutcome::Waits) => self.read_more(lobby, buffers),
+            Ok(LineOutcome::Full) => ClientStep::Rests,
+            Ok(LineOutcome::Cut) => {
                 self.phase = Phase::Over;
-                Step::Rests
+                ClientStep::Rests
             }
             Err(fault) => self.fail(fault),
         }
@@ -134,8 +135,8 @@ impl Client {
 
     // Whether the first waiting line is a long one.
     fn is_long(&self) -> bool {
-        self.conversation.waiting() > LONG_LINE
-            && match self.conversation.first_line() {
+        self.party.waiting() > LONG_LINE
+            && match self.party.first_line() {
                 Some(line) => line.len() > LONG_LINE,
                 None => true,
             }
@@ -149,40 +150,40 @@ impl Client {
         hub: &Hub,
         place: usize,
         buffers: &mut Buffers,
-    ) -> Option<Step> {
-        match self.hold {
-            Hold::Over => return None,
-            Hold::LogIn { .. } => return Some(Step::Rests),
+    ) -> Option<ClientStep> {
+        match self.delay {
+            Delay::Over => return None,
+            Delay::LogIn { .. } => return Some(ClientStep::Rests),
             _ => {}
         }
         if self.is_knocking(alloc, hub.lobby()) {
-            return Some(Step::Knocks);
+            return Some(ClientStep::Knocks);
         }
         if self.phase != Phase::Open {
             return None;
         }
-        let line = self.conversation.first_line()?;
-        if self.conversation.has_second() {
-            self.hold = Hold::Free;
+        let line = self.party.first_line()?;
+        if self.party.has_second() {
+            self.delay = Delay::Free;
             return None;
         }
-        if let Hold::Change { .. } = self.hold {
+        if let Delay::Change { .. } = self.delay {
             return Some(self.read_more(hub.lobby(), buffers));
         }
-        let wanted = wanted_by(alloc, line, &self.session)?;
+        let wanted = wanted_by(alloc, line, self.party.session())?;
         if hub.has_to_wait(place, wanted) {
-            Some(Step::Waits(wanted))
+            Some(ClientStep::Waits(wanted))
         } else {
             None
         }
     }
 
     // Who the first line logs in as, if nobody has logged in yet and the line is short.
-    fn claim(&self, alloc: Global) -> Option<Claim> {
+    fn claim(&self, alloc: Global) -> Option<LogIn> {
         if !self.is_nobody() {
             return None;
         }
-        let line = self.conversation.first_line()?;
+        let line = self.party.first_line()?;
         if line.len() > UNFINISHED {
             return None;
         }
@@ -190,39 +191,37 @@ impl Client {
     }
 
     // Handles the answer to a line.
-    fn answered(&mut self, before: usize, claim: Option<Claim>) -> Step {
-        self.hold = Hold::Free;
+    fn answered(&mut self, before: usize, claim: Option<LogIn>) -> ClientStep {
+        self.delay = Delay::Free;
         self.times.note_line();
         self.note_answered();
-        if self.conversation.replies().get(before..) != Some(BAD_TOKEN) {
-            return Step::Goes;
+        if self.party.replies().get(before..) != Some(BAD_TOKEN) {
+            return ClientStep::Goes;
         }
         self.failures = self.failures.saturating_add(1);
-        Step::Fails(claim)
+        ClientStep::Fails(claim)
     }
 
     // Answers the last line, since no more bytes arrive.
-    fn end<S: Sequence, R: Wait, G: Gate>(
+    fn answer_last<S: Sequence, R: Wait, G: Gate>(
         &mut self,
         alloc: Global,
         pads: &mut Shared<'_, S, R, G>,
-    ) -> Step
-        requires { IsPart self.old.conversation.waiting }
+    ) -> ClientStep
+        requires { IsPart self.old.party.talk.waiting }
     {
-        if !self.conversation.replies().is_empty() {
-            return Step::Rests;
+        if !self.party.replies().is_empty() {
+            return ClientStep::Rests;
         }
         self.phase = Phase::Over;
-        let number = self.number;
-        let told = pads.answer_last(alloc, &mut self.session, &mut self.conversation, number);
-        if let Err(fault) = told {
+        if let Err(fault) = self.party.answer_last(alloc, pads, self.number) {
             return self.fail(fault);
         }
-        self.hold = Hold::Free;
-        if self.conversation.replies() != BAD_TOKEN {
-            return Step::Rests;
+        self.delay = Delay::Free;
+        if self.party.replies() != BAD_TOKEN {
+            return ClientStep::Rests;
         }
         self.failures = self.failures.saturating_add(1);
-        Step::Fails(None)
+        ClientStep::Fails(None)
     }
 }

@@ -20,7 +20,7 @@ pub struct SetUp {
 }
 
 /// Sets up a worker for each member's seats, the last of which serves only long lines, and the acceptor, for clients
-/// that speak lines and perhaps for browsers. `revisions` has the revision of the pad at each cell.
+/// that speak lines and perhaps for browsers. `op_log` has the revision of the pad at each cell.
 pub fn set_up<R: AllocGlobal + Net + Clock>(
     rt: &R,
     lines: TcpListener,

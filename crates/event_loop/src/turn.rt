@@ -2,23 +2,23 @@
 use crate::arrivals::Arrival;
 use crate::client::Client;
 use crate::clients::{Clients, NotServed};
-use crate::hold::Claim;
+use crate::delay::LogIn;
 use crate::hub::Connected;
 use crate::limits::CHECK;
 use crate::lobby::{Noted, PATIENT};
-use crate::serve::Step;
+use crate::serve::ClientStep;
 use crate::settle::Settle;
 use crate::ticker::Ticker;
 use crate::times::Late;
 use crate::work::{Service, Worker};
+use conversation::{Gate, Shared};
 use crossbeam_channel::TryRecvError;
-use journal::Journal;
 use log::warn;
 use pad_model::Sequence;
+use server_log::ServerLog;
 use std::io;
 use std::sync::Wait;
 use std::time::{Clock, Duration};
-use workers::{Gate, Shared};
 
 /// The most arrivals that are taken in one turn.
 const ARRIVALS: u32 = 4_096;
@@ -59,12 +59,11 @@ where
         }
     }
     serve(service, worker.place, clients, pads, ticker)?;
-    if clients.has_spoken && service.settle.settle().is_err() {
+    let Ok(settled) = clients.settle(service.settle) else {
         service.hub.stop();
         return Ok(());
-    }
-    clients.has_spoken = false;
-    write(service, worker, clients, pads)
+    };
+    write(service, worker, clients, pads, settled)
 }
 
 // How long to wait for events. None: without limit, since there are no clients with time limits.
@@ -104,8 +103,8 @@ where
                     address,
                 },
             ) => {
-                let link = entrance.link(rt.alloc());
-                Client::new(rt.alloc(), number, worker.place, stream, link, address)
+                let protocol = entrance.protocol(rt.alloc());
+                Client::new(rt.alloc(), number, worker.place, stream, protocol, address)
             }
             Ok(Arrival::Moved(client)) => client,
             Ok(Arrival::Accounts(accounts)) => {
@@ -116,7 +115,7 @@ where
         };
         if let Err(NotServed { client, cause }) = clients.insert(worker.poll.registry(), client) {
             let number = client.number();
-            warn!(Journal(rt); "connection {number} is not served: {cause}");
+            warn!(ServerLog(rt); "connection {number} is not served: {cause}");
             close(service, pads, client);
         }
     }
@@ -145,15 +144,15 @@ where
             continue;
         };
         let until = match client.serve(service, place, pads, &mut clients.buffers) {
-            Step::Goes | Step::Rests | Step::Moves => None,
-            Step::Fails(claim) => note_failure(service, client, claim, ticker.look(rt)),
-            Step::Knocks => client.knock(rt, service.hub.lobby(), ticker.look(rt)),
-            Step::Waits(wanted) => Some(client.wait(ticker.look(rt), wanted)),
+            ClientStep::Goes | ClientStep::Rests | ClientStep::Moves => None,
+            ClientStep::Fails(claim) => note_failure(service, client, claim, ticker.look(rt)),
+            ClientStep::Knocks => client.knock(rt, service.hub.lobby(), ticker.look(rt)),
+            ClientStep::Waits(wanted) => Some(client.wait(ticker.look(rt), wanted)),
         };
-        clients.has_spoken = clients.has_spoken || client.owes();
+        clients.owes = clients.owes || client.owes();
         clients.owed.push(key)?;
         if let Some(until) = until {
-            clients.hold(key, until)?;
+            clients.delay(key, until)?;
         }
     }
     clients.queue.clear();
@@ -165,7 +164,7 @@ where
 fn note_failure<S, R, G, T>(
     service: &Service<'_, S, R, G, T>,
     client: &mut Client,
-    claim: Option<Claim>,
+    claim: Option<LogIn>,
     now: u64,
 ) -> Option<u64>
 where
@@ -176,7 +175,7 @@ where
 {
     let (rt, hub) = (service.row.rt, service.hub);
     let name = match &claim {
-        Some(Claim::Author(name)) => name.clone().ok(),
+        Some(LogIn::Author(name)) => name.clone().ok(),
         _ => None,
     };
     let noted = hub.lobby().note_wrong(rt, client.address(), name, now);
@@ -190,7 +189,7 @@ where
 }
 
 // Logs a client that sent a wrong token, who it claimed to be, and how many there were.
-fn log_failure<R: Clock + Eprint>(rt: &R, client: &mut Client, claim: Option<Claim>, noted: Noted) {
+fn log_failure<R: Clock + Eprint>(rt: &R, client: &mut Client, claim: Option<LogIn>, noted: Noted) {
     let number = client.number();
     let Noted {
         of_address,
@@ -198,23 +197,24 @@ fn log_failure<R: Clock + Eprint>(rt: &R, client: &mut Client, claim: Option<Cla
         total,
     } = noted;
     let Some(claim) = claim else {
-        warn!(Journal(rt); "connection {number}: a wrong token; {total} since the start");
+        warn!(ServerLog(rt); "connection {number}: a wrong token; {total} since the start");
         return;
     };
-    match client.stream().peer_addr() {
+    match client.party.peer_address() {
         Ok(address) =>
-            warn!(Journal(rt); "connection {number} from {address}: a wrong token for {claim}; {of_address} from this address and {for_name} for this name lately, {total} since the start"),
+            warn!(ServerLog(rt); "connection {number} from {address}: a wrong token for {claim}; {of_address} from this address and {for_name} for this name lately, {total} since the start"),
         Err(_) =>
-            warn!(Journal(rt); "connection {number}: a wrong token for {claim}; {for_name} for this name lately, {total} since the start"),
+            warn!(ServerLog(rt); "connection {number}: a wrong token for {claim}; {for_name} for this name lately, {total} since the start"),
     }
 }
 
-// Writes the replies, and ends the clients that have nothing left to do.
+// Writes the replies once they are settled, and ends the clients that have nothing left to do.
 fn write<S, R, G, T>(
     service: &Service<'_, S, R, G, T>,
     worker: &Worker,
     clients: &mut Clients,
     pads: &mut Shared<'_, S, R, G>,
+    settled: Option<T::Settled>,
 ) -> io::Result<()>
 where
     S: Sequence,
@@ -229,7 +229,9 @@ where
         let Some(client) = clients.all.get_mut(key) else {
             continue;
         };
-        client.write();
+        if let Some(settled) = &settled {
+            client.write::<T>(settled);
+        }
         if client.is_gone() {
             end(service, clients, pads, key);
         } else if client.moves() {
@@ -266,9 +268,9 @@ where
     } else {
         service.hub.long_lines()
     };
-    let _registered = worker.poll.registry().deregister(client.stream());
+    let _registered = client.party.deregister(worker.poll.registry());
     if let Some(Arrival::Moved(client)) = service.hub.send(rt, to, Arrival::Moved(client)) {
-        warn!(Journal(rt); "connection {number} ended: out of memory");
+        warn!(ServerLog(rt); "connection {number} ended: out of memory");
         close(service, pads, client);
     }
 }
@@ -292,8 +294,9 @@ where
     let number = client.number();
     match client.fault() {
         Some((fault, Some(cause))) =>
-            warn!(Journal(service.row.rt); "connection {number} ended: {fault}: {cause}"),
-        Some((fault, None)) => warn!(Journal(service.row.rt); "connection {number} ended: {fault}"),
+            warn!(ServerLog(service.row.rt); "connection {number} ended: {fault}: {cause}"),
+        Some((fault, None)) =>
+            warn!(ServerLog(service.row.rt); "connection {number} ended: {fault}"),
         None => {}
     }
     close(service, pads, client);
@@ -312,14 +315,13 @@ where
     G: Gate,
     T: Settle,
 {
-    client.end_session(pads);
     let lobby = service.hub.lobby();
     client.leave_lobby(lobby);
     if service.limits.per_address.is_some() {
         lobby.disconnect(service.row.rt, client.address());
     }
     let (home, connected) = (client.home(), client.connected());
-    drop(client);
+    client.end(pads);
     service.hub.leave(home, connected);
 }
 
@@ -357,9 +359,9 @@ where
             Late::Nobody => "it did not log in",
         };
         if client.connected() == Connected::Client {
-            warn!(Journal(service.row.rt); "connection {number} ended: {why}");
+            warn!(ServerLog(service.row.rt); "connection {number} ended: {why}");
         }
-        client.say_goodbye();
+        client.party.say_goodbye();
         end(service, clients, pads, key);
     }
     Ok(())

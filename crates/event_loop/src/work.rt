@@ -6,11 +6,12 @@ use crate::limits::Limits;
 use crate::settle::Settle;
 use crate::ticker::Ticker;
 use crate::turn::take_turn;
+use conversation::{Gate, PadTable, Shared};
 use crossbeam_channel::Receiver;
-use journal::Journal;
 use log::error;
 use mio::{Events, Poll};
 use pad_model::Sequence;
+use server_log::ServerLog;
 use sessions::{Accounts, Session};
 use shared_pads::Seat;
 use std::alloc::Global;
@@ -20,7 +21,6 @@ use std::thread::Threads;
 use std::time::Clock;
 use std::{io, mem, thread};
 use web_wire::Site;
-use workers::{Gate, Row, Shared};
 
 /// The most events that one poll takes.
 const EVENTS: usize = 512;
@@ -28,7 +28,7 @@ const EVENTS: usize = 512;
 /// What all workers of a server share: what they serve, and their limits.
 #[derive(Drop)]
 pub struct Service<'a, S: Sequence, R: Wait, G: Gate, T: Settle> {
-    pub row: &'a Row<'a, S, R, G>,
+    pub row: &'a PadTable<'a, S, R, G>,
     pub hub: &'a Hub,
     pub limits: Limits,
     pub settle: &'a T,
@@ -95,7 +95,7 @@ where
 {
     let rt = service.row.rt;
     let Ok(mut clients) = Clients::new(rt.alloc()) else {
-        error!(Journal(rt); "a worker did not begin: out of memory");
+        error!(ServerLog(rt); "a worker did not begin: out of memory");
         service.hub.stop();
         return;
     };
@@ -123,7 +123,7 @@ where
     G: Gate,
     T: Settle,
 {
-    let row = Row {
+    let row = PadTable {
         rt: service.row.rt,
         cells: service.row.cells,
         names: service.row.names,
@@ -144,7 +144,7 @@ where
     let news = match take_turns(&service, worker, clients, &mut pads) {
         Ok(news) => news,
         Err(cause) => {
-            error!(Journal(row.rt); "a worker ended: {cause}");
+            error!(ServerLog(row.rt); "a worker ended: {cause}");
             service.hub.stop();
             None
         }
@@ -192,8 +192,8 @@ where
 fn end_all<S: Sequence, R: Wait, G: Gate>(clients: &mut Clients, pads: &mut Shared<'_, S, R, G>) {
     for key in 0..clients.all.capacity() {
         if let Some(mut client) = clients.all.try_remove(key) {
-            client.say_goodbye();
-            client.end_session(pads);
+            client.party.say_goodbye();
+            client.end(pads);
         }
     }
 }

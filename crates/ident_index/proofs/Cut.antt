@@ -8,20 +8,20 @@ use Rattle.std.specs.FinMap.{get, insert, get-insert, same_map}
 use Rattle.pad_model.specs.Stamp.{Stamp}
 use Rattle.ident_index.specs.Index.{Index, stamp_cmp, stamp_behind}
 use Rattle.ident_index.specs.View.{index_of}
-use Rattle.ident_index.specs.declared.place.Entry.{Entry}
+use Rattle.ident_index.specs.declared.place.BlockEntry.{BlockEntry}
 use Rattle.ident_index.specs.declared.index.Key.{Key}
 use Rattle.ident_index.proofs.Order.{stamp_cmp_total, stamp_cmp-IsAntisymmetric, apart_stamps, same_from_tied}
 use Rattle.ident_index.proofs.Kept.{key_cmp, key_of, get-kept, Updated, kept_insert}
 use Rattle.ident_index.proofs.Sound.{get_beside}
 
-in_turn : (a b : Bool) (x y z : Option Entry) → (a ≡ true → b ≡ true → ⊥) → cond a x (cond b y z)
+in_turn : (a b : Bool) (x y z : Option BlockEntry) → (a ≡ true → b ≡ true → ⊥) → cond a x (cond b y z)
     ≡ cond b y (cond a x z)
 in_turn true true x y z apart = absurd (apart refl refl)
 in_turn true false x y z apart = refl
 in_turn false b x y z apart = refl
 
 -- entries at two stamps are put in either order
-insert_swap : (m : Index) (j k : Stamp) (a b : Entry) → (k ≡ j → ⊥) → insert (insert m j a) k b
+insert_swap : (m : Index) (j k : Stamp) (a b : BlockEntry) → (k ≡ j → ⊥) → insert (insert m j a) k b
     ≡ insert (insert m k b) j a
 insert_swap m j k a b differ =
     same_map stamp_cmp_total stamp_cmp-IsAntisymmetric _ _
@@ -37,7 +37,7 @@ first_differs first offset inside same = let counters : first.counter ≡ first.
     ap (λ (s : Stamp). s.counter) same in omega arith
 
 -- with the right part added, the block is still found under its first stamp
-pub still_there : (es : List (Key × Entry)) (m : Index) (first : Stamp) (offset : ℕ) (whole right : Entry) →
+pub still_there : (es : List (Key × BlockEntry)) (m : Index) (first : Stamp) (offset : ℕ) (whole right : BlockEntry) →
     0 < offset → get m first ≡ Some whole
     → index_of es ≡ insert m (stamp_behind first offset) right → lookup (is_at (key_cmp (key_of first))) es ≡ Some whole
 still_there es m first offset whole right inside is entered =
@@ -45,7 +45,7 @@ still_there es m first offset whole right inside is entered =
     (apart_stamps _ _ (first_differs first offset inside)) ∙ is
 
 -- and once the left part is shortened, the block is cut
-pub cut_kept : (es fs : List (Key × Entry)) (m : Index) (first : Stamp) (offset : ℕ) (whole right left : Entry) →
+pub cut_kept : (es fs : List (Key × BlockEntry)) (m : Index) (first : Stamp) (offset : ℕ) (whole right left : BlockEntry) →
     0 < offset
     → index_of es ≡ insert m (stamp_behind first offset) right → Updated es fs first (Some left) →
     left ≡ record whole { len = offset }
@@ -53,7 +53,7 @@ pub cut_kept : (es fs : List (Key × Entry)) (m : Index) (first : Stamp) (offset
 cut_kept es fs m first offset whole right left inside entered shortened is =
     kept_insert es fs _ first left entered shortened ∙ insert_swap m (stamp_behind first offset) first right left
     (first_differs first offset inside)
-    ∙ ap (λ (e : Entry). insert (insert m first e) (stamp_behind first offset) right) is
+    ∙ ap (λ (e : BlockEntry). insert (insert m first e) (stamp_behind first offset) right) is
 
-pub same_entry : (a b : Entry) → Some a ≡ Some b → a ≡ b
-same_entry a b e = ap (λ (o : Option Entry). unwrap_or o a) e
+pub same_entry : (a b : BlockEntry) → Some a ≡ Some b → a ≡ b
+same_entry a b e = ap (λ (o : Option BlockEntry). unwrap_or o a) e

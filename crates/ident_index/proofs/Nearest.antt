@@ -12,7 +12,7 @@ use Rattle.std.specs.declared.ops.Bound.TheVariants.{Included, Unbounded}
 use Rattle.std.proofs.lemmas.Cmp.{ranked}
 use Rattle.pad_model.specs.Stamp.{Stamp}
 use Rattle.pad_model.specs.declared.limits.TheConstants.{MAX_COUNTER}
-use Rattle.ident_index.specs.declared.place.Entry.{Entry}
+use Rattle.ident_index.specs.declared.place.BlockEntry.{BlockEntry}
 use Rattle.ident_index.specs.Index.{Index, stamp_behind, Covers, Holds, HoldsNone, IsBlock, IsSound, IsPlace}
 use Rattle.ident_index.proofs.Order.{same_stamps}
 use Rattle.ident_index.specs.View.{stamp_of, index_of}
@@ -50,7 +50,7 @@ pairs_le a b c d Equal Greater e f same le = let above : d < c = ranked c d Grea
 pairs_le a b c d Greater q e f same le = let above : b < a = ranked a b Greater e in absurd (omega arith)
 
 -- the block at `first` begins no later than s, and each block of the replica of s that does begins no later than it
-pub record IsNearest (m : Index) (s first : Stamp) (e : Entry) : Type 0 where
+pub record IsNearest (m : Index) (s first : Stamp) (e : BlockEntry) : Type 0 where
   pub here : get m first ≡ Some e
   pub begins : (first.replica < s.replica) ⊎ ((first.replica ≡ s.replica) × (first.counter ≤ s.counter))
   pub last : (other : Stamp) → other.replica ≡ s.replica → other.counter ≤ s.counter → IsSome (get m other)
@@ -65,11 +65,11 @@ between_both a s o b t p (inr x) (inl y) e = let z = x.0 in absurd (omega arith)
 between_both a s o b t p (inr x) (inr y) e = (x.0, x.1, y.1)
 
 -- its entry is a block
-pub nearest_block : (m : Index) (s first : Stamp) (e : Entry) → IsSound m → IsNearest m s first e → IsBlock first e
+pub nearest_block : (m : Index) (s first : Stamp) (e : BlockEntry) → IsSound m → IsNearest m s first e → IsBlock first e
 nearest_block m s first e sound nearest = subst (λ o. IfSome o (IsBlock first)) nearest.here (sound.blocks first)
 
 -- what holds the stamp is the nearest block
-pub nearest_holds : (m : Index) (s first : Stamp) (e : Entry) → IsSound m → IsNearest m s first e → (other : Stamp) →
+pub nearest_holds : (m : Index) (s first : Stamp) (e : BlockEntry) → IsSound m → IsNearest m s first e → (other : Stamp) →
     Holds m other s → (other ≡ first) × Covers first e.len s
 nearest_holds m s first e sound nearest other h =
     let found = some_entry (get m other) (λ x. Covers other x.len s) h in
@@ -91,7 +91,7 @@ begins_by a s b t (inl x) e = absurd (omega arith)
 begins_by a s b t (inr x) e = x.1
 
 -- if the nearest block is of the replica, and reaches to the stamp, the stamp's place is in it
-pub nearest_place : (m : Index) (s first : Stamp) (e : Entry) → IsSound m → IsNearest m s first e → first.replica
+pub nearest_place : (m : Index) (s first : Stamp) (e : BlockEntry) → IsSound m → IsNearest m s first e → first.replica
     ≡ s.replica → s.counter - first.counter < e.len
     → IsPlace m s (record { first = first; offset = s.counter - first.counter; label = e.label })
 nearest_place m s first e sound nearest replica inside =
@@ -111,7 +111,7 @@ none_holds m s none other h =
     let covers = found.2 in
     there (get m other) (subst (λ o. IsSome o) (sym found.1) refl) (none other covers.0 covers.1)
 
-module _ (b : BTreeMap Key Entry) (m : Index) (s : Stamp) (r : List (Key × Entry)) (kept : index_of b.entries ≡ m)
+module _ (b : BTreeMap Key BlockEntry) (m : Index) (s : Stamp) (r : List (Key × BlockEntry)) (kept : index_of b.entries ≡ m)
     (part : IsRangeOf key_cmp Unbounded (Included (key_of s)) b r) where
   in_part : (other : Stamp) → other.replica ≡ s.replica → other.counter ≤ s.counter →
       IsInRange key_cmp Unbounded (Included (key_of s)) (key_of other)
@@ -122,7 +122,7 @@ module _ (b : BTreeMap Key Entry) (m : Index) (s : Stamp) (r : List (Key × Entr
   )
 
   -- of what the map has up to the key of s, the last is the nearest
-  pub nearest_from_range : (t : List (Key × Entry)) (k : Key) (e : Entry) → r ≡ t ++ (k, e) ∷ [] →
+  pub nearest_from_range : (t : List (Key × BlockEntry)) (k : Key) (e : BlockEntry) → r ≡ t ++ (k, e) ∷ [] →
       IsNearest m s (stamp_of k) e
   nearest_from_range t k e ends =
       let entry = part.3 (k, e) t ends in
@@ -147,7 +147,7 @@ module _ (b : BTreeMap Key Entry) (m : Index) (s : Stamp) (r : List (Key × Entr
       ∙ part.5 nil (key_of other) (in_part other replica counter))
 
 -- each stamp of a replica that is held lies before the end of the block nearest to the replica's greatest stamp
-pub nearest_bounds : (m : Index) (last first : Stamp) (e : Entry) → IsSound m → IsNearest m last first e → first.replica
+pub nearest_bounds : (m : Index) (last first : Stamp) (e : BlockEntry) → IsSound m → IsNearest m last first e → first.replica
     ≡ last.replica → last.counter ≡ MAX_COUNTER
     → (other s : Stamp) → s.replica ≡ last.replica → Holds m other s → s.counter < first.counter + e.len
 nearest_bounds m last first e sound nearest same most other s replica h =
@@ -173,7 +173,7 @@ nearest_bounds m last first e sound nearest same most other s replica h =
     ]
 
 -- and that end is held
-pub nearest_end : (m : Index) (last first : Stamp) (e : Entry) (s : Stamp) → IsSound m → IsNearest m last first e →
+pub nearest_end : (m : Index) (last first : Stamp) (e : BlockEntry) (s : Stamp) → IsSound m → IsNearest m last first e →
     s.replica ≡ first.replica → s.counter ≡ first.counter + (e.len - 1) → Holds m first s
 nearest_end m last first e s sound nearest replica counter =
     let sized : 1 ≤ e.len = (nearest_block m last first e sound nearest).sized in
@@ -189,7 +189,7 @@ holder_begins m other s sound h =
     (limits.1, found.2.0, subst (λ o. IsSome o) (sym found.1) refl)
 
 -- if the nearest block is of another replica, no block of the replica holds anything
-pub nearest_other : (m : Index) (last first : Stamp) (e : Entry) → IsSound m → IsNearest m last first e →
+pub nearest_other : (m : Index) (last first : Stamp) (e : BlockEntry) → IsSound m → IsNearest m last first e →
     (first.replica ≡ last.replica → ⊥) → last.counter ≡ MAX_COUNTER
     → (other s : Stamp) → s.replica ≡ last.replica → Holds m other s → ⊥
 nearest_other m last first e sound nearest differ most other s replica h =

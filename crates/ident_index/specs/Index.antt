@@ -8,7 +8,7 @@ use Rattle.std.specs.FinMap as map
 use Rattle.std.specs.FinMap.{FinMap, get, insert}
 use Rattle.pad_model.specs.Stamp.{Stamp, IsInLimits}
 use Rattle.pad_model.specs.declared.limits.TheConstants.{MAX_COUNTER}
-use Rattle.ident_index.specs.declared.place.Entry.{Entry}
+use Rattle.ident_index.specs.declared.place.BlockEntry.{BlockEntry}
 use Rattle.ident_index.specs.declared.place.Place.{Place}
 
 -- by replica, and within a replica by counter
@@ -17,7 +17,7 @@ stamp_cmp a b = ordering_then (nat_cmp a.replica b.replica) (nat_cmp a.counter b
 
 -- the length and the label of each block, by its first stamp
 abbrev pub Index : Type 0
-Index = FinMap stamp_cmp Entry
+Index = FinMap stamp_cmp BlockEntry
 
 -- a stamp is stored as its counter and its replica
 abbrev pub stamp_code : Coded Stamp
@@ -25,7 +25,7 @@ stamp_code = code_by (ℕ × ℕ) (coded× coded_ℕ coded_ℕ) (λ s. (s.counte
     (λ p. record { counter = p.0; replica = p.1 }) (λ _. refl)
 
 -- an entry is stored as its length and its label
-abbrev pub entry_code : Coded Entry
+abbrev pub entry_code : Coded BlockEntry
 entry_code = code_by (ℕ × ℕ) (coded× coded_ℕ coded_ℕ) (λ e. (e.len, e.label))
     (λ p. record { len = p.0; label = p.1 })
     (λ _. refl)
@@ -56,7 +56,7 @@ abbrev pub IsNew : Index → Stamp → ℕ → Type 0
 IsNew m first len = (s : Stamp) → Covers first len s → HoldsNone m s
 
 -- the block begins within the limits of stamps, has a character, and ends by the greatest counter
-pub record IsBlock (first : Stamp) (e : Entry) : Type 0 where
+pub record IsBlock (first : Stamp) (e : BlockEntry) : Type 0 where
   pub limits : IsInLimits first.counter first.replica
   pub sized : 1 ≤ e.len
   pub ends : first.counter + e.len ≤ MAX_COUNTER + 1

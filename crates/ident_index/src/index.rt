@@ -1,11 +1,12 @@
 ghost use Rattle.std.specs.Prelude.{◌≡◌, ◌+◌, ◌<◌, ◌≤◌, OnOk, OnErr, IsSome, MatchOption};
 ghost use Rattle.std.specs.Option.{IsSomeAnd};
 ghost use Rattle.std.specs.FinMap as map;
-ghost use Rattle.pad_model.specs.Stamp.{IsInLimits, Stamp as StampValue};
+ghost use Rattle.pad_model.specs.Stamp.{IsInLimits};
+ghost use Rattle.pad_model.specs.Stamp as stamp_spec;
 ghost use Rattle.pad_model.specs.declared.limits.TheConstants.{MAX_COUNTER};
 ghost use Rattle.ident_index.specs.Index.{IsNew, IsCut, IsRelabelled, IsPlace, Holds, HoldsNone, IsSound};
 
-use crate::place::{Entry, Place};
+use crate::place::{BlockEntry, Place};
 use pad_model::{MAX_COUNTER, Stamp};
 use std::alloc::{AllocError, Global};
 use std::collections::BTreeMap;
@@ -35,7 +36,7 @@ impl Key {
 /// Only `add` and `cut` allocate memory; no other call can fail.
 #[derive(Drop)]
 pub struct IdentIndex {
-    entries: BTreeMap<Key, Entry>,
+    entries: BTreeMap<Key, BlockEntry>,
 }
 
 impl Model for IdentIndex {
@@ -77,7 +78,7 @@ impl IdentIndex {
     }
 
     /// The block that begins with this stamp.
-    pub fn get(&self, first: Stamp) -> Option<Entry>
+    pub fn get(&self, first: Stamp) -> Option<BlockEntry>
         ensures value { result ≡ map.get self.now first }
         ensures sound { IsSound self.now }
     {
@@ -93,7 +94,8 @@ impl IdentIndex {
             (self.new ≡ map.insert self.old first (record { len = len; label = label })) }
         ensures err { OnErr result (self.new ≡ self.old) }
     {
-        self.entries.insert(Key::new(first), Entry { len, label })?;
+        self.entries
+            .insert(Key::new(first), BlockEntry { len, label })?;
         Ok(())
     }
 
@@ -123,9 +125,9 @@ impl IdentIndex {
 
     /// The greatest counter of a replica's characters, or 0.
     pub fn last_of(&self, replica: u16) -> u64
-        ensures bound { (first s : StampValue) → s.replica ≡ replica → Holds self.now first s
+        ensures bound { (first s : stamp_spec.Stamp) → s.replica ≡ replica → Holds self.now first s
             → s.counter ≤ result }
-        ensures there { (1 ≤ result → (first : StampValue)
+        ensures there { (1 ≤ result → (first : stamp_spec.Stamp)
             × Holds self.now first (record { counter = result; replica = replica })) }
         ensures sound { IsSound self.now }
     {
@@ -150,7 +152,7 @@ impl IdentIndex {
     {
         let key = Key::new(first);
         let whole = self.entries[&key];
-        let right = Entry {
+        let right = BlockEntry {
             len: whole.len - offset,
             label,
         };

@@ -11,4 +11,4 @@ mod place;
 
 pub use index::IdentIndex;
 pub use label::{between, spaced};
-pub use place::{Entry, Place};
+pub use place::{BlockEntry, Place};

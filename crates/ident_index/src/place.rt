@@ -2,7 +2,7 @@ use pad_model::Stamp;
 
 /// What the index keeps of a block: its number of characters, and the label that orders it among the others.
 #[derive(Clone, Copy, Debug, PartialEq, Eq)]
-pub struct Entry {
+pub struct BlockEntry {
     pub len: u64,
     pub label: u64,
 }

@@ -1,10 +1,10 @@
 //! The limits of a pad that take many requests to reach, and the reply to one more.
 use crate::limits::LimitCase::{Asks, ComeAndGo, Fill, JoinMore, Opens, Says, Taken, Types};
 use pad_model::Refusal;
-use rig::{ANN, PEER, Rig, number_behind};
 use std::alloc::Global;
 use std::process::Abort;
 use std::test::Fail;
+use test_server::{ANN, PEER, TestServer, number_behind};
 
 const JOIN: &str = r#"{"do":"join","pad":"p"}"#;
 
@@ -15,13 +15,13 @@ const COMMENT: &str = r#"{"do":"comment","pad":"p","rev":1,"at":1,"len":1,"text"
 const RESOLVE: &str = r#"{"do":"resolve","pad":"p","comment":[1,2]}"#;
 
 /// The number of the refusal of a request; 0 if it is not refused.
-fn code(rig: &mut Rig, session: u32, line: &str) -> Result<u64, Refusal> {
+fn code(rig: &mut TestServer, session: u32, line: &str) -> Result<u64, Refusal> {
     let reply = rig.say(session, line)?;
     Ok(number_behind(reply.as_str(), r#"{"code":"#).unwrap_or(0))
 }
 
 /// How often a request is taken before it is refused, at most this many times.
-fn count_taken(rig: &mut Rig, line: &str, times: u64) -> Result<u64, Refusal> {
+fn count_taken(rig: &mut TestServer, line: &str, times: u64) -> Result<u64, Refusal> {
     for taken in 0..times {
         if rig.refuses(ANN, line)? {
             return Ok(taken);
@@ -31,13 +31,13 @@ fn count_taken(rig: &mut Rig, line: &str, times: u64) -> Result<u64, Refusal> {
 }
 
 /// A server with `abc` by ann, and `z` by server 2 with the last counter.
-fn with_last_counter(alloc: Global) -> Result<Rig, Refusal> {
-    let mut rig = Rig::new(alloc, 1)?;
+fn with_last_counter(alloc: Global) -> Result<TestServer, Refusal> {
+    let mut rig = TestServer::new(alloc, 1)?;
     type_last(&mut rig)?;
     Ok(rig)
 }
 
-fn type_last(rig: &mut Rig) -> Result<(), Refusal> {
+fn type_last(rig: &mut TestServer) -> Result<(), Refusal> {
     rig.tell(
         ANN,
         r#"{"do":"insert","pad":"p","rev":0,"at":0,"text":"abc"}"#,
@@ -132,7 +132,7 @@ fn limits_of_comments_and_operations(rt: HostRuntime) -> Result<(), Fail> {
 }
 
 /// Leaves and joins, and returns how many joins were taken.
-fn come_and_go(rig: &mut Rig, times: u64) -> Result<u64, Refusal> {
+fn come_and_go(rig: &mut TestServer, times: u64) -> Result<u64, Refusal> {
     let mut taken = 0_u64;
     for _ in 0..times {
         rig.tell(ANN, LEAVE)?;
@@ -144,7 +144,7 @@ fn come_and_go(rig: &mut Rig, times: u64) -> Result<u64, Refusal> {
 }
 
 /// Lets this many more sessions of ann join, and returns how many joins were taken.
-fn join_more(rig: &mut Rig, times: u64) -> Result<u64, Refusal> {
+fn join_more(rig: &mut TestServer, times: u64) -> Result<u64, Refusal> {
     let mut taken = 0_u64;
     for _ in 0..times {
         let session = rig.open_ann()?;
@@ -167,7 +167,7 @@ const VISITS: &[LimitCase] = &[
 
 #[test]
 fn limit_visits(rt: HostRuntime) -> Result<(), Fail> {
-    let mut rig = Rig::new(rt.alloc(), 1)?;
+    let mut rig = TestServer::new(rt.alloc(), 1)?;
     Ok(play_all(&rt, rt.alloc(), &mut rig, VISITS)?)
 }
 
@@ -188,13 +188,19 @@ fn add_letters(line: &mut String, len: u64) -> Result<(), Refusal> {
 }
 
 /// Whether such an operation is taken.
-fn types(alloc: Global, rig: &mut Rig, number: u64, first: u64, len: u64) -> Result<bool, Refusal> {
+fn types(
+    alloc: Global,
+    rig: &mut TestServer,
+    number: u64,
+    first: u64,
+    len: u64,
+) -> Result<bool, Refusal> {
     let line = typing(alloc, number, first, len)?;
     Ok(!rig.refuses(PEER, line.as_str())?)
 }
 
 /// Types 10,000 characters at a time, and returns how many times they were taken.
-fn fill(alloc: Global, rig: &mut Rig, times: u64) -> Result<u64, Refusal> {
+fn fill(alloc: Global, rig: &mut TestServer, times: u64) -> Result<u64, Refusal> {
     let mut first = 1_u64;
     for taken in 0..times {
         if !types(alloc, rig, taken.saturating_add(1), first, 10_000)? {
@@ -233,13 +239,13 @@ const CHARACTERS: &[LimitCase] = &[
 
 #[test]
 fn limit_characters(rt: HostRuntime) -> Result<(), Fail> {
-    let mut rig = Rig::new(rt.alloc(), 1)?;
+    let mut rig = TestServer::new(rt.alloc(), 1)?;
     Ok(play_all(&rt, rt.alloc(), &mut rig, CHARACTERS)?)
 }
 
 fn says(
     rt: &impl Abort,
-    rig: &mut Rig,
+    rig: &mut TestServer,
     place: usize,
     line: &str,
     want: &str,
@@ -256,7 +262,7 @@ fn says(
 fn play(
     rt: &impl Abort,
     alloc: Global,
-    rig: &mut Rig,
+    rig: &mut TestServer,
     place: usize,
     step: LimitCase,
 ) -> Result<(), Refusal> {
@@ -280,7 +286,7 @@ fn play(
 fn play_all(
     rt: &impl Abort,
     alloc: Global,
-    rig: &mut Rig,
+    rig: &mut TestServer,
     steps: &[LimitCase],
 ) -> Result<(), Refusal> {
     for (place, step) in steps.iter().enumerate() {

@@ -1,13 +1,13 @@
 //! Work on `OpLog`: a peer that catches up, four operations at a time.
 use crate::SEED;
 use dice::Dice;
-use pad_model::{Name, Op, OpName, Part, Refusal, Row, Run, Seen, Stamp, Text};
-use revisions::OpLog;
+use op_log::OpLog;
+use pad_model::{Items, Name, Op, OpName, Part, Refusal, Run, Seen, Stamp, Text};
 use std::alloc::Global;
 
 // An operation that types one character.
 fn typed(alloc: Global, name: OpName) -> Result<Op, Refusal> {
-    let mut parts = Row::new(alloc);
+    let mut parts = Items::new(alloc);
     parts.push(Part::Insert(Run {
         first: Stamp::new(name.number, name.origin)?,
         after: None,
@@ -37,14 +37,14 @@ fn grown(alloc: Global, size: u32) -> Result<OpLog, Refusal> {
 
 /// What was seen of operations, in their order.
 #[derive(Drop)]
-struct Tally {
+struct PullTally {
     operations: u64,
     check: u64,
 }
 
-impl Tally {
-    fn new() -> Tally {
-        Tally {
+impl PullTally {
+    fn new() -> PullTally {
+        PullTally {
             operations: 0,
             check: 0,
         }
@@ -70,7 +70,7 @@ fn pull_four(
     alloc: Global,
     log: &OpLog,
     seen: &mut Seen,
-    tally: &mut Tally,
+    tally: &mut PullTally,
 ) -> Result<bool, Refusal> {
     let ops = log.missing(alloc, seen, 4)?;
     for op in ops.as_slice() {
@@ -83,7 +83,7 @@ fn pull_four(
 /// Catches up with the whole log that many times, four operations at a time.
 pub fn pull(alloc: Global, size: u32, times: u32) -> Result<String, Refusal> {
     let log = grown(alloc, size)?;
-    let mut tally = Tally::new();
+    let mut tally = PullTally::new();
     for _ in 0..times {
         let mut seen = Seen::new(alloc);
         for _ in 0..size {

@@ -8,12 +8,12 @@ use std::alloc::Global;
 use weight_tree::{Node, Weigh, WeightTree};
 
 #[derive(Clone, Copy)]
-struct Stone {
+struct WeighedItem {
     number: u32,
     weight: u32,
 }
 
-impl Weigh for Stone {
+impl Weigh for WeighedItem {
     ghost weight_of = { λ stone. stone.weight };
 
     fn weight(&self) -> u64 {
@@ -22,14 +22,14 @@ impl Weigh for Stone {
 }
 
 // A tree of that many stones, each put at a random rank.
-fn grown(alloc: Global, dice: &mut Dice, size: u32) -> Result<WeightTree<Stone>, Refusal>
+fn grown(alloc: Global, dice: &mut Dice, size: u32) -> Result<WeightTree<WeighedItem>, Refusal>
     ensures { IfOk result (λ tree. length tree.items ≡ size) }
 {
     let mut tree = WeightTree::new();
     for number in 0..size {
         let rank = dice.roll(u64::from(number) + 1) as usize;
         let weight = dice.roll(10) as u32;
-        let node = Node::make(alloc, Stone { number, weight })?;
+        let node = Node::make(alloc, WeighedItem { number, weight })?;
         tree.insert(rank, node);
     }
     Ok(tree)

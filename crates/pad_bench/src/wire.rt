@@ -1,6 +1,6 @@
 //! Work on lines: requests are read and replies written, or `serde_json` alone reads and writes the same lines.
 use pad_core::{PadReply, Pushed, Reply};
-use pad_model::{OpName, Refusal, Row, Text};
+use pad_model::{Items, OpName, Refusal, Text};
 use serde_json::Value;
 use std::alloc::Global;
 use wire_json::{read_request, reply_line};
@@ -45,7 +45,7 @@ fn answered(alloc: Global, kind: usize) -> Result<Reply, Refusal> {
 
 // The bytes of all answers, where each line is read and each answer written so often by a request and a reply.
 fn by_wire(alloc: Global, rounds: u64) -> Result<u64, Refusal> {
-    let mut answers = Row::new(alloc);
+    let mut answers = Items::new(alloc);
     for kind in 0..ASKED.len() {
         answers.push(Ok(answered(alloc, kind)?))?;
     }
@@ -76,7 +76,7 @@ fn line_by_wire(
 
 // The same by `serde_json` alone.
 fn by_json(alloc: Global, rounds: u64) -> Result<u64, Refusal> {
-    let mut answers = Row::new(alloc);
+    let mut answers = Items::new(alloc);
     for kind in 0..ASKED.len() {
         answers.push(answered_value(alloc, kind)?)?;
     }

@@ -8,7 +8,7 @@ use Rattle.pad_model.specs.Stamp.{Stamp}
 use Rattle.pad_model.specs.Visible.{visible}
 use Rattle.pad_model.specs.declared.op.Op.{Op}
 use Rattle.pad_model.specs.declared.refusal.Refusal.{Refusal}
-use Rattle.sessions.specs.Presence.{Presence, with_caret}
+use Rattle.presence.specs.Presence.{Presence, with_caret}
 use Rattle.pad_core.specs.Counts.{characters_at}
 use Rattle.pad_core.specs.Machine.{IsOwned, IsPad, Machine, author_act, on_log}
 use Rattle.rights.specs.Rights.{Rights}

@@ -12,8 +12,8 @@ use Rattle.rights.specs.Rights.{may}
 use Rattle.rights.proofs.CallerLemmas.{may_has}
 use Rattle.rights.specs.declared.right.Right.{Right}
 use Rattle.rights.specs.declared.right.Right.TheVariants as right
-use Rattle.sessions.specs.Presence.{Presence, has_number, is_joined_by}
-use Rattle.sessions.specs.declared.presence.Visit.{Visit}
+use Rattle.presence.specs.Presence.{Presence, has_number, is_joined_by}
+use Rattle.presence.specs.declared.presence.Visit.{Visit}
 use Rattle.pad_core.specs.Machine.{IsAdmitted, IsOwned, Machine, author_act, author_refusal, author_step, names_badly}
 use Rattle.pad_core.specs.Machine.{need_of, need_refusal, or_denied, visit_refusal}
 use Rattle.pad_core.specs.declared.act.Act.{Act}

@@ -13,7 +13,7 @@ use Rattle.pad_model.specs.declared.who.Who.{Who}
 use Rattle.pad_model.specs.declared.who.Who.TheVariants.{Nobody, Author, Peer}
 use Rattle.pad_model.proofs.Newer.{split}
 use Rattle.pad_model.proofs.Sets.{Contains-from_Has, Has-from_Contains}
-use Rattle.sessions.specs.Presence.{Presence}
+use Rattle.presence.specs.Presence.{Presence}
 use Rattle.pad_core.specs.Comments.{by_name, comments_of}
 use Rattle.pad_core.specs.Delivered.{IsDelivered}
 use Rattle.pad_core.specs.Laws.{HaveSame, LastReadsAlike, ReadAlike, ShowSame, reading}
@@ -24,7 +24,7 @@ use Rattle.pad_core.specs.declared.act.Act.{Act}
 use Rattle.pad_core.specs.declared.act.Act.TheVariants as act
 use Rattle.pad_core.specs.declared.event.PadEvent.{PadEvent}
 use Rattle.pad_core.specs.declared.owned.Owned.{Owned}
-use Rattle.anchors.specs.declared.show.Shown.{Shown}
+use Rattle.comments.specs.declared.show.Shown.{Shown}
 use Rattle.pad_model.specs.declared.who.AuthorRun.{AuthorRun}
 use Rattle.pad_core.specs.declared.reply.PadReply.{PadReply}
 use Rattle.pad_core.specs.declared.reply.PadReply.TheVariants.{Comments, Elsewhere, Runs, Text}

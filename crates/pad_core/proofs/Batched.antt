@@ -10,7 +10,7 @@ use Rattle.pad_model.specs.declared.refusal.Refusal.{Refusal}
 use Rattle.pad_model.specs.declared.seen.Counted.{Counted}
 use Rattle.pad_model.specs.declared.who.Version.{Version}
 use Rattle.pad_model.specs.declared.who.Version.TheVariants.{One, Two}
-use Rattle.revisions.specs.Log.{is_missing, missing}
+use Rattle.op_log.specs.Log.{is_missing, missing}
 use Rattle.pad_model.specs.OldWire.{op_in_v1}
 use Rattle.pad_core.specs.Batch.{batch_of, fitting, fitting_some, size_of}
 use Rattle.pad_core.specs.Exchange.{can_give, can_read, given, pull_batch, readable, told}

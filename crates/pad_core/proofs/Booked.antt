@@ -13,10 +13,10 @@ use Rattle.pad_model.specs.declared.op.Op.{Op}
 use Rattle.pad_model.specs.declared.op.OpName.{OpName}
 use Rattle.pad_model.specs.declared.op.Part.{Part}
 use Rattle.pad_model.specs.declared.op.Part.TheVariants.{Insert, Delete, Comment, Resolve}
-use Rattle.anchors.specs.Comments as book
-use Rattle.anchors.specs.declared.comment.Comment as kept
-use Rattle.anchors.proofs.CallerLemmas.{is_comment-with_comment, is_comment-with_resolution, length-with_comment}
-use Rattle.anchors.proofs.CallerLemmas.{length-with_resolution}
+use Rattle.comments.specs.Comments as book
+use Rattle.comments.specs.declared.comment.Comment as kept
+use Rattle.comments.proofs.CallerLemmas.{is_comment-with_comment, is_comment-with_resolution, length-with_comment}
+use Rattle.comments.proofs.CallerLemmas.{length-with_resolution}
 use Rattle.pad_core.specs.Book.{entered, book_from, book_of}
 use Rattle.pad_core.specs.Delivered.{IsDelivered}
 use Rattle.pad_core.specs.Notes.{has_comment}

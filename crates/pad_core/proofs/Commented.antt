@@ -21,9 +21,9 @@ use Rattle.pad_model.specs.declared.op.Part.TheVariants.{Insert, Delete, Comment
 use Rattle.pad_model.specs.declared.who.Author.{Author}
 use Rattle.pad_model.proofs.Each.{each-append, each-imply}
 use Rattle.pad_model.proofs.Newer.{split}
-use Rattle.anchors.specs.Comments.{place_of, with_comment, with_resolution, resolved_at}
-use Rattle.anchors.specs.declared.comment.Comment as kept
-use Rattle.anchors.specs.declared.show.Shown.{Shown}
+use Rattle.comments.specs.Comments.{place_of, with_comment, with_resolution, resolved_at}
+use Rattle.comments.specs.declared.comment.Comment as kept
+use Rattle.comments.specs.declared.show.Shown.{Shown}
 use Rattle.pad_model.proofs.Names.{precedes-trans}
 use Rattle.pad_core.specs.Book.{entered, book_of}
 use Rattle.pad_core.specs.Comments.{is_resolution, resolves, put_by_name, by_name, shown_part, shown_in, comments_of}

@@ -37,8 +37,8 @@ use Rattle.pad_model.proofs.History.{dated-characters}
 use Rattle.pad_model.proofs.Maps.{IsTree-of_map}
 use Rattle.pad_model.proofs.Newer.{split}
 use Rattle.pad_model.proofs.Stretch.{hidden-cells_of}
-use Rattle.anchors.specs.declared.comment.Comment as kept
-use Rattle.anchors.specs.Comments as book
+use Rattle.comments.specs.declared.comment.Comment as kept
+use Rattle.comments.specs.Comments as book
 use Rattle.pad_core.specs.Book.{book_of, entered, may_enter}
 use Rattle.pad_core.specs.Counts.{counted, vector_of}
 use Rattle.pad_core.specs.Delivered.{Enters, IsDelivered, IsLedger, delivery_refusal}

@@ -31,7 +31,7 @@ use Rattle.pad_model.proofs.History.{cells_of-characters, length-cells_of}
 use Rattle.pad_model.proofs.Maps.{stands_before-map}
 use Rattle.pad_model.proofs.Newer.{split, same_stamp-true}
 use Rattle.pad_model.proofs.Parts.{inserts_differ, parts_fit-each}
-use Rattle.anchors.specs.declared.comment.Comment as kept
+use Rattle.comments.specs.declared.comment.Comment as kept
 use Rattle.pad_core.specs.Book.{book_of}
 use Rattle.pad_core.specs.Delivered.{IsDelivered, IsLedger, delivery_refusal}
 use Rattle.pad_core.specs.Judge.{fits, note_fits, part_growth}

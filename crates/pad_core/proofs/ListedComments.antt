@@ -28,12 +28,12 @@ use Rattle.pad_model.proofs.Growth.{IsHistory-take, IsTree-history}
 use Rattle.pad_model.proofs.Members.{order-permutation}
 use Rattle.pad_model.proofs.Newer.{split, same_stamp-true}
 use Rattle.pad_model.proofs.Shown.{before_at-cells_of, through_at-cells_of}
-use Rattle.anchors.specs.Comments.{earlier, resolved_at, with_comment, with_resolution, born_by, is_resolved, has_both}
-use Rattle.anchors.specs.Comments.{shown, comments_at, AreHeld}
-use Rattle.anchors.specs.declared.comment.Comment as kept
-use Rattle.anchors.specs.declared.show.Shown.{Shown}
-use Rattle.anchors.proofs.CallerLemmas.{members-with_comment, born_by-with_comment, comments_at-with_comment}
-use Rattle.anchors.proofs.CallerLemmas.{comments_at-with_resolution, held-with_resolution}
+use Rattle.comments.specs.Comments.{earlier, resolved_at, with_comment, with_resolution, born_by, is_resolved, has_both}
+use Rattle.comments.specs.Comments.{shown, comments_at, AreHeld}
+use Rattle.comments.specs.declared.comment.Comment as kept
+use Rattle.comments.specs.declared.show.Shown.{Shown}
+use Rattle.comments.proofs.CallerLemmas.{members-with_comment, born_by-with_comment, comments_at-with_comment}
+use Rattle.comments.proofs.CallerLemmas.{comments_at-with_resolution, held-with_resolution}
 use Rattle.pad_core.specs.Book.{entered, book_from, book_of}
 use Rattle.pad_core.specs.Comments.{comments_of}
 use Rattle.pad_core.specs.Counts.{AreNumbered}

@@ -6,7 +6,7 @@ use Rattle.pad_model.specs.declared.refusal.Refusal.{Refusal}
 use Rattle.pad_model.specs.declared.seen.Counted.{Counted}
 use Rattle.pad_model.specs.declared.who.Version.{Version}
 use Rattle.pad_model.specs.declared.who.Version.TheVariants.{One, Two}
-use Rattle.revisions.specs.Log.{is_missing, missing}
+use Rattle.op_log.specs.Log.{is_missing, missing}
 use Rattle.pad_core.specs.Exchange.{can_give, given, pull}
 use Rattle.pad_core.specs.declared.exchange.TheConstants.{MAX_PULL}
 

@@ -6,7 +6,7 @@ use Rattle.pad_model.specs.Checked.{is_name}
 use Rattle.pad_model.specs.declared.refusal.Refusal.{Refusal}
 use Rattle.rights.specs.declared.right.Right.{Right}
 use Rattle.rights.proofs.CallerLemmas.{grant_has}
-use Rattle.sessions.specs.Presence.{Presence}
+use Rattle.presence.specs.Presence.{Presence}
 use Rattle.pad_core.specs.Machine.{IsOwned}
 use Rattle.pad_core.specs.Restart.{granted_again}
 use Rattle.pad_core.specs.declared.owned.Owned.{Owned}

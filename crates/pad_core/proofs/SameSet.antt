@@ -19,7 +19,7 @@ use Rattle.pad_model.specs.declared.op.OpName.{OpName}
 use Rattle.pad_model.proofs.Growth.{IsTree-history}
 use Rattle.pad_model.proofs.Newer.{split}
 use Rattle.pad_model.proofs.Sets.{Has, Has-each, Has-permutation, Has-from_Contains, Contains-from_Has, set_law}
-use Rattle.anchors.specs.declared.show.Shown.{Shown}
+use Rattle.comments.specs.declared.show.Shown.{Shown}
 use Rattle.pad_model.proofs.Names.{precedes-trans, precedes-same}
 use Rattle.pad_core.specs.Comments.{resolves, by_name, comments_of}
 use Rattle.pad_core.specs.Delivered.{IsDelivered}

@@ -8,7 +8,7 @@ use Rattle.pad_model.specs.declared.refusal.Refusal.TheVariants.{Memory}
 use Rattle.pad_model.specs.declared.who.Version.{Version}
 use Rattle.pad_model.specs.declared.who.Who.{Who}
 use Rattle.pad_model.specs.declared.who.Who.TheVariants.{Author, Peer}
-use Rattle.sessions.specs.Presence.{Presence}
+use Rattle.presence.specs.Presence.{Presence}
 use Rattle.pad_core.specs.Machine.{Machine, author_step, name_of, peer_act, session_step, step}
 use Rattle.pad_core.specs.Ran.{IsCutShort, Stepped, event_step, takes_memory}
 use Rattle.pad_core.specs.declared.act.Act.{Act}

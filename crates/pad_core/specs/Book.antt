@@ -6,8 +6,8 @@ use Rattle.pad_model.specs.declared.op.Part.{Part}
 use Rattle.pad_model.specs.declared.op.Part.TheVariants.{Insert, Delete, Comment, Resolve}
 use Rattle.pad_model.specs.declared.op.OpName.{OpName}
 use Rattle.pad_model.specs.declared.limits.TheConstants.{MAX_COMMENTS}
-use Rattle.anchors.specs.Comments.{is_comment, with_comment, with_resolution}
-use Rattle.anchors.specs.declared.comment.Comment as kept
+use Rattle.comments.specs.Comments.{is_comment, with_comment, with_resolution}
+use Rattle.comments.specs.declared.comment.Comment as kept
 
 -- the book once a part of an operation is made, at the revision of the operation
 abbrev pub entered : ℕ → Op → List kept.Comment → Part → List kept.Comment

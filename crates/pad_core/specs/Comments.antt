@@ -8,7 +8,7 @@ use Rattle.pad_model.specs.declared.op.Op.{Op}
 use Rattle.pad_model.specs.declared.op.OpName.{OpName}
 use Rattle.pad_model.specs.declared.op.Part.{Part}
 use Rattle.pad_model.specs.declared.op.Part.TheVariants.{Insert, Delete, Comment, Resolve}
-use Rattle.anchors.specs.declared.show.Shown.{Shown}
+use Rattle.comments.specs.declared.show.Shown.{Shown}
 
 -- whether a part resolves the comment of a name
 abbrev pub is_resolution : OpName → Part → Bool

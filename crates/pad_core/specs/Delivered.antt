@@ -12,7 +12,7 @@ use Rattle.pad_model.specs.declared.seen.Counted.{Counted}
 use Rattle.pad_model.specs.declared.refusal.Refusal.{Refusal}
 use Rattle.pad_model.specs.declared.refusal.Refusal.TheVariants.{PeerFault}
 use Rattle.pad_model.specs.declared.limits.TheConstants.{MAX_CHARACTERS, MAX_OPERATIONS, MAX_COMMENTS}
-use Rattle.anchors.specs.declared.comment.Comment.{Comment}
+use Rattle.comments.specs.declared.comment.Comment.{Comment}
 use Rattle.pad_core.specs.Book.{book_of}
 use Rattle.pad_core.specs.Counts.{AreNumbered, vector_of}
 

@@ -12,7 +12,7 @@ use Rattle.pad_model.specs.declared.refusal.Refusal.{Refusal}
 use Rattle.pad_model.specs.declared.refusal.Refusal.TheVariants.{BadOp, PeerFault, HoldFull, OldPeer, Empty, TooMuch}
 use Rattle.holdback.specs.Held.{is_covered, is_held, is_ready, with_held, without}
 use Rattle.holdback.specs.declared.held.TheConstants.{MAX_HELD}
-use Rattle.revisions.specs.Log.{missing}
+use Rattle.op_log.specs.Log.{missing}
 use Rattle.pad_core.specs.Counts.{vector_of}
 use Rattle.pad_core.specs.Delivered.{delivery_refusal}
 use Rattle.pad_core.specs.Batch.{batch_of}

@@ -7,8 +7,8 @@ use Rattle.pad_model.specs.Log.{stands_before}
 use Rattle.pad_model.specs.Parts.{part_fits}
 use Rattle.pad_model.specs.declared.op.Part.{Part}
 use Rattle.pad_model.specs.declared.op.Part.TheVariants.{Insert, Delete, Comment, Resolve}
-use Rattle.anchors.specs.Comments.{is_comment}
-use Rattle.anchors.specs.declared.comment.Comment as kept
+use Rattle.comments.specs.Comments.{is_comment}
+use Rattle.comments.specs.declared.comment.Comment as kept
 
 -- whether a comment or a resolution fits
 abbrev pub note_fits : List Cell → List kept.Comment → Part → Bool

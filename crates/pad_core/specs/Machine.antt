@@ -13,7 +13,7 @@ use Rattle.pad_model.specs.declared.refusal.Refusal.TheVariants.{Denied}
 use Rattle.pad_model.specs.declared.limits.TheConstants.{MAX_REPLICA}
 use Rattle.rights.specs.Rights.{Rights, may}
 use Rattle.rights.specs.declared.right.Right.TheVariants as right
-use Rattle.sessions.specs.Presence.{Presence, is_joined_by, joined}
+use Rattle.presence.specs.Presence.{Presence, is_joined_by, joined}
 use Rattle.pad_core.specs.Edits.{insert, delete, edit}
 use Rattle.pad_core.specs.Exchange.{read_vector, pull, push}
 use Rattle.pad_core.specs.Grants.{grant, read_rights}

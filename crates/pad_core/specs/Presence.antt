@@ -5,8 +5,8 @@ use Rattle.pad_model.specs.Visible.{visible, caret_of}
 use Rattle.pad_model.specs.declared.op.Op.{Op}
 use Rattle.pad_model.specs.declared.refusal.Refusal.{Refusal}
 use Rattle.pad_model.specs.declared.refusal.Refusal.TheVariants.{NoRevision, OutOfRange}
-use Rattle.sessions.specs.Presence.{Presence, is_joined_by, join_refusal, joined, left, with_caret}
-use Rattle.sessions.specs.declared.presence.Visit.{Visit}
+use Rattle.presence.specs.Presence.{Presence, is_joined_by, join_refusal, joined, left, with_caret}
+use Rattle.presence.specs.declared.presence.Visit.{Visit}
 use Rattle.pad_core.specs.Counts.{characters_at}
 use Rattle.pad_core.specs.Edits.{before_place}
 use Rattle.pad_core.specs.declared.reply.Present.{Present}

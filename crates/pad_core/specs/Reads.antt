@@ -12,11 +12,11 @@ use Rattle.pad_model.specs.declared.op.Part.{Part}
 use Rattle.pad_model.specs.declared.op.Part.TheVariants as part
 use Rattle.pad_model.specs.declared.refusal.Refusal.{Refusal}
 use Rattle.pad_model.specs.declared.refusal.Refusal.TheVariants.{NoRevision, Empty, TooMuch}
-use Rattle.revisions.specs.Log.{entries}
+use Rattle.op_log.specs.Log.{entries}
 use Rattle.pad_core.specs.Comments.{comments_of}
 use Rattle.pad_core.specs.Counts.{characters_at}
 use Rattle.pad_core.specs.declared.reads.TheConstants.{MAX_ENTRIES, MAX_WAIT}
-use Rattle.pad_core.specs.declared.reply.Entry.{Entry}
+use Rattle.pad_core.specs.declared.reply.LogEntry.{LogEntry}
 use Rattle.pad_core.specs.declared.reply.Kind.{Kind}
 use Rattle.pad_core.specs.declared.reply.Kind.TheVariants as kind
 use Rattle.pad_core.specs.declared.reply.PadReply.{PadReply}
@@ -76,7 +76,7 @@ kind_of (part.Resolve comment ∷ []) = kind.Resolve
 kind_of (one ∷ another ∷ parts) = kind.Edit
 
 -- the operation that made a revision, as it is listed
-abbrev pub entry_of : ℕ → Op → Entry
+abbrev pub entry_of : ℕ → Op → LogEntry
 entry_of rev op = record {
   rev = rev;
   name = op.name;
@@ -85,7 +85,7 @@ entry_of rev op = record {
 }
 
 -- operations with their revisions, the first of which is this one
-abbrev pub entries_from : ℕ → List Op → List Entry
+abbrev pub entries_from : ℕ → List Op → List LogEntry
 entries_from rev [] = []
 entries_from rev (op ∷ ops) = entry_of rev op ∷ entries_from (suc rev) ops
 

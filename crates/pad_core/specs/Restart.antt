@@ -10,7 +10,7 @@ use Rattle.pad_model.specs.declared.refusal.Refusal.{Refusal}
 use Rattle.pad_model.specs.declared.refusal.Refusal.TheVariants.{NoPad, PadExists, BadName, BadOp, PeerFault}
 use Rattle.rights.specs.Rights.{grant}
 use Rattle.rights.specs.declared.right.Right.{Right}
-use Rattle.sessions.specs.Presence.{Presence, joined, left, spent_refusal}
+use Rattle.presence.specs.Presence.{Presence, joined, left, spent_refusal}
 use Rattle.pad_core.specs.Counts.{vector_of}
 use Rattle.pad_core.specs.Delivered.{delivery_refusal}
 use Rattle.pad_core.specs.Machine.{Machine, claim}

@@ -1,7 +1,7 @@
 //! The acts that a pad can be asked to do.
 ghost use Rattle.std.specs.Prelude.{◌≡◌};
 
-use pad_model::{Name, Op, OpName, Row, Seen, Text};
+use pad_model::{Items, Name, Op, OpName, Seen, Text};
 use rights::Right;
 use std::alloc::AllocError;
 
@@ -36,7 +36,7 @@ pub enum Act {
     /// Makes several changes of a revision at once. Each refers to the revision as it is.
     Edit {
         rev: u64,
-        changes: Row<Change>,
+        changes: Items<Change>,
     },
     /// Comments on the `len` characters of a revision from a place on.
     Comment {

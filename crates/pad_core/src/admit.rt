@@ -1,12 +1,13 @@
 //! Who may do what: the order of the refusals that come before an act itself is examined.
 ghost use Rattle.std.specs.Prelude.{◌≡◌, true, false};
-ghost use Rattle.pad_core.specs.Machine.{author_refusal as author_refused, need_of as needed, need_refusal, nobody_refusal as nobody_refused, or_denied, session_refusal as session_refused, suits, visit_refusal as visit_refused, names_badly as is_badly_named};
+ghost use Rattle.pad_core.specs.Machine.{need_refusal, or_denied, suits};
+ghost use Rattle.pad_core.specs.Machine as machine;
 ghost use Rattle.rights.specs.Rights.{may};
 
 use crate::act::Act;
 use pad_model::{Name, Refusal, Who};
+use presence::PresenceBook;
 use rights::{Right, RightsBook};
-use sessions::PresenceBook;
 
 /// What an act requires of whoever does it.
 #[derive(Clone, Copy)]
@@ -23,7 +24,7 @@ pub enum Need {
 
 /// What an act requires.
 pub fn need_of(act: &Act) -> Need
-    ensures { result ≡ needed act.now }
+    ensures { result ≡ machine.need_of act.now }
 {
     match act {
         Act::Join => Need::NewVisit,
@@ -52,7 +53,7 @@ pub fn author_refusal(
     visit: Option<u64>,
     act: &Act,
 ) -> Option<Refusal>
-    ensures { result ≡ author_refused rights.now presence.now name.now visit act.now }
+    ensures { result ≡ machine.author_refusal rights.now presence.now name.now visit act.now }
 {
     if names_badly(act) {
         return Some(Refusal::BadName);
@@ -62,7 +63,7 @@ pub fn author_refusal(
 
 /// The refusal that an unauthenticated session gets.
 pub fn nobody_refusal(need: Need) -> Refusal
-    ensures { result ≡ nobody_refused need }
+    ensures { result ≡ machine.nobody_refusal need }
 {
     match need {
         Need::PeerSession => Refusal::NotPeer,
@@ -73,7 +74,7 @@ pub fn nobody_refusal(need: Need) -> Refusal
 /// Why a session cannot do an act on any pad, or None: it is not of the kind that the act requires, or the act names an
 /// author by an invalid name.
 pub fn session_refusal(who: &Who, act: &Act) -> Option<Refusal>
-    ensures { result ≡ session_refused who.now act.now }
+    ensures { result ≡ machine.session_refusal who.now act.now }
 {
     let need = need_of(act);
     if !suits(who, need) {
@@ -99,7 +100,7 @@ fn suits(who: &Who, need: Need) -> bool
 
 /// Whether an act names an author by an invalid name.
 fn names_badly(act: &Act) -> bool
-    ensures { result ≡ is_badly_named act.now }
+    ensures { result ≡ machine.names_badly act.now }
 {
     match act {
         Act::Grant { author, .. } => !author.is_well_formed(),
@@ -133,7 +134,7 @@ fn refuse_right(
     joins: bool,
     right: Right,
 ) -> Option<Refusal>
-    ensures { result ≡ or_denied (visit_refused presence.now name.now visit joins)
+    ensures { result ≡ or_denied (machine.visit_refusal presence.now name.now visit joins)
         (may rights.now name.now right) }
 {
     if let Some(refusal) = visit_refusal(presence, name, visit, joins) {
@@ -153,7 +154,7 @@ fn visit_refusal(
     visit: Option<u64>,
     joins: bool,
 ) -> Option<Refusal>
-    ensures { result ≡ visit_refused presence.now name.now visit joins }
+    ensures { result ≡ machine.visit_refusal presence.now name.now visit joins }
 {
     match visit {
         None if joins => None,

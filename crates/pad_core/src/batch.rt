@@ -2,13 +2,15 @@
 ghost use Rattle.std.specs.Prelude.{◌≡◌, ◌*◌, min, sum_by, take, MatchResult};
 ghost use Rattle.pad_model.specs.declared.refusal.Refusal.{Refusal};
 ghost use Rattle.std.specs.List.{filter};
-ghost use Rattle.revisions.specs.Log.{is_missing as lacks};
-ghost use Rattle.pad_core.specs.Batch.{batch_of, size_of as size_in_bytes, size_of_part as part_bytes};
-ghost use Rattle.pad_core.specs.Exchange.{can_read as is_readable, readable};
+ghost use Rattle.op_log.specs.Log as log;
+ghost use Rattle.pad_core.specs.Batch.{batch_of};
+ghost use Rattle.pad_core.specs.Batch as batch;
+ghost use Rattle.pad_core.specs.Exchange.{readable};
+ghost use Rattle.pad_core.specs.Exchange as exchange_spec;
 
 use crate::exchange::MAX_BATCH_BYTES;
 use crate::ledger::Ledger;
-use pad_model::{Op, Part, Refusal, Row, Seen, Sequence, Version, op_in_v1};
+use pad_model::{Items, Op, Part, Refusal, Seen, Sequence, Version, op_in_v1};
 use std::alloc::Global;
 
 /// Bytes of an operation besides its parts and the counts that it names: the author, the kind, the name and the keys.
@@ -34,12 +36,12 @@ pub fn copy_batch<S: Sequence>(
     ledger: &Ledger<S>,
     seen: &Seen,
     most: u64,
-) -> Result<Row<Op>, Refusal>
+) -> Result<Items<Op>, Refusal>
     ensures { MatchResult result (λ copies. copies
-        ≡ readable version (batch_of (take most (filter (lacks seen.now) ledger.now))))
+        ≡ readable version (batch_of (take most (filter (log.is_missing seen.now) ledger.now))))
         (λ e. e ≡ Refusal.Memory) }
 {
-    let mut copies = Row::new(alloc);
+    let mut copies = Items::new(alloc);
     let mut room = MAX_BATCH_BYTES;
     let mut from = 0;
     for _n in 0..most {
@@ -62,7 +64,7 @@ pub fn copy_batch<S: Sequence>(
 
 /// Whether a peer can read an operation.
 fn can_read(version: Version, op: &Op) -> bool
-    ensures { result ≡ is_readable version op.now }
+    ensures { result ≡ exchange_spec.can_read version op.now }
 {
     match version {
         Version::One => op_in_v1(op),
@@ -72,7 +74,7 @@ fn can_read(version: Version, op: &Op) -> bool
 
 /// The most bytes that an operation takes, or `u64::MAX` if that is more.
 fn size_of(op: &Op) -> u64
-    ensures { result ≡ min (size_in_bytes op.now) u64.MAX }
+    ensures { result ≡ min (batch.size_of op.now) u64.MAX }
 {
     let counts = times(COUNT_BYTES, op.seen.pairs().len());
     OP_BYTES
@@ -82,7 +84,7 @@ fn size_of(op: &Op) -> u64
 
 /// The bytes that the parts take together, or `u64::MAX` if they are more.
 fn total_size(parts: &[Part]) -> u64
-    ensures { result ≡ min (sum_by part_bytes parts.now) u64.MAX }
+    ensures { result ≡ min (sum_by batch.size_of_part parts.now) u64.MAX }
 {
     parts
         .iter()
@@ -91,7 +93,7 @@ fn total_size(parts: &[Part]) -> u64
 
 /// The most bytes that a part takes, or `u64::MAX` if that is more.
 fn size_of_part(part: &Part) -> u64
-    ensures { result ≡ min (part_bytes part.now) u64.MAX }
+    ensures { result ≡ min (batch.size_of_part part.now) u64.MAX }
 {
     match part {
         Part::Insert(run) => PART_BYTES.saturating_add(times(CHARACTER_BYTES, run.text.len())),

@@ -4,7 +4,7 @@ ghost use Rattle.pad_model.specs.declared.limits.TheConstants.{MAX_TEXT};
 ghost use Rattle.pad_core.specs.Delivered.{IsDelivered};
 ghost use Rattle.pad_core.specs.Demand.{Asks};
 ghost use Rattle.pad_core.specs.Edits.{edit_refusal, growth_refusal};
-ghost use Rattle.pad_core.specs.declared.act.Change.{Change as ChangeValue};
+ghost use Rattle.pad_core.specs.declared.act.Change as change;
 
 use crate::ledger::Ledger;
 use pad_model::{MAX_CHARACTERS, MAX_COUNTER, MAX_OPERATIONS, Refusal, Sequence};
@@ -25,7 +25,7 @@ pub struct Demand {
 /// Why changes of a revision are refused, or None. The first refusal that applies is returned.
 pub fn first_refusal<S: Sequence>(ledger: &Ledger<S>, rev: u64, demand: Demand) -> Option<Refusal>
     requires { demand.is_too_much ≡ false → demand.growth ≤ MAX_TEXT }
-    ensures value { (changes : List ChangeValue) → Asks rev changes ledger.now demand
+    ensures value { (changes : List change.Change) → Asks rev changes ledger.now demand
         → result ≡ edit_refusal rev changes ledger.now }
     ensures sound { IsDelivered ledger.now }
 {

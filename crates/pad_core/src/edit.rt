@@ -4,10 +4,12 @@ ghost use Rattle.std.specs.List.{list_any};
 ghost use Rattle.pad_model.specs.Answers.{Answers};
 ghost use Rattle.pad_model.specs.Checked.{is_checked, is_name};
 ghost use Rattle.pad_model.specs.declared.limits.TheConstants.{MAX_PARTS, MAX_TEXT};
-ghost use Rattle.pad_core.specs.Counts.{op_of, next_name as name_next};
+ghost use Rattle.pad_core.specs.Counts.{op_of};
+ghost use Rattle.pad_core.specs.Counts as counts;
 ghost use Rattle.pad_core.specs.Delivered.{IsDelivered, delivery_refusal};
 ghost use Rattle.pad_core.specs.declared.act.Change.TheVariants.{Insert};
-ghost use Rattle.pad_core.specs.Edits.{appended, delete as deleted, edit as many_edited, edit_refusal, edited, growth_of as change_growth, insert as inserted, is_outside as lies_outside, is_blank as does_nothing, size_of as change_size};
+ghost use Rattle.pad_core.specs.Edits.{appended, edit_refusal, edited};
+ghost use Rattle.pad_core.specs.Edits as edits;
 
 use crate::act::Change;
 use crate::demand::{Demand, first_refusal};
@@ -15,7 +17,7 @@ use crate::ledger::Ledger;
 use crate::make::{make_insertion, make_parts};
 use crate::reply::PadReply;
 use crate::writer::{Passage, Writer};
-use pad_model::{MAX_PARTS, MAX_TEXT, Op, OpName, Part, Refusal, Row, Sequence, Text};
+use pad_model::{Items, MAX_PARTS, MAX_TEXT, Op, OpName, Part, Refusal, Sequence, Text};
 use std::alloc::Global;
 
 /// An edit that was made: its name, and how many visible characters it hides.
@@ -36,7 +38,7 @@ pub fn insert<S: Sequence>(
 ) -> Result<PadReply, Refusal>
     requires replica { 1 ≤ writer.replica }
     requires author { IsTrue (is_name writer.author.now) }
-    ensures { Answers ledger.old (inserted writer.entry.replica writer.entry.author.now rev at
+    ensures { Answers ledger.old (edits.insert writer.entry.replica writer.entry.author.now rev at
         text.now ledger.old) result ledger.new }
 {
     if let Some(refusal) = refuse_insert(ledger, rev, at, text) {
@@ -59,7 +61,7 @@ pub fn delete<S: Sequence>(
 ) -> Result<PadReply, Refusal>
     requires replica { 1 ≤ writer.replica }
     requires author { IsTrue (is_name writer.author.now) }
-    ensures { Answers ledger.old (deleted writer.entry.replica writer.entry.author.now passage.rev
+    ensures { Answers ledger.old (edits.delete writer.entry.replica writer.entry.author.now passage.rev
         passage.at passage.len ledger.old) result ledger.new }
 {
     let Passage { rev, at, len } = passage;
@@ -77,7 +79,7 @@ pub fn edit<S: Sequence>(
 ) -> Result<PadReply, Refusal>
     requires replica { 1 ≤ writer.replica }
     requires author { IsTrue (is_name writer.author.now) }
-    ensures { Answers ledger.old (many_edited writer.entry.replica writer.entry.author.now rev
+    ensures { Answers ledger.old (edits.edit writer.entry.replica writer.entry.author.now rev
         changes.now ledger.old) result ledger.new }
 {
     let edit = make_edit(alloc, ledger, writer, rev, changes)?;
@@ -113,7 +115,7 @@ fn append_parts<S: Sequence>(
     alloc: Global,
     ledger: &mut Ledger<S>,
     writer: Writer<'_>,
-    parts: Row<Part>,
+    parts: Items<Part>,
 ) -> Result<Edited, Refusal>
     requires checked { IsTrue (is_checked
         (op_of writer.replica writer.author.now parts ledger.old)) }
@@ -130,7 +132,7 @@ fn append_parts<S: Sequence>(
 
 /// The name of the next operation of a replica.
 pub fn next_name<S: Sequence>(ledger: &Ledger<S>, replica: u16) -> OpName
-    ensures { result ≡ name_next replica ledger.now }
+    ensures { result ≡ counts.next_name replica ledger.now }
 {
     // No count is above the number of operations, which its contract bounds.
     let _operations = ledger.len();
@@ -144,7 +146,7 @@ pub fn next_name<S: Sequence>(ledger: &Ledger<S>, replica: u16) -> OpName
 pub fn make_op<S: Sequence>(
     ledger: &Ledger<S>,
     writer: Writer<'_>,
-    parts: Row<Part>,
+    parts: Items<Part>,
 ) -> Result<Op, Refusal>
     ensures { MatchResult result (λ op. op
         ≡ op_of writer.entry.replica writer.entry.author.now parts ledger.now)
@@ -190,33 +192,33 @@ fn refuse_insert<S: Sequence>(ledger: &Ledger<S>, rev: u64, at: u64, text: &Text
 }
 
 fn is_any_outside(shown: u64, changes: &[Change]) -> bool
-    ensures { result ≡ list_any (lies_outside shown) changes.now }
+    ensures { result ≡ list_any (edits.is_outside shown) changes.now }
 {
     changes.iter().any(|change| is_outside(shown, change))
 }
 
 /// Whether there is no change, or one that does nothing.
 fn are_idle(changes: &[Change]) -> bool
-    ensures { result ≡ (length changes.now == 0 || list_any does_nothing changes.now) }
+    ensures { result ≡ (length changes.now == 0 || list_any edits.is_blank changes.now) }
 {
     changes.is_empty() || is_any_blank(changes)
 }
 
 fn is_any_blank(changes: &[Change]) -> bool
-    ensures { result ≡ list_any does_nothing changes.now }
+    ensures { result ≡ list_any edits.is_blank changes.now }
 {
     changes.iter().any(is_blank)
 }
 
 fn are_too_much(changes: &[Change]) -> bool
     ensures { result ≡ (nat_lt MAX_PARTS (length changes.now)
-        || nat_lt MAX_TEXT (sum_by change_size changes.now)) }
+        || nat_lt MAX_TEXT (sum_by edits.size_of changes.now)) }
 {
     MAX_PARTS < changes.len() as u64 || MAX_TEXT < total_size(changes)
 }
 
 fn is_outside(shown: u64, change: &Change) -> bool
-    ensures { result ≡ lies_outside shown change.now }
+    ensures { result ≡ edits.is_outside shown change.now }
 {
     match change {
         Change::Insert { at, .. } => shown < *at,
@@ -225,13 +227,13 @@ fn is_outside(shown: u64, change: &Change) -> bool
 }
 
 fn is_blank(change: &Change) -> bool
-    ensures { result ≡ does_nothing change.now }
+    ensures { result ≡ edits.is_blank change.now }
 {
     size_of(change) == 0
 }
 
 fn size_of(change: &Change) -> u64
-    ensures { result ≡ change_size change.now }
+    ensures { result ≡ edits.size_of change.now }
 {
     match change {
         Change::Insert { text, .. } => text.len() as u64,
@@ -241,7 +243,7 @@ fn size_of(change: &Change) -> u64
 
 /// The number of characters that the changes insert or erase together, or `u64::MAX` if it is greater.
 fn total_size(changes: &[Change]) -> u64
-    ensures { result ≡ min (sum_by change_size changes.now) u64.MAX }
+    ensures { result ≡ min (sum_by edits.size_of changes.now) u64.MAX }
 {
     changes
         .iter()
@@ -249,7 +251,7 @@ fn total_size(changes: &[Change]) -> u64
 }
 
 pub fn growth_of(change: &Change) -> u64
-    ensures { result ≡ change_growth change.now }
+    ensures { result ≡ edits.growth_of change.now }
 {
     match change {
         Change::Insert { text, .. } => text.len() as u64,
@@ -259,7 +261,7 @@ pub fn growth_of(change: &Change) -> u64
 
 /// The number of characters that the changes insert together, or `u64::MAX` if it is greater.
 fn total_growth(changes: &[Change]) -> u64
-    ensures { result ≡ min (sum_by change_growth changes.now) u64.MAX }
+    ensures { result ≡ min (sum_by edits.growth_of changes.now) u64.MAX }
 {
     changes
         .iter()

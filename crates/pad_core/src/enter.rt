@@ -2,15 +2,15 @@
 ghost use Rattle.std.specs.Prelude.{◌≡◌, ◌+◌, ◌≤◌, true, IsTrue, IfErr, OnOk, MatchResult, Some, None};
 ghost use Rattle.pad_model.specs.Checked.{is_checked};
 ghost use Rattle.pad_model.specs.History.{cells_of};
-ghost use Rattle.pad_model.specs.Operation.{author_of as writer_of};
+ghost use Rattle.pad_model.specs.Operation as operation;
 ghost use Rattle.pad_model.specs.Seen.{count_in};
 ghost use Rattle.pad_core.specs.Book.{book_of, entered, may_enter};
 ghost use Rattle.pad_core.specs.Counts.{counted, vector_of};
 ghost use Rattle.pad_core.specs.Delivered.{Enters, IsDelivered, IsLedger, delivery_refusal};
 
-use anchors::{CommentBook, NewComment};
+use comments::{CommentBook, NewComment};
+use op_log::OpLog;
 use pad_model::{Author, Op, Part, Refusal, Seen, Sequence};
-use revisions::OpLog;
 use std::alloc::Global;
 
 /// Counts and enters the next operation of a log, which is then ready there, or finds no memory and changes nothing
@@ -83,7 +83,7 @@ fn enter_note(
     author: &Author,
     rev: u64,
 ) -> Result<(), Refusal>
-    requires author { author.now ≡ writer_of op.now }
+    requires author { author.now ≡ operation.author_of op.now }
     requires fits { may_enter op.now.name comments.old part.now ≡ true }
     ensures ok { OnOk result (comments.new ≡ entered rev op.now comments.old part.now) }
     ensures err { IfErr result (λ e. (e ≡ Refusal.Memory) × (comments.new ≡ comments.old)) }
@@ -106,7 +106,7 @@ fn enter_note(
 }
 
 fn author_of(op: &Op) -> Result<Author, Refusal>
-    ensures { MatchResult result (λ author. author ≡ writer_of op.now) (λ e. e ≡ Refusal.Memory) }
+    ensures { MatchResult result (λ author. author ≡ operation.author_of op.now) (λ e. e ≡ Refusal.Memory) }
 {
     Ok(Author {
         name: op.author.clone()?,

@@ -1,14 +1,15 @@
 //! What a peer reads of a pad: its vector, and the operations that the peer lacks.
 ghost use Rattle.std.specs.Prelude.{◌≡◌, ◌≤◌, IfOk, filter, slice_get, None};
-ghost use Rattle.pad_core.specs.Exchange.{can_give as can_be_given, can_tell as can_be_told, given, sayable, pull as pulled, pull_batch as batch_pulled, read_vector as vector_read};
-ghost use Rattle.revisions.specs.Log.{is_missing};
+ghost use Rattle.pad_core.specs.Exchange.{given, sayable};
+ghost use Rattle.pad_core.specs.Exchange as exchange;
+ghost use Rattle.op_log.specs.Log.{is_missing};
 ghost use Rattle.pad_model.specs.declared.who.Version.TheVariants.{One};
 ghost use Rattle.pad_model.specs.Answers.{Tells};
 
 use crate::batch::copy_batch;
 use crate::ledger::Ledger;
 use crate::reply::PadReply;
-use pad_model::{Op, Refusal, Row, Seen, Sequence, Version, op_in_v1, seen_in_v1};
+use pad_model::{Items, Op, Refusal, Seen, Sequence, Version, op_in_v1, seen_in_v1};
 use std::alloc::{AllocError, Global};
 
 /// The most operations that a pull without a batch gives.
@@ -22,7 +23,7 @@ pub const MAX_BATCH_BYTES: u64 = 1_048_576;
 
 /// The number of delivered operations of each origin.
 pub fn read_vector<S: Sequence>(ledger: &Ledger<S>, version: Version) -> Result<PadReply, Refusal>
-    ensures { Tells (vector_read version ledger.now) result }
+    ensures { Tells (exchange.read_vector version ledger.now) result }
 {
     let seen = ledger.seen();
     if !can_tell(version, seen) {
@@ -37,7 +38,7 @@ pub fn read_vector<S: Sequence>(ledger: &Ledger<S>, version: Version) -> Result<
 
 /// Whether a vector can be sent to a peer.
 fn can_tell(version: Version, seen: &Seen) -> bool
-    ensures { result ≡ can_be_told version seen.now }
+    ensures { result ≡ exchange.can_tell version seen.now }
 {
     match version {
         Version::One => seen_in_v1(seen),
@@ -55,7 +56,7 @@ pub fn pull<S: Sequence>(
     max: u64,
     batch: Option<u64>,
 ) -> Result<PadReply, Refusal>
-    ensures { Tells (pulled version seen.now max batch ledger.now) result }
+    ensures { Tells (exchange.pull version seen.now max batch ledger.now) result }
 {
     if max == 0 {
         return Err(Refusal::Empty);
@@ -79,7 +80,7 @@ fn pull_some<S: Sequence>(
 ) -> Result<PadReply, Refusal>
     requires some { 1 ≤ max }
     requires few { max ≤ MAX_PULL }
-    ensures { Tells (pulled version seen.now max None ledger.now) result }
+    ensures { Tells (exchange.pull version seen.now max None ledger.now) result }
 {
     if !can_give(ledger, version, seen) {
         return Err(Refusal::OldPeer);
@@ -100,7 +101,7 @@ fn pull_batch<S: Sequence>(
     seen: &Seen,
     count: u64,
 ) -> Result<PadReply, Refusal>
-    ensures { Tells (batch_pulled version seen.now count ledger.now) result }
+    ensures { Tells (exchange.pull_batch version seen.now count ledger.now) result }
 {
     if count == 0 {
         return Err(Refusal::Empty);
@@ -120,7 +121,7 @@ fn pull_batch<S: Sequence>(
 
 /// Whether a peer can be given anything: an old one has to be able to read the first operation that it lacks, if any.
 fn can_give<S: Sequence>(ledger: &Ledger<S>, version: Version, seen: &Seen) -> bool
-    ensures { result ≡ can_be_given version
+    ensures { result ≡ exchange.can_give version
         (slice_get (filter (is_missing seen.now) ledger.now) 0) }
 {
     match version {
@@ -130,7 +131,7 @@ fn can_give<S: Sequence>(ledger: &Ledger<S>, version: Version, seen: &Seen) -> b
 }
 
 /// What a peer is given of the operations that it lacks.
-fn give(alloc: Global, version: Version, missing: Row<Op>) -> Result<Row<Op>, Refusal>
+fn give(alloc: Global, version: Version, missing: Items<Op>) -> Result<Items<Op>, Refusal>
     ensures { Tells (given version missing) result }
 {
     match version {
@@ -140,12 +141,12 @@ fn give(alloc: Global, version: Version, missing: Row<Op>) -> Result<Row<Op>, Re
 }
 
 /// What an old peer is given of the operations that it lacks.
-fn give_old(alloc: Global, missing: &[Op]) -> Result<Row<Op>, Refusal>
+fn give_old(alloc: Global, missing: &[Op]) -> Result<Items<Op>, Refusal>
     ensures { Tells (given One missing.now) result }
 {
     match missing.first() {
         Some(first) if !op_in_v1(first) => Err(Refusal::OldPeer),
-        _ => Ok(Row::from_vec(copy_sayable(alloc, missing)?)),
+        _ => Ok(Items::from_vec(copy_sayable(alloc, missing)?)),
     }
 }
 

@@ -1,7 +1,7 @@
 //! Who has which right.
 ghost use Rattle.std.specs.Prelude.{◌≡◌};
 ghost use Rattle.pad_model.specs.Answers.{Answers};
-ghost use Rattle.pad_core.specs.Grants.{grant as granted, read_rights as rights_read};
+ghost use Rattle.pad_core.specs.Grants as grants;
 ghost use Rattle.pad_model.specs.Answers.{Tells};
 
 use crate::reply::PadReply;
@@ -16,7 +16,7 @@ pub fn grant(
     author: &Name,
     right: Option<Right>,
 ) -> Result<PadReply, Refusal>
-    ensures { Answers rights.old (granted now author.now right rights.old) result rights.new }
+    ensures { Answers rights.old (grants.grant now author.now right rights.old) result rights.new }
 {
     rights.grant(author, right)?;
     Ok(PadReply::Done { now })
@@ -24,7 +24,7 @@ pub fn grant(
 
 /// All names with their rights.
 pub fn read_rights(alloc: Global, rights: &RightsBook, now: u64) -> Result<PadReply, Refusal>
-    ensures { Tells (rights_read now rights.now) result }
+    ensures { Tells (grants.read_rights now rights.now) result }
 {
     let rights = rights.list(alloc)?;
     Ok(PadReply::Rights { now, rights })

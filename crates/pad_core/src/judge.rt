@@ -3,12 +3,13 @@ ghost use Rattle.std.specs.Prelude.{◌≡◌, ◌≤◌, IsTrue, length};
 ghost use Rattle.std.specs.List.{list_all};
 ghost use Rattle.pad_model.specs.Cell.{character_of};
 ghost use Rattle.pad_model.specs.Checked.{is_checked};
-ghost use Rattle.pad_model.specs.Log.{is_comment as comments, stands_before as stands};
+ghost use Rattle.pad_model.specs.Log as log;
 ghost use Rattle.pad_model.specs.Operation.{inserted_by};
 ghost use Rattle.pad_model.specs.declared.limits.TheConstants.{MAX_TEXT};
-ghost use Rattle.pad_core.specs.Judge.{fits, note_fits as suits, part_growth};
+ghost use Rattle.pad_core.specs.Judge.{fits, part_growth};
+ghost use Rattle.pad_core.specs.Judge as judge;
 
-use anchors::CommentBook;
+use comments::CommentBook;
 use pad_model::{Op, Part, Sequence, Stamp};
 
 /// Whether each part fits the contents before the operation.
@@ -24,14 +25,14 @@ pub fn is_valid<S: Sequence>(sequence: &S, comments: &CommentBook, op: &Op) -> b
 
 /// Whether each part is a comment or a resolution that fits.
 fn are_notes<S: Sequence>(sequence: &S, comments: &CommentBook, parts: &[Part]) -> bool
-    ensures { result ≡ list_all (suits (S.cells sequence.now) comments.now) parts.now }
+    ensures { result ≡ list_all (judge.note_fits (S.cells sequence.now) comments.now) parts.now }
 {
     parts.iter().all(|part| note_fits(sequence, comments, part))
 }
 
 /// Whether a comment or a resolution fits.
 fn note_fits<S: Sequence>(sequence: &S, comments: &CommentBook, part: &Part) -> bool
-    ensures { result ≡ suits (S.cells sequence.now) comments.now part.now }
+    ensures { result ≡ judge.note_fits (S.cells sequence.now) comments.now part.now }
 {
     match part {
         Part::Comment { first, last, .. } => stands_before(sequence, *first, *last),
@@ -41,7 +42,7 @@ fn note_fits<S: Sequence>(sequence: &S, comments: &CommentBook, part: &Part) -> 
 }
 
 fn stands_before<S: Sequence>(sequence: &S, first: Stamp, last: Stamp) -> bool
-    ensures { result ≡ stands character_of (S.cells sequence.now) first last }
+    ensures { result ≡ log.stands_before character_of (S.cells sequence.now) first last }
 {
     sequence.stands_before(first, last).unwrap_or(false)
 }
@@ -69,7 +70,7 @@ fn growth_of(part: &Part) -> u64
 
 /// Whether an operation comments.
 pub fn is_comment(op: &Op) -> bool
-    ensures { result ≡ comments op.now }
+    ensures { result ≡ log.is_comment op.now }
 {
     op.parts
         .as_slice()

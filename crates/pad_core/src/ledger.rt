@@ -6,24 +6,25 @@ ghost use Rattle.pad_model.specs.History.{cells_of, clock_of_characters};
 ghost use Rattle.pad_model.specs.Log.{is_comment};
 ghost use Rattle.pad_model.specs.OldWire.{op_in_v1};
 ghost use Rattle.pad_model.specs.Operation.{characters_in, erased_by};
-ghost use Rattle.pad_model.specs.Pieces.{changes as pieces_between};
+ghost use Rattle.pad_model.specs.Pieces as pieces_spec;
 ghost use Rattle.pad_model.specs.Seen.{count_in};
 ghost use Rattle.pad_model.specs.Visible.{caret_of, hidden_by, runs_of, spans_of, stamp_at, text_of, visible};
-ghost use Rattle.revisions.specs.Found.{IsNextMissing};
-ghost use Rattle.revisions.specs.Log.{entries as entries_of, is_missing, is_note, missing as missing_of};
+ghost use Rattle.op_log.specs.Found.{IsNextMissing};
+ghost use Rattle.op_log.specs.Log.{is_missing, is_note};
+ghost use Rattle.op_log.specs.Log as log_spec;
 ghost use Rattle.pad_core.specs.Comments.{comments_of};
 ghost use Rattle.pad_core.specs.Counts.{characters_at, vector_of};
 ghost use Rattle.pad_core.specs.Delivered.{IsDelivered, delivery_refusal};
-ghost use Rattle.pad_core.specs.Notes.{has_comment as is_commented};
+ghost use Rattle.pad_core.specs.Notes as notes;
 
 use crate::enter::count_and_enter;
 use crate::judge::{count_inserted, is_comment, is_valid};
-use anchors::{CommentBook, Shown};
+use comments::{CommentBook, Shown};
+use op_log::{FoundOp, OpLog};
 use pad_model::{
-    AuthorRun, MAX_CHARACTERS, MAX_COMMENTS, MAX_OPERATIONS, Op, OpName, Piece, Refusal, Row, Seen,
-    Sequence, Span, Stamp, Text,
+    AuthorRun, Items, MAX_CHARACTERS, MAX_COMMENTS, MAX_OPERATIONS, Op, OpName, Piece, Refusal,
+    Seen, Sequence, Span, Stamp, Text,
 };
-use revisions::{Found, OpLog};
 use std::alloc::Global;
 use std::marker::Model;
 
@@ -106,7 +107,13 @@ impl<S: Sequence> Ledger<S> {
     }
 
     /// The stamps of the `len` characters that a revision shows from a place on.
-    pub fn spans_at(&self, alloc: Global, rev: u64, at: u64, len: u64) -> Result<Row<Span>, Refusal>
+    pub fn spans_at(
+        &self,
+        alloc: Global,
+        rev: u64,
+        at: u64,
+        len: u64,
+    ) -> Result<Items<Span>, Refusal>
         requires { at + len ≤ length (visible (characters_at rev self.now)) }
         ensures { MatchResult result (λ spans. spans ≡ spans_of (characters_at rev self.now) at len)
             (λ e. e ≡ Refusal.Memory) }
@@ -123,7 +130,7 @@ impl<S: Sequence> Ledger<S> {
     }
 
     /// Who wrote the text of a revision.
-    pub fn runs_at(&self, alloc: Global, rev: u64) -> Result<Row<AuthorRun>, Refusal>
+    pub fn runs_at(&self, alloc: Global, rev: u64) -> Result<Items<AuthorRun>, Refusal>
         ensures { MatchResult result (λ runs. runs ≡ runs_of (characters_at rev self.now))
             (λ e. e ≡ Refusal.Memory) }
     {
@@ -131,8 +138,8 @@ impl<S: Sequence> Ledger<S> {
     }
 
     /// The changes that lead from the text of one revision to that of another, in the fewest pieces.
-    pub fn changes(&self, alloc: Global, rev: u64, to: u64) -> Result<Row<Piece>, Refusal>
-        ensures { MatchResult result (λ pieces. pieces ≡ pieces_between rev to (cells_of self.now))
+    pub fn changes(&self, alloc: Global, rev: u64, to: u64) -> Result<Items<Piece>, Refusal>
+        ensures { MatchResult result (λ pieces. pieces ≡ pieces_spec.changes rev to (cells_of self.now))
             (λ e. e ≡ Refusal.Memory) }
     {
         self.sequence.changes(alloc, rev, to)
@@ -153,7 +160,7 @@ impl<S: Sequence> Ledger<S> {
     }
 
     /// The comments of a revision, by name.
-    pub fn comments_at(&self, alloc: Global, rev: u64) -> Result<Row<Shown>, Refusal>
+    pub fn comments_at(&self, alloc: Global, rev: u64) -> Result<Items<Shown>, Refusal>
         ensures { MatchResult result (λ rows. rows ≡ comments_of (take rev self.now))
             (λ e. e ≡ Refusal.Memory) }
     {
@@ -162,7 +169,7 @@ impl<S: Sequence> Ledger<S> {
 
     /// Whether a name is a comment's.
     pub fn has_comment(&self, name: OpName) -> bool
-        ensures { result ≡ is_commented name self.now }
+        ensures { result ≡ notes.has_comment name self.now }
     {
         self.comments.has(name)
     }
@@ -175,9 +182,9 @@ impl<S: Sequence> Ledger<S> {
     }
 
     /// The operations that made the revisions `from` to `from + count - 1`, as far as there are any.
-    pub fn entries(&self, alloc: Global, from: u64, count: u64) -> Result<Row<Op>, Refusal>
+    pub fn entries(&self, alloc: Global, from: u64, count: u64) -> Result<Items<Op>, Refusal>
         requires { 1 ≤ from }
-        ensures { MatchResult result (λ row. row ≡ entries_of self.now from count)
+        ensures { MatchResult result (λ row. row ≡ log_spec.entries self.now from count)
             (λ e. e ≡ Refusal.Memory) }
     {
         self.log.entries(alloc, from, count)
@@ -186,13 +193,13 @@ impl<S: Sequence> Ledger<S> {
     /// The number of these that comment or resolve. It needs no memory.
     pub fn count_notes(&self, from: u64, count: u64) -> u64
         requires { 1 ≤ from }
-        ensures { result ≡ count_by is_note (entries_of self.now from count) }
+        ensures { result ≡ count_by is_note (log_spec.entries self.now from count) }
     {
         self.log.count_notes(from, count)
     }
 
     /// The operations that made the revisions after this one.
-    pub fn since(&self, alloc: Global, revision: u64) -> Result<Row<Op>, Refusal>
+    pub fn since(&self, alloc: Global, revision: u64) -> Result<Items<Op>, Refusal>
         ensures { MatchResult result (λ row. row ≡ drop revision self.now)
             (λ e. e ≡ Refusal.Memory) }
     {
@@ -221,7 +228,7 @@ impl<S: Sequence> Ledger<S> {
         alloc: Global,
         seen: &Seen,
         from: u64,
-    ) -> Result<Option<Found>, Refusal>
+    ) -> Result<Option<FoundOp>, Refusal>
         ensures { MatchResult result (IsNextMissing seen.now self.now from)
             (λ e. e ≡ Refusal.Memory) }
     {
@@ -229,8 +236,8 @@ impl<S: Sequence> Ledger<S> {
     }
 
     /// The first `max` operations that `seen` does not cover.
-    pub fn missing(&self, alloc: Global, seen: &Seen, max: u64) -> Result<Row<Op>, Refusal>
-        ensures { MatchResult result (λ row. row ≡ missing_of self.now seen.now max)
+    pub fn missing(&self, alloc: Global, seen: &Seen, max: u64) -> Result<Items<Op>, Refusal>
+        ensures { MatchResult result (λ row. row ≡ log_spec.missing self.now seen.now max)
             (λ e. e ≡ Refusal.Memory) }
     {
         self.log.missing(alloc, seen, max)

@@ -5,12 +5,13 @@ ghost use Rattle.pad_model.specs.Visible.{visible};
 ghost use Rattle.pad_model.specs.declared.limits.TheConstants.{MAX_COUNTER, MAX_REPLICA};
 ghost use Rattle.pad_core.specs.Counts.{characters_at};
 ghost use Rattle.pad_core.specs.declared.act.Change.TheVariants.{Insert};
-ghost use Rattle.pad_core.specs.Edits.{before_place, edit_refusal, growth_of as change_growth, is_outside as lies_outside, is_blank as does_nothing, made_parts, part_from};
+ghost use Rattle.pad_core.specs.Edits.{before_place, edit_refusal, made_parts, part_from};
+ghost use Rattle.pad_core.specs.Edits as edits;
 
 use crate::act::Change;
 use crate::edit::growth_of;
 use crate::ledger::Ledger;
-use pad_model::{Part, Refusal, Row, Run, Sequence, Stamp, Text};
+use pad_model::{Items, Part, Refusal, Run, Sequence, Stamp, Text};
 use std::alloc::{AllocError, Global};
 
 /// The parts of the changes: each refers to the revision, and each insertion is newer than the pad's characters and
@@ -21,14 +22,14 @@ pub fn make_parts<S: Sequence>(
     replica: u16,
     rev: u64,
     changes: &[Change],
-) -> Result<Row<Part>, Refusal>
+) -> Result<Items<Part>, Refusal>
     requires replica { 1 ≤ replica }
     requires allowed { edit_refusal rev changes.now ledger.now ≡ None }
     ensures { MatchResult result (λ parts. parts ≡ made_parts replica rev changes.now ledger.now)
         (λ e. e ≡ Refusal.Memory) }
 {
     let mut counter = ledger.clock() + 1;
-    let mut parts = Row::new(alloc);
+    let mut parts = Items::new(alloc);
     for change in changes {
         let part = make_part(alloc, ledger, replica, counter, rev, change)?;
         parts.push(part)?;
@@ -45,14 +46,14 @@ pub fn make_insertion<S: Sequence>(
     rev: u64,
     at: u64,
     text: &Text,
-) -> Result<Row<Part>, Refusal>
+) -> Result<Items<Part>, Refusal>
     requires replica { 1 ≤ replica }
     requires allowed { edit_refusal rev (Insert at text.now ∷ []) ledger.now ≡ None }
     ensures { MatchResult result (λ parts. parts
         ≡ made_parts replica rev (Insert at text.now ∷ []) ledger.now) (λ e. e ≡ Refusal.Memory) }
 {
     let run = make_run(ledger, replica, ledger.clock() + 1, rev, at, text)?;
-    Ok(Row::of_one(alloc, Part::Insert(run))?)
+    Ok(Items::of_one(alloc, Part::Insert(run))?)
 }
 
 fn make_part<S: Sequence>(
@@ -65,10 +66,10 @@ fn make_part<S: Sequence>(
 ) -> Result<Part, Refusal>
     requires replica { 1 ≤ replica }
     requires counter { 1 ≤ counter }
-    requires clock { counter + change_growth change.now ≤ MAX_COUNTER + 1 }
-    requires within { lies_outside (length (visible (characters_at rev ledger.now))) change.now
+    requires clock { counter + edits.growth_of change.now ≤ MAX_COUNTER + 1 }
+    requires within { edits.is_outside (length (visible (characters_at rev ledger.now))) change.now
         ≡ false }
-    requires filled { does_nothing change.now ≡ false }
+    requires filled { edits.is_blank change.now ≡ false }
     ensures { MatchResult result (λ part. part
         ≡ part_from counter replica (characters_at rev ledger.now) change.now)
         (λ e. e ≡ Refusal.Memory) }

@@ -5,14 +5,15 @@ ghost use Rattle.pad_model.specs.Checked.{is_checked, is_name};
 ghost use Rattle.pad_model.specs.Visible.{stamp_at, visible};
 ghost use Rattle.pad_core.specs.Counts.{characters_at, op_of};
 ghost use Rattle.pad_core.specs.Delivered.{IsDelivered, delivery_refusal};
-ghost use Rattle.pad_core.specs.Notes.{comment as commented, comment_parts, comment_refusal, noted, resolve as resolved, resolve_refusal};
+ghost use Rattle.pad_core.specs.Notes.{comment_parts, comment_refusal, noted, resolve_refusal};
+ghost use Rattle.pad_core.specs.Notes as notes;
 
 use crate::edit::make_op;
 use crate::ledger::Ledger;
 use crate::reply::PadReply;
 use crate::writer::{Passage, Writer};
 use pad_model::{
-    MAX_COMMENT, MAX_COMMENTS, MAX_OPERATIONS, OpName, Part, Refusal, Row, Sequence, Stamp, Text,
+    Items, MAX_COMMENT, MAX_COMMENTS, MAX_OPERATIONS, OpName, Part, Refusal, Sequence, Stamp, Text,
 };
 use std::alloc::Global;
 
@@ -26,7 +27,7 @@ pub fn comment<S: Sequence>(
 ) -> Result<PadReply, Refusal>
     requires replica { 1 ≤ writer.replica }
     requires author { IsTrue (is_name writer.author.now) }
-    ensures { Answers ledger.old (commented writer.entry.replica writer.entry.author.now passage.rev
+    ensures { Answers ledger.old (notes.comment writer.entry.replica writer.entry.author.now passage.rev
         passage.at passage.len text.now ledger.old) result ledger.new }
 {
     if let Some(refusal) = refuse_comment(ledger, passage, text) {
@@ -45,7 +46,7 @@ pub fn resolve<S: Sequence>(
 ) -> Result<PadReply, Refusal>
     requires replica { 1 ≤ writer.replica }
     requires author { IsTrue (is_name writer.author.now) }
-    ensures { Answers ledger.old (resolved writer.entry.replica writer.entry.author.now comment
+    ensures { Answers ledger.old (notes.resolve writer.entry.replica writer.entry.author.now comment
         ledger.old) result ledger.new }
 {
     if !ledger.has_comment(comment) {
@@ -71,7 +72,7 @@ fn note<S: Sequence>(
     ensures { Answers ledger.old (noted None writer.entry.replica writer.entry.author.now
         (part ∷ []) ledger.old) result ledger.new }
 {
-    let parts = Row::of_one(alloc, part)?;
+    let parts = Items::of_one(alloc, part)?;
     let op = make_op(ledger, writer, parts)?;
     let name = op.name;
     ledger.append(alloc, op)?;

@@ -1,14 +1,14 @@
 //! What a claim gives a pad.
 ghost use Rattle.std.specs.Prelude.{◌≡◌, ◌+◌, [], Ok, Option, Some, MatchResult};
 ghost use Rattle.pad_model.specs.Answers.{Answers};
-ghost use Rattle.sessions.specs.Presence.{Presence, joined};
+ghost use Rattle.presence.specs.Presence.{Presence, joined};
 ghost use Rattle.pad_core.specs.Machine.{nobody_present};
 ghost use Rattle.pad_core.specs.declared.owned.Owned.{Owned};
 
 use crate::event::Claim;
 use pad_model::{Name, Refusal};
+use presence::PresenceBook;
 use rights::RightsBook;
-use sessions::PresenceBook;
 use std::alloc::Global;
 
 /// The name of a pad, and who may do what with it.

@@ -10,9 +10,11 @@ ghost use Rattle.pad_core.specs.Laws.{LastReadsAlike};
 ghost use Rattle.pad_model.specs.declared.who.Who.TheVariants as Who;
 ghost use Rattle.pad_core.specs.declared.act.Act.{Act};
 ghost use Rattle.pad_core.specs.Listing.{listing};
-ghost use Rattle.pad_core.specs.Machine.{IsAdmitted, IsPad, author_act as author_acted, author_step as author_stepped, claim as claimed, name_of, nobody_present, peer_act as peer_acted, step as machine_step};
-ghost use Rattle.pad_core.specs.Restart.{restore_claim as claim_restored, restore_grant as grant_restored, restore_operation as operation_restored, restore_visit as visit_restored};
-ghost use Rattle.pad_core.specs.Ran.{IsCutShort, Stepped, run as machine_run, Ran, FoundMemory, takes_memory};
+ghost use Rattle.pad_core.specs.Machine.{IsAdmitted, IsPad, name_of, nobody_present};
+ghost use Rattle.pad_core.specs.Machine as machine;
+ghost use Rattle.pad_core.specs.Restart as restart_spec;
+ghost use Rattle.pad_core.specs.Ran.{IsCutShort, Stepped, Ran, FoundMemory, takes_memory};
+ghost use Rattle.pad_core.specs.Ran as ran;
 
 use crate::act::Act;
 use crate::admit::{author_refusal, need_of, nobody_refusal};
@@ -23,16 +25,16 @@ use crate::grants::{grant, read_rights};
 use crate::ledger::Ledger;
 use crate::note::{comment, resolve};
 use crate::owned::{Owned, own};
-use crate::presence::{depart, join, leave, put_caret, read_who};
 use crate::push::push;
 use crate::reads::{read_changes, read_comments, read_entries, read_revs, read_runs, read_text};
 use crate::reply::{Listed, PadReply};
 use crate::restart::{deliver_again, grant_again, own_again, visit_again};
+use crate::visits::{depart, join, leave, put_caret, read_who};
 use crate::writer::{Passage, Writer};
 use holdback::Hold;
-use pad_model::{Name, Op, Refusal, Row, Sequence, Version, Who};
+use pad_model::{Items, Name, Op, Refusal, Sequence, Version, Who};
+use presence::PresenceBook;
 use rights::Right;
-use sessions::PresenceBook;
 use std::alloc::Global;
 use std::marker::Model;
 
@@ -116,7 +118,7 @@ impl<S: Sequence> Pad<S> {
     pub fn claim(&mut self, alloc: Global, name: &str, owner: &str) -> Result<Claim, Refusal>
         requires name { IsTrue (is_name name.now) }
         requires owner { IsTrue (is_name owner.now) }
-        ensures { Answers self.old (claimed name.now owner.now self.old) result self.new }
+        ensures { Answers self.old (machine.claim name.now owner.now self.old) result self.new }
     {
         if let Some(owned) = &self.owned {
             return Ok(if owned.name.is(name) {
@@ -169,7 +171,7 @@ impl<S: Sequence> Pad<S> {
 
     /// Ends a visit where it is present and this session's; else it does nothing. It takes no memory.
     pub fn depart(&mut self, pad: &str, who: &Who, visit: u64)
-        ensures { self.new ≡ (machine_step pad.now who.now (Some visit) Act.Leave self.old).1 }
+        ensures { self.new ≡ (machine.step pad.now who.now (Some visit) Act.Leave self.old).1 }
     {
         let Some(owned) = &self.owned else {
             return;
@@ -190,7 +192,7 @@ impl<S: Sequence> Pad<S> {
     }
 
     /// The operations that made the revisions after this one.
-    pub fn since(&self, alloc: Global, revision: u64) -> Result<Row<Op>, Refusal>
+    pub fn since(&self, alloc: Global, revision: u64) -> Result<Items<Op>, Refusal>
         ensures { MatchResult result (λ row. row ≡ drop revision self.now.log)
             (λ e. e ≡ Refusal.Memory) }
     {
@@ -199,7 +201,7 @@ impl<S: Sequence> Pad<S> {
 
     /// Claims the pad as it was claimed before a restart. The owner's visit has ended.
     pub fn restore_claim(&mut self, alloc: Global, name: &Name, owner: &Name) -> Result<(), Refusal>
-        ensures { Answers self.old (claim_restored name.now owner.now self.old) result self.new }
+        ensures { Answers self.old (restart_spec.restore_claim name.now owner.now self.old) result self.new }
     {
         if self.owned.is_some() {
             return Err(Refusal::PadExists);
@@ -218,7 +220,7 @@ impl<S: Sequence> Pad<S> {
 
     /// Gives a right, or takes it away (None), as it was done before a restart.
     pub fn restore_grant(&mut self, author: &Name, right: Option<Right>) -> Result<(), Refusal>
-        ensures { Answers self.old (grant_restored author.now right self.old) result self.new }
+        ensures { Answers self.old (restart_spec.restore_grant author.now right self.old) result self.new }
     {
         if self.owned.is_none() {
             return Err(Refusal::NoPad);
@@ -231,7 +233,7 @@ impl<S: Sequence> Pad<S> {
 
     /// Counts a visit that began before a restart.
     pub fn restore_visit(&mut self, alloc: Global) -> Result<(), Refusal>
-        ensures { Answers self.old (visit_restored self.old) result self.new }
+        ensures { Answers self.old (restart_spec.restore_visit self.old) result self.new }
     {
         let Some(owned) = &self.owned else {
             return Err(Refusal::NoPad);
@@ -242,7 +244,7 @@ impl<S: Sequence> Pad<S> {
     /// Delivers an operation that was delivered before a restart. It is refused with 400 if it exceeds a limit, and
     /// with 403 if it is not the next of its origin.
     pub fn restore_operation(&mut self, alloc: Global, op: Op) -> Result<(), Refusal>
-        ensures { Answers self.old (operation_restored op self.old) result self.new }
+        ensures { Answers self.old (restart_spec.restore_operation op self.old) result self.new }
     {
         deliver_again(alloc, &mut self.ledger, op)
     }
@@ -260,7 +262,7 @@ impl<S: Sequence> Pad<S> {
 
         // The replies and the pad are the machine's if no event ran out of memory.
         ensures machine { IfOk result (λ replies. FoundMemory replies.items
-            → machine_run events.now self.old ≡ (replies.items, self.new)) }
+            → ran.run events.now self.old ≡ (replies.items, self.new)) }
 
         // What was read last of the present text, authors or comments depends on the set of the pad's operations alone: it is the
         // answer of any other pad with the same ones.
@@ -288,10 +290,10 @@ impl<S: Sequence> Pad<S> {
         act: &Act,
     ) -> Result<PadReply, Refusal>
         ensures answers { (owned : _) → self.old.owned ≡ Some owned
-            → Answers self.old (author_stepped owned name.now visit act.now self.old) result
+            → Answers self.old (machine.author_step owned name.now visit act.now self.old) result
             self.new }
         ensures exact { takes_memory act.now ≡ false → (owned : _) → self.old.owned ≡ Some owned
-            → author_stepped owned name.now visit act.now self.old ≡ (result, self.new) }
+            → machine.author_step owned name.now visit act.now self.old ≡ (result, self.new) }
     {
         let Some(owned) = &self.owned else {
             return Err(Refusal::NoPad);
@@ -305,7 +307,7 @@ impl<S: Sequence> Pad<S> {
     /// Ends an author's visit, if it is one.
     fn author_leaves(&mut self, name: &Name, visit: u64)
         ensures { (owned : _) → self.old.owned ≡ Some owned
-            → self.new ≡ (author_stepped owned name.now (Some visit) Act.Leave self.old).1 }
+            → self.new ≡ (machine.author_step owned name.now (Some visit) Act.Leave self.old).1 }
     {
         depart(&mut self.presence, name, visit);
     }
@@ -320,10 +322,10 @@ impl<S: Sequence> Pad<S> {
     ) -> Result<PadReply, Refusal>
         requires { IsAdmitted self.old.owned self.old.presence name.now visit act.now }
         ensures answers { (owned : _) → self.old.owned ≡ Some owned
-            → Answers self.old (author_acted owned name.now (unwrap_or visit 0) act.now self.old)
+            → Answers self.old (machine.author_act owned name.now (unwrap_or visit 0) act.now self.old)
             result self.new }
         ensures exact { takes_memory act.now ≡ false → (owned : _) → self.old.owned ≡ Some owned
-            → author_acted owned name.now (unwrap_or visit 0) act.now self.old
+            → machine.author_act owned name.now (unwrap_or visit 0) act.now self.old
             ≡ (result, self.new) }
     {
         let visit = visit.unwrap_or(0);
@@ -367,7 +369,7 @@ impl<S: Sequence> Pad<S> {
     /// A peer's act on the pad of this name.
     fn peer_act(&mut self, alloc: Global, version: Version, act: &Act) -> Result<PadReply, Refusal>
         ensures { (name : _) (number : ℕ) → name_of self.old.owned ≡ Some name
-            → Answers self.old (peer_acted version act.now self.old) result self.new
+            → Answers self.old (machine.peer_act version act.now self.old) result self.new
             ⊎ ((result ≡ Err Refusal.Memory)
             × IsCutShort name (Who.Peer number version) act.now self.old self.new) }
     {

@@ -7,7 +7,8 @@ ghost use Rattle.pad_core.specs.Counts.{vector_of};
 ghost use Rattle.pad_core.specs.Delivered.{delivery_refusal};
 ghost use Rattle.pad_model.specs.Answers.{Answers};
 ghost use Rattle.pad_model.specs.Checked.{is_checked};
-ghost use Rattle.pad_core.specs.Exchange.{IsStuck, both_of, delivered, push as pushed, received, release as released_one, settle as settled_from, steps, unsettled, waiting, Stopped};
+ghost use Rattle.pad_core.specs.Exchange.{IsStuck, both_of, delivered, received, steps, unsettled, waiting, Stopped};
+ghost use Rattle.pad_core.specs.Exchange as exchange;
 ghost use Rattle.pad_core.specs.Released.{delivery};
 
 use crate::ledger::Ledger;
@@ -33,7 +34,7 @@ pub fn push<S: Sequence>(
     op: &Op,
 ) -> Result<PadReply, Refusal>
     requires held { AllByRecursion (λ op. IsTrue (is_checked op)) held.old }
-    ensures answer { Answers (ledger.old, held.old) (pushed replica op.now (ledger.old, held.old))
+    ensures answer { Answers (ledger.old, held.old) (exchange.push replica op.now (ledger.old, held.old))
         result (ledger.new, held.new) ⊎ ((result ≡ Err Refusal.Memory)
         × Stopped replica op.now (ledger.old, held.old) (ledger.new, held.new)) }
     ensures held { AllByRecursion (λ op. IsTrue (is_checked op)) held.new }
@@ -127,7 +128,7 @@ fn settle<S: Sequence>(
 ) -> Result<Released, Refusal>
     requires held { AllByRecursion (λ op. IsTrue (is_checked op)) held.old }
     ensures ok { IfOk result (λ released. delivery released ledger.new held.new
-        ≡ settled_from (unsettled (ledger.old, held.old))) }
+        ≡ exchange.settle (unsettled (ledger.old, held.old))) }
     ensures memory { IfErr result (λ e. (e ≡ Refusal.Memory) × (n : ℕ)
         × ((ledger.new, held.new) ≡ both_of (steps n (unsettled (ledger.old, held.old))))
         × IsStuck (ledger.new, held.new)) }
@@ -156,7 +157,7 @@ fn release<S: Sequence>(
     requires held { AllByRecursion (λ op. IsTrue (is_checked op)) held.old }
     requires few { released.old.delivered + released.old.dropped < u64.MAX }
     ensures ok { OnOk result (delivery released.new ledger.new held.new
-        ≡ released_one (delivery released.old ledger.old held.old)) }
+        ≡ exchange.release (delivery released.old ledger.old held.old)) }
     ensures settled { result ≡ Ok false → find (is_ready (vector_of ledger.old)) held.old ≡ None }
     ensures memory { IfErr result (λ e. (e ≡ Refusal.Memory)
         × (delivery released.new ledger.new held.new ≡ delivery released.old ledger.old held.old)

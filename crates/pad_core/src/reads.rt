@@ -1,11 +1,12 @@
 //! What authors read of a pad's log.
 ghost use Rattle.std.specs.Prelude.{◌≡◌, ℕ, ◌+◌, ◌≤◌, IfOk, length};
 ghost use Rattle.pad_model.specs.Answers.{Tells};
-ghost use Rattle.pad_core.specs.Reads.{entries_from, entry_of, kind_of as kind, read_changes as changes_read, read_comments as comments_read, read_entries as entries_read, read_revs as revs_read, read_runs as runs_read, read_text as text_read};
+ghost use Rattle.pad_core.specs.Reads.{entries_from, entry_of};
+ghost use Rattle.pad_core.specs.Reads as reads;
 
 use crate::ledger::Ledger;
-use crate::reply::{Entry, Kind, PadReply};
-use pad_model::{Author, Op, Part, Refusal, Row, Sequence};
+use crate::reply::{Kind, LogEntry, PadReply};
+use pad_model::{Author, Items, Op, Part, Refusal, Sequence};
 use std::alloc::{AllocError, Global};
 
 /// How many revisions one request may list.
@@ -20,7 +21,7 @@ pub fn read_text<S: Sequence>(
     ledger: &Ledger<S>,
     asked: Option<u64>,
 ) -> Result<PadReply, Refusal>
-    ensures { Tells (text_read asked ledger.now) result }
+    ensures { Tells (reads.read_text asked ledger.now) result }
 {
     let now = ledger.len();
     let rev = asked.unwrap_or(now);
@@ -37,7 +38,7 @@ pub fn read_runs<S: Sequence>(
     ledger: &Ledger<S>,
     asked: Option<u64>,
 ) -> Result<PadReply, Refusal>
-    ensures { Tells (runs_read asked ledger.now) result }
+    ensures { Tells (reads.read_runs asked ledger.now) result }
 {
     let now = ledger.len();
     let rev = asked.unwrap_or(now);
@@ -54,7 +55,7 @@ pub fn read_comments<S: Sequence>(
     ledger: &Ledger<S>,
     asked: Option<u64>,
 ) -> Result<PadReply, Refusal>
-    ensures { Tells (comments_read asked ledger.now) result }
+    ensures { Tells (reads.read_comments asked ledger.now) result }
 {
     let now = ledger.len();
     let rev = asked.unwrap_or(now);
@@ -73,7 +74,7 @@ pub fn read_changes<S: Sequence>(
     asked: Option<u64>,
     wait: u64,
 ) -> Result<PadReply, Refusal>
-    ensures { Tells (changes_read rev asked wait ledger.now) result }
+    ensures { Tells (reads.read_changes rev asked wait ledger.now) result }
 {
     let now = ledger.len();
     let to = asked.unwrap_or(now);
@@ -96,7 +97,7 @@ pub fn read_changes<S: Sequence>(
 
 /// The length of the pad, with and without erased characters.
 pub fn read_revs<S: Sequence>(ledger: &Ledger<S>) -> Result<PadReply, Refusal>
-    ensures { result ≡ revs_read ledger.now }
+    ensures { result ≡ reads.read_revs ledger.now }
 {
     let now = ledger.len();
     Ok(PadReply::Revs {
@@ -113,7 +114,7 @@ pub fn read_entries<S: Sequence>(
     from: u64,
     count: u64,
 ) -> Result<PadReply, Refusal>
-    ensures { Tells (entries_read from count ledger.now) result }
+    ensures { Tells (reads.read_entries from count ledger.now) result }
 {
     let now = ledger.len();
     if from == 0 || now + 1 < from {
@@ -129,12 +130,12 @@ pub fn read_entries<S: Sequence>(
     let entries = list(alloc, from, ops.as_slice())?;
     Ok(PadReply::Entries {
         now,
-        entries: Row::from_vec(entries),
+        entries: Items::from_vec(entries),
     })
 }
 
 /// The entries of operations, the first of which made the revision `from`.
-fn list(alloc: Global, from: u64, ops: &[Op]) -> Result<Vec<Entry>, AllocError>
+fn list(alloc: Global, from: u64, ops: &[Op]) -> Result<Vec<LogEntry>, AllocError>
     requires { from + length ops.now ≤ u64.MAX }
     ensures { IfOk result (λ entries. entries.items ≡ entries_from from ops.now) }
 {
@@ -147,10 +148,10 @@ fn list(alloc: Global, from: u64, ops: &[Op]) -> Result<Vec<Entry>, AllocError>
     Ok(entries)
 }
 
-fn entry_of(rev: u64, op: &Op) -> Result<Entry, AllocError>
+fn entry_of(rev: u64, op: &Op) -> Result<LogEntry, AllocError>
     ensures { IfOk result (λ entry. entry ≡ entry_of rev op.now) }
 {
-    Ok(Entry {
+    Ok(LogEntry {
         rev,
         name: op.name,
         author: Author {
@@ -162,7 +163,7 @@ fn entry_of(rev: u64, op: &Op) -> Result<Entry, AllocError>
 }
 
 fn kind_of(parts: &[Part]) -> Kind
-    ensures { result ≡ kind parts.now }
+    ensures { result ≡ reads.kind_of parts.now }
 {
     if parts.len() != 1 {
         return Kind::Edit;

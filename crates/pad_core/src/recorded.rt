@@ -1,7 +1,8 @@
 //! What was recorded of a pad, compared with its log.
 ghost use Rattle.std.specs.Prelude.{◌≡◌, ◌≤◌, ◌<◌, [], None, IfOk, IfErr, OnOk, length, take};
 ghost use Rattle.std.specs.List.{list_any};
-ghost use Rattle.pad_core.specs.Audit.{IsFault, IsRead, agrees as agreed, first_fault, is_edit_of as made_by, stands_at as standing};
+ghost use Rattle.pad_core.specs.Audit.{IsFault, IsRead, first_fault};
+ghost use Rattle.pad_core.specs.Audit as audit_spec;
 ghost use Rattle.std.specs.Prelude.{Some};
 
 use crate::ledger::Ledger;
@@ -65,7 +66,7 @@ fn agrees<S: Sequence>(
     before: &[Recorded],
     entry: &Recorded,
 ) -> Result<bool, Refusal>
-    ensures value { IfOk result (λ b. b ≡ agreed ledger.now before.now entry.now) }
+    ensures value { IfOk result (λ b. b ≡ audit_spec.agrees ledger.now before.now entry.now) }
     ensures memory { IfErr result (λ e. IsRead ledger.now (Some entry.now)) }
 {
     match entry {
@@ -84,7 +85,7 @@ fn agrees<S: Sequence>(
 
 /// Whether the operation of a name made a revision.
 fn stands_at<S: Sequence>(ledger: &Ledger<S>, name: OpName, rev: u64) -> bool
-    ensures { result ≡ standing name rev ledger.now }
+    ensures { result ≡ audit_spec.stands_at name rev ledger.now }
 {
     if rev == 0 {
         return false;
@@ -97,13 +98,13 @@ fn stands_at<S: Sequence>(ledger: &Ledger<S>, name: OpName, rev: u64) -> bool
 
 /// Whether an edit with a name is among records.
 fn is_recorded(before: &[Recorded], name: OpName) -> bool
-    ensures { result ≡ list_any (made_by name) before.now }
+    ensures { result ≡ list_any (audit_spec.is_edit_of name) before.now }
 {
     before.iter().any(|record| is_edit_of(record, name))
 }
 
 fn is_edit_of(entry: &Recorded, name: OpName) -> bool
-    ensures { result ≡ made_by name entry.now }
+    ensures { result ≡ audit_spec.is_edit_of name entry.now }
 {
     match entry {
         Recorded::Read { .. } => false,

@@ -1,6 +1,6 @@
 //! The replies of a pad and of a server.
-use anchors::Shown;
-use pad_model::{Author, AuthorRun, Name, Op, OpName, Piece, Row, Seen, Text, Version};
+use comments::Shown;
+use pad_model::{Author, AuthorRun, Items, Name, Op, OpName, Piece, Seen, Text, Version};
 use rights::{Grant, Right};
 
 /// What an operation does, in a word.
@@ -16,7 +16,7 @@ pub enum Kind {
 
 /// The operation that made a revision.
 #[derive(Debug, PartialEq, Drop)]
-pub struct Entry {
+pub struct LogEntry {
     pub rev: u64,
     pub name: OpName,
     pub author: Author,
@@ -88,13 +88,13 @@ pub enum PadReply {
     Runs {
         now: u64,
         rev: u64,
-        runs: Row<AuthorRun>,
+        runs: Items<AuthorRun>,
     },
     /// The comments of a revision, by name.
     Comments {
         now: u64,
         rev: u64,
-        comments: Row<Shown>,
+        comments: Items<Shown>,
     },
     /// The changes that lead from the text of one revision to that of another, and how many comments and resolutions
     /// made the revisions between.
@@ -102,7 +102,7 @@ pub enum PadReply {
         now: u64,
         rev: u64,
         to: u64,
-        pieces: Row<Piece>,
+        pieces: Items<Piece>,
         notes: u64,
     },
     /// The number of characters, erased ones included, and the number of visible ones.
@@ -114,17 +114,17 @@ pub enum PadReply {
     /// The operations that made some revisions.
     Entries {
         now: u64,
-        entries: Row<Entry>,
+        entries: Items<LogEntry>,
     },
     /// Who is present, in order of joining.
     Who {
         now: u64,
-        who: Row<Present>,
+        who: Items<Present>,
     },
     /// Who has which right: the creator first, then by first grant.
     Rights {
         now: u64,
-        rights: Row<Grant>,
+        rights: Items<Grant>,
     },
     /// The number of delivered operations of each origin.
     Vector {
@@ -141,7 +141,7 @@ pub enum PadReply {
     /// The first operations that a peer lacks.
     Pulled {
         now: u64,
-        ops: Row<Op>,
+        ops: Items<Op>,
     },
 }
 
@@ -155,7 +155,7 @@ pub enum Reply {
     /// What the pad answers. A pad that was created answers that its creator joined.
     Pad(PadReply),
     /// The pads that the author may read, in the order of their cells.
-    Pads { pads: Row<Listed> },
+    Pads { pads: Items<Listed> },
     /// The session has left its pads, and is unauthenticated again.
     Ended,
 }

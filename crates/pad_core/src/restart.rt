@@ -1,16 +1,17 @@
 //! How the parts of a pad are restored after a restart.
 ghost use Rattle.std.specs.Prelude.{◌≡◌, ◌++◌, ◌∷◌, [], IsTrue, Ok, Option, Some};
 ghost use Rattle.pad_model.specs.Answers.{Answers};
-ghost use Rattle.sessions.specs.Presence.{Presence, joined};
+ghost use Rattle.presence.specs.Presence.{Presence, joined};
 ghost use Rattle.pad_core.specs.Machine.{nobody_present};
-ghost use Rattle.pad_core.specs.Restart.{delivered_again, ended, granted_again, is_next as is_next_in, visited};
+ghost use Rattle.pad_core.specs.Restart.{delivered_again, ended, granted_again, visited};
+ghost use Rattle.pad_core.specs.Restart as restart;
 ghost use Rattle.pad_core.specs.declared.owned.Owned.{Owned};
 
 use crate::ledger::Ledger;
 use crate::owned::{Owned, own};
 use pad_model::{Name, Op, OpName, Refusal, Seen, Sequence};
+use presence::PresenceBook;
 use rights::Right;
-use sessions::PresenceBook;
 use std::alloc::Global;
 
 /// Gives a pad without a name this name and owner, whose visit has ended.
@@ -82,7 +83,7 @@ pub fn deliver_again<S: Sequence>(
 
 /// Whether a name is the next of its origin.
 fn is_next(seen: &Seen, name: OpName) -> bool
-    ensures { result ≡ is_next_in seen.now name }
+    ensures { result ≡ restart.is_next seen.now name }
 {
     name.number.checked_sub(1) == Some(seen.count(name.origin))
 }

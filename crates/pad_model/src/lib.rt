@@ -2,6 +2,7 @@
 #![tactic(auto)]
 
 mod check;
+mod items;
 pub mod laws;
 mod limits;
 mod name;
@@ -9,7 +10,6 @@ mod old_wire;
 mod op;
 mod piece;
 mod refusal;
-mod row;
 mod seen;
 mod sequence;
 mod stamp;
@@ -17,6 +17,7 @@ mod text;
 pub mod vector_laws;
 mod who;
 
+pub use items::Items;
 pub use limits::{
     MAX_CHARACTERS, MAX_COMMENT, MAX_COMMENTS, MAX_COUNTER, MAX_NAME, MAX_NUMBER, MAX_OPERATIONS,
     MAX_PARTS, MAX_REPLICA, MAX_TEXT, OLD_COUNTER, OLD_REPLICA,
@@ -26,7 +27,6 @@ pub use old_wire::{op_in_v1, seen_in_v1};
 pub use op::{Op, OpName, Part, Run, Span};
 pub use piece::Piece;
 pub use refusal::Refusal;
-pub use row::Row;
 pub use seen::{Counted, Seen};
 pub use sequence::{CellView, Sequence};
 pub use stamp::Stamp;

@@ -4,9 +4,9 @@ ghost use Rattle.pad_model.specs.Checked.{is_edit, is_checked};
 ghost use Rattle.pad_model.specs.Log.{precedes};
 
 use crate::check::{are_edits, is_checked};
+use crate::items::Items;
 use crate::name::Name;
 use crate::refusal::Refusal;
-use crate::row::Row;
 use crate::seen::Seen;
 use crate::stamp::Stamp;
 use crate::text::Text;
@@ -48,7 +48,7 @@ pub struct Run {
 #[derive(Debug, PartialEq, Drop)]
 pub enum Part {
     Insert(Run),
-    Delete(Row<Span>),
+    Delete(Items<Span>),
     Comment {
         first: Stamp,
         last: Stamp,
@@ -65,7 +65,7 @@ pub struct Op {
     pub name: OpName,
     pub seen: Seen,
     pub author: Name,
-    pub parts: Row<Part>,
+    pub parts: Items<Part>,
 }
 
 impl Clone for Part {

@@ -2,17 +2,19 @@
 ghost use Rattle.std.specs.Prelude.{◌≡◌, ℕ, ◌+◌, ◌≤◌, ◌<◌, ◌↔◌, List, [], IsTrue, IfOk, Some, None, MatchOption, MatchResult, slice_get, option_map, length};
 ghost use Rattle.std.specs.List.{AllByRecursion, list_all};
 ghost use Rattle.pad_model.specs.Answers.{Answers};
-ghost use Rattle.pad_model.specs.Cell.{Cell, IsBy, IsInOrder, cells_at, cell_stamp_at, character_of, clock_of, last_of, delete_spans as delete_cells, insert_run as insert_cells, before_at, through_at, is_before, text_at as cells_text, runs_at, spans_at as cells_spans};
+ghost use Rattle.pad_model.specs.Cell.{Cell, IsBy, IsInOrder, cells_at, cell_stamp_at, character_of, clock_of, last_of, before_at, through_at, is_before, runs_at};
+ghost use Rattle.pad_model.specs.Cell as cell;
 ghost use Rattle.pad_model.specs.Checked.{is_run, is_span, is_edit, are_parts};
 ghost use Rattle.pad_model.specs.Legal.{has_stamp};
-ghost use Rattle.pad_model.specs.Parts.{apply as apply_parts, part_fits};
-ghost use Rattle.pad_model.specs.Pieces.{changes as cells_changes};
+ghost use Rattle.pad_model.specs.Parts.{part_fits};
+ghost use Rattle.pad_model.specs.Parts as parts_spec;
+ghost use Rattle.pad_model.specs.Pieces as pieces_spec;
 ghost use Rattle.pad_model.specs.Views.{IsViewOf};
 
+use crate::items::Items;
 use crate::op::{Part, Run, Span};
 use crate::piece::Piece;
 use crate::refusal::Refusal;
-use crate::row::Row;
 use crate::stamp::Stamp;
 use crate::text::Text;
 use crate::who::{Author, AuthorRun};
@@ -54,14 +56,14 @@ pub trait Sequence: Drop {
     ) -> Result<(), Refusal>
         requires checked { IsTrue (is_run author.now.origin run.now) }
         requires latest { AllByRecursion (IsBy rev) (cells self.old) }
-        ensures { Answers (cells self.old) (insert_cells rev run.now author.now (cells self.old))
+        ensures { Answers (cells self.old) (cell.insert_run rev run.now author.now (cells self.old))
             result (cells self.new) };
 
     /// Erases the characters of the spans that are not yet erased, and returns their number.
     fn delete_spans(&mut self, spans: &[Span], rev: u64) -> Result<u64, Refusal>
         requires checked { IsTrue (list_all is_span spans.now) }
         requires latest { AllByRecursion (IsBy rev) (cells self.old) }
-        ensures { Answers (cells self.old) (delete_cells rev spans.now (cells self.old)) result
+        ensures { Answers (cells self.old) (cell.delete_spans rev spans.now (cells self.old)) result
             (cells self.new) };
 
     /// Makes the insertions and deletions of one operation, and returns the number of visible characters that they
@@ -78,7 +80,7 @@ pub trait Sequence: Drop {
         requires checked { IsTrue (are_parts author.now.origin parts.now) }
         requires edits { IsTrue (list_all is_edit parts.now) }
         requires latest { AllByRecursion (IsBy rev) (cells self.old) }
-        ensures { Answers (cells self.old) (apply_parts rev parts.now author.now (cells self.old))
+        ensures { Answers (cells self.old) (parts_spec.apply rev parts.now author.now (cells self.old))
             result (cells self.new) };
 
     /// Whether each part of an operation of this origin fits the cells, as `apply` requires.
@@ -95,23 +97,23 @@ pub trait Sequence: Drop {
         ensures { result ≡ cell_stamp_at rev (cells self.now) place };
 
     fn text_at(&self, alloc: Global, rev: u64) -> Result<Text, Refusal>
-        ensures { MatchResult result (λ text. text ≡ cells_text rev (cells self.now))
+        ensures { MatchResult result (λ text. text ≡ cell.text_at rev (cells self.now))
             (λ e. e ≡ Refusal.Memory) };
 
     /// The authors of the visible characters, in the fewest runs.
-    fn authors_at(&self, alloc: Global, rev: u64) -> Result<Row<AuthorRun>, Refusal>
+    fn authors_at(&self, alloc: Global, rev: u64) -> Result<Items<AuthorRun>, Refusal>
         ensures { MatchResult result (λ runs. runs ≡ runs_at rev (cells self.now))
             (λ e. e ≡ Refusal.Memory) };
 
     /// The changes that turn the text of one revision into that of another, in the fewest pieces.
-    fn changes(&self, alloc: Global, rev: u64, to: u64) -> Result<Row<Piece>, Refusal>
-        ensures { MatchResult result (λ pieces. pieces ≡ cells_changes rev to (cells self.now))
+    fn changes(&self, alloc: Global, rev: u64, to: u64) -> Result<Items<Piece>, Refusal>
+        ensures { MatchResult result (λ pieces. pieces ≡ pieces_spec.changes rev to (cells self.now))
             (λ e. e ≡ Refusal.Memory) };
 
     /// The stamps of the `len` visible characters from a position on, in the fewest spans.
-    fn spans_at(&self, alloc: Global, rev: u64, at: u64, len: u64) -> Result<Row<Span>, Refusal>
+    fn spans_at(&self, alloc: Global, rev: u64, at: u64, len: u64) -> Result<Items<Span>, Refusal>
         requires { at + len ≤ length (cells_at rev (cells self.now)) }
-        ensures { MatchResult result (λ spans. spans ≡ cells_spans rev (cells self.now) at len)
+        ensures { MatchResult result (λ spans. spans ≡ cell.spans_at rev (cells self.now) at len)
             (λ e. e ≡ Refusal.Memory) };
 
     /// The number of visible characters before a character; None if there is no such character.

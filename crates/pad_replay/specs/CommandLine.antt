@@ -3,9 +3,9 @@ use Rattle.std.specs.Prelude.{◌≡◌, List, ℕ, codes, true, unwrap_or, []}
 use Rattle.clap.specs.Words.{App, Rule, matches_of, new_app, one_of, with_rule}
 use Rattle.command_line.specs.Options.{Gives, IsFlag, accounts_rule, cells_rule, flag_rule, present_rule, replica_rule}
 use Rattle.command_line.specs.Options.{text_given, versioned}
-use Rattle.sessions.specs.declared.presence.TheConstants.{DEFAULT_PRESENT, MAX_PRESENT}
+use Rattle.presence.specs.declared.presence.TheConstants.{DEFAULT_PRESENT, MAX_PRESENT}
 use Rattle.server_core.specs.declared.limits.TheConstants.{DEFAULT_CELLS, MAX_CELLS}
-use Rattle.pad_replay.specs.declared.args.Asked.{Asked}
+use Rattle.pad_replay.specs.declared.args.ReplayArguments.{ReplayArguments}
 
 -- an option that is required
 abbrev pub mandatory : Rule → Rule
@@ -18,7 +18,7 @@ line = with_rule (with_rule (with_rule (with_rule (with_rule (versioned (new_app
 
 -- what the words ask for: the numbers that they give under `--replica`, `--cells` and `--present`, the path under
 -- `--accounts`, and `--plain`
-pub record AsksFor (words : List (List ℕ)) (asked : Asked) : Type 0 where
+pub record AsksFor (words : List (List ℕ)) (asked : ReplayArguments) : Type 0 where
   pub replica : Gives line words (codes "replica") 1 65535 1 asked.replica
   pub cells : Gives line words (codes "cells") 0 MAX_CELLS DEFAULT_CELLS asked.cells
   pub present : Gives line words (codes "present") 0 MAX_PRESENT DEFAULT_PRESENT asked.present

@@ -15,7 +15,7 @@ use std::alloc::{AllocError, Global};
 
 /// What the command line asks for.
 #[derive(Clone, Copy)]
-pub struct Asked<'a> {
+pub struct ReplayArguments<'a> {
     /// The replica number of a server whose title does not name one, at least 1.
     pub replica: u16,
     /// How many pads a server has room for, 1 to 4,096.
@@ -64,7 +64,7 @@ fn command<'a>(alloc: Global) -> Result<Command<'a>, AllocError>
 }
 
 /// What the words of the command line ask for, or what is wrong with them.
-pub fn parse<'a>(alloc: Global, words: &'a [String]) -> Result<Asked<'a>, Error>
+pub fn parse<'a>(alloc: Global, words: &'a [String]) -> Result<ReplayArguments<'a>, Error>
     ensures asked { IfOk result (AsksFor (map string_bytes words.now)) }
     ensures refused { FailsBy (fault_of line (map string_bytes words.now)) result }
     ensures limits { IfOk result (λ asked. (1 ≤ asked.replica) × (asked.cells ≤ MAX_CELLS)) }
@@ -73,7 +73,7 @@ pub fn parse<'a>(alloc: Global, words: &'a [String]) -> Result<Asked<'a>, Error>
         Ok(matches) => matches,
         Err(error) => return Err(error),
     };
-    Ok(Asked {
+    Ok(ReplayArguments {
         replica: replica_of(&matches),
         cells: cells_of(&matches),
         present: present_of(&matches),

@@ -11,7 +11,7 @@ use std::{fmt, io};
 
 /// Why a story could not be played.
 #[derive(Drop)]
-pub enum Fault {
+pub enum StoryFault {
     /// A line of the accounts file is invalid.
     BadAccounts { line: u64 },
     /// A line of the story, counted from 1, has none of the forms of a story.
@@ -26,66 +26,66 @@ pub enum Fault {
     Broken(io::Error),
 }
 
-impl Fault {
+impl StoryFault {
     /// 2 for an invalid line of the accounts file, otherwise 1.
     pub fn status(&self) -> ExitCode
         ensures { exit_status result ≡ status self.now }
     {
         match self {
-            Fault::BadAccounts { .. } => ExitCode::from(2),
+            StoryFault::BadAccounts { .. } => ExitCode::from(2),
             _ => ExitCode::FAILURE,
         }
     }
 }
 
-impl fmt::Display for Fault {
+impl fmt::Display for StoryFault {
     fn fmt<W: fmt::Write>(&self, f: &mut fmt::Formatter<W>) -> fmt::Result {
         match self {
-            Fault::BadAccounts { line } => write!(f, "500 BadAccounts line {line}"),
-            Fault::NoStory { line } => write!(f, "line {line} is none of a story"),
-            Fault::NoReplica { line } => {
+            StoryFault::BadAccounts { line } => write!(f, "500 BadAccounts line {line}"),
+            StoryFault::NoStory { line } => write!(f, "line {line} is none of a story"),
+            StoryFault::NoReplica { line } => {
                 write!(f, "line {line}: a replica number is 1 to 65535")
             }
-            Fault::Refused(refusal) => {
+            StoryFault::Refused(refusal) => {
                 let code = refusal.code();
                 let name = refusal.name();
                 write!(f, "{code} {name}")
             }
-            Fault::NoAnswer => write!(f, "no answer"),
-            Fault::Broken(error) => write!(f, "{error}"),
+            StoryFault::NoAnswer => write!(f, "no answer"),
+            StoryFault::Broken(error) => write!(f, "{error}"),
         }
     }
 }
 
-impl From<AccountsError> for Fault {
-    fn from(error: AccountsError) -> Fault {
+impl From<AccountsError> for StoryFault {
+    fn from(error: AccountsError) -> StoryFault {
         match error {
-            AccountsError::BadLine { line, .. } => Fault::BadAccounts { line },
-            AccountsError::Memory => Fault::Refused(Refusal::Memory),
+            AccountsError::BadLine { line, .. } => StoryFault::BadAccounts { line },
+            AccountsError::Memory => StoryFault::Refused(Refusal::Memory),
         }
     }
 }
 
-impl From<Refusal> for Fault {
-    fn from(refusal: Refusal) -> Fault {
-        Fault::Refused(refusal)
+impl From<Refusal> for StoryFault {
+    fn from(refusal: Refusal) -> StoryFault {
+        StoryFault::Refused(refusal)
     }
 }
 
-impl From<AllocError> for Fault {
-    fn from(_refused: AllocError) -> Fault {
-        Fault::Refused(Refusal::Memory)
+impl From<AllocError> for StoryFault {
+    fn from(_refused: AllocError) -> StoryFault {
+        StoryFault::Refused(Refusal::Memory)
     }
 }
 
-impl<T: Drop> From<AllocFailed<T>> for Fault {
-    fn from(_refused: AllocFailed<T>) -> Fault {
-        Fault::Refused(Refusal::Memory)
+impl<T: Drop> From<AllocFailed<T>> for StoryFault {
+    fn from(_refused: AllocFailed<T>) -> StoryFault {
+        StoryFault::Refused(Refusal::Memory)
     }
 }
 
-impl From<io::Error> for Fault {
-    fn from(error: io::Error) -> Fault {
-        Fault::Broken(error)
+impl From<io::Error> for StoryFault {
+    fn from(error: io::Error) -> StoryFault {
+        StoryFault::Broken(error)
     }
 }

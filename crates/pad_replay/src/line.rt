@@ -3,7 +3,7 @@ ghost use Rattle.std.specs.Prelude.{◌≤◌, IfSome};
 
 /// What a line of a story says.
 #[derive(Clone, Copy)]
-pub enum Line<'a> {
+pub enum StoryLine<'a> {
     /// A title: a new server begins, with this replica number if the title names one.
     Title { replica: Option<u16> },
     /// A note or an empty line.
@@ -18,36 +18,36 @@ pub enum Line<'a> {
     Unknown,
 }
 
-impl<'a> Line<'a> {
+impl<'a> StoryLine<'a> {
     /// Reads the bytes of a line, without its line feed. Names and requests need not be UTF-8.
-    pub fn read(line: &'a [u8]) -> Line<'a> {
+    pub fn read(line: &'a [u8]) -> StoryLine<'a> {
         if line.is_empty() || line.starts_with(b"#") {
-            return Line::Note;
+            return StoryLine::Note;
         }
         if let Some(title) = line.strip_prefix(b"=== ".as_slice()) {
-            return Line::title(title);
+            return StoryLine::title(title);
         }
         if let Some(name) = line.strip_prefix(b"!".as_slice()) {
-            return Line::End { name };
+            return StoryLine::End { name };
         }
         let mut parts = line.splitn(2, |byte| *byte == b'\t');
         match (parts.next(), parts.next()) {
-            (Some(name), Some(request)) => Line::Ask { name, request },
-            _ => Line::Unknown,
+            (Some(name), Some(request)) => StoryLine::Ask { name, request },
+            _ => StoryLine::Unknown,
         }
     }
 
     // If the word before the last one of a title is `replica`, the last one has to be a replica number.
-    fn title(title: &[u8]) -> Line<'static> {
+    fn title(title: &[u8]) -> StoryLine<'static> {
         let mut words = title.rsplitn(3, |byte| *byte == b' ');
         match (words.next(), words.next(), words.next()) {
             (Some(number), Some(b"replica"), Some(_)) => match read_replica(number) {
-                Some(replica) => Line::Title {
+                Some(replica) => StoryLine::Title {
                     replica: Some(replica),
                 },
-                None => Line::NoReplica,
+                None => StoryLine::NoReplica,
             },
-            _ => Line::Title { replica: None },
+            _ => StoryLine::Title { replica: None },
         }
     }
 }

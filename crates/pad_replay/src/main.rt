@@ -13,10 +13,10 @@ mod line;
 mod play;
 mod story_server;
 
-use args::{Asked, parse};
+use args::{ReplayArguments, parse};
 use block_seq::{BlockSeq, PlainSeq};
 use command_line::report;
-use fault::Fault;
+use fault::StoryFault;
 use pad_model::Sequence;
 use play::play;
 use std::fs;
@@ -57,7 +57,11 @@ fn main(rt: HostRuntime) -> anyhow::Result<ExitCode> {
 }
 
 /// Plays the story on standard input, with pads that keep their characters in a sequence of this kind.
-fn play_all<S: Sequence>(rt: &HostRuntime, asked: Asked<'_>, accounts: Vec<u8>) -> Result<(), Fault>
+fn play_all<S: Sequence>(
+    rt: &HostRuntime,
+    asked: ReplayArguments<'_>,
+    accounts: Vec<u8>,
+) -> Result<(), StoryFault>
     requires { (1 ≤ asked.replica) × (asked.cells ≤ MAX_CELLS) }
 {
     let alloc = rt.alloc();

@@ -1,6 +1,6 @@
 //! Plays a story: reads its lines, and writes what is repeated and the replies.
-use crate::fault::Fault;
-use crate::line::Line;
+use crate::fault::StoryFault;
+use crate::line::StoryLine;
 use crate::story_server::StoryServer;
 use pad_model::Sequence;
 use std::alloc::Global;
@@ -12,7 +12,7 @@ pub fn play<S: Sequence, R: BufRead, W: Write>(
     server: &mut StoryServer<S>,
     reader: &mut R,
     writer: &mut W,
-) -> Result<(), Fault> {
+) -> Result<(), StoryFault> {
     let mut line = Vec::new(alloc);
     for number in 1..u64::MAX {
         line.clear();
@@ -39,21 +39,21 @@ fn play_line<S: Sequence, W: Write>(
     line: &[u8],
     number: u64,
     writer: &mut W,
-) -> Result<(), Fault> {
-    match Line::read(line) {
-        Line::Note => repeat(line, writer),
-        Line::Title { replica } => {
+) -> Result<(), StoryFault> {
+    match StoryLine::read(line) {
+        StoryLine::Note => repeat(line, writer),
+        StoryLine::Title { replica } => {
             server.renew(alloc, replica)?;
             repeat(line, writer)
         }
-        Line::End { name } => server.end(alloc, name),
-        Line::Ask { name, request } => tell(alloc, server, name, request, writer),
-        Line::NoReplica => Err(Fault::NoReplica { line: number }),
-        Line::Unknown => Err(Fault::NoStory { line: number }),
+        StoryLine::End { name } => server.end(alloc, name),
+        StoryLine::Ask { name, request } => tell(alloc, server, name, request, writer),
+        StoryLine::NoReplica => Err(StoryFault::NoReplica { line: number }),
+        StoryLine::Unknown => Err(StoryFault::NoStory { line: number }),
     }
 }
 
-fn repeat<W: Write>(line: &[u8], writer: &mut W) -> Result<(), Fault> {
+fn repeat<W: Write>(line: &[u8], writer: &mut W) -> Result<(), StoryFault> {
     writer.write_all(line)?;
     writer.write_all(b"\n")?;
     Ok(())
@@ -66,7 +66,7 @@ fn tell<S: Sequence, W: Write>(
     name: &[u8],
     request: &[u8],
     writer: &mut W,
-) -> Result<(), Fault> {
+) -> Result<(), StoryFault> {
     if request.is_empty() {
         return Ok(());
     }

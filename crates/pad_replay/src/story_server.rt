@@ -2,7 +2,7 @@
 ghost use Rattle.std.specs.Prelude.{◌≤◌};
 ghost use Rattle.server_core.specs.declared.limits.TheConstants.{MAX_CELLS};
 
-use crate::fault::Fault;
+use crate::fault::StoryFault;
 use command_line::replica_or;
 use pad_core::Reply;
 use pad_model::{Refusal, Sequence};
@@ -33,7 +33,7 @@ fn make_server<S: Sequence>(
     present: u64,
     cells: u32,
     accounts: &[u8],
-) -> Result<Server<S>, Fault>
+) -> Result<Server<S>, StoryFault>
     requires numbered { 1 ≤ replica }
     requires row { cells ≤ MAX_CELLS }
 {
@@ -53,7 +53,7 @@ impl<S: Sequence> StoryServer<S> {
         present: u64,
         cells: u32,
         accounts: Vec<u8>,
-    ) -> Result<StoryServer<S>, Fault>
+    ) -> Result<StoryServer<S>, StoryFault>
         requires numbered { 1 ≤ replica }
         requires row { cells ≤ MAX_CELLS }
     {
@@ -69,7 +69,7 @@ impl<S: Sequence> StoryServer<S> {
     }
 
     /// Begins again with a new server with this replica number.
-    pub fn renew(&mut self, alloc: Global, replica: Option<u16>) -> Result<(), Fault> {
+    pub fn renew(&mut self, alloc: Global, replica: Option<u16>) -> Result<(), StoryFault> {
         let replica = replica_or(replica, self.replica);
         self.server = make_server(
             alloc,
@@ -83,7 +83,7 @@ impl<S: Sequence> StoryServer<S> {
     }
 
     /// Makes a request, and returns its reply line, including the LF.
-    pub fn ask(&mut self, alloc: Global, name: &[u8], line: &[u8]) -> Result<String, Fault> {
+    pub fn ask(&mut self, alloc: Global, name: &[u8], line: &[u8]) -> Result<String, StoryFault> {
         let reply = match step_of(alloc, line) {
             Ok(step) => self.answer(alloc, name, &step)?,
             Err(refusal) => Err(refusal),
@@ -92,7 +92,7 @@ impl<S: Sequence> StoryServer<S> {
     }
 
     /// Ends a session, which is unauthenticated from then on.
-    pub fn end(&mut self, alloc: Global, name: &[u8]) -> Result<(), Fault> {
+    pub fn end(&mut self, alloc: Global, name: &[u8]) -> Result<(), StoryFault> {
         let _ended = self.answer(alloc, name, &Step::End)?;
         Ok(())
     }
@@ -102,13 +102,13 @@ impl<S: Sequence> StoryServer<S> {
         alloc: Global,
         name: &[u8],
         step: &Step,
-    ) -> Result<Result<Reply, Refusal>, Fault> {
+    ) -> Result<Result<Reply, Refusal>, StoryFault> {
         let actor = self.actor(alloc, name)?;
         self.finish(alloc, actor, step)
     }
 
     /// The actor of a session, which is opened at its first use.
-    fn actor(&mut self, alloc: Global, name: &[u8]) -> Result<u32, Fault> {
+    fn actor(&mut self, alloc: Global, name: &[u8]) -> Result<u32, StoryFault> {
         for (known, number) in self.names.iter().zip(0..) {
             if known.as_slice() == name {
                 return Ok(number);
@@ -124,16 +124,16 @@ impl<S: Sequence> StoryServer<S> {
         alloc: Global,
         actor: u32,
         step: &Step,
-    ) -> Result<Result<Reply, Refusal>, Fault> {
+    ) -> Result<Result<Reply, Refusal>, StoryFault> {
         let mut moved = self.server.step(alloc, actor, step);
         for _ in 0..u64::MAX {
             match moved {
                 Moved::Scanning => moved = self.server.step(alloc, actor, &Step::Move),
                 Moved::Done(reply) => return Ok(Ok(reply)),
                 Moved::Refused(refusal) => return Ok(Err(refusal)),
-                Moved::Idle | Moved::Named(_) => return Err(Fault::NoAnswer),
+                Moved::Idle | Moved::Named(_) => return Err(StoryFault::NoAnswer),
             }
         }
-        Err(Fault::NoAnswer)
+        Err(StoryFault::NoAnswer)
     }
 }

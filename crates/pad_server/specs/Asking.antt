@@ -1,9 +1,9 @@
 -- The settings of a server over TCP, from the command line.
-use Rattle.pad_server.specs.declared.args.Asked.{Asked}
-use Rattle.serving.specs.declared.settings.Settings.{Settings}
+use Rattle.pad_server.specs.declared.args.ServerArguments.{ServerArguments}
+use Rattle.tcp_server.specs.declared.settings.Settings.{Settings}
 
 -- everything that a server over TCP has to know, except its address and its accounts
-abbrev pub settings_of : Asked → Settings
+abbrev pub settings_of : ServerArguments → Settings
 settings_of asked = record {
   replica = asked.replica;
   cells = asked.cells;

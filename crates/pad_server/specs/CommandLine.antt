@@ -3,10 +3,10 @@ use Rattle.std.specs.Prelude.{◌≡◌, List, ℕ, codes, option_map, unwrap_or
 use Rattle.clap.specs.Words.{App, Rule, matches_of, new_app, one_of, with_rule}
 use Rattle.command_line.specs.Options.{Gives, IsFlag, accounts_rule, cells_rule, flag_rule, number_rule, option_rule}
 use Rattle.command_line.specs.Options.{present_rule, replica_rule, text_given, versioned}
-use Rattle.sessions.specs.declared.presence.TheConstants.{DEFAULT_PRESENT, MAX_PRESENT}
+use Rattle.presence.specs.declared.presence.TheConstants.{DEFAULT_PRESENT, MAX_PRESENT}
 use Rattle.server_core.specs.declared.limits.TheConstants.{DEFAULT_CELLS, MAX_CELLS}
-use Rattle.pad_server.specs.declared.args.Asked.{Asked}
-use Rattle.serving.specs.declared.threads.TheConstants.{MAX_WORKERS}
+use Rattle.pad_server.specs.declared.args.ServerArguments.{ServerArguments}
+use Rattle.tcp_server.specs.declared.threads.TheConstants.{MAX_WORKERS}
 use Rattle.pad_server.specs.declared.options.TheConstants.{DEFAULT_CLIENTS}
 
 -- `--stdin`
@@ -80,7 +80,7 @@ line = with_rule (with_rule (with_rule (with_rule line_with_clients_and_store we
     clients_per_address_rule) unproved_rule
 
 -- what the words give: the numbers, the flags and the texts under the names of the options
-pub record AsksFor (words : List (List ℕ)) (asked : Asked) : Type 0 where
+pub record AsksFor (words : List (List ℕ)) (asked : ServerArguments) : Type 0 where
   pub replica : Gives line words (codes "replica") 1 65535 1 asked.replica
   pub cells : Gives line words (codes "cells") 0 MAX_CELLS DEFAULT_CELLS asked.cells
   pub present : Gives line words (codes "present") 0 MAX_PRESENT DEFAULT_PRESENT asked.present

@@ -19,7 +19,7 @@ use std::alloc::{AllocError, Global};
 
 /// What the words of the command line give.
 #[derive(Clone, Copy)]
-pub struct Asked<'a> {
+pub struct ServerArguments<'a> {
     /// The replica number of this server, at least 1.
     pub replica: u16,
     /// The number of pads that the server has room for, 1 to 4,096.
@@ -111,7 +111,7 @@ fn command<'a>(alloc: Global) -> Result<Command<'a>, AllocError>
 }
 
 /// What the words of the command line give, or what is wrong with them.
-pub fn parse<'a>(alloc: Global, words: &'a [String]) -> Result<Asked<'a>, Error>
+pub fn parse<'a>(alloc: Global, words: &'a [String]) -> Result<ServerArguments<'a>, Error>
     ensures asked { IfOk result (AsksFor (map string_bytes words.now)) }
     ensures refused { FailsBy (fault_of line (map string_bytes words.now)) result }
     ensures limits { IfOk result (λ asked. (1 ≤ asked.replica) × (asked.cells ≤ MAX_CELLS)) }
@@ -120,7 +120,7 @@ pub fn parse<'a>(alloc: Global, words: &'a [String]) -> Result<Asked<'a>, Error>
         Ok(matches) => matches,
         Err(error) => return Err(error),
     };
-    Ok(Asked {
+    Ok(ServerArguments {
         replica: replica_of(&matches),
         cells: cells_of(&matches),
         present: present_of(&matches),

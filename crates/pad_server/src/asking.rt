@@ -2,10 +2,10 @@
 ghost use Rattle.std.specs.Prelude.{◌≡◌};
 ghost use Rattle.pad_server.specs.Asking.{settings_of};
 
-use crate::args::Asked;
-use serving::Settings;
+use crate::args::ServerArguments;
+use tcp_server::Settings;
 
-impl<'a> Asked<'a> {
+impl<'a> ServerArguments<'a> {
     /// The settings of a server over TCP.
     pub fn settings(self) -> Settings<'a>
         ensures { result ≡ settings_of self.entry }

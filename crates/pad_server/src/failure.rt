@@ -4,20 +4,19 @@ ghost use Rattle.std.specs.Process.{exit_status};
 ghost use Rattle.pad_server.specs.Status.{status};
 
 use accounts_file::AccountsFileError;
-use devices::cause_of;
-use pad_files::StoreError;
 use pad_model::Refusal;
-use serving::ServingError;
 use std::alloc::AllocError;
 use std::io;
 use std::io::ErrorKind;
 use std::process::ExitCode;
+use store_files::StoreError;
+use tcp_server::ServingError;
 use thiserror::Error;
-use wire_lines::Fault;
+use wire_lines::{Fault, cause_of};
 
 /// Why the server does not start, or ends before the end of its input.
 #[derive(Clone, Copy, Debug, Error)]
-pub enum Failure<'a> {
+pub enum ServerFailure<'a> {
     #[error("the arguments cannot be read: {0}")]
     ArgumentsUnread(io::Error),
     #[error("{0}")]
@@ -32,32 +31,32 @@ pub enum Failure<'a> {
     Broken { fault: Fault, cause: io::Error },
 }
 
-impl<'a> Failure<'a> {
+impl<'a> ServerFailure<'a> {
     /// The failure for a connection's fault, with the system's error if its device reported one.
     pub fn of(
         fault: Fault,
         unread: Option<io::Error>,
         unwritten: Option<io::Error>,
-    ) -> Failure<'static> {
+    ) -> ServerFailure<'static> {
         match cause_of(fault, unread, unwritten) {
-            Some(cause) => Failure::Broken { fault, cause },
-            None => Failure::Fault(fault),
+            Some(cause) => ServerFailure::Broken { fault, cause },
+            None => ServerFailure::Fault(fault),
         }
     }
 
     /// Why the arguments could not be read.
-    pub fn of_arguments(cause: io::Error) -> Failure<'static> {
+    pub fn of_arguments(cause: io::Error) -> ServerFailure<'static> {
         match cause.kind() {
-            ErrorKind::OutOfMemory => Failure::Fault(Fault::Memory),
-            _ => Failure::ArgumentsUnread(cause),
+            ErrorKind::OutOfMemory => ServerFailure::Fault(Fault::Memory),
+            _ => ServerFailure::ArgumentsUnread(cause),
         }
     }
 
     /// What is wrong with the accounts file; None for another failure.
     pub fn accounts(self) -> Option<AccountsFileError<'a>> {
         match self {
-            Failure::Accounts(error) => Some(error),
-            Failure::Serving(ServingError::Accounts(error)) => Some(error),
+            ServerFailure::Accounts(error) => Some(error),
+            ServerFailure::Serving(ServingError::Accounts(error)) => Some(error),
             _ => None,
         }
     }
@@ -68,10 +67,10 @@ impl<'a> Failure<'a> {
         ensures { exit_status result ≡ status self.entry }
     {
         match self {
-            Failure::Accounts(AccountsFileError::BadLine { .. })
-            | Failure::Serving(ServingError::Accounts(AccountsFileError::BadLine { .. }))
-            | Failure::Serving(ServingError::Store(StoreError::OtherReplica { .. }))
-            | Failure::Serving(ServingError::Store(StoreError::UsedReplica { .. })) => {
+            ServerFailure::Accounts(AccountsFileError::BadLine { .. })
+            | ServerFailure::Serving(ServingError::Accounts(AccountsFileError::BadLine { .. }))
+            | ServerFailure::Serving(ServingError::Store(StoreError::OtherReplica { .. }))
+            | ServerFailure::Serving(ServingError::Store(StoreError::UsedReplica { .. })) => {
                 ExitCode::from(2)
             }
             _ => ExitCode::FAILURE,
@@ -79,23 +78,23 @@ impl<'a> Failure<'a> {
     }
 }
 
-impl<'a> From<AccountsFileError<'a>> for Failure<'a> {
+impl<'a> From<AccountsFileError<'a>> for ServerFailure<'a> {
     fn from(error: AccountsFileError<'a>) -> Self {
-        Failure::Accounts(error)
+        ServerFailure::Accounts(error)
     }
 }
 
-impl From<Refusal> for Failure<'_> {
+impl From<Refusal> for ServerFailure<'_> {
     fn from(refusal: Refusal) -> Self {
-        Failure::Refused {
+        ServerFailure::Refused {
             code: refusal.code(),
             name: refusal.name(),
         }
     }
 }
 
-impl From<AllocError> for Failure<'_> {
+impl From<AllocError> for ServerFailure<'_> {
     fn from(_refused: AllocError) -> Self {
-        Failure::Fault(Fault::Memory)
+        ServerFailure::Fault(Fault::Memory)
     }
 }

@@ -2,12 +2,12 @@
 ghost use Rattle.std.specs.Prelude.{◌≡◌};
 ghost use Rattle.pad_server.specs.Modes.{mode_of};
 
-use crate::args::Asked;
+use crate::args::ServerArguments;
 use thiserror::Error;
 
 /// Where the requests come from.
 #[derive(Clone, Copy, Debug, PartialEq, Eq)]
-pub enum Mode<'a> {
+pub enum ServerMode<'a> {
     /// Standard input.
     Stdin,
     /// Connections over TCP.
@@ -40,11 +40,11 @@ pub enum Misuse {
     NoClientsPerAddress,
 }
 
-impl<'a> Asked<'a> {
+impl<'a> ServerArguments<'a> {
     /// Returns what is served. Exactly one of `--stdin` and `--listen` has to be given: the first without `--store`,
     /// `--idle`, `--new-replica`, `--web` and `--clients-per-address`, the second with `--accounts`. `--web-origin` is
     /// for `--web`.
-    pub fn mode(self) -> Result<Mode<'a>, Misuse>
+    pub fn mode(self) -> Result<ServerMode<'a>, Misuse>
         ensures { result ≡ mode_of self.entry }
     {
         match (self.stdin, self.listen) {
@@ -54,13 +54,13 @@ impl<'a> Asked<'a> {
             (true, None) if self.web.is_some() => Err(Misuse::NoWeb),
             (true, None) if self.web_origins.is_some() => Err(Misuse::NoWebOrigins),
             (true, None) if self.clients_per_address.is_some() => Err(Misuse::NoClientsPerAddress),
-            (true, None) => Ok(Mode::Stdin),
+            (true, None) => Ok(ServerMode::Stdin),
             (true, Some(_)) | (false, None) => Err(Misuse::NotOne),
             (false, Some(address)) => match self.accounts {
                 Some(_) if self.web.is_none() && self.web_origins.is_some() => {
                     Err(Misuse::NoWebOrigins)
                 }
-                Some(accounts) => Ok(Mode::Listen { address, accounts }),
+                Some(accounts) => Ok(ServerMode::Listen { address, accounts }),
                 None => Err(Misuse::NoAccounts),
             },
         }

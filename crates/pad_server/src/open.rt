@@ -2,10 +2,11 @@
 ghost use Rattle.std.specs.Prelude.{◌≤◌};
 ghost use Rattle.server_core.specs.declared.limits.TheConstants.{MAX_CELLS};
 
-use crate::args::Asked;
-use crate::failure::Failure;
+use crate::args::ServerArguments;
+use crate::failure::ServerFailure;
 use accounts_file::{AccountsFileError, read_accounts};
 use block_seq::BlockSeq;
+use conversation::{Alone, Pads};
 use pad_core::Request;
 use pad_model::{Name, Refusal};
 use server_core::Server;
@@ -13,14 +14,13 @@ use sessions::{Accounts, Word};
 use std::alloc::Global;
 use std::rt::Files;
 use std::time::Clock;
-use workers::{Alone, Pads};
 
 /// The author of a server without accounts, and its token.
 const SOLO: &str = "solo";
 
 /// Opens the server that the command line asks for. Its actor is the author `solo` if there is no accounts file, and
 /// otherwise unauthenticated.
-pub fn open<'a, R>(rt: &R, asked: Asked<'a>) -> Result<Alone<BlockSeq>, Failure<'a>>
+pub fn open<'a, R>(rt: &R, asked: ServerArguments<'a>) -> Result<Alone<BlockSeq>, ServerFailure<'a>>
 where
     R: AllocGlobal + Files + Clock + Eprint,
     requires { (1 ≤ asked.replica) × (asked.cells ≤ MAX_CELLS) }

@@ -5,8 +5,8 @@ ghost use Rattle.command_line.specs.Options.{Holds};
 ghost use Rattle.pad_server.specs.CommandLine.{clients_per_address_rule, clients_rule, connections_rule, idle_rule, listen_rule, new_replica_rule, stdin_rule, store_rule, unproved_rule, web_origins_rule, web_rule, workers_rule};
 
 use clap::{Arg, ArgAction, ArgMatches, value_parser};
-use serving::MAX_WORKERS;
 use std::alloc::Global;
+use tcp_server::MAX_WORKERS;
 
 /// The most clients that may be connected at once, without `--clients`.
 pub const DEFAULT_CLIENTS: u32 = 10_000;

@@ -8,7 +8,7 @@ use Rattle.pad_model.specs.declared.who.Version.{Version}
 use Rattle.pad_model.specs.declared.who.Who.{Who}
 use Rattle.pad_model.specs.declared.who.Who.TheVariants.{Nobody, Author, Peer}
 use Rattle.pad_model.proofs.Newer.{split}
-use Rattle.sessions.specs.Presence.{Presence}
+use Rattle.presence.specs.Presence.{Presence}
 use Rattle.pad_core.specs.Machine.{Machine, author_act, author_refusal, author_step, peer_act, session_step, step}
 use Rattle.pad_core.specs.Ran.{Stepped, event_step}
 use Rattle.pad_core.specs.Reads.{read_changes, read_comments, read_revs, read_runs, read_text}
@@ -18,12 +18,12 @@ use Rattle.pad_core.specs.declared.event.PadEvent.{PadEvent}
 use Rattle.pad_core.specs.declared.owned.Owned.{Owned}
 use Rattle.pad_core.specs.declared.reply.PadReply.{PadReply}
 use Rattle.pad_core.specs.declared.reply.PadReply.TheVariants.{Elsewhere, Text}
-use Rattle.sessions.specs.declared.presence.TheConstants.{DEFAULT_PRESENT}
-use Rattle.store.specs.Files.{Read, pad_read}
-use Rattle.store.specs.declared.reader.Damage.{Damage}
-use Rattle.store.specs.declared.reader.Damage.TheVariants as damage
+use Rattle.presence.specs.declared.presence.TheConstants.{DEFAULT_PRESENT}
+use Rattle.store_format.specs.Files.{Read, pad_read}
+use Rattle.store_format.specs.declared.reader.Damage.{Damage}
+use Rattle.store_format.specs.declared.reader.Damage.TheVariants as damage
 use Rattle.pad_store.specs.Reading.{IsFault, IsNoDamage, IsTold, LeadTo, Shows, trouble_after}
-use Rattle.pad_store.specs.declared.book.Book.{Book}
+use Rattle.pad_store.specs.declared.inspected_pad.InspectedPad.{InspectedPad}
 use Rattle.pad_store.specs.declared.trouble.Trouble.{Trouble}
 use Rattle.pad_store.specs.declared.trouble.Trouble.TheVariants as trouble
 
@@ -179,7 +179,7 @@ damaged bytes name found (inl e) = absurd (cc)
 damaged bytes name found (inr is) = (name, is)
 
 -- the pad that was begun has the log of the one that was loaded
-pub begins : (bytes : List ℕ) (log : List Op) (r : Result Book Trouble) → LeadTo bytes log →
+pub begins : (bytes : List ℕ) (log : List Op) (r : Result InspectedPad Trouble) → LeadTo bytes log →
     MatchResult r (λ book. book.pad.log ≡ log) IsNoDamage →
     MatchResult r (λ book. LeadTo bytes book.pad.log) (λ t. IsFault bytes t)
 begins bytes log (Ok book) lead begun = subst (LeadTo bytes) (sym begun) lead

@@ -3,7 +3,7 @@ use Rattle.std.specs.Prelude.{◌≡◌, List, ℕ, codes, option_map, pos, true
 use Rattle.clap.specs.Words.{App, Rule, matches_of, new_app, new_rule, one_of, with_rule}
 use Rattle.clap.specs.declared.builder.value_parser.ValueParser.TheVariants as parser
 use Rattle.command_line.specs.Options.{Gives, IsFlag, flag_rule, number_rule, option_rule, text_given, versioned}
-use Rattle.pad_store.specs.declared.args.Asked.{Asked}
+use Rattle.pad_store.specs.declared.args.StoreArguments.{StoreArguments}
 
 -- a positional argument that is required
 abbrev pub needed_word : List ℕ → Rule
@@ -35,7 +35,7 @@ line = with_rule (with_rule (with_rule line_with_values (flag_rule (codes "autho
     (flag_rule (codes "markdown"))
 
 -- what the words give: the texts, numbers and flags under the names of the options
-pub record AsksFor (words : List (List ℕ)) (asked : Asked) : Type 0 where
+pub record AsksFor (words : List (List ℕ)) (asked : StoreArguments) : Type 0 where
   pub command : option_map (λ word. word.now) asked.command ≡ text_given line words (codes "command")
   pub path : option_map (λ path. path.now) asked.path ≡ text_given line words (codes "path")
   pub first : (other : ℕ) → Gives line words (codes "first") 0 4294967295 other (unwrap_or asked.first other)

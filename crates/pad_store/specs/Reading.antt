@@ -8,10 +8,10 @@ use Rattle.pad_core.specs.declared.act.Act.{Act}
 use Rattle.pad_core.specs.declared.act.Act.TheVariants as act
 use Rattle.pad_core.specs.declared.reply.PadReply.{PadReply}
 use Rattle.pad_core.specs.declared.reply.PadReply.TheVariants.{Elsewhere, Text}
-use Rattle.sessions.specs.declared.presence.TheConstants.{DEFAULT_PRESENT}
-use Rattle.store.specs.Files.{Read, pad_read}
-use Rattle.store.specs.declared.reader.Damage.{Damage}
-use Rattle.store.specs.declared.reader.Damage.TheVariants as damage
+use Rattle.presence.specs.declared.presence.TheConstants.{DEFAULT_PRESENT}
+use Rattle.store_format.specs.Files.{Read, pad_read}
+use Rattle.store_format.specs.declared.reader.Damage.{Damage}
+use Rattle.store_format.specs.declared.reader.Damage.TheVariants as damage
 use Rattle.pad_store.specs.declared.trouble.Trouble.{Trouble}
 use Rattle.pad_store.specs.declared.trouble.Trouble.TheVariants.{Memory, Damaged, NoRevision, Unread}
 

@@ -12,7 +12,7 @@ use std::alloc::{AllocError, Global};
 
 /// What the words of the command line give.
 #[derive(Clone, Copy)]
-pub struct Asked<'a> {
+pub struct StoreArguments<'a> {
     /// The command.
     pub command: Option<&'a str>,
     /// The file or the folder.
@@ -87,7 +87,7 @@ fn command<'a>(alloc: Global) -> Result<Command<'a>, AllocError>
 }
 
 /// What the words of the command line give, or what is wrong with them.
-pub fn parse<'a>(alloc: Global, words: &'a [String]) -> Result<Asked<'a>, Error>
+pub fn parse<'a>(alloc: Global, words: &'a [String]) -> Result<StoreArguments<'a>, Error>
     ensures asked { IfOk result (AsksFor (map string_bytes words.now)) }
     ensures refused { FailsBy (fault_of line (map string_bytes words.now)) result }
 {
@@ -95,7 +95,7 @@ pub fn parse<'a>(alloc: Global, words: &'a [String]) -> Result<Asked<'a>, Error>
         Ok(matches) => matches,
         Err(error) => return Err(error),
     };
-    Ok(Asked {
+    Ok(StoreArguments {
         command: matches.get_str("command"),
         path: matches.get_str("path"),
         first: revision_of(&matches, "first"),

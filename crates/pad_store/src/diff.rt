@@ -1,5 +1,5 @@
 //! The difference between two revisions.
-use crate::book::Book;
+use crate::inspected_pad::InspectedPad;
 use crate::pieces::{Marks, marked};
 use crate::trouble::Trouble;
 use pad_model::Text;
@@ -17,7 +17,7 @@ pub fn diff(
     coloured: bool,
 ) -> Result<String, Trouble> {
     let marks = coloured_marks(alloc, coloured)?;
-    let mut book = Book::read(alloc, bytes)?;
+    let mut book = InspectedPad::read(alloc, bytes)?;
     let shown = compared(alloc, &mut book, rev, to, &marks)?;
     match shown.to_string(alloc) {
         Ok(text) => Ok(text),
@@ -65,7 +65,7 @@ fn mark(alloc: Global, front: &str, back: &str) -> Result<Text, AllocError> {
 // The older text with what was deleted and inserted, ended by a line feed.
 fn compared(
     alloc: Global,
-    book: &mut Book,
+    book: &mut InspectedPad,
     rev: u64,
     to: u64,
     marks: &Marks,

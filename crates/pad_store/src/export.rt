@@ -1,9 +1,9 @@
 //! Exports the operations of a file, for other programs.
-use crate::book::Book;
 use crate::chain::line_with_sum;
-use crate::failure::Failure;
+use crate::failure::StoreFailure;
+use crate::inspected_pad::InspectedPad;
 use crate::operation::{Operation, operation_on};
-use crate::progress::Progress;
+use crate::progress_report::ProgressReport;
 use crate::trouble::Trouble;
 use std::alloc::{AllocError, Global};
 use std::io::Write;
@@ -16,21 +16,21 @@ pub fn export<'a, R: Runtime<A = Global>, W: Write>(
     bytes: &[u8],
     rev: Option<u64>,
     out: &mut W,
-) -> Result<(), Failure<'a>> {
+) -> Result<(), StoreFailure<'a>> {
     let (all, whole) = match read(rt.alloc(), bytes) {
         Ok(read) => read,
-        Err(trouble) => return Err(Failure::of_pad(path, trouble)),
+        Err(trouble) => return Err(StoreFailure::of_pad(path, trouble)),
     };
     let last = rev.unwrap_or(all);
     if all < last {
-        return Err(Failure::of_pad(path, Trouble::NoRevision));
+        return Err(StoreFailure::of_pad(path, Trouble::NoRevision));
     }
     put_lines(rt, &bytes[..bytes.len().min(whole)], last, out)
 }
 
 // The number of revisions of a file's pad, and the number of bytes of its whole lines.
 fn read(alloc: Global, bytes: &[u8]) -> Result<(u64, usize), Trouble> {
-    let book = Book::read(alloc, bytes)?;
+    let book = InspectedPad::read(alloc, bytes)?;
     Ok((book.revision(), book.whole as usize))
 }
 
@@ -40,8 +40,8 @@ fn put_lines<'a, R: Runtime<A = Global>, W: Write>(
     bytes: &[u8],
     last: u64,
     out: &mut W,
-) -> Result<(), Failure<'a>> {
-    let mut progress = Progress::start(rt);
+) -> Result<(), StoreFailure<'a>> {
+    let mut progress = ProgressReport::start(rt);
     let mut made: u64 = 0;
     for line in bytes.split(|byte| *byte == b'\n') {
         if made >= last {
@@ -71,16 +71,16 @@ pub fn find<'a, W: Write>(
     bytes: &[u8],
     sum: &str,
     out: &mut W,
-) -> Result<(), Failure<'a>> {
+) -> Result<(), StoreFailure<'a>> {
     let whole = match read(alloc, bytes) {
         Ok((_, whole)) => bytes.len().min(whole),
-        Err(trouble) => return Err(Failure::of_pad(path, trouble)),
+        Err(trouble) => return Err(StoreFailure::of_pad(path, trouble)),
     };
     match line_with_sum(&bytes[..whole], sum.as_bytes()) {
         Some(number) => {
             let line = format!(in alloc; "line {number}\n")?;
             Ok(out.write_all(line.as_bytes())?)
         }
-        None => Err(Failure::NoSum { path }),
+        None => Err(StoreFailure::NoSum { path }),
     }
 }

@@ -7,7 +7,7 @@ use std::{fmt, io};
 
 /// Why the program ends early.
 #[derive(Clone, Copy, Debug)]
-pub enum Failure<'a> {
+pub enum StoreFailure<'a> {
     Memory,
     /// The arguments could not be read.
     Unasked(io::Error),
@@ -23,35 +23,35 @@ pub enum Failure<'a> {
     Unwritten(io::Error),
 }
 
-impl<'a> Failure<'a> {
+impl<'a> StoreFailure<'a> {
     /// Why a file or a folder could not be read.
-    pub fn of_file(path: &'a str, cause: io::Error) -> Failure<'a> {
+    pub fn of_file(path: &'a str, cause: io::Error) -> StoreFailure<'a> {
         match cause.kind() {
-            ErrorKind::OutOfMemory => Failure::Memory,
-            _ => Failure::Unread { path, cause },
+            ErrorKind::OutOfMemory => StoreFailure::Memory,
+            _ => StoreFailure::Unread { path, cause },
         }
     }
 
     /// Why a file's pad could not be read.
-    pub fn of_pad(path: &'a str, trouble: Trouble) -> Failure<'a> {
+    pub fn of_pad(path: &'a str, trouble: Trouble) -> StoreFailure<'a> {
         match trouble {
-            Trouble::Memory => Failure::Memory,
-            _ => Failure::Troubled { path, trouble },
+            Trouble::Memory => StoreFailure::Memory,
+            _ => StoreFailure::Troubled { path, trouble },
         }
     }
 
     /// Why the arguments could not be read.
-    pub fn of_arguments(cause: io::Error) -> Failure<'static> {
+    pub fn of_arguments(cause: io::Error) -> StoreFailure<'static> {
         match cause.kind() {
-            ErrorKind::OutOfMemory => Failure::Memory,
-            _ => Failure::Unasked(cause),
+            ErrorKind::OutOfMemory => StoreFailure::Memory,
+            _ => StoreFailure::Unasked(cause),
         }
     }
 
     /// Whether standard output has lost its reader, which is not a failure.
     pub fn is_end(self) -> bool {
         match self {
-            Failure::Unwritten(cause) => cause.kind() == ErrorKind::BrokenPipe,
+            StoreFailure::Unwritten(cause) => cause.kind() == ErrorKind::BrokenPipe,
             _ => false,
         }
     }
@@ -59,43 +59,43 @@ impl<'a> Failure<'a> {
     /// 2 if the command line is wrong, otherwise 1.
     pub fn status(self) -> ExitCode {
         match self {
-            Failure::Backwards => ExitCode::from(2),
+            StoreFailure::Backwards => ExitCode::from(2),
             _ => ExitCode::FAILURE,
         }
     }
 }
 
-impl fmt::Display for Failure<'_> {
+impl fmt::Display for StoreFailure<'_> {
     fn fmt<W: fmt::Write>(&self, f: &mut fmt::Formatter<W>) -> fmt::Result {
         match self {
-            Failure::Memory => write!(f, "900 Memory"),
-            Failure::Unasked(cause) => write!(f, "the arguments cannot be read: {cause}"),
-            Failure::Unread { path, cause } => write!(f, "{path}: {cause}"),
-            Failure::Troubled { path, trouble } => write!(f, "{path}: {trouble}"),
-            Failure::NoSum { path } => write!(f, "{path}: no line has this sum"),
-            Failure::Backwards => write!(f, "diff needs the older revision first"),
-            Failure::Unwritten(cause) => write!(f, "standard output: {cause}"),
+            StoreFailure::Memory => write!(f, "900 Memory"),
+            StoreFailure::Unasked(cause) => write!(f, "the arguments cannot be read: {cause}"),
+            StoreFailure::Unread { path, cause } => write!(f, "{path}: {cause}"),
+            StoreFailure::Troubled { path, trouble } => write!(f, "{path}: {trouble}"),
+            StoreFailure::NoSum { path } => write!(f, "{path}: no line has this sum"),
+            StoreFailure::Backwards => write!(f, "diff needs the older revision first"),
+            StoreFailure::Unwritten(cause) => write!(f, "standard output: {cause}"),
         }
     }
 }
 
-impl From<io::Error> for Failure<'_> {
+impl From<io::Error> for StoreFailure<'_> {
     fn from(cause: io::Error) -> Self {
         match cause.kind() {
-            ErrorKind::OutOfMemory => Failure::Memory,
-            _ => Failure::Unwritten(cause),
+            ErrorKind::OutOfMemory => StoreFailure::Memory,
+            _ => StoreFailure::Unwritten(cause),
         }
     }
 }
 
-impl From<AllocError> for Failure<'_> {
+impl From<AllocError> for StoreFailure<'_> {
     fn from(_refused: AllocError) -> Self {
-        Failure::Memory
+        StoreFailure::Memory
     }
 }
 
-impl<T: Drop> From<AllocFailed<T>> for Failure<'_> {
+impl<T: Drop> From<AllocFailed<T>> for StoreFailure<'_> {
     fn from(_refused: AllocFailed<T>) -> Self {
-        Failure::Memory
+        StoreFailure::Memory
     }
 }

@@ -1,5 +1,5 @@
 //! The files of pads on a disk.
-use crate::failure::Failure;
+use crate::failure::StoreFailure;
 use std::alloc::Global;
 use std::fs::Files;
 use std::io::Eprint;
@@ -32,10 +32,10 @@ pub fn names_of<R: Runtime<A = Global>>(rt: &R, folder: &str) -> io::Result<Vec<
 pub fn read_file<'a, R: Runtime<A = Global>>(
     rt: &R,
     path: &'a str,
-) -> Result<Vec<u8>, Failure<'a>> {
+) -> Result<Vec<u8>, StoreFailure<'a>> {
     let bytes = match fs::read(rt, path) {
         Ok(bytes) => bytes,
-        Err(cause) => return Err(Failure::of_file(path, cause)),
+        Err(cause) => return Err(StoreFailure::of_file(path, cause)),
     };
     let size = bytes.len() / 1_048_576;
     if size >= LARGE {

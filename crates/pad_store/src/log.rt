@@ -1,9 +1,9 @@
 //! The log of a pad: who did what, and when.
-use crate::book::Book;
-use crate::failure::Failure;
+use crate::failure::StoreFailure;
+use crate::inspected_pad::InspectedPad;
 use crate::operation::{Operation, kind_of, operation_on};
 use crate::pieces::{put_words, words};
-use crate::progress::Progress;
+use crate::progress_report::ProgressReport;
 use crate::trouble::Trouble;
 use jiff::Timestamp;
 use pad_model::Part;
@@ -18,10 +18,10 @@ pub fn log<'a, R: Runtime<A = Global>, W: Write>(
     bytes: &[u8],
     from: u64,
     out: &mut W,
-) -> Result<(), Failure<'a>> {
-    match Book::read(rt.alloc(), bytes) {
+) -> Result<(), StoreFailure<'a>> {
+    match InspectedPad::read(rt.alloc(), bytes) {
         Ok(mut book) => put_lines(rt, path, &mut book, bytes, from, out),
-        Err(trouble) => Err(Failure::of_pad(path, trouble)),
+        Err(trouble) => Err(StoreFailure::of_pad(path, trouble)),
     }
 }
 
@@ -29,12 +29,12 @@ pub fn log<'a, R: Runtime<A = Global>, W: Write>(
 fn put_lines<'a, R: Runtime<A = Global>, W: Write>(
     rt: &R,
     path: &'a str,
-    book: &mut Book,
+    book: &mut InspectedPad,
     bytes: &[u8],
     from: u64,
     out: &mut W,
-) -> Result<(), Failure<'a>> {
-    let mut progress = Progress::start(rt);
+) -> Result<(), StoreFailure<'a>> {
+    let mut progress = ProgressReport::start(rt);
     let whole = bytes.len().min(book.whole as usize);
     let all = book.revision();
     let mut rev: u64 = 0;
@@ -54,14 +54,14 @@ fn put_lines<'a, R: Runtime<A = Global>, W: Write>(
 fn put_line<'a, W: Write>(
     alloc: Global,
     path: &'a str,
-    book: &mut Book,
+    book: &mut InspectedPad,
     rev: u64,
     done: &Operation<'_>,
     out: &mut W,
-) -> Result<(), Failure<'a>> {
+) -> Result<(), StoreFailure<'a>> {
     match line_of(alloc, book, rev, done) {
         Ok(line) => Ok(out.write_all(line.as_bytes())?),
-        Err(trouble) => Err(Failure::of_pad(path, trouble)),
+        Err(trouble) => Err(StoreFailure::of_pad(path, trouble)),
     }
 }
 
@@ -69,7 +69,7 @@ fn put_line<'a, W: Write>(
 // inserted.
 fn line_of(
     alloc: Global,
-    book: &mut Book,
+    book: &mut InspectedPad,
     rev: u64,
     done: &Operation<'_>,
 ) -> Result<String, Trouble> {
@@ -96,7 +96,7 @@ fn time_of(alloc: Global, at: Option<u64>) -> Result<String, AllocError> {
 // The words of a revision. The text before it is read only if words were deleted.
 fn words_of(
     alloc: Global,
-    book: &mut Book,
+    book: &mut InspectedPad,
     rev: u64,
     done: &Operation<'_>,
 ) -> Result<String, Trouble> {
@@ -118,7 +118,12 @@ fn erases(parts: &[Part]) -> bool {
 }
 
 // The words that were deleted and inserted between two revisions.
-fn words_between(alloc: Global, book: &mut Book, rev: u64, to: u64) -> Result<String, Trouble> {
+fn words_between(
+    alloc: Global,
+    book: &mut InspectedPad,
+    rev: u64,
+    to: u64,
+) -> Result<String, Trouble> {
     let pieces = book.changes(alloc, rev, to)?;
     let text = book.text(alloc, Some(rev))?;
     Ok(words(alloc, pieces.as_slice(), text.as_slice())?)

@@ -2,20 +2,20 @@
 #![tactic(auto)]
 
 mod args;
-mod book;
 mod chain;
 mod check;
 mod diff;
 mod export;
 mod failure;
+mod file_names;
 mod files;
+mod inspected_pad;
 mod log;
 mod mode;
-mod names;
 mod operation;
 mod options;
 mod pieces;
-mod progress;
+mod progress_report;
 mod show;
 mod trouble;
 mod view;
@@ -25,9 +25,9 @@ use check::check;
 use command_line::report;
 use diff::diff;
 use export::{export, find};
-use failure::Failure;
+use failure::StoreFailure;
 use files::read_file;
-use mode::Mode;
+use mode::StoreMode;
 use show::show;
 use std::alloc::Global;
 use std::io;
@@ -39,7 +39,7 @@ fn main(rt: HostRuntime) -> ExitCode {
     let alloc = rt.alloc();
     let words = match words_of(&rt, alloc) {
         Ok(words) => words,
-        Err(cause) => return end(&rt, Failure::of_arguments(cause)),
+        Err(cause) => return end(&rt, StoreFailure::of_arguments(cause)),
     };
     let asked = match parse(alloc, words.as_slice()) {
         Ok(asked) => asked,
@@ -64,7 +64,7 @@ fn words_of(rt: &HostRuntime, alloc: Global) -> io::Result<Vec<String>> {
 }
 
 /// Prints why the program ends, unless its output has lost its reader, and returns the exit status.
-fn end(rt: &HostRuntime, failure: Failure<'_>) -> ExitCode {
+fn end(rt: &HostRuntime, failure: StoreFailure<'_>) -> ExitCode {
     if failure.is_end() {
         return ExitCode::SUCCESS;
     }
@@ -73,7 +73,11 @@ fn end(rt: &HostRuntime, failure: Failure<'_>) -> ExitCode {
 }
 
 /// Does what the command line asks for, and flushes the output.
-fn run<'a>(rt: &HostRuntime, alloc: Global, mode: Mode<'a>) -> Result<ExitCode, Failure<'a>> {
+fn run<'a>(
+    rt: &HostRuntime,
+    alloc: Global,
+    mode: StoreMode<'a>,
+) -> Result<ExitCode, StoreFailure<'a>> {
     let mut out = BufWriter::new(alloc, std::io::writer(rt))?;
     let status = perform(rt, mode, &mut out)?;
     out.flush()?;
@@ -83,22 +87,22 @@ fn run<'a>(rt: &HostRuntime, alloc: Global, mode: Mode<'a>) -> Result<ExitCode, 
 /// Does what the command line asks for.
 fn perform<'a, W: Write>(
     rt: &HostRuntime,
-    mode: Mode<'a>,
+    mode: StoreMode<'a>,
     out: &mut W,
-) -> Result<ExitCode, Failure<'a>> {
+) -> Result<ExitCode, StoreFailure<'a>> {
     match mode {
-        Mode::Check { path } => {
+        StoreMode::Check { path } => {
             if check(rt, path, out)? {
                 Ok(ExitCode::SUCCESS)
             } else {
                 Ok(ExitCode::FAILURE)
             }
         }
-        Mode::Show { path, .. }
-        | Mode::Log { path, .. }
-        | Mode::Diff { path, .. }
-        | Mode::Export { path, .. }
-        | Mode::Find { path, .. } => {
+        StoreMode::Show { path, .. }
+        | StoreMode::Log { path, .. }
+        | StoreMode::Diff { path, .. }
+        | StoreMode::Export { path, .. }
+        | StoreMode::Find { path, .. } => {
             let bytes = read_file(rt, path)?;
             tell(rt, path, bytes.as_slice(), mode, out)?;
             Ok(ExitCode::SUCCESS)
@@ -111,31 +115,31 @@ fn tell<'a, W: Write>(
     rt: &HostRuntime,
     path: &'a str,
     bytes: &[u8],
-    mode: Mode<'_>,
+    mode: StoreMode<'_>,
     out: &mut W,
-) -> Result<(), Failure<'a>> {
+) -> Result<(), StoreFailure<'a>> {
     let alloc = rt.alloc();
     let text = match mode {
-        Mode::Show { rev, view, .. } => shown(alloc, bytes, rev.map(u64::from), view),
-        Mode::Diff { rev, to, .. } => {
+        StoreMode::Show { rev, view, .. } => shown(alloc, bytes, rev.map(u64::from), view),
+        StoreMode::Diff { rev, to, .. } => {
             if to < rev {
-                return Err(Failure::Backwards);
+                return Err(StoreFailure::Backwards);
             }
             let coloured = rt.stdout().is_terminal();
             diff(alloc, bytes, u64::from(rev), u64::from(to), coloured)
         }
-        Mode::Log { from, .. } => {
+        StoreMode::Log { from, .. } => {
             return log::log(rt, path, bytes, u64::from(from.unwrap_or(1)), out);
         }
-        Mode::Export { rev, .. } => {
+        StoreMode::Export { rev, .. } => {
             return export(rt, path, bytes, rev.map(u64::from), out);
         }
-        Mode::Find { sum, .. } => return find(alloc, path, bytes, sum, out),
-        Mode::Check { .. } => return Ok(()),
+        StoreMode::Find { sum, .. } => return find(alloc, path, bytes, sum, out),
+        StoreMode::Check { .. } => return Ok(()),
     };
     match text {
         Ok(text) => Ok(out.write_all(text.as_bytes())?),
-        Err(trouble) => Err(Failure::of_pad(path, trouble)),
+        Err(trouble) => Err(StoreFailure::of_pad(path, trouble)),
     }
 }
 

@@ -1,8 +1,9 @@
 //! What the program does, by its command line.
 ghost use Rattle.std.specs.Prelude.{◌≡◌};
-ghost use Rattle.pad_store.specs.Modes.{compare, deed_of as deed_named, done_with, export_or_find, misuse_of, mode_of, needless, with_deed};
+ghost use Rattle.pad_store.specs.Modes.{compare, done_with, export_or_find, misuse_of, mode_of, needless, with_deed};
+ghost use Rattle.pad_store.specs.Modes as modes;
 
-use crate::args::Asked;
+use crate::args::StoreArguments;
 use crate::view::View;
 use thiserror::Error;
 
@@ -18,7 +19,7 @@ pub enum Deed {
 
 /// A command with its arguments.
 #[derive(Clone, Copy, Debug, PartialEq, Eq)]
-pub enum Mode<'a> {
+pub enum StoreMode<'a> {
     /// Verifies a file, or each file of a folder.
     Check {
         path: &'a str,
@@ -54,7 +55,7 @@ pub enum Mode<'a> {
 
 /// What is wrong with a command line that clap accepts.
 #[derive(Clone, Copy, Debug, PartialEq, Eq, Error)]
-pub enum Misuse {
+pub enum StoreMisuse {
     #[error("the command is check, show, log, diff or export")]
     NoCommand,
     #[error("diff needs two revisions")]
@@ -71,23 +72,23 @@ pub enum Misuse {
     View,
 }
 
-impl<'a> Asked<'a> {
+impl<'a> StoreArguments<'a> {
     /// The command with its arguments. Each option has to belong to the command.
-    pub fn mode(self) -> Result<Mode<'a>, Misuse>
+    pub fn mode(self) -> Result<StoreMode<'a>, StoreMisuse>
         ensures { result ≡ mode_of self.entry }
     {
         match (self.command, self.path) {
             (Some(command), Some(path)) => self.mode_with(path, deed_of(command)),
-            _ => Err(Misuse::NoCommand),
+            _ => Err(StoreMisuse::NoCommand),
         }
     }
 
     // A command of the program.
-    fn mode_with(self, path: &'a str, deed: Option<Deed>) -> Result<Mode<'a>, Misuse>
+    fn mode_with(self, path: &'a str, deed: Option<Deed>) -> Result<StoreMode<'a>, StoreMisuse>
         ensures { result ≡ with_deed self.entry path.entry deed }
     {
         let Some(deed) = deed else {
-            return Err(Misuse::NoCommand);
+            return Err(StoreMisuse::NoCommand);
         };
         match self.misuse(deed) {
             Some(misuse) => Err(misuse),
@@ -96,12 +97,12 @@ impl<'a> Asked<'a> {
     }
 
     // The mode of a command with its options.
-    fn done(self, path: &'a str, deed: Deed) -> Result<Mode<'a>, Misuse>
+    fn done(self, path: &'a str, deed: Deed) -> Result<StoreMode<'a>, StoreMisuse>
         ensures { result ≡ done_with self.entry path.entry deed }
     {
         match deed {
-            Deed::Check => Ok(Mode::Check { path }),
-            Deed::Show => Ok(Mode::Show {
+            Deed::Check => Ok(StoreMode::Check { path }),
+            Deed::Show => Ok(StoreMode::Show {
                 path,
                 rev: self.rev,
                 view: View {
@@ -110,7 +111,7 @@ impl<'a> Asked<'a> {
                     markdown: self.markdown,
                 },
             }),
-            Deed::Log => Ok(Mode::Log {
+            Deed::Log => Ok(StoreMode::Log {
                 path,
                 from: self.from,
             }),
@@ -120,7 +121,7 @@ impl<'a> Asked<'a> {
     }
 
     // What is wrong with the options of a command, if anything.
-    fn misuse(self, deed: Deed) -> Option<Misuse>
+    fn misuse(self, deed: Deed) -> Option<StoreMisuse>
         ensures { result ≡ misuse_of deed self.entry }
     {
         match deed {
@@ -140,19 +141,19 @@ impl<'a> Asked<'a> {
         no_sum: bool,
         no_view: bool,
         no_words: bool,
-    ) -> Option<Misuse>
+    ) -> Option<StoreMisuse>
         ensures { result ≡ needless no_rev no_from no_sum no_view no_words self.entry }
     {
         if no_rev && self.rev.is_some() {
-            Some(Misuse::Rev)
+            Some(StoreMisuse::Rev)
         } else if no_from && self.from.is_some() {
-            Some(Misuse::From)
+            Some(StoreMisuse::From)
         } else if no_sum && self.sum.is_some() {
-            Some(Misuse::Sum)
+            Some(StoreMisuse::Sum)
         } else if no_view && (self.authors || self.comments || self.markdown) {
-            Some(Misuse::View)
+            Some(StoreMisuse::View)
         } else if no_words && (self.first.is_some() || self.second.is_some()) {
-            Some(Misuse::Revisions)
+            Some(StoreMisuse::Revisions)
         } else {
             None
         }
@@ -160,28 +161,32 @@ impl<'a> Asked<'a> {
 }
 
 // A comparison, which needs two revisions.
-fn compared<'a>(path: &'a str, first: Option<u32>, second: Option<u32>) -> Result<Mode<'a>, Misuse>
+fn compared<'a>(
+    path: &'a str,
+    first: Option<u32>,
+    second: Option<u32>,
+) -> Result<StoreMode<'a>, StoreMisuse>
     ensures { result ≡ compare path.entry first second }
 {
     match (first, second) {
-        (Some(rev), Some(to)) => Ok(Mode::Diff { path, rev, to }),
-        _ => Err(Misuse::NoRevisions),
+        (Some(rev), Some(to)) => Ok(StoreMode::Diff { path, rev, to }),
+        _ => Err(StoreMisuse::NoRevisions),
     }
 }
 
 // An export of the operations, or a search for a sum if one is given.
-fn exported<'a>(path: &'a str, rev: Option<u32>, sum: Option<&'a str>) -> Mode<'a>
+fn exported<'a>(path: &'a str, rev: Option<u32>, sum: Option<&'a str>) -> StoreMode<'a>
     ensures { result ≡ export_or_find path.entry rev sum.entry }
 {
     match sum {
-        Some(sum) => Mode::Find { path, sum },
-        None => Mode::Export { path, rev },
+        Some(sum) => StoreMode::Find { path, sum },
+        None => StoreMode::Export { path, rev },
     }
 }
 
 // The command with this name.
 fn deed_of(command: &str) -> Option<Deed>
-    ensures { result ≡ deed_named command.now }
+    ensures { result ≡ modes.deed_of command.now }
 {
     match command {
         "check" => Some(Deed::Check),

@@ -1,11 +1,11 @@
 //! The operations of a file, line by line.
 use crate::chain::{sum_on, text_on};
-use crate::names::value_of;
+use crate::file_names::value_of;
 use pad_model::{Op, Part, Refusal};
-use records::Record;
 use serde_json::Value;
 use std::alloc::{AllocError, Global};
-use store::{Entry, read_entry};
+use store_format::{StoreLine, read_entry};
+use store_records::Record;
 
 /// An operation, with the other fields of its line.
 #[derive(Drop)]
@@ -36,7 +36,7 @@ pub fn operation_on(alloc: Global, line: &[u8]) -> Result<Option<Operation<'_>>,
         None => return Ok(None),
     };
     match read_entry(alloc, &value) {
-        Ok(Entry::Record(Record::Delivered { op })) => Ok(Some(Operation {
+        Ok(StoreLine::Record(Record::Delivered { op })) => Ok(Some(Operation {
             at,
             op,
             json,

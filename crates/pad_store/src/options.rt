@@ -2,7 +2,8 @@
 ghost use Rattle.std.specs.Prelude.{◌≡◌, ℕ, codes, false, unwrap_or};
 ghost use Rattle.clap.specs.Words.{rule_of};
 ghost use Rattle.command_line.specs.Options.{Holds, flag_rule, option_rule};
-ghost use Rattle.pad_store.specs.CommandLine.{needed_word, revision_option as revision_rule, revision_word as word_rule};
+ghost use Rattle.pad_store.specs.CommandLine.{needed_word};
+ghost use Rattle.pad_store.specs.CommandLine as command_line;
 
 use clap::{Arg, ArgAction, ArgMatches, value_parser};
 use std::alloc::Global;
@@ -19,7 +20,7 @@ pub fn word<'a>(alloc: Global, name: &'a str, shown: &'a str, help: &'a str) -> 
 
 /// A revision as a positional argument.
 pub fn revision_word<'a>(alloc: Global, name: &'a str, help: &'a str) -> Arg<'a>
-    ensures { (rule_of result ≡ word_rule name.now) × (result.global ≡ false) }
+    ensures { (rule_of result ≡ command_line.revision_word name.now) × (result.global ≡ false) }
 {
     Arg::new(alloc, name)
         .value_name("REV")
@@ -29,7 +30,7 @@ pub fn revision_word<'a>(alloc: Global, name: &'a str, help: &'a str) -> Arg<'a>
 
 /// An option that takes a revision.
 pub fn revision_option<'a>(alloc: Global, name: &'a str, help: &'a str) -> Arg<'a>
-    ensures { (rule_of result ≡ revision_rule name.now) × (result.global ≡ false) }
+    ensures { (rule_of result ≡ command_line.revision_option name.now) × (result.global ≡ false) }
 {
     Arg::new(alloc, name)
         .long(name)

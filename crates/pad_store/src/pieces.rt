@@ -1,7 +1,8 @@
 //! Stretches of text, and the difference between two texts.
 ghost use Rattle.std.specs.Prelude.{◌≡◌, ◌++◌, IfOk, drop, take};
 ghost use Rattle.pad_model.specs.Pieces.{old_len};
-ghost use Rattle.pad_store.specs.Marks.{marked as marked_by, shown_piece};
+ghost use Rattle.pad_store.specs.Marks.{shown_piece};
+ghost use Rattle.pad_store.specs.Marks as marks_spec;
 
 use pad_model::{Piece, Text};
 use serde_json::Value;
@@ -40,7 +41,7 @@ pub fn marked(
     pieces: &[Piece],
     text: &[char],
 ) -> Result<Text, AllocError>
-    ensures { IfOk result (λ shown. shown ≡ marked_by marks.now pieces.now text.now) }
+    ensures { IfOk result (λ shown. shown ≡ marks_spec.marked marks.now pieces.now text.now) }
 {
     let mut shown = Text::new(alloc);
     let mut rest = text;

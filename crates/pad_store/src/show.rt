@@ -2,7 +2,7 @@
 ghost use Rattle.std.specs.Prelude.{IfOk, IfErr, string_bytes};
 ghost use Rattle.pad_store.specs.Reading.{IsFault, Shows};
 
-use crate::book::Book;
+use crate::inspected_pad::InspectedPad;
 use crate::trouble::Trouble;
 use std::alloc::Global;
 
@@ -11,7 +11,7 @@ pub fn show(alloc: Global, bytes: &[u8], rev: Option<u64>) -> Result<String, Tro
     ensures shown { IfOk result (λ text. Shows bytes.now rev (string_bytes text)) }
     ensures fault { IfErr result (λ trouble. IsFault bytes.now trouble) }
 {
-    let mut book = match Book::read(alloc, bytes) {
+    let mut book = match InspectedPad::read(alloc, bytes) {
         Ok(book) => book,
         Err(trouble) => return Err(trouble),
     };

@@ -4,7 +4,7 @@ ghost use Rattle.pad_store.specs.Reading.{trouble_after, trouble_of};
 
 use pad_model::Refusal;
 use std::alloc::{AllocError, AllocFailed};
-use store::Damage;
+use store_format::Damage;
 use thiserror::Error;
 
 /// Why a revision of a file's pad could not be read.

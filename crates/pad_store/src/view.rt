@@ -1,9 +1,9 @@
 //! A revision with its authors and comments, as text or as Markdown.
-use crate::book::Book;
+use crate::inspected_pad::InspectedPad;
 use crate::pieces::{quoted, split};
 use crate::trouble::Trouble;
-use anchors::Shown;
-use pad_model::{AuthorRun, Row, Text};
+use comments::Shown;
+use pad_model::{AuthorRun, Items, Text};
 use std::alloc::{AllocError, Global};
 use std::fmt::Write;
 
@@ -29,7 +29,7 @@ pub fn viewed(
     rev: Option<u64>,
     view: View,
 ) -> Result<String, Trouble> {
-    match Book::read(alloc, bytes) {
+    match InspectedPad::read(alloc, bytes) {
         Ok(mut book) => {
             let at = rev.unwrap_or(book.revision());
             view_of(alloc, &mut book, at, view)
@@ -39,7 +39,7 @@ pub fn viewed(
 }
 
 // A revision of a file's pad as a view shows it.
-fn view_of(alloc: Global, book: &mut Book, at: u64, view: View) -> Result<String, Trouble> {
+fn view_of(alloc: Global, book: &mut InspectedPad, at: u64, view: View) -> Result<String, Trouble> {
     let text = book.text(alloc, Some(at))?;
     let mut out = String::new(alloc);
     if view.markdown {
@@ -68,7 +68,7 @@ fn put_title(out: &mut String, name: &str, at: u64) -> Result<(), Trouble> {
 fn put_authors(
     alloc: Global,
     out: &mut String,
-    book: &mut Book,
+    book: &mut InspectedPad,
     at: u64,
     text: &Text,
     markdown: bool,
@@ -81,7 +81,7 @@ fn put_authors(
 fn put_notes(
     alloc: Global,
     out: &mut String,
-    book: &mut Book,
+    book: &mut InspectedPad,
     at: u64,
     text: &Text,
     markdown: bool,
@@ -104,7 +104,7 @@ fn put_runs(
     alloc: Global,
     out: &mut String,
     text: &Text,
-    runs: &Row<AuthorRun>,
+    runs: &Items<AuthorRun>,
     markdown: bool,
 ) -> Result<(), AllocError> {
     let mark = if markdown { "- " } else { "" };
@@ -125,7 +125,7 @@ fn put_comments(
     alloc: Global,
     out: &mut String,
     text: &Text,
-    comments: &Row<Shown>,
+    comments: &Items<Shown>,
     markdown: bool,
 ) -> Result<(), AllocError> {
     let mark = if markdown { "- " } else { "" };

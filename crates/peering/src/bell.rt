@@ -1,6 +1,6 @@
 //! How a waiting thread is woken, and what it learns.
+use cell_set::CellSet;
 use crossbeam_channel::{Receiver, Sender};
-use event_loop::CellSet;
 use std::alloc::{AllocError, Global};
 use std::sync::Wait;
 use std::sync::atomic::{AtomicBool, Ordering};

@@ -1,8 +1,8 @@
 //! A connection to a peer.
-use devices::Watched;
-use pad_files::{Keeper, Settled};
+
+use conversation::Pads;
 use pad_model::Version;
-use relay::{Link, Relayed, greet, visit_listed};
+use relay::{PeerLines, Relayed, greet, visit_listed};
 use sessions::Peer;
 use std::alloc::Global;
 use std::io;
@@ -10,15 +10,15 @@ use std::io::ErrorKind;
 use std::net::TcpStream;
 use std::sync::Wait;
 use std::time::{Clock, Instant};
-use wire_lines::{Fault, Std};
-use workers::Pads;
+use store_files::{Keeper, Settled};
+use wire_lines::{Fault, Std, Watched};
 
 /// Seconds after which a round visits all cells again, and not only those that have changed.
 const WHOLE: u64 = 60;
 
 /// Why a round failed.
 #[derive(Clone, Copy, Debug)]
-pub enum Broken {
+pub enum BrokenRound {
     /// There was no connection.
     Apart(io::Error),
     /// The connection broke, or the peer did not answer as a server does.
@@ -28,30 +28,30 @@ pub enum Broken {
     },
 }
 
-impl Broken {
+impl BrokenRound {
     /// The kind of failure. A failure is logged again only when this changes.
     pub fn kind(self) -> (Option<Fault>, Option<ErrorKind>) {
         match self {
-            Broken::Apart(error) => (None, Some(error.kind())),
-            Broken::Off { fault, cause } => (Some(fault), cause.map(|error| error.kind())),
+            BrokenRound::Apart(error) => (None, Some(error.kind())),
+            BrokenRound::Off { fault, cause } => (Some(fault), cause.map(|error| error.kind())),
         }
     }
 }
 
-type Reader = Std<Watched<TcpStream>>;
+type PeerReader = Std<Watched<TcpStream>>;
 
-type Writer<'a, R> = Std<Watched<Settled<'a, TcpStream, R>>>;
+type PeerWriter<'a, R> = Std<Watched<Settled<'a, TcpStream, R>>>;
 
 /// A connection to a peer that was greeted. It stays open between rounds.
 #[derive(Drop)]
-pub struct Connection<'a, R> {
-    link: Link<Reader, Writer<'a, R>>,
+pub struct PeerConnection<'a, R> {
+    link: PeerLines<PeerReader, PeerWriter<'a, R>>,
     version: Version,
     /// The time of the last round over all cells.
     whole_at: Option<Instant>,
 }
 
-impl<'a, R: Wait + Clock> Connection<'a, R> {
+impl<'a, R: Wait + Clock> PeerConnection<'a, R> {
     /// Greets a peer over a new connection. Each line to the peer waits until the keeper has synced what it reveals.
     pub fn open(
         rt: &'a R,
@@ -60,16 +60,16 @@ impl<'a, R: Wait + Clock> Connection<'a, R> {
         keeper: Option<&'a Keeper>,
         own: u16,
         peer: &Peer,
-    ) -> Result<Connection<'a, R>, Broken> {
-        let second = stream.try_clone().map_err(Broken::Apart)?;
+    ) -> Result<PeerConnection<'a, R>, BrokenRound> {
+        let second = stream.try_clone().map_err(BrokenRound::Apart)?;
         let reader = Std::new(Watched::new(stream));
         let writer = Std::new(Watched::new(Settled::new(rt, second, keeper)));
-        let mut link = match Link::new(alloc, reader, writer) {
+        let mut link = match PeerLines::new(alloc, reader, writer) {
             Ok(link) => link,
-            Err(fault) => return Err(Broken::Off { fault, cause: None }),
+            Err(fault) => return Err(BrokenRound::Off { fault, cause: None }),
         };
         match greet(alloc, &mut link, own, peer.token.as_str()) {
-            Ok(version) => Ok(Connection {
+            Ok(version) => Ok(PeerConnection {
                 link,
                 version,
                 whole_at: None,
@@ -100,7 +100,7 @@ impl<'a, R: Wait + Clock> Connection<'a, R> {
         alloc: Global,
         pads: &mut P,
         cells: &[u32],
-    ) -> Result<(Connection<'a, R>, Relayed), Broken> {
+    ) -> Result<(PeerConnection<'a, R>, Relayed), BrokenRound> {
         let version = self.version;
         match visit_listed(alloc, pads, &mut self.link, version, cells) {
             Ok(relayed) => Ok((self, relayed)),
@@ -110,11 +110,11 @@ impl<'a, R: Wait + Clock> Connection<'a, R> {
 }
 
 // Why a connection broke, with the system's error.
-fn why<R: Wait>(link: Link<Reader, Writer<'_, R>>, fault: Fault) -> Broken {
+fn why<R: Wait>(link: PeerLines<PeerReader, PeerWriter<'_, R>>, fault: Fault) -> BrokenRound {
     let (reader, writer) = link.into_parts();
     let cause = match fault {
         Fault::WriteFault => writer.into_inner().cause(),
         _ => reader.into_inner().cause(),
     };
-    Broken::Off { fault, cause }
+    BrokenRound::Off { fault, cause }
 }

@@ -5,7 +5,8 @@ ghost use Rattle.peering.specs.declared.exchange.TheConstants.{MAX_THREADS};
 use crate::bell::Bell;
 use crate::peer_link::{Brought, PATIENCE, PeerLink};
 use crate::stop::Guard;
-use event_loop::CellSet;
+use cell_set::CellSet;
+use conversation::{PadTable, Pads, Shared};
 use pad_model::Sequence;
 use sessions::{Peer, Session};
 use shared_pads::{Gate, Seat};
@@ -14,7 +15,6 @@ use std::net::{Net, TcpListener, TcpStream};
 use std::sync::Wait;
 use std::sync::atomic::{AtomicU64, Ordering};
 use std::time::{Clock, Instant};
-use workers::{Pads, Row, Shared};
 
 /// The most threads that exchange with peers. If there are more peers, threads have several of them.
 pub const MAX_THREADS: usize = 16;
@@ -154,7 +154,7 @@ where
 /// rounds, only operations that are known to have arrived cause a further one, so a peer that breaks off each time
 /// cannot keep the server from ending. After exchanges were broken off, no further round begins.
 pub fn exchange_all<'a, S: Sequence, R, G: Gate>(
-    row: &Row<'a, S, R, G>,
+    row: &PadTable<'a, S, R, G>,
     exchange: &Exchange,
     group: Group<'a, R>,
     guard: Guard<'a>,

@@ -1,8 +1,8 @@
 //! The threads that exchange operations with peers: a connection to each peer, rounds over the cells that have changed,
 //! and their end.
 //!
-//! It depends on `relay`, which makes a round over a connection, on `pad_files`, since nothing is sent to a peer before
-//! it is synced, and on the hub of `event_loop`. It knows nothing of clients.
+//! It depends on `relay`, which makes a round over a connection, on `store_files`, since nothing is sent to a peer before
+//! it is synced, and on `cell_set`. It knows nothing of clients.
 #![tactic(auto)]
 
 mod bell;

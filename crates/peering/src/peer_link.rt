@@ -1,11 +1,11 @@
 //! A peer that this server exchanges operations with, and the outcome of its rounds.
-use crate::connection::{Broken, Connection};
+use crate::connection::{BrokenRound, PeerConnection};
 use crate::stop::Guard;
-use devices::cause_of;
-use event_loop::CellSet;
-use journal::Journal;
+use cell_set::CellSet;
+use conversation::Pads;
 use log::warn;
 use relay::Relayed;
+use server_log::ServerLog;
 use sessions::Peer;
 use std::alloc::{AllocError, Global};
 use std::io;
@@ -13,8 +13,7 @@ use std::io::ErrorKind;
 use std::net::{Net, SocketAddr, TcpListener, TcpStream, ToSocketAddrs};
 use std::sync::Wait;
 use std::time::{Clock, Duration, Instant};
-use wire_lines::Fault;
-use workers::Pads;
+use wire_lines::{Fault, cause_of};
 
 /// How long this server waits for a peer, in seconds: to connect, for each reply, and for each line to be accepted.
 pub const PATIENCE: u64 = 30;
@@ -46,7 +45,7 @@ pub struct PeerLink<'a, R> {
     /// The index of the peer.
     place: usize,
     guard: Guard<'a>,
-    connection: Option<Connection<'a, R>>,
+    connection: Option<PeerConnection<'a, R>>,
     /// The cells that have changed since they were last visited.
     moved: CellSet,
     /// The pause before the next round, in seconds; 0 if the last round succeeded.
@@ -118,7 +117,6 @@ where
         if has_stood && made.is_err() && !self.guard.has_stopped() {
             made = self.make_round(rt, alloc, pads, own);
         }
-        self.guard.check();
         match made {
             Ok(relayed) => {
                 self.pause = 0;
@@ -133,7 +131,7 @@ where
             Err(broken) => {
                 self.note_failure(rt, broken);
                 match broken {
-                    Broken::Apart(_) if !has_stood => Brought::Nothing,
+                    BrokenRound::Apart(_) if !has_stood => Brought::Nothing,
                     _ => Brought::Unknown,
                 }
             }
@@ -147,7 +145,7 @@ where
         alloc: Global,
         pads: &mut P,
         own: u16,
-    ) -> Result<Relayed, Broken> {
+    ) -> Result<Relayed, BrokenRound> {
         let connection = match self.connection.take() {
             Some(connection) => connection,
             None => self.connect(rt, alloc, own)?,
@@ -176,13 +174,13 @@ where
         &self,
         alloc: Global,
         pads: &mut P,
-        connection: Connection<'a, R>,
+        connection: PeerConnection<'a, R>,
         is_whole: bool,
-    ) -> Result<(Connection<'a, R>, Relayed), Broken> {
+    ) -> Result<(PeerConnection<'a, R>, Relayed), BrokenRound> {
         let cells = match self.cells(alloc, pads.cells(), is_whole) {
             Ok(cells) => cells,
             Err(_) => {
-                return Err(Broken::Off {
+                return Err(BrokenRound::Off {
                     fault: Fault::Memory,
                     cause: None,
                 });
@@ -205,11 +203,16 @@ where
     }
 
     // Connects to the peer, and greets it.
-    fn connect(&self, rt: &'a R, alloc: Global, own: u16) -> Result<Connection<'a, R>, Broken> {
+    fn connect(
+        &self,
+        rt: &'a R,
+        alloc: Global,
+        own: u16,
+    ) -> Result<PeerConnection<'a, R>, BrokenRound> {
         let address = self.peer.address.as_str();
-        let stream = connect_to(rt, address, self.guard).map_err(Broken::Apart)?;
+        let stream = connect_to(rt, address, self.guard).map_err(BrokenRound::Apart)?;
         self.guard.enter(rt, self.place, &stream);
-        let opened = Connection::open(rt, alloc, stream, self.guard.keeper, own, self.peer);
+        let opened = PeerConnection::open(rt, alloc, stream, self.guard.keeper, own, self.peer);
         if opened.is_err() {
             self.guard.leave(rt, self.place);
         }
@@ -217,7 +220,7 @@ where
     }
 
     // Sets the pause before the next round, and logs a new cause.
-    fn note_failure(&mut self, rt: &R, broken: Broken) {
+    fn note_failure(&mut self, rt: &R, broken: BrokenRound) {
         self.pause = match self.pause {
             0 => FIRST_PAUSE,
             pause => pause.saturating_mul(2).min(LONGEST_PAUSE),
@@ -230,10 +233,11 @@ where
         self.told = Some(kind);
         let number = self.peer.number;
         match broken {
-            Broken::Apart(error) => warn!(Journal(rt); "peer {number}: no connection: {error}"),
-            Broken::Off { fault, cause } => match cause_of(fault, cause, cause) {
-                Some(cause) => warn!(Journal(rt); "peer {number}: {fault}: {cause}"),
-                None => warn!(Journal(rt); "peer {number}: {fault}"),
+            BrokenRound::Apart(error) =>
+                warn!(ServerLog(rt); "peer {number}: no connection: {error}"),
+            BrokenRound::Off { fault, cause } => match cause_of(fault, cause, cause) {
+                Some(cause) => warn!(ServerLog(rt); "peer {number}: {fault}: {cause}"),
+                None => warn!(ServerLog(rt); "peer {number}: {fault}"),
             },
         }
     }

@@ -1,15 +1,14 @@
 //! How exchanges with peers are broken off.
 ghost use Rattle.std.specs.Prelude.{◌≡◌, IfOk, length};
 
-use event_loop::Hub;
-use journal::Journal;
 use log::warn;
-use pad_files::Keeper;
+use server_log::ServerLog;
 use std::alloc::{AllocError, Global};
 use std::net::{Shutdown, TcpStream};
 use std::sync::atomic::{AtomicBool, Ordering};
 use std::sync::{Mutex, Wait};
 use std::time::Clock;
+use store_files::Keeper;
 
 /// The sockets to the peers, through which exchanges are broken off, and whether they were. All threads of a server
 /// share one.
@@ -36,19 +35,17 @@ impl Stop {
 }
 
 /// What an exchange with a peer depends on: the store, which has to be synced before a line is written to the peer, and
-/// whether the server is ending.
+/// whether exchanges were broken off.
 #[derive(Clone, Copy)]
 pub struct Guard<'a> {
     /// The keeper of the store; None if there is no store.
     pub keeper: Option<&'a Keeper>,
     /// Created for as many peers as the accounts have.
     pub stop: &'a Stop,
-    /// The hub, through which the whole server is stopped if the store has failed.
-    pub hub: &'a Hub,
 }
 
 impl Guard<'_> {
-    // Registers a connection to a peer. It is broken off at once if the server has ended or the socket gets no second
+    // Registers a connection to a peer. It is broken off at once if exchanges are over or the socket gets no second
     // handle.
     pub(crate) fn enter<R: Wait + Clock + Eprint>(&self, rt: &R, peer: usize, stream: &TcpStream) {
         match stream.try_clone() {
@@ -58,7 +55,7 @@ impl Guard<'_> {
                 }
             }
             Err(cause) => {
-                warn!(Journal(rt); "no exchange with a peer: {cause}");
+                warn!(ServerLog(rt); "no exchange with a peer: {cause}");
                 let _ended_already = stream.shutdown(Shutdown::Both);
             }
         }
@@ -74,11 +71,9 @@ impl Guard<'_> {
         }
     }
 
-    // Stops the server, if the store has failed.
-    pub(crate) fn check(&self) {
-        if self.keeper.is_some_and(|keeper| keeper.has_failed()) {
-            self.hub.stop();
-        }
+    /// Whether the store has failed, so that nothing more may be told to anybody.
+    pub fn has_failed(&self) -> bool {
+        self.keeper.is_some_and(|keeper| keeper.has_failed())
     }
 
     /// Breaks off all exchanges that are under way. No further ones begin.
@@ -91,8 +86,8 @@ impl Guard<'_> {
         }
     }
 
-    // Whether the server was stopped, or exchanges were broken off.
+    // Whether the store has failed, or exchanges were broken off.
     pub(crate) fn has_stopped(&self) -> bool {
-        self.hub.has_stopped() || self.stop.is_over.load(Ordering::SeqCst)
+        self.has_failed() || self.stop.is_over.load(Ordering::SeqCst)
     }
 }

@@ -16,7 +16,7 @@ use Rattle.wire_json.specs.declared.peer_answer.Told.TheVariants.{Said, Refused}
 use Rattle.wire_lines.specs.declared.fault.Fault.{Fault}
 use Rattle.pad_core.specs.declared.act.Act.TheVariants as act
 use Rattle.wire_json.specs.Peers.{vector_request, push_request}
-use Rattle.workers.specs.Session.{Answer}
+use Rattle.conversation.specs.Session.{Answer}
 use Rattle.relay.specs.Counts.{with_unsaid}
 use Rattle.wire_lines.specs.Causes.{with_more}
 use Rattle.wire_lines.specs.Device.{one_more}

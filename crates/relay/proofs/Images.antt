@@ -1,6 +1,6 @@
 -- A round over some pads is a round over others, if each call and each look of the first is one of the second.
 use Rattle.std.proofs.Common.{◌≡◌, ◌<◌, ℕ, zero, suc, ◌+◌, nat_le, Bool, true, false, List, [], ◌∷◌, Option, None, Some}
-use Rattle.std.proofs.Common.{Result, Ok, Err, IfOk, IfErr, refl, sym, ap, ◌∙◌, subst, arith}
+use Rattle.std.proofs.Common.{Result, Ok, Err, IfOk, IfErr, refl, sym, ap, ◌∙◌, subst}
 use Rattle.std.proofs.lemmas.Bool.{leb-false}
 use Rattle.serde_json.specs.Data.{Data}
 use Rattle.pad_model.specs.OldWire.{op_in_v1, seen_in_v1}
@@ -16,7 +16,7 @@ use Rattle.pad_core.specs.declared.request.Request.TheVariants as request
 use Rattle.wire_json.specs.declared.peer_answer.Told.{Told}
 use Rattle.wire_json.specs.declared.peer_answer.Told.TheVariants.{Said, Refused}
 use Rattle.wire_lines.specs.declared.fault.Fault.{Fault}
-use Rattle.workers.specs.Session.{Answer}
+use Rattle.conversation.specs.Session.{Answer}
 use Rattle.wire_json.specs.Peers.{peer_request, vector_request, push_request}
 use Rattle.relay.specs.Breaks.{Breaks}
 use Rattle.relay.specs.Counts.{with_unsaid}

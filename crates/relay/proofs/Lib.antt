@@ -6,3 +6,4 @@ pub mod Pushes
 pub mod Rounds
 pub mod Images
 pub mod Places
+pub mod Turns

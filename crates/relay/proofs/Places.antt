@@ -8,7 +8,7 @@ use Rattle.pad_model.specs.declared.refusal.Refusal.{Refusal}
 use Rattle.pad_model.specs.declared.who.Version.{Version}
 use Rattle.pad_core.specs.declared.request.Request.{Request}
 use Rattle.wire_lines.specs.declared.fault.Fault.{Fault}
-use Rattle.workers.specs.Session.{Answer}
+use Rattle.conversation.specs.Session.{Answer}
 use Rattle.relay.specs.Breaks.{Breaks}
 use Rattle.relay.specs.Chosen.{CallsChosen, IsSame, NamesChosen}
 use Rattle.relay.specs.Kept.{Visited, ready}

@@ -17,7 +17,7 @@ use Rattle.wire_json.specs.declared.peer_answer.Told.{Told}
 use Rattle.wire_json.specs.declared.peer_answer.Told.TheVariants.{Said, Refused}
 use Rattle.wire_lines.specs.declared.fault.Fault.{Fault}
 use Rattle.wire_lines.specs.declared.fault.Fault.TheVariants.{PeerReply, Memory}
-use Rattle.workers.specs.Session.{Answer}
+use Rattle.conversation.specs.Session.{Answer}
 use Rattle.relay.specs.Breaks.{Breaks}
 use Rattle.relay.specs.Counts.{with_unsaid, with_pull, with_pulled, with_refused}
 use Rattle.relay.specs.Kept.{AsksFor, IsUnsent, Lacks, SendsPull, after_turn, counts, world}
@@ -27,7 +27,7 @@ use Rattle.relay.specs.Round.Stage.{Failed, Over, Pulled, Pulling, Pushing, Taki
 use Rattle.relay.specs.Round.Reaches.{here}
 use Rattle.relay.specs.Wire.{Wire, HearsAs}
 use Rattle.relay.specs.declared.limits.TheConstants.{MAX_OPS, MAX_PULL_TURNS}
-use Rattle.relay.specs.declared.pull.Turn.{Turn}
+use Rattle.relay.specs.declared.pull.PullTurn.{PullTurn}
 use Rattle.relay.specs.declared.talk.Talk.{Talk}
 use Rattle.relay.proofs.Steps.{at_ok, join, one, later, unsent, wrong, lacks}
 
@@ -265,7 +265,7 @@ module _ {P : Type 0} (calls : P → Request → Answer → P → Type 0) (names
 
   -- all of them were delivered
   pub pulled_taken : (name : List ℕ) (turn : ℕ) (r : Option (Told (List Op))) (ops : List Op)
-      (taken : Result Bool Fault) (gained : Bool) (came : Turn) (talk mid last : Talk) (pads then_pads : P)
+      (taken : Result Bool Fault) (gained : Bool) (came : PullTurn) (talk mid last : Talk) (pads then_pads : P)
       (wire new : Wire)
       → r ≡ Some (Said ops) → HearsAs pull_answer r wire new → mid ≡ counts (with_pull turn) talk → taken ≡ Ok gained
       → IfOk taken (λ gained. (turn : ℕ) (wire : Wire) → Reaches calls names (Taking name turn false ops)

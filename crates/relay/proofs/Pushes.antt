@@ -16,7 +16,7 @@ use Rattle.wire_json.specs.declared.peer_answer.Told.{Told}
 use Rattle.wire_json.specs.declared.peer_answer.Told.TheVariants.{Said, Refused}
 use Rattle.wire_lines.specs.declared.fault.Fault.{Fault}
 use Rattle.wire_lines.specs.declared.fault.Fault.TheVariants.{PeerReply, Memory}
-use Rattle.workers.specs.Session.{Answer}
+use Rattle.conversation.specs.Session.{Answer}
 use Rattle.relay.specs.Breaks.{Breaks}
 use Rattle.relay.specs.Counts.{with_unsaid}
 use Rattle.relay.specs.Kept.{AsksFor, IsUnsent, counts, world}

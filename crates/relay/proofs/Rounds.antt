@@ -10,7 +10,7 @@ use Rattle.wire_json.specs.declared.peer_answer.Told.{Told}
 use Rattle.wire_json.specs.declared.peer_answer.Told.TheVariants.{Said, Refused}
 use Rattle.wire_lines.specs.declared.fault.Fault.{Fault}
 use Rattle.wire_lines.specs.declared.fault.Fault.TheVariants.{PeerReply, Memory}
-use Rattle.workers.specs.Session.{Answer}
+use Rattle.conversation.specs.Session.{Answer}
 use Rattle.relay.specs.Breaks.{Breaks}
 use Rattle.relay.specs.Kept.{Greets, IsUnsent, Made, MissesGreeting, Visited, begun, ready, world}
 use Rattle.relay.specs.Round.{Stage, World, Goes, Reaches, greeted, line_of, named, own_name, with_version}

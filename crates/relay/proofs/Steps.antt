@@ -11,7 +11,7 @@ use Rattle.wire_lines.specs.Causes.{most_reads}
 use Rattle.wire_lines.specs.Device.{one_more}
 use Rattle.wire_lines.specs.declared.fault.Fault.{Fault}
 use Rattle.wire_lines.specs.declared.fault.Fault.TheVariants.{ReadFault, WriteFault, PeerReply, Memory}
-use Rattle.workers.specs.Session.{Answer}
+use Rattle.conversation.specs.Session.{Answer}
 use Rattle.relay.specs.Breaks.{Breaks, IsCause}
 use Rattle.relay.specs.Kept.{IsUnsent, Lacks}
 use Rattle.relay.specs.Round.{Stage, World, Goes, Reaches, Sends, with_wire, line_of}

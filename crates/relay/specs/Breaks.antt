@@ -6,7 +6,7 @@ use Rattle.pad_core.specs.declared.request.Request.{Request}
 use Rattle.wire_lines.specs.Device.{one_more}
 use Rattle.wire_lines.specs.declared.fault.Fault.{Fault}
 use Rattle.wire_lines.specs.declared.fault.Fault.TheVariants.{ReadFault, WriteFault, PeerReply, Memory}
-use Rattle.workers.specs.Session.{Answer}
+use Rattle.conversation.specs.Session.{Answer}
 use Rattle.relay.specs.Wire.{Wire, IsUnheard}
 use Rattle.relay.specs.Round.{Stage, World, Reaches}
 use Rattle.relay.specs.Round.Stage.{Failed}

@@ -1,6 +1,6 @@
 -- What a round counts.
 use Rattle.std.specs.Prelude.{ℕ, zero, suc, ◌+◌}
-use Rattle.workers.specs.Delivered.{up_to}
+use Rattle.conversation.specs.Delivered.{up_to}
 use Rattle.relay.specs.declared.relayed.Relayed.{Relayed}
 
 -- the results of a round that has done nothing yet

@@ -14,14 +14,14 @@ use Rattle.wire_json.specs.declared.peer_answer.Told.{Told}
 use Rattle.wire_json.specs.declared.peer_answer.Told.TheVariants.{Said, Refused}
 use Rattle.wire_lines.specs.declared.fault.Fault.{Fault}
 use Rattle.wire_lines.specs.declared.fault.Fault.TheVariants.{WriteFault, PeerReply, Memory}
-use Rattle.workers.specs.Session.{Answer}
+use Rattle.conversation.specs.Session.{Answer}
 use Rattle.relay.specs.Counts.{none_yet, with_unsaid}
 use Rattle.relay.specs.Round.{Stage, World, Reaches, is_readable, line_of, with_version}
 use Rattle.relay.specs.Round.Stage.{Greeting, Next, Pulling, Pushing, Over, Ended}
 use Rattle.relay.specs.Wire.{Wire, HearsAs, MissesAnswer, Writes, WritesPart}
 use Rattle.relay.specs.declared.limits.TheConstants.{MAX_OPS}
-use Rattle.relay.specs.declared.pull.Turn.{Turn}
-use Rattle.relay.specs.declared.pull.Turn.TheVariants as turn_of
+use Rattle.relay.specs.declared.pull.PullTurn.{PullTurn}
+use Rattle.relay.specs.declared.pull.PullTurn.TheVariants as turn_of
 use Rattle.relay.specs.declared.relayed.Relayed.{Relayed}
 use Rattle.relay.specs.declared.talk.Talk.{Talk}
 
@@ -52,7 +52,7 @@ abbrev pub ready : {P : Type 0} → Version → ℕ → P → Wire → World P
 ready version cells pads wire = with_version version (begun cells pads wire)
 
 -- the stage after a turn of pulling
-abbrev pub after_turn : List ℕ → ℕ → Turn → Stage
+abbrev pub after_turn : List ℕ → ℕ → PullTurn → Stage
 after_turn name turn turn_of.Gained = Pulling name (turn + 1)
 after_turn name turn turn_of.Spent = Pushing name 0
 after_turn name turn turn_of.Over = Over

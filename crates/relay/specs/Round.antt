@@ -25,8 +25,8 @@ use Rattle.wire_json.specs.declared.peer_answer.Told.{Told}
 use Rattle.wire_json.specs.declared.peer_answer.Told.TheVariants.{Said, Refused}
 use Rattle.wire_lines.specs.declared.fault.Fault.{Fault}
 use Rattle.wire_lines.specs.declared.fault.Fault.TheVariants.{PeerReply, Memory}
-use Rattle.workers.specs.Delivered.{delivered_of}
-use Rattle.workers.specs.Session.{Answer}
+use Rattle.conversation.specs.Delivered.{delivered_of}
+use Rattle.conversation.specs.Session.{Answer}
 use Rattle.relay.specs.Counts.{with_pull, with_pulled, with_pushed, with_refused, with_unsaid}
 use Rattle.relay.specs.Wire.{Wire, Writes, HearsAs}
 use Rattle.relay.specs.declared.limits.TheConstants.{MAX_OPS, MAX_PULL_TURNS, MAX_PUSH_TURNS}

@@ -7,7 +7,7 @@ use Rattle.wire_json.specs.declared.peer_answer.Told.{Told}
 use Rattle.wire_lines.specs.Buffer.{Finds}
 use Rattle.wire_lines.specs.Causes.{most_reads, with_more}
 use Rattle.wire_lines.specs.Device.{one_more}
-use Rattle.wire_lines.specs.declared.buffer.Found.TheVariants.{Text, TooLong, End}
+use Rattle.wire_lines.specs.declared.buffer.FoundLine.TheVariants.{Text, TooLong, End}
 use Rattle.wire_lines.specs.declared.fault.Fault.{Fault}
 use Rattle.wire_lines.specs.declared.fault.Fault.TheVariants.{ReadFault, WriteFault, PeerReply, Memory}
 

@@ -4,20 +4,20 @@ ghost use Rattle.pad_core.specs.declared.act.Act.TheVariants as act;
 ghost use Rattle.pad_core.specs.declared.exchange.TheConstants.{MAX_BATCH};
 ghost use Rattle.pad_core.specs.declared.request.Request.TheVariants as request;
 ghost use Rattle.relay.specs.Kept.{AsksFor};
-ghost use Rattle.relay.specs.Round.{own_name as name_told, own_vector as vector_told, own_ops as ops_told, own_count as count_told};
+ghost use Rattle.relay.specs.Round as round;
 ghost use Rattle.relay.specs.declared.limits.TheConstants.{MAX_OPS};
 ghost use Rattle.wire_lines.specs.declared.fault.Fault.TheVariants.{Memory};
 
 use crate::limits::MAX_OPS;
+use conversation::{Pads, delivered_by};
 use pad_core::{Act, MAX_BATCH, PadReply, Reply, Request};
-use pad_model::{Name, Op, Refusal, Row, Seen};
+use pad_model::{Items, Name, Op, Refusal, Seen};
 use std::alloc::Global;
 use wire_lines::Fault;
-use workers::{Pads, delivered_by};
 
 /// This server's vector of a pad; None if it refuses.
 pub fn own_vector<P: Pads>(alloc: Global, pads: &mut P, pad: &Name) -> Result<Option<Seen>, Fault>
-    ensures asks { AsksFor P.calls pad.now act.Vector vector_told result pads.old pads.new }
+    ensures asks { AsksFor P.calls pad.now act.Vector round.own_vector result pads.old pads.new }
     ensures memory { IfErr result (λ fault. fault ≡ Memory) }
 {
     vector_in(ask(alloc, pads, pad, Act::Vector)?)
@@ -29,8 +29,8 @@ pub fn own_ops<P: Pads>(
     pads: &mut P,
     pad: &Name,
     seen: Seen,
-) -> Result<Option<Row<Op>>, Fault>
-    ensures asks { AsksFor P.calls pad.now (act.Pull seen MAX_OPS (Some MAX_BATCH)) ops_told result
+) -> Result<Option<Items<Op>>, Fault>
+    ensures asks { AsksFor P.calls pad.now (act.Pull seen MAX_OPS (Some MAX_BATCH)) round.own_ops result
         pads.old pads.new }
     ensures memory { IfErr result (λ fault. fault ≡ Memory) }
 {
@@ -49,7 +49,7 @@ pub fn deliver<P: Pads>(
     pad: &Name,
     op: Op,
 ) -> Result<Option<u64>, Fault>
-    ensures asks { AsksFor P.calls pad.now (act.Push op) count_told result pads.old pads.new }
+    ensures asks { AsksFor P.calls pad.now (act.Push op) round.own_count result pads.old pads.new }
     ensures memory { IfErr result (λ fault. fault ≡ Memory) }
 {
     let answer = ask(alloc, pads, pad, Act::Push { op })?;
@@ -58,7 +58,7 @@ pub fn deliver<P: Pads>(
 
 /// The name of a cell, if it has one and this server does not refuse to tell it.
 pub fn name_in(answer: Result<Option<Name>, Refusal>) -> Result<Option<Name>, Fault>
-    ensures name { result ≡ name_told answer }
+    ensures name { result ≡ round.own_name answer }
     ensures memory { IfErr result (λ fault. fault ≡ Memory) }
 {
     match answer {
@@ -84,7 +84,7 @@ fn ask<P: Pads>(
 }
 
 fn vector_in(answer: Result<Reply, Refusal>) -> Result<Option<Seen>, Fault>
-    ensures told { result ≡ vector_told answer }
+    ensures told { result ≡ round.own_vector answer }
     ensures memory { IfErr result (λ fault. fault ≡ Memory) }
 {
     match answer {
@@ -95,8 +95,8 @@ fn vector_in(answer: Result<Reply, Refusal>) -> Result<Option<Seen>, Fault>
     }
 }
 
-fn ops_in(answer: Result<Reply, Refusal>) -> Result<Option<Row<Op>>, Fault>
-    ensures told { result ≡ ops_told answer }
+fn ops_in(answer: Result<Reply, Refusal>) -> Result<Option<Items<Op>>, Fault>
+    ensures told { result ≡ round.own_ops answer }
     ensures memory { IfErr result (λ fault. fault ≡ Memory) }
 {
     match answer {
@@ -108,7 +108,7 @@ fn ops_in(answer: Result<Reply, Refusal>) -> Result<Option<Row<Op>>, Fault>
 }
 
 fn count_in(answer: &Result<Reply, Refusal>) -> Result<Option<u64>, Fault>
-    ensures told { result ≡ count_told answer.now }
+    ensures told { result ≡ round.own_count answer.now }
     ensures memory { IfErr result (λ fault. fault ≡ Memory) }
 {
     match answer {

@@ -5,14 +5,14 @@ ghost use Rattle.relay.specs.Kept.{ready, Visited};
 ghost use Rattle.relay.specs.Listed.{by_place, count_of};
 ghost use Rattle.relay.specs.Round.Stage.{Next};
 
-use crate::link::Exchange;
+use crate::peer_lines::LineExchange;
 use crate::relayed::Relayed;
 use crate::round::visit_cells;
+use conversation::Pads;
 use pad_core::{Reply, Request};
 use pad_model::{Name, Refusal, Version};
 use std::alloc::Global;
 use wire_lines::Fault;
-use workers::Pads;
 
 /// Exchanges the operations of only the pads of the listed cells, in the order of the list, as `visit_cells` does for
 /// all cells. It skips cells without a pad, and numbers that are not those of cells. For an empty list, nothing is
@@ -20,7 +20,7 @@ use workers::Pads;
 ///
 /// Of a list of more than 4,294,967,295 numbers, which is more than there can be cells, only the first 4,294,967,295
 /// count.
-pub fn visit_listed<P: Pads, L: Exchange>(
+pub fn visit_listed<P: Pads, L: LineExchange>(
     alloc: Global,
     pads: &mut P,
     link: &mut L,
@@ -40,7 +40,7 @@ pub fn visit_listed<P: Pads, L: Exchange>(
 }
 
 // The same for pads that are borrowed, and stay so.
-fn visit_chosen<P: Pads, L: Exchange>(
+fn visit_chosen<P: Pads, L: LineExchange>(
     alloc: Global,
     chosen: &mut Chosen<'_, P>,
     link: &mut L,

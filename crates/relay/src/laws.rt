@@ -1,7 +1,7 @@
 //! Laws of rounds, each the contract of a function that does nothing.
-ghost use Rattle.relay.specs.Laws.{AllCellsLaw, GreetedLaw, MissedLaw};
+ghost use Rattle.relay.specs.Laws.{AllCellsLaw, GreetedLaw, MissedLaw, PulledLaw, PushedLaw};
 
-use workers::Pads;
+use conversation::Pads;
 
 /// Over any pads, a greeting that was answered is the first two stages of a round, and a greeting that failed is a
 /// round that broke off.
@@ -13,4 +13,11 @@ pub fn greeting_law<P: Pads>()
 /// A round over the list of all cells, in order, is a round over the pads themselves, and the other way round.
 pub fn all_cells_law<P: Pads>()
     ensures { AllCellsLaw P.calls P.names }
+{}
+
+/// If a peer has one operation more that this server delivers, or lacks one that it delivers, a turn of the exchange
+/// delivers it, and another turn follows. There are turns enough for as many operations as a pad can have.
+pub fn turns_law<P: Pads>()
+    ensures pulled { PulledLaw P.calls P.names }
+    ensures pushed { PushedLaw P.calls P.names }
 {}

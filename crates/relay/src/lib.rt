@@ -1,6 +1,6 @@
 //! Relay rounds: a server exchanges the operations of its pads with a peer, over one connection.
 //!
-//! It depends on the pads as a session asks them (`workers`), on lines of bytes, and on the JSON of requests to peers
+//! It depends on the pads as a session asks them (`conversation`), on lines of bytes, and on the JSON of requests to peers
 //! and of their answers. It knows nothing of sockets, nor of when a round is made.
 #![tactic(auto)]
 
@@ -9,7 +9,7 @@ mod chosen;
 mod hear;
 mod laws;
 mod limits;
-mod link;
+mod peer_lines;
 mod pull;
 mod push;
 mod relayed;
@@ -19,6 +19,6 @@ mod talk;
 pub use chosen::visit_listed;
 pub use laws::{all_cells_law, greeting_law};
 pub use limits::{MAX_OPS, MAX_PULL_TURNS, MAX_PUSH_TURNS};
-pub use link::{Exchange, Link};
+pub use peer_lines::{LineExchange, PeerLines};
 pub use relayed::Relayed;
 pub use round::{greet, relay_round, visit_cells};

@@ -12,18 +12,18 @@ ghost use Rattle.relay.specs.Wire.{Wire};
 use crate::ask::{deliver, own_vector};
 use crate::hear::hear_ops;
 use crate::limits::{MAX_OPS, MAX_PULL_TURNS};
-use crate::link::Exchange;
+use crate::peer_lines::LineExchange;
 use crate::talk::Talk;
+use conversation::Pads;
 use pad_core::MAX_BATCH;
-use pad_model::{Name, Op, Row, Seen, seen_in_v1};
+use pad_model::{Items, Name, Op, Seen, seen_in_v1};
 use std::alloc::Global;
 use wire_json::{Told, pull_line};
 use wire_lines::Fault;
-use workers::Pads;
 
 /// The outcome of a turn.
 #[derive(Clone, Copy, Debug, PartialEq, Eq)]
-pub enum Turn {
+pub enum PullTurn {
     /// An operation was delivered here, so another turn may follow.
     Gained,
     /// No operation was delivered.
@@ -34,7 +34,7 @@ pub enum Turn {
 }
 
 /// Pulls a pad's operations, turn by turn, until a turn delivers none. Returns whether the exchange of the pad goes on.
-pub fn pull_pad<P: Pads, L: Exchange>(
+pub fn pull_pad<P: Pads, L: LineExchange>(
     alloc: Global,
     pads: &mut P,
     link: &mut L,
@@ -50,23 +50,23 @@ pub fn pull_pad<P: Pads, L: Exchange>(
 {
     for turn in 0..MAX_PULL_TURNS {
         match pull_turn(alloc, pads, link, talk, pad, turn)? {
-            Turn::Gained => {}
-            Turn::Spent => return Ok(true),
-            Turn::Over => return Ok(false),
+            PullTurn::Gained => {}
+            PullTurn::Spent => return Ok(true),
+            PullTurn::Over => return Ok(false),
         }
     }
     Ok(true)
 }
 
 /// One turn: sends this server's vector to the peer, and delivers the operations that it answers with.
-fn pull_turn<P: Pads, L: Exchange>(
+fn pull_turn<P: Pads, L: LineExchange>(
     alloc: Global,
     pads: &mut P,
     link: &mut L,
     talk: &mut Talk,
     pad: &Name,
     turn: u64,
-) -> Result<Turn, Fault>
+) -> Result<PullTurn, Fault>
     requires { turn < MAX_PULL_TURNS }
     ensures goes { IfOk result (λ came. Reaches P.calls P.names (Pulling pad.now turn)
         (world talk.old pads.old (L.wire link.old))
@@ -76,13 +76,13 @@ fn pull_turn<P: Pads, L: Exchange>(
     ensures cell { (talk.new.cell ≡ talk.old.cell) × (talk.new.cells ≡ talk.old.cells) }
 {
     if !ask_peer(alloc, pads, link, talk, pad)? {
-        return Ok(Turn::Over);
+        return Ok(PullTurn::Over);
     }
     take_answer(alloc, pads, link, talk, pad, turn)
 }
 
 /// Sends this server's vector of a pad to the peer. Returns false if the exchange of the pad is over.
-fn ask_peer<P: Pads, L: Exchange>(
+fn ask_peer<P: Pads, L: LineExchange>(
     alloc: Global,
     pads: &mut P,
     link: &mut L,
@@ -105,7 +105,7 @@ fn ask_peer<P: Pads, L: Exchange>(
 }
 
 /// Asks the peer for what a vector lacks, if it can read the vector.
-fn send_pull<L: Exchange>(
+fn send_pull<L: LineExchange>(
     alloc: Global,
     link: &mut L,
     talk: &mut Talk,
@@ -129,14 +129,14 @@ fn send_pull<L: Exchange>(
 }
 
 /// Hears the operations of the peer, and delivers them here.
-fn take_answer<P: Pads, L: Exchange>(
+fn take_answer<P: Pads, L: LineExchange>(
     alloc: Global,
     pads: &mut P,
     link: &mut L,
     talk: &mut Talk,
     pad: &Name,
     turn: u64,
-) -> Result<Turn, Fault>
+) -> Result<PullTurn, Fault>
     ensures goes { IfOk result (λ came. Reaches P.calls P.names (Pulled pad.now turn)
         (world talk.old pads.old (L.wire link.old))
         (after_turn pad.now turn came) (world talk.new pads.new (L.wire link.new))) }
@@ -146,14 +146,14 @@ fn take_answer<P: Pads, L: Exchange>(
 {
     let ops = match hear_ops(alloc, link)? {
         Some(Told::Said(ops)) => ops,
-        Some(Told::Refused) => return Ok(Turn::Over),
+        Some(Told::Refused) => return Ok(PullTurn::Over),
         None => return Err(Fault::PeerReply),
     };
     talk.relayed = talk.relayed.with_pull(turn);
     if take_ops(alloc, pads, talk, pad, ops)? {
-        Ok(Turn::Gained)
+        Ok(PullTurn::Gained)
     } else {
-        Ok(Turn::Spent)
+        Ok(PullTurn::Spent)
     }
 }
 
@@ -163,7 +163,7 @@ fn take_ops<P: Pads>(
     pads: &mut P,
     talk: &mut Talk,
     pad: &Name,
-    ops: Row<Op>,
+    ops: Items<Op>,
 ) -> Result<bool, Fault>
     ensures goes { IfOk result (λ gained. (turn : ℕ) (wire : Wire)
         → Reaches P.calls P.names (Taking pad.now turn false ops)

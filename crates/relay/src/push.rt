@@ -13,17 +13,17 @@ ghost use Rattle.relay.specs.Wire.{HearsAs, MissesAnswer, Writes};
 use crate::ask::own_ops;
 use crate::hear::{hear_push, hear_vector};
 use crate::limits::MAX_PUSH_TURNS;
-use crate::link::Exchange;
+use crate::peer_lines::LineExchange;
 use crate::talk::Talk;
+use conversation::Pads;
 use pad_core::Pushed;
 use pad_model::{Name, Op, Seen, op_in_v1};
 use std::alloc::Global;
 use wire_json::{Told, push_line, vector_line};
 use wire_lines::Fault;
-use workers::Pads;
 
 /// Pushes a pad's operations, turn by turn, until the peer delivers none of a turn.
-pub fn push_pad<P: Pads, L: Exchange>(
+pub fn push_pad<P: Pads, L: LineExchange>(
     alloc: Global,
     pads: &mut P,
     link: &mut L,
@@ -46,7 +46,7 @@ pub fn push_pad<P: Pads, L: Exchange>(
 }
 
 /// One turn: asks for the peer's vector, and pushes what it lacks. Returns whether another turn may follow.
-fn push_turn<P: Pads, L: Exchange>(
+fn push_turn<P: Pads, L: LineExchange>(
     alloc: Global,
     pads: &mut P,
     link: &mut L,
@@ -72,7 +72,7 @@ fn push_turn<P: Pads, L: Exchange>(
 }
 
 /// Asks for the peer's vector of a pad.
-fn send_vector<L: Exchange>(alloc: Global, link: &mut L, pad: &Name) -> Result<(), Fault>
+fn send_vector<L: LineExchange>(alloc: Global, link: &mut L, pad: &Name) -> Result<(), Fault>
     ensures sent { OnOk result (Writes (line_of (vector_request pad.now)) (L.wire link.old)
         (L.wire link.new)) }
     ensures unsent { IfErr result (λ fault. IsUnsent fault (line_of (vector_request pad.now))
@@ -84,7 +84,7 @@ fn send_vector<L: Exchange>(alloc: Global, link: &mut L, pad: &Name) -> Result<(
 
 /// Pushes what a vector lacks. All operations are written before their answers are read, which costs one round trip
 /// instead of one for each. Returns whether another turn may follow.
-fn push_lacking<P: Pads, L: Exchange>(
+fn push_lacking<P: Pads, L: LineExchange>(
     alloc: Global,
     pads: &mut P,
     link: &mut L,
@@ -124,7 +124,7 @@ fn push_lacking<P: Pads, L: Exchange>(
 }
 
 /// Pushes an operation to the peer.
-fn send_push<L: Exchange>(alloc: Global, link: &mut L, pad: &Name, op: &Op) -> Result<(), Fault>
+fn send_push<L: LineExchange>(alloc: Global, link: &mut L, pad: &Name, op: &Op) -> Result<(), Fault>
     ensures sent { OnOk result (Writes (line_of (push_request pad.now op.now)) (L.wire link.old)
         (L.wire link.new)) }
     ensures unsent { IfErr result (λ fault. IsUnsent fault (line_of (push_request pad.now op.now))
@@ -135,7 +135,11 @@ fn send_push<L: Exchange>(alloc: Global, link: &mut L, pad: &Name, op: &Op) -> R
 }
 
 /// Hears what became of an operation that was pushed, and counts it. Returns whether it was delivered.
-fn hear_delivered<L: Exchange>(alloc: Global, link: &mut L, talk: &mut Talk) -> Result<bool, Fault>
+fn hear_delivered<L: LineExchange>(
+    alloc: Global,
+    link: &mut L,
+    talk: &mut Talk,
+) -> Result<bool, Fault>
     ensures heard { IfOk result (λ delivered. (said : Told Pushed)
         × HearsAs push_answer (Some said) (L.wire link.old) (L.wire link.new)
         × (delivered ≡ is_delivered said) × (talk.new ≡ counts (after_push said) talk.old)) }

@@ -1,6 +1,7 @@
 //! The results of a relay round.
 ghost use Rattle.std.specs.Prelude.{◌≡◌};
-ghost use Rattle.relay.specs.Counts.{none_yet, with_pull as one_pull, with_pulled as more_pulled, with_pushed as one_pushed, with_refused as one_refused, with_unsaid as one_unsaid};
+ghost use Rattle.relay.specs.Counts.{none_yet};
+ghost use Rattle.relay.specs.Counts as counts;
 
 /// The results of a relay round. Each number is at most the greatest `u64`.
 #[derive(Clone, Copy, Debug, PartialEq, Eq)]
@@ -33,7 +34,7 @@ impl Relayed {
 
     /// Counts a pull of a pad, after this many turns: the first one counts the pad.
     pub(crate) fn with_pull(self, turn: u64) -> Relayed
-        ensures { result ≡ one_pull turn self }
+        ensures { result ≡ counts.with_pull turn self }
     {
         match turn {
             0 => Relayed {
@@ -45,7 +46,7 @@ impl Relayed {
     }
 
     pub(crate) fn with_pulled(self, count: u64) -> Relayed
-        ensures { result ≡ more_pulled count self }
+        ensures { result ≡ counts.with_pulled count self }
     {
         Relayed {
             pulled: self.pulled.saturating_add(count),
@@ -54,7 +55,7 @@ impl Relayed {
     }
 
     pub(crate) fn with_pushed(self) -> Relayed
-        ensures { result ≡ one_pushed self }
+        ensures { result ≡ counts.with_pushed self }
     {
         Relayed {
             pushed: self.pushed.saturating_add(1),
@@ -63,7 +64,7 @@ impl Relayed {
     }
 
     pub(crate) fn with_refused(self) -> Relayed
-        ensures { result ≡ one_refused self }
+        ensures { result ≡ counts.with_refused self }
     {
         Relayed {
             refused: self.refused.saturating_add(1),
@@ -72,7 +73,7 @@ impl Relayed {
     }
 
     pub(crate) fn with_unsaid(self) -> Relayed
-        ensures { result ≡ one_unsaid self }
+        ensures { result ≡ counts.with_unsaid self }
     {
         Relayed {
             unsaid: self.unsaid.saturating_add(1),

@@ -6,27 +6,27 @@ ghost use Rattle.relay.specs.Round.{Reaches, line_of};
 ghost use Rattle.relay.specs.Wire.{Writes};
 ghost use Rattle.wire_json.specs.Peers.{peer_request};
 ghost use Rattle.relay.specs.Round.Stage.{Greeting, Next, Over, Pulling};
-ghost use Rattle.workers.specs.Connection.{ThenEnds};
+ghost use Rattle.conversation.specs.Connection.{ThenEnds};
 
 use crate::ask::name_in;
 use crate::hear::hear_version;
-use crate::link::Exchange;
+use crate::peer_lines::LineExchange;
 use crate::pull::pull_pad;
 use crate::push::push_pad;
 use crate::relayed::Relayed;
 use crate::talk::Talk;
+use conversation::Pads;
 use pad_model::{Name, Version};
 use std::alloc::Global;
 use wire_json::{Told, peer_line};
 use wire_lines::Fault;
-use workers::Pads;
 
 /// Exchanges the operations of all pads with a peer, over a new connection: greets the peer with this server's number
 /// and the shared token, and then pulls and pushes pad by pad. Afterwards, or after a fault, it ends the session, which
 /// has to be a peer's (`Pads::relay`). What was delivered stays.
 ///
 /// `PeerReply`: the peer refused the greeting, or one of its lines was not a reply.
-pub fn relay_round<P: Pads, L: Exchange>(
+pub fn relay_round<P: Pads, L: LineExchange>(
     alloc: Global,
     pads: &mut P,
     link: &mut L,
@@ -50,7 +50,7 @@ pub fn relay_round<P: Pads, L: Exchange>(
 }
 
 // A greeting and a visit to all cells.
-fn make_round<P: Pads, L: Exchange>(
+fn make_round<P: Pads, L: LineExchange>(
     alloc: Global,
     pads: &mut P,
     link: &mut L,
@@ -70,7 +70,7 @@ fn make_round<P: Pads, L: Exchange>(
 /// The session lasts as long as the link: any number of visits may follow.
 ///
 /// `PeerReply`: the peer refused the greeting, or its line was not a reply.
-pub fn greet<L: Exchange>(
+pub fn greet<L: LineExchange>(
     alloc: Global,
     link: &mut L,
     own: u16,
@@ -95,7 +95,7 @@ pub fn greet<L: Exchange>(
 /// off, the link is of no more use. `visit_listed` visits only the cells of a list.
 ///
 /// `PeerReply`: a line of the peer was not a reply.
-pub fn visit_cells<P: Pads, L: Exchange>(
+pub fn visit_cells<P: Pads, L: LineExchange>(
     alloc: Global,
     pads: &mut P,
     link: &mut L,
@@ -124,7 +124,7 @@ pub fn visit_cells<P: Pads, L: Exchange>(
 }
 
 /// Sends the greeting.
-fn send_greeting<L: Exchange>(
+fn send_greeting<L: LineExchange>(
     alloc: Global,
     link: &mut L,
     own: u16,
@@ -140,7 +140,7 @@ fn send_greeting<L: Exchange>(
 }
 
 /// Exchanges the pad of a cell, if there is one.
-fn exchange_cell<P: Pads, L: Exchange>(
+fn exchange_cell<P: Pads, L: LineExchange>(
     alloc: Global,
     pads: &mut P,
     link: &mut L,
@@ -161,7 +161,7 @@ fn exchange_cell<P: Pads, L: Exchange>(
 }
 
 /// Exchanges a pad: first pulls what the peer has, then pushes what it lacks.
-fn exchange_pad<P: Pads, L: Exchange>(
+fn exchange_pad<P: Pads, L: LineExchange>(
     alloc: Global,
     pads: &mut P,
     link: &mut L,

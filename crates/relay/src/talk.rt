@@ -1,6 +1,6 @@
 //! The state of a round.
 ghost use Rattle.std.specs.Prelude.{◌≡◌};
-ghost use Rattle.relay.specs.Round.{is_readable as can_read};
+ghost use Rattle.relay.specs.Round as round;
 
 use crate::relayed::Relayed;
 use pad_model::Version;
@@ -21,7 +21,7 @@ pub struct Talk {
 impl Talk {
     /// Whether the peer can read something; `in_v1` tells whether version 1 can express it.
     pub fn is_readable(&self, in_v1: bool) -> bool
-        ensures { result ≡ can_read self.now.version in_v1 }
+        ensures { result ≡ round.is_readable self.now.version in_v1 }
     {
         match self.version {
             Version::One => in_v1,

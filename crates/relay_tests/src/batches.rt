@@ -1,6 +1,6 @@
 //! Batches of operations, from current and older peers and to them.
 use crate::stage::{text_of, typed_on};
-use relay::{Link, Relayed, greet, visit_cells};
+use relay::{PeerLines, Relayed, greet, visit_cells};
 use std::alloc::Global;
 use std::process::Abort;
 use std::test::Fail;
@@ -63,7 +63,7 @@ fn asked(
     wanted: Relayed,
 ) -> Result<String, Fail> {
     let mut pads = typed_on(alloc, 1, 0, letters)?;
-    let mut link = Link::new(alloc, Input::new(peer.as_bytes()), Output::new(alloc))?;
+    let mut link = PeerLines::new(alloc, Input::new(peer.as_bytes()), Output::new(alloc))?;
     let version = greet(alloc, &mut link, 1, "p2")?;
     let relayed = visit_cells(alloc, &mut pads, &mut link, version)?;
     assert!(rt; relayed == wanted, "wanted {wanted:?}, came {relayed:?}");

@@ -1,14 +1,17 @@
 //! The calls to a gate before each reply.
-ghost use Rattle.std.specs.Prelude.{None};
+ghost use Rattle.std.specs.Prelude.{⊤, false, None};
 
 use block_seq::BlockSeq;
+use conversation::{Alone, Gate, Served, serve_connection};
+use pad_model::Sequence;
+use presence::DEFAULT_PRESENT;
 use server_core::Server;
-use sessions::{Accounts, DEFAULT_PRESENT};
+use sessions::Accounts;
+use shared_pads::{Answered, LockedPad};
 use std::alloc::Global;
 use std::sync::atomic::{AtomicU64, Ordering};
 use std::test::Fail;
 use wire_lines::{Input, Output, Sink, WriteError};
-use workers::{Alone, Gate, Served, serve_connection};
 
 const LINES: &str = concat!(
     r#"{"do":"hello","name":"a1","token":"t"}"#,
@@ -27,21 +30,38 @@ const LINES: &str = concat!(
 
 // The number of replies announced to the gate, and which of them report a delivered operation.
 #[derive(Drop)]
-struct Heard {
+struct Announced {
     replies: AtomicU64,
     delivered: AtomicU64,
 }
 
-impl Heard {
-    fn new() -> Heard {
-        Heard {
+impl Announced {
+    fn new() -> Announced {
+        Announced {
             replies: AtomicU64::new(0),
             delivered: AtomicU64::new(0),
         }
     }
 }
 
-impl Gate for Heard {
+impl Gate for Announced {
+    ghost reads = { λ _. false };
+
+    ghost told = { λ _ _ _ _. ⊤ };
+
+    ghost announced = { λ _ _ _. ⊤ };
+
+    fn answered<S: Sequence>(
+        &self,
+        _alloc: Global,
+        _answered: &Answered<'_>,
+        _pad: &LockedPad<S>,
+    ) {}
+
+    fn reads_operations(&self) -> bool {
+        false
+    }
+
     fn inside(&self, _cell: u32) {}
 
     fn before_reply(&self, _connection: u64, delivered: bool) {
@@ -57,14 +77,14 @@ impl Gate for Heard {
 
 // The bytes written, and the number of writes that came before the gate was called for their reply.
 #[derive(Drop)]
-struct Watched<'a> {
+struct WatchedOutput<'a> {
     output: Output,
-    gate: &'a Heard,
+    gate: &'a Announced,
     writes: u64,
     early: u64,
 }
 
-impl Sink for Watched<'_> {
+impl Sink for WatchedOutput<'_> {
     ghost contents = { λ _. None };
 
     ghost failures = { λ w. ⟦<Output as Sink>⟧.failures w.output };
@@ -87,7 +107,7 @@ fn serve<W: Sink>(
     alloc: Global,
     lines: &str,
     writer: &mut W,
-    gate: &Heard,
+    gate: &Announced,
 ) -> Result<Served, Fail> {
     let accounts = Accounts::read(alloc, b"author a1 t\n")?;
     let mut server: Server<BlockSeq> = Server::new(alloc, 1, DEFAULT_PRESENT, 1, accounts)?;
@@ -98,13 +118,13 @@ fn serve<W: Sink>(
 }
 
 // The same, without checking the writes.
-fn serve_unseen(alloc: Global, lines: &str, gate: &Heard) -> Result<Served, Fail> {
+fn serve_unseen(alloc: Global, lines: &str, gate: &Announced) -> Result<Served, Fail> {
     serve(alloc, lines, &mut Output::new(alloc), gate)
 }
 
 #[test]
 fn an_insertion_is_told_as_delivered_and_a_reading_is_not(rt: HostRuntime) -> Result<(), Fail> {
-    let gate = Heard::new();
+    let gate = Announced::new();
     let served = serve_unseen(rt.alloc(), LINES, &gate)?;
     // The third line inserts and the sixth erases; the fifth, an insertion past the end, is refused.
     assert_eq!(rt; gate.replies.load(Ordering::SeqCst), 6);
@@ -116,8 +136,8 @@ fn an_insertion_is_told_as_delivered_and_a_reading_is_not(rt: HostRuntime) -> Re
 #[test]
 fn a_gate_is_told_before_each_reply_is_written(rt: HostRuntime) -> Result<(), Fail> {
     let alloc = rt.alloc();
-    let gate = Heard::new();
-    let mut writer = Watched {
+    let gate = Announced::new();
+    let mut writer = WatchedOutput {
         output: Output::new(alloc),
         gate: &gate,
         writes: 0,

@@ -1,6 +1,6 @@
 //! Visits to the cells of a list, over one link.
 use crate::stage::{text_of, typed_on};
-use relay::{Link, Relayed, greet, visit_cells, visit_listed};
+use relay::{PeerLines, Relayed, greet, visit_cells, visit_listed};
 use std::alloc::Global;
 use std::process::Abort;
 use std::test::Fail;
@@ -64,7 +64,7 @@ fn visit_lists(alloc: Global, lists: &[&[u32]], peer: &[&str]) -> Result<Visited
         text.push_str(line)?;
     }
     let mut pads = typed_on(alloc, 20, 17, 1)?;
-    let mut link = Link::new(alloc, Input::new(text.as_bytes()), Output::new(alloc))?;
+    let mut link = PeerLines::new(alloc, Input::new(text.as_bytes()), Output::new(alloc))?;
     let mut ended = Vec::new(alloc);
     let version = greet(alloc, &mut link, 1, "p2")?;
     for cells in lists {
@@ -153,7 +153,7 @@ fn a_visit_to_all_cells_passes_none(rt: HostRuntime) -> Result<(), Fail> {
         peer.push_str(NO_OPS)?;
         peer.push_str(NO_COUNTS)?;
     }
-    let mut link = Link::new(
+    let mut link = PeerLines::new(
         rt.alloc(),
         Input::new(peer.as_bytes()),
         Output::new(rt.alloc()),

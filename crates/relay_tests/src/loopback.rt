@@ -1,9 +1,11 @@
 //! Two servers in one process that show the same after one round over loopback.
 use block_seq::BlockSeq;
+use conversation::{Names, PadTable, Pads, Served, Shared, open_row, serve_connection, take_seats};
 use pad_core::Reply;
 use pad_model::Refusal;
-use relay::{Link, Relayed, relay_round};
-use sessions::{Accounts, DEFAULT_PRESENT, Session};
+use presence::DEFAULT_PRESENT;
+use relay::{PeerLines, Relayed, relay_round};
+use sessions::{Accounts, Session};
 use shared_pads::{Open, Seat, SharedPad};
 use std::alloc::Global;
 use std::net::{Net, TcpListener, TcpStream};
@@ -13,7 +15,6 @@ use std::time::Duration;
 use std::{io, thread};
 use wire_json::{read_request, reply_line};
 use wire_lines::{Fault, Std};
-use workers::{Names, Pads, Row, Served, Shared, open_row, serve_client, take_seats};
 
 // The number of seconds that a server waits for the other's next bytes. After that the test fails.
 const PATIENCE: u64 = 30;
@@ -54,7 +55,7 @@ const SHOWN: &str = concat!(
     "\n",
 );
 
-pub type LoopbackRow<'a, R> = Row<'a, BlockSeq, R, Open>;
+pub type LoopbackRow<'a, R> = PadTable<'a, BlockSeq, R, Open>;
 
 pub fn ask<P: Pads>(alloc: Global, pads: &mut P, line: &str) -> Result<Reply, Refusal> {
     match read_request(alloc, line.as_bytes()) {
@@ -159,7 +160,7 @@ fn exchange<R: Wait + Net<Stream = TcpStream>>(
         return Err(Fault::ReadFault);
     };
     let mut pads = Shared::new(row, seats, Session::new(alloc));
-    let mut link = Link::new(alloc, Std::new(&stream), Std::new(&stream))?;
+    let mut link = PeerLines::new(alloc, Std::new(&stream), Std::new(&stream))?;
     let _session = pads.relay(alloc, 2);
     relay_round(alloc, &mut pads, &mut link, 1, "secret")
 }
@@ -177,7 +178,7 @@ fn serve<R: Wait>(
     let mut pads = Shared::new(row, seats, Session::new(alloc));
     let mut reader = Std::new(&stream);
     let mut writer = Std::new(&stream);
-    serve_client(alloc, &mut pads, &mut reader, &mut writer, 1, &Open)
+    serve_connection(alloc, &mut pads, &mut reader, &mut writer, 1, &Open)
 }
 
 pub fn row_of<'a, R: Wait>(
@@ -187,7 +188,7 @@ pub fn row_of<'a, R: Wait>(
     replica: u16,
     accounts: &'a Accounts,
 ) -> LoopbackRow<'a, R> {
-    Row {
+    PadTable {
         rt,
         cells,
         names,

@@ -11,14 +11,14 @@ pub const NO_ANSWER: Refusal = Refusal::Busy;
 
 // The answers to an author, unless something was refused, and its seats.
 #[derive(Drop)]
-pub struct Written {
+pub struct AuthorAnswers {
     pub records: Result<Vec<Recorded>, Refusal>,
     pub seats: Vec<Seat>,
 }
 
 // The number of operations that one side of a round took from the other, and its seats.
 #[derive(Drop)]
-pub struct Taken {
+pub struct PeerTask {
     pub count: Result<u64, Fault>,
     pub seats: Vec<Seat>,
 }
@@ -50,9 +50,9 @@ impl Side {
         Ok(())
     }
 
-    pub fn add_written(&mut self, all: Vec<Written>) -> Result<(), Refusal> {
+    pub fn add_written(&mut self, all: Vec<AuthorAnswers>) -> Result<(), Refusal> {
         for written in all {
-            let Written { records, seats } = written;
+            let AuthorAnswers { records, seats } = written;
             for record in records? {
                 if let Recorded::Edit { .. } = record {
                     self.edits = self.edits.saturating_add(1);
@@ -64,8 +64,8 @@ impl Side {
         Ok(())
     }
 
-    pub fn add_taken(&mut self, taken: Taken) -> Result<(), Refusal> {
-        let Taken { count, seats } = taken;
+    pub fn add_taken(&mut self, taken: PeerTask) -> Result<(), Refusal> {
+        let PeerTask { count, seats } = taken;
         let Ok(count) = count else {
             return Err(NO_ANSWER);
         };

@@ -1,15 +1,16 @@
 //! A server with the pad `p`, or with several pads, on which ann has typed, and its side of a round.
 use block_seq::BlockSeq;
+use conversation::{Alone, Pads};
 use pad_core::Request;
 use pad_model::Refusal;
-use relay::{Link, Relayed, relay_round};
+use presence::DEFAULT_PRESENT;
+use relay::{PeerLines, Relayed, relay_round};
 use server_core::Server;
-use sessions::{Accounts, DEFAULT_PRESENT};
+use sessions::Accounts;
 use std::alloc::Global;
 use std::test::Fail;
 use wire_json::read_request;
 use wire_lines::{Fault, Input, Output};
-use workers::{Alone, Pads};
 
 const HELLO: &str = r#"{"do":"hello","name":"ann","token":"t"}"#;
 
@@ -62,7 +63,7 @@ fn typed(alloc: Global, lines: &[&str]) -> Result<Alone<BlockSeq>, Fail> {
 pub fn talk(alloc: Global, lines: &[&str], peer: &[u8]) -> Result<Talked, Fail> {
     let mut pads = typed(alloc, lines)?;
     let _session = pads.relay(alloc, 2)?;
-    let mut link = Link::new(alloc, Input::new(peer), Output::new(alloc))?;
+    let mut link = PeerLines::new(alloc, Input::new(peer), Output::new(alloc))?;
     let ended = relay_round(alloc, &mut pads, &mut link, 1, "p2");
     let (_input, output) = link.into_parts();
     Ok(Talked { output, ended })

@@ -1,11 +1,13 @@
 //! Two servers whose authors write at once while they exchange over loopback.
 use crate::loopback::{LoopbackRow, add_readings, add_vector, ask_all, connect, row_of, seats_of};
-use crate::sides::{NO_ANSWER, Side, Taken, Written, is_closed};
+use crate::sides::{AuthorAnswers, NO_ANSWER, PeerTask, Side, is_closed};
 use block_seq::BlockSeq;
+use conversation::{Names, Pads, Shared, open_row, serve_connection};
 use pad_core::{Act, PadReply, Recorded, Reply, Request};
 use pad_model::{Name, Refusal, Text};
-use relay::{Link, relay_round};
-use sessions::{Accounts, DEFAULT_PRESENT, Session};
+use presence::DEFAULT_PRESENT;
+use relay::{PeerLines, relay_round};
+use sessions::{Accounts, Session};
 use shared_pads::{Seat, SharedPad};
 use std::alloc::Global;
 use std::net::{Net, TcpListener, TcpStream};
@@ -14,7 +16,6 @@ use std::test::Fail;
 use std::thread;
 use std::thread::Threads;
 use wire_lines::{Fault, Std};
-use workers::{Names, Pads, Shared, open_row, serve_client};
 
 // The number of phases, in each of which the authors write during a round of the servers.
 const PHASES: u64 = 10;
@@ -46,7 +47,7 @@ const JOIN: &str = r#"{"do":"join","pad":"p"}"#;
 
 // The task of an author, and its seats.
 #[derive(Drop)]
-struct Job {
+struct AuthorTask {
     hello: &'static str,
     seats: Vec<Seat>,
 }
@@ -137,12 +138,12 @@ fn write<P: Pads>(alloc: Global, pads: &mut P, hello: &str) -> Result<Vec<Record
     Ok(records)
 }
 
-fn work<R: Wait>(alloc: Global, row: &LoopbackRow<'_, R>, job: Job) -> Written {
-    let Job { hello, seats } = job;
+fn work<R: Wait>(alloc: Global, row: &LoopbackRow<'_, R>, job: AuthorTask) -> AuthorAnswers {
+    let AuthorTask { hello, seats } = job;
     let mut pads = Shared::new(row, seats, Session::new(alloc));
     let records = write(alloc, &mut pads, hello);
     pads.end(alloc);
-    Written {
+    AuthorAnswers {
         records,
         seats: pads.seats(),
     }
@@ -152,13 +153,13 @@ fn work<R: Wait>(alloc: Global, row: &LoopbackRow<'_, R>, job: Job) -> Written {
 fn write_all<R: Threads + Wait + Sync>(
     alloc: Global,
     row: &LoopbackRow<'_, R>,
-) -> Result<Vec<Written>, Refusal> {
+) -> Result<Vec<AuthorAnswers>, Refusal> {
     let mut jobs = Vec::new(alloc);
     for hello in HELLOS {
         let seats = seats_of(row.rt, alloc, row.cells)?;
-        jobs.push(Job { hello, seats })?;
+        jobs.push(AuthorTask { hello, seats })?;
     }
-    Ok(thread::map_vec(row.rt, jobs, &|job: Job| { work(alloc, row, job) })?)
+    Ok(thread::map_vec(row.rt, jobs, &|job: AuthorTask| { work(alloc, row, job) })?)
 }
 
 // Makes a round with the peer that listens at this port.
@@ -168,10 +169,10 @@ fn exchange<R: Wait + Net<Stream = TcpStream, Listener = TcpListener>>(
     peer: u16,
     port: u16,
     seats: Vec<Seat>,
-) -> Taken {
+) -> PeerTask {
     let mut pads = Shared::new(row, seats, Session::new(alloc));
     let count = exchange_by(alloc, row, &mut pads, peer, port);
-    Taken {
+    PeerTask {
         count,
         seats: pads.seats(),
     }
@@ -187,7 +188,7 @@ fn exchange_by<P: Pads, R: Wait + Net<Stream = TcpStream, Listener = TcpListener
     let Ok(stream) = connect(row.rt, port) else {
         return Err(Fault::ReadFault);
     };
-    let mut link = Link::new(alloc, Std::new(&stream), Std::new(&stream))?;
+    let mut link = PeerLines::new(alloc, Std::new(&stream), Std::new(&stream))?;
     let _session = pads.relay(alloc, peer);
     let relayed = relay_round(alloc, pads, &mut link, row.replica, "secret")?;
     Ok(relayed.pulled)
@@ -199,10 +200,10 @@ fn serve<R: Wait>(
     row: &LoopbackRow<'_, R>,
     listener: TcpListener,
     seats: Vec<Seat>,
-) -> Taken {
+) -> PeerTask {
     let mut pads = Shared::new(row, seats, Session::new(alloc));
     let count = serve_by(alloc, &mut pads, listener);
-    Taken {
+    PeerTask {
         count,
         seats: pads.seats(),
     }
@@ -214,7 +215,7 @@ fn serve_by<P: Pads>(alloc: Global, pads: &mut P, listener: TcpListener) -> Resu
     };
     let mut reader = Std::new(&stream);
     let mut writer = Std::new(&stream);
-    let served = serve_client(alloc, pads, &mut reader, &mut writer, 1, &shared_pads::Open)?;
+    let served = serve_connection(alloc, pads, &mut reader, &mut writer, 1, &shared_pads::Open)?;
     Ok(served.delivered)
 }
 
@@ -223,7 +224,7 @@ fn round<R: Threads + Wait + Sync + Net<Stream = TcpStream, Listener = TcpListen
     alloc: Global,
     from: &LoopbackRow<'_, R>,
     to: &LoopbackRow<'_, R>,
-) -> Option<(Taken, Taken)> {
+) -> Option<(PeerTask, PeerTask)> {
     let listener = TcpListener::bind(from.rt, "127.0.0.1:0").ok()?;
     let port = listener.local_addr().ok()?.port();
     let ours = seats_of(from.rt, alloc, from.cells).ok()?;
@@ -250,7 +251,7 @@ fn round_kept<R: Threads + Wait + Sync + Net<Stream = TcpStream, Listener = TcpL
     theirs.add_taken(pushed)
 }
 
-type AllWritten = Result<Vec<Written>, Refusal>;
+type AllWritten = Result<Vec<AuthorAnswers>, Refusal>;
 
 // Lets the authors of both servers write at once.
 fn write_both<R: Threads + Wait + Sync>(
@@ -347,7 +348,7 @@ fn end_alike<R: Threads + Wait + Sync + Net<Stream = TcpStream, Listener = TcpLi
 // Whether both servers show the same; and for each server, the number of its edits that were answered, the number of
 // operations it took from the other, and whether it closes with its seats and records.
 #[derive(Clone, Copy, Debug)]
-struct Played {
+struct StressResult {
     alike: Result<bool, Refusal>,
     edits: [u64; 2],
     taken: [u64; 2],
@@ -362,13 +363,13 @@ fn play<R: Threads + Wait + Sync + Net<Stream = TcpStream, Listener = TcpListene
     names: &[Names; 2],
     first_cells: Vec<SharedPad<BlockSeq>>,
     second_cells: Vec<SharedPad<BlockSeq>>,
-) -> Played {
+) -> StressResult {
     let first = row_of(rt, first_cells.as_slice(), &names[0], 1, accounts);
     let second = row_of(rt, second_cells.as_slice(), &names[1], 2, accounts);
     let mut ours = Side::new(alloc);
     let mut theirs = Side::new(alloc);
     let alike = end_alike(alloc, &first, &second, &mut ours, &mut theirs);
-    Played {
+    StressResult {
         alike,
         edits: [ours.edits, theirs.edits],
         taken: [ours.taken, theirs.taken],

@@ -5,7 +5,7 @@ ghost use Rattle.rights.specs.Rights.{grant, granted, listed, may, right_of};
 
 use crate::right::Right;
 use indexmap::IndexMap;
-use pad_model::{Name, Refusal, Row};
+use pad_model::{Items, Name, Refusal};
 use std::alloc::Global;
 use std::marker::Model;
 
@@ -105,10 +105,10 @@ impl RightsBook {
     }
 
     /// All names with their rights: the creator first, then the grants in the order in which they were first granted.
-    pub fn list(&self, alloc: Global) -> Result<Row<Grant>, Refusal>
+    pub fn list(&self, alloc: Global) -> Result<Items<Grant>, Refusal>
         ensures { MatchResult result (λ rows. rows ≡ listed self.now) (λ e. e ≡ Refusal.Memory) }
     {
-        let mut rows = Row::new(alloc);
+        let mut rows = Items::new(alloc);
         rows.push(Grant {
             name: self.owner.clone()?,
             right: Right::Own,

@@ -1,9 +1,9 @@
 //! Three replicas that type at once and take one another's operations in different orders.
 //!
 //! All replicas that type in a round use the same counter, so that each round has ties.
-use crate::site::{Site, stamp_of};
+use crate::replica::{Replica, stamp_of};
 use dice::Dice;
-use pad_model::{Name, Op, OpName, Part, Refusal, Row, Run, Seen, Sequence, Text};
+use pad_model::{Items, Name, Op, OpName, Part, Refusal, Run, Seen, Sequence, Text};
 use std::alloc::Global;
 use std::process::Abort;
 use std::test::Fail;
@@ -16,7 +16,7 @@ const ORDERS: [[usize; 3]; 3] = [[0, 1, 2], [1, 2, 0], [2, 1, 0]];
 /// Types one to three letters at a place of the text, with a counter that is `ahead` of the clock.
 pub fn typed(
     alloc: Global,
-    site: &Site,
+    site: &Replica,
     replica: u16,
     ahead: u64,
     dice: &mut Dice,
@@ -39,7 +39,7 @@ pub fn typed(
 }
 
 /// Erases up to four characters, from a place of the text on.
-pub fn erased(alloc: Global, site: &Site, dice: &mut Dice) -> Result<Part, Refusal> {
+pub fn erased(alloc: Global, site: &Replica, dice: &mut Dice) -> Result<Part, Refusal> {
     let (seq, rev) = (site.sequence(), site.rev());
     let len = seq.len_at(rev);
     let at = dice.roll(len).min(len);
@@ -48,12 +48,12 @@ pub fn erased(alloc: Global, site: &Site, dice: &mut Dice) -> Result<Part, Refus
 }
 
 /// Returns the next operation of a replica: half of the time it types, otherwise it erases, or does both at once.
-pub fn made(alloc: Global, site: &Site, name: OpName, dice: &mut Dice) -> Result<Op, Refusal> {
+pub fn made(alloc: Global, site: &Replica, name: OpName, dice: &mut Dice) -> Result<Op, Refusal> {
     let kind = match site.sequence().len_at(site.rev()) {
         0..=9 => 0,
         _ => dice.roll(10),
     };
-    let mut parts = Row::new(alloc);
+    let mut parts = Items::new(alloc);
     if kind >= 5 {
         parts.push(erased(alloc, site, dice)?)?;
     }
@@ -70,14 +70,14 @@ pub fn made(alloc: Global, site: &Site, name: OpName, dice: &mut Dice) -> Result
 
 /// The number of operations that type, that erase and that were refused, and the number of characters that they hid.
 #[derive(Clone, Copy, Debug, Default)]
-pub struct Shares {
+pub struct OperationShares {
     pub typed: u64,
     pub erased: u64,
     refused: u64,
     hidden: u64,
 }
 
-impl Shares {
+impl OperationShares {
     fn count(&mut self, ops: &[Op]) {
         for op in ops {
             self.count_parts(op.parts.as_slice());
@@ -103,7 +103,7 @@ impl Shares {
 
 /// Whether two replicas have the same character at a place. Revisions are not compared, since each replica counts its
 /// own.
-fn agree(one: &Site, other: &Site, place: u64) -> bool {
+fn agree(one: &Replica, other: &Replica, place: u64) -> bool {
     let Some(a) = one.sequence().cell_at(place) else {
         return false;
     };
@@ -118,7 +118,7 @@ fn agree(one: &Site, other: &Site, place: u64) -> bool {
 }
 
 /// The number of erased characters.
-fn count_dead(site: &Site) -> u64 {
+fn count_dead(site: &Replica) -> u64 {
     let cells = site.sequence().cell_count();
     cells.saturating_sub(site.sequence().len_at(site.rev()))
 }
@@ -126,7 +126,7 @@ fn count_dead(site: &Site) -> u64 {
 /// Makes an operation of each replica.
 fn all_made(
     alloc: Global,
-    sites: &[Site],
+    sites: &[Replica],
     number: u64,
     dice: &mut Dice,
 ) -> Result<Vec<Op>, Refusal> {
@@ -139,21 +139,27 @@ fn all_made(
     Ok(ops)
 }
 
-fn take(alloc: Global, site: &mut Site, ops: &[Op], place: usize, shares: &mut Shares) {
+fn take(alloc: Global, site: &mut Replica, ops: &[Op], place: usize, shares: &mut OperationShares) {
     if let Some(op) = ops.get(place) {
         shares.answer(site.deliver(alloc, op));
     }
 }
 
 /// Lets a replica take the operations in an order, and the first of them once more.
-fn take_all(alloc: Global, site: &mut Site, ops: &[Op], order: [usize; 3], shares: &mut Shares) {
+fn take_all(
+    alloc: Global,
+    site: &mut Replica,
+    ops: &[Op],
+    order: [usize; 3],
+    shares: &mut OperationShares,
+) {
     let [first, second, third] = order;
     for place in [first, second, third, first] {
         take(alloc, site, ops, place, shares);
     }
 }
 
-fn exchange(alloc: Global, sites: &mut [Site], ops: &[Op], shares: &mut Shares) {
+fn exchange(alloc: Global, sites: &mut [Replica], ops: &[Op], shares: &mut OperationShares) {
     for (place, order) in ORDERS.iter().enumerate() {
         if let Some(site) = sites.get_mut(place) {
             take_all(alloc, site, ops, *order, shares);
@@ -164,10 +170,10 @@ fn exchange(alloc: Global, sites: &mut [Site], ops: &[Op], shares: &mut Shares) 
 /// Lets each replica make an operation, then take those of all three in its own order, and its own once more.
 fn round(
     alloc: Global,
-    sites: &mut [Site],
+    sites: &mut [Replica],
     number: u64,
     dice: &mut Dice,
-    shares: &mut Shares,
+    shares: &mut OperationShares,
 ) -> Result<(), Refusal> {
     let ops = all_made(alloc, sites, number, dice)?;
     shares.count(&ops);
@@ -175,17 +181,17 @@ fn round(
     Ok(())
 }
 
-fn three_sites(alloc: Global) -> Result<Vec<Site>, Refusal> {
+fn three_sites(alloc: Global) -> Result<Vec<Replica>, Refusal> {
     let mut sites = Vec::new(alloc);
     for _ in 0..3 {
-        sites.push(Site::new(alloc)?)?;
+        sites.push(Replica::new(alloc)?)?;
     }
     Ok(sites)
 }
 
-fn play(alloc: Global, sites: &mut [Site]) -> Result<Shares, Refusal> {
+fn play(alloc: Global, sites: &mut [Replica]) -> Result<OperationShares, Refusal> {
     let mut dice = Dice::new(7);
-    let mut shares = Shares::default();
+    let mut shares = OperationShares::default();
     for number in 1..=ROUNDS {
         round(alloc, sites, number, &mut dice, &mut shares)?;
     }
@@ -193,7 +199,7 @@ fn play(alloc: Global, sites: &mut [Site]) -> Result<Shares, Refusal> {
 }
 
 /// Asserts that two replicas have the same characters.
-fn keep_the_same(rt: &impl Abort, one: &Site, other: &Site) {
+fn keep_the_same(rt: &impl Abort, one: &Replica, other: &Replica) {
     let cells = one.sequence().cell_count();
     let came = other.sequence().cell_count();
     assert!(rt; came == cells, "{cells} characters and {came}");
@@ -208,7 +214,7 @@ fn keep_the_same(rt: &impl Abort, one: &Site, other: &Site) {
 }
 
 /// Asserts that all replicas have the same characters, and that this many are erased in each.
-fn all_agree(rt: &impl Abort, sites: &[Site], erased: u64) {
+fn all_agree(rt: &impl Abort, sites: &[Replica], erased: u64) {
     assert!(rt; sites.len() == 3);
     for site in sites {
         keep_the_same(rt, &sites[0], site);

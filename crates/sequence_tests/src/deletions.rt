@@ -1,7 +1,7 @@
 //! Deletions on the plain sequence: what each of them hides, beside insertions and at older revisions.
-use crate::sequences::{ABCD, HELLO, Taken, has_count, site_of};
-use crate::site::Sketch::{Erased, Typed};
-use crate::site::{Site, Sketch};
+use crate::replica::PartSketch::{Erased, Typed};
+use crate::replica::{PartSketch, Replica};
+use crate::sequences::{ABCD, HELLO, TakenOperations, has_count, site_of};
 use pad_model::{Refusal, Sequence};
 use std::alloc::Global;
 use std::process::Abort;
@@ -11,8 +11,8 @@ use std::test::Fail;
 fn hide(
     rt: &impl Abort,
     alloc: Global,
-    site: &mut Site,
-    taken: Taken<'_>,
+    site: &mut Replica,
+    taken: TakenOperations<'_>,
     want: &[u64],
 ) -> Result<(), Refusal> {
     assert!(rt; taken.len() == want.len(), "{taken:?} and {want:?}");
@@ -27,13 +27,23 @@ fn hide(
 }
 
 /// Asserts the same at a new site.
-fn hide_so(rt: &impl Abort, alloc: Global, taken: Taken<'_>, want: &[u64]) -> Result<(), Refusal> {
-    let mut site = Site::new(alloc)?;
+fn hide_so(
+    rt: &impl Abort,
+    alloc: Global,
+    taken: TakenOperations<'_>,
+    want: &[u64],
+) -> Result<(), Refusal> {
+    let mut site = Replica::new(alloc)?;
     hide(rt, alloc, &mut site, taken, want)
 }
 
 /// Returns the text at a revision of a site that took the first `count` of some operations.
-fn text_at(alloc: Global, taken: Taken<'_>, count: usize, rev: u64) -> Result<String, Refusal> {
+fn text_at(
+    alloc: Global,
+    taken: TakenOperations<'_>,
+    count: usize,
+    rev: u64,
+) -> Result<String, Refusal> {
     let site = site_of(alloc, &taken[..count.min(taken.len())])?;
     site.text(alloc, rev)
 }
@@ -42,7 +52,7 @@ fn text_at(alloc: Global, taken: Taken<'_>, count: usize, rev: u64) -> Result<St
 fn shows_at(
     rt: &impl Abort,
     alloc: Global,
-    taken: Taken<'_>,
+    taken: TakenOperations<'_>,
     count: usize,
     rev: u64,
     want: &str,
@@ -55,19 +65,19 @@ fn shows_at(
     Ok(())
 }
 
-fn length_at(alloc: Global, taken: Taken<'_>, rev: u64) -> Result<u64, Refusal> {
+fn length_at(alloc: Global, taken: TakenOperations<'_>, rev: u64) -> Result<u64, Refusal> {
     let site = site_of(alloc, taken)?;
     Ok(site.sequence().len_at(rev))
 }
 
-const ERASED: (u16, Sketch) = (1, Erased(&[((2, 1), 2)]));
+const ERASED: (u16, PartSketch) = (1, Erased(&[((2, 1), 2)]));
 
-const TYPED: (u16, Sketch) = (2, Typed((5, 2), Some((2, 1)), "X"));
+const TYPED: (u16, PartSketch) = (2, Typed((5, 2), Some((2, 1)), "X"));
 
-const FIRST: (u16, Sketch) = (2, Erased(&[((1, 1), 1)]));
+const FIRST: (u16, PartSketch) = (2, Erased(&[((1, 1), 1)]));
 
 /// Operations, the number of characters that each hides, and the text of the second revision.
-type Concurrent = (Taken<'static>, &'static [u64], &'static str);
+type Concurrent = (TakenOperations<'static>, &'static [u64], &'static str);
 
 const CONCURRENT: &[Concurrent] = &[
     (
@@ -92,7 +102,11 @@ const REVISIONS: &[(usize, u64, &str)] = &[
     (5, 3, "aXd"),
 ];
 
-fn shows_revisions(rt: &impl Abort, alloc: Global, taken: Taken<'_>) -> Result<(), Refusal> {
+fn shows_revisions(
+    rt: &impl Abort,
+    alloc: Global,
+    taken: TakenOperations<'_>,
+) -> Result<(), Refusal> {
     for (count, rev, text) in REVISIONS {
         shows_at(rt, alloc, taken, *count, *rev, text)?;
     }
@@ -115,7 +129,7 @@ fn delete_and_insert_concurrently(rt: HostRuntime) -> Result<(), Fail> {
 }
 
 /// Asserts the revision at which each character was erased; None if it was not.
-fn died_at(rt: &impl Abort, site: &Site, want: &[Option<u64>]) {
+fn died_at(rt: &impl Abort, site: &Replica, want: &[Option<u64>]) {
     let seq = site.sequence();
     for (want, place) in want.iter().zip(0..) {
         let came = match seq.cell_at(place) {
@@ -133,7 +147,7 @@ fn died_at(rt: &impl Abort, site: &Site, want: &[Option<u64>]) {
 fn died_after(
     rt: &impl Abort,
     alloc: Global,
-    taken: Taken<'_>,
+    taken: TakenOperations<'_>,
     want: &[Option<u64>],
 ) -> Result<(), Refusal> {
     let site = site_of(alloc, taken)?;
@@ -141,7 +155,7 @@ fn died_after(
     Ok(())
 }
 
-const ERASED_AGAIN: Taken<'static> = &[
+const ERASED_AGAIN: TakenOperations<'static> = &[
     (1, HELLO),
     (2, Erased(&[((2, 1), 2)])),
     (2, Erased(&[((1, 1), 4), ((4, 1), 1)])),

@@ -1,9 +1,9 @@
 //! Twenty thousand operations of three replicas, in forty texts, on the sequence of blocks and on the plain one beside
 //! it.
 use crate::compared::{change_the_same, show_the_same};
-use crate::converge::{Shares, made};
+use crate::converge::{OperationShares, made};
+use crate::replica::Replica;
 use crate::several::op_of;
-use crate::site::Site;
 use dice::Dice;
 use pad_model::{Op, OpName, Refusal, Sequence};
 use std::alloc::Global;
@@ -21,7 +21,7 @@ const COMPARED: u64 = 100;
 const REVISIONS: [u64; 10] = [1, 10, 50, 100, 200, 300, 400, 450, 490, 500];
 
 /// Every twentieth operation has several insertions; the others type, erase or do both.
-fn next_op(alloc: Global, site: &Site, number: u64, dice: &mut Dice) -> Result<Op, Refusal> {
+fn next_op(alloc: Global, site: &Replica, number: u64, dice: &mut Dice) -> Result<Op, Refusal> {
     if number % 20 == 0 {
         return op_of(alloc, site, number, dice);
     }
@@ -33,11 +33,11 @@ fn next_op(alloc: Global, site: &Site, number: u64, dice: &mut Dice) -> Result<O
 fn take_many(
     rt: &impl Abort,
     alloc: Global,
-    site: &mut Site,
+    site: &mut Replica,
     seed: u64,
-) -> Result<Shares, Refusal> {
+) -> Result<OperationShares, Refusal> {
     let mut dice = Dice::new(seed);
-    let mut shares = Shares::default();
+    let mut shares = OperationShares::default();
     for number in 1..=OPERATIONS {
         let op = next_op(alloc, site, number, &mut dice)?;
         shares.count_parts(op.parts.as_slice());
@@ -52,7 +52,7 @@ fn take_many(
 
 /// Asserts that both report the same for a text, now and at older revisions.
 fn keeps_a_text(rt: &impl Abort, alloc: Global, seed: u64) -> Result<(), Fail> {
-    let mut site = Site::compared_every(alloc, COMPARED)?;
+    let mut site = Replica::compared_every(alloc, COMPARED)?;
     let shares = take_many(rt, alloc, &mut site, seed)?;
     assert!(rt;
         shares.typed >= 200 && shares.erased >= 200,

@@ -1,6 +1,6 @@
 //! The number of labels that are written while a client types at one place: those of new blocks, and those of other
 //! blocks that change; and the times at which others change.
-use crate::pair::{Pair, author_of};
+use crate::pair::{SequencePair, author_of};
 use block_seq::BlockSeq;
 use pad_model::{Part, Refusal, Run, Sequence, Stamp, Text};
 use std::alloc::Global;
@@ -11,7 +11,7 @@ const TYPED: u64 = 1_000;
 /// The labels of the blocks, in the order of the text.
 fn labels_of(alloc: Global, rows: &BlockSeq) -> Result<Vec<u64>, Refusal> {
     let mut labels = Vec::new(alloc);
-    for block in rows.kept().tree {
+    for block in rows.tree() {
         labels.push(block.label)?;
     }
     Ok(labels)
@@ -39,7 +39,7 @@ fn count_new(before: &[u64], after: &[u64]) -> u64 {
 /// Types a text after a character, or at the start.
 fn type_text(
     alloc: Global,
-    pair: &mut Pair,
+    pair: &mut SequencePair,
     counter: u64,
     after: Option<Stamp>,
     text: &str,
@@ -53,7 +53,7 @@ fn type_text(
 /// Types `TYPED` characters, each after the one before it, or each after the first, and counts the labels that are
 /// written. None if a character is refused, or the labels do not rise.
 fn count_writes(alloc: Global, backward: bool) -> Result<Option<u64>, Refusal> {
-    let mut pair = Pair::new(alloc)?;
+    let mut pair = SequencePair::new(alloc)?;
     let mut writes: u64 = 0;
     let mut before = Vec::new(alloc);
     for counter in 1..=TYPED {
@@ -88,7 +88,10 @@ fn typing_backward_writes_few_labels(rt: HostRuntime) -> Result<(), Fail> {
 
 /// Types "ab", then "x" a hundred times after the first character. Returns the times at which a block's label changed;
 /// None if a text is refused.
-fn type_behind_the_first(alloc: Global, pair: &mut Pair) -> Result<Option<Vec<u64>>, Refusal> {
+fn type_behind_the_first(
+    alloc: Global,
+    pair: &mut SequencePair,
+) -> Result<Option<Vec<u64>>, Refusal> {
     let mut changes = Vec::new(alloc);
     let mut is_taken = type_text(alloc, pair, 1, None, "ab")?;
     for time in 1..=100 {
@@ -122,14 +125,12 @@ fn has_hundred(alloc: Global, rows: &BlockSeq, rev: u64) -> Result<bool, Refusal
 // Between the labels 65,536 and 131,072 the gap can be halved 16 times. The later times follow from the rule that
 // chooses a window: they were worked out apart from the program.
 #[test]
-fn respacings_are_those_that_the_labels_show(rt: HostRuntime) -> Result<(), Fail> {
-    let mut pair = Pair::new(rt.alloc())?;
-    assert!(rt; pair.rows().respaced() == 0);
+fn labels_change_when_no_gap_is_left(rt: HostRuntime) -> Result<(), Fail> {
+    let mut pair = SequencePair::new(rt.alloc())?;
     let changes = type_behind_the_first(rt.alloc(), &mut pair)?;
     let rows = pair.rows();
     let times = [17, 31, 43, 54, 63, 71, 77, 81, 84];
     assert!(rt; changes.is_some_and(|changes| changes.as_slice() == times.as_slice()));
-    assert!(rt; rows.respaced() == 9);
     assert!(rt; has_hundred(rt.alloc(), rows, 101)?);
     assert!(rt; rows.stamp_at(101, 1) == Stamp::new(102, 1).ok());
     Ok(())

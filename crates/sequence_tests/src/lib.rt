@@ -2,7 +2,7 @@
 #![tactic(auto)]
 
 #[cfg(test)]
-mod comments;
+mod comment_ranges;
 #[cfg(test)]
 mod compared;
 #[cfg(test)]
@@ -20,10 +20,10 @@ mod pair;
 #[cfg(test)]
 mod readers;
 #[cfg(test)]
+mod replica;
+#[cfg(test)]
 mod sequences;
 #[cfg(test)]
 mod several;
 #[cfg(test)]
 mod side_by_side;
-#[cfg(test)]
-mod site;

@@ -3,11 +3,12 @@ ghost use Rattle.std.specs.Prelude.{◌≡◌, IsTrue};
 ghost use Rattle.std.specs.List.{list_all};
 ghost use Rattle.pad_model.specs.Checked.{fits_clock, is_run, is_span};
 
-use crate::site::stamp_of;
+use crate::replica::stamp_of;
 use block_seq::{BlockSeq, PlainSeq};
 use dice::Dice;
 use pad_model::{
-    Author, AuthorRun, MAX_COUNTER, MAX_TEXT, Name, Part, Refusal, Row, Run, Sequence, Span, Stamp,
+    Author, AuthorRun, Items, MAX_COUNTER, MAX_TEXT, Name, Part, Refusal, Run, Sequence, Span,
+    Stamp,
 };
 use std::alloc::Global;
 use std::marker::Model;
@@ -15,13 +16,13 @@ use std::process::Abort;
 
 /// Both sequences, and how many changes they took.
 #[derive(Drop)]
-pub struct Pair {
+pub struct SequencePair {
     plain: PlainSeq,
     rows: BlockSeq,
     rev: u64,
 }
 
-impl Model for Pair {
+impl Model for SequencePair {
     ghost use Rattle.std.specs.Prelude.{ℕ, List};
     ghost use Rattle.std.specs.List.{AllByRecursion};
     ghost use Rattle.pad_model.specs.Cell.{Cell, IsBy};
@@ -34,9 +35,9 @@ impl Model for Pair {
         × AllByRecursion (IsBy s.rev) s.rows.cells };
 }
 
-impl Pair {
-    pub fn new(alloc: Global) -> Result<Pair, Refusal> {
-        Ok(Pair {
+impl SequencePair {
+    pub fn new(alloc: Global) -> Result<SequencePair, Refusal> {
+        Ok(SequencePair {
             plain: PlainSeq::empty(alloc)?,
             rows: BlockSeq::empty(alloc)?,
             rev: 0,
@@ -142,7 +143,7 @@ impl Pair {
         rt: &impl Abort,
         alloc: Global,
         rev: u64,
-        told: &Row<AuthorRun>,
+        told: &Items<AuthorRun>,
     ) -> Result<(), Refusal> {
         let came = self.rows.authors_at(alloc, rev)?;
         assert!(rt;

@@ -1,18 +1,18 @@
 //! What the plain sequence reports of its characters: numbers, stamps, places, runs and spans.
+use crate::replica::PartSketch::Typed;
+use crate::replica::{Named, Replica, stamp_of};
 use crate::sequences::{HELLO, named, site_of};
-use crate::site::Sketch::Typed;
-use crate::site::{Named, Site, stamp_of};
 use pad_model::{AuthorRun, Refusal, Sequence, Span, Stamp};
 use std::alloc::Global;
 use std::process::Abort;
 use std::test::Fail;
 
 /// Returns `heXYllo`, of which replica 2 typed `XY`.
-fn of_two(alloc: Global) -> Result<Site, Refusal> {
+fn of_two(alloc: Global) -> Result<Replica, Refusal> {
     site_of(alloc, &[(1, HELLO), (2, Typed((6, 2), Some((2, 1)), "XY"))])
 }
 
-fn numbers_of(site: &Site) -> [u64; 8] {
+fn numbers_of(site: &Replica) -> [u64; 8] {
     let seq = site.sequence();
     [
         seq.clock(),
@@ -29,7 +29,7 @@ fn numbers_of(site: &Site) -> [u64; 8] {
 /// `X`, the first `l`, and a stamp of no character.
 type Three = (Stamp, Stamp, Stamp);
 
-fn stamps_are_found(rt: &impl Abort, site: &Site, (x, l, none): Three) {
+fn stamps_are_found(rt: &impl Abort, site: &Replica, (x, l, none): Three) {
     let seq = site.sequence();
     assert!(rt; seq.has(x) && !seq.has(none));
     assert!(rt; seq.stamp_at(2, 2) == Some(x));
@@ -37,14 +37,14 @@ fn stamps_are_found(rt: &impl Abort, site: &Site, (x, l, none): Three) {
     assert!(rt; seq.stamp_at(1, 5).is_none());
 }
 
-fn characters_are_counted(rt: &impl Abort, site: &Site, (x, l, none): Three) {
+fn characters_are_counted(rt: &impl Abort, site: &Replica, (x, l, none): Three) {
     let seq = site.sequence();
     assert!(rt; seq.before(l, 1) == Some(2) && seq.through(x, 1) == Some(2));
     assert!(rt; seq.before(l, 2) == Some(4) && seq.through(x, 2) == Some(3));
     assert!(rt; seq.before(none, 2).is_none() && seq.through(none, 2).is_none());
 }
 
-fn order_is_told(rt: &impl Abort, site: &Site, (x, l, none): Three) {
+fn order_is_told(rt: &impl Abort, site: &Replica, (x, l, none): Three) {
     let seq = site.sequence();
     assert!(rt; seq.stands_before(x, l) == Some(true));
     assert!(rt; seq.stands_before(l, x) == Some(false));
@@ -77,7 +77,7 @@ fn are_runs(runs: &[AuthorRun], want: &[(u16, u64)]) -> bool {
 fn has_runs(
     rt: &impl Abort,
     alloc: Global,
-    site: &Site,
+    site: &Replica,
     rev: u64,
     want: &[(u16, u64)],
 ) -> Result<(), Refusal> {
@@ -103,7 +103,7 @@ fn are_spans(spans: &[Span], want: &[(Named, u64)]) -> bool {
 fn has_spans(
     rt: &impl Abort,
     alloc: Global,
-    site: &Site,
+    site: &Replica,
     (rev, at, len, want): Spans,
 ) -> Result<(), Refusal> {
     let seq = site.sequence();

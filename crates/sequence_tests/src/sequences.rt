@@ -1,19 +1,19 @@
 //! Operations on the plain sequence: where runs go, and what several parts do together.
-use crate::site::Sketch::{Erased, Typed};
-use crate::site::{Named, Site, Sketch};
+use crate::replica::PartSketch::{Erased, Typed};
+use crate::replica::{Named, PartSketch, Replica};
 use pad_model::{Refusal, Sequence, Stamp};
 use std::alloc::Global;
 use std::process::Abort;
 use std::test::Fail;
 
-pub const HELLO: Sketch = Typed((1, 1), None, "hello");
+pub const HELLO: PartSketch = Typed((1, 1), None, "hello");
 
-pub const ABCD: Sketch = Typed((1, 1), None, "abcd");
+pub const ABCD: PartSketch = Typed((1, 1), None, "abcd");
 
 /// Operations of one part each, by replica 1 or 2.
-pub type Taken<'a> = &'a [(u16, Sketch)];
+pub type TakenOperations<'a> = &'a [(u16, PartSketch)];
 
-fn take_all(alloc: Global, site: &mut Site, taken: Taken<'_>) -> Result<(), Refusal> {
+fn take_all(alloc: Global, site: &mut Replica, taken: TakenOperations<'_>) -> Result<(), Refusal> {
     for (origin, part) in taken {
         site.take(alloc, *origin, &[*part])?;
     }
@@ -21,20 +21,25 @@ fn take_all(alloc: Global, site: &mut Site, taken: Taken<'_>) -> Result<(), Refu
 }
 
 /// Returns a site that took these operations.
-pub fn site_of(alloc: Global, taken: Taken<'_>) -> Result<Site, Refusal> {
-    let mut site = Site::new(alloc)?;
+pub fn site_of(alloc: Global, taken: TakenOperations<'_>) -> Result<Replica, Refusal> {
+    let mut site = Replica::new(alloc)?;
     take_all(alloc, &mut site, taken)?;
     Ok(site)
 }
 
 /// Returns the text of a site that took these operations.
-fn text_after(alloc: Global, taken: Taken<'_>) -> Result<String, Refusal> {
+fn text_after(alloc: Global, taken: TakenOperations<'_>) -> Result<String, Refusal> {
     let site = site_of(alloc, taken)?;
     site.text(alloc, site.rev())
 }
 
 /// Asserts the text of a site that took these operations.
-fn shows(rt: &impl Abort, alloc: Global, taken: Taken<'_>, want: &str) -> Result<(), Refusal> {
+fn shows(
+    rt: &impl Abort,
+    alloc: Global,
+    taken: TakenOperations<'_>,
+    want: &str,
+) -> Result<(), Refusal> {
     let came = text_after(alloc, taken)?;
     assert!(rt;
         came.as_str() == want,
@@ -48,7 +53,7 @@ pub fn named(stamp: Stamp) -> Named {
 }
 
 /// Asserts the counters and replicas of all characters, in their order.
-fn has_stamps(rt: &impl Abort, site: &Site, want: &[Named]) {
+fn has_stamps(rt: &impl Abort, site: &Replica, want: &[Named]) {
     let seq = site.sequence();
     for (want, place) in want.iter().zip(0..) {
         let came = match seq.cell_at(place) {
@@ -64,7 +69,7 @@ fn has_stamps(rt: &impl Abort, site: &Site, want: &[Named]) {
 }
 
 /// Asserts the number of characters of a site, including erased ones.
-pub fn has_count(rt: &impl Abort, site: &Site, want: usize) {
+pub fn has_count(rt: &impl Abort, site: &Replica, want: usize) {
     let came = site.sequence().cell_count();
     assert!(rt;
         came == want as u64,
@@ -75,7 +80,7 @@ pub fn has_count(rt: &impl Abort, site: &Site, want: usize) {
 fn has_stamps_after(
     rt: &impl Abort,
     alloc: Global,
-    taken: Taken<'_>,
+    taken: TakenOperations<'_>,
     want: &[Named],
 ) -> Result<(), Refusal> {
     let site = site_of(alloc, taken)?;
@@ -83,15 +88,15 @@ fn has_stamps_after(
     Ok(())
 }
 
-const A: (u16, Sketch) = (1, Typed((1, 1), None, "a"));
+const A: (u16, PartSketch) = (1, Typed((1, 1), None, "a"));
 
-const B: (u16, Sketch) = (2, Typed((1, 2), None, "b"));
+const B: (u16, PartSketch) = (2, Typed((1, 2), None, "b"));
 
-const LOCAL: (u16, Sketch) = (1, Typed((7, 1), Some((2, 1)), "X"));
+const LOCAL: (u16, PartSketch) = (1, Typed((7, 1), Some((2, 1)), "X"));
 
-const REMOTE: (u16, Sketch) = (2, Typed((6, 2), Some((2, 1)), "q"));
+const REMOTE: (u16, PartSketch) = (2, Typed((6, 2), Some((2, 1)), "q"));
 
-const SIBLINGS: &[(Taken<'static>, &str)] = &[
+const SIBLINGS: &[(TakenOperations<'static>, &str)] = &[
     (&[A, B], "ba"),
     (&[B, A], "ba"),
     (&[(1, HELLO), LOCAL, REMOTE], "heXqllo"),
@@ -106,7 +111,7 @@ fn newer_siblings_come_first(rt: HostRuntime) -> Result<(), Fail> {
     Ok(())
 }
 
-const BETWEEN: Taken<'static> = &[(1, HELLO), (2, Typed((3, 2), Some((2, 1)), "QR"))];
+const BETWEEN: TakenOperations<'static> = &[(1, HELLO), (2, Typed((3, 2), Some((2, 1)), "QR"))];
 
 const STAMPS_BETWEEN: &[Named] = &[(1, 1), (2, 1), (3, 2), (4, 2), (3, 1), (4, 1), (5, 1)];
 
@@ -125,7 +130,7 @@ struct After {
     cells: u64,
 }
 
-fn after_hello(alloc: Global, origin: u16, parts: &[Sketch]) -> Result<After, Refusal> {
+fn after_hello(alloc: Global, origin: u16, parts: &[PartSketch]) -> Result<After, Refusal> {
     let mut site = site_of(alloc, &[(1, HELLO)])?;
     let answer = site.take(alloc, origin, parts);
     let (rev, cells) = (site.rev(), site.sequence().cell_count());
@@ -136,7 +141,7 @@ fn after_hello(alloc: Global, origin: u16, parts: &[Sketch]) -> Result<After, Re
 fn text_after_hello(
     alloc: Global,
     origin: u16,
-    parts: &[Sketch],
+    parts: &[PartSketch],
     rev: u64,
 ) -> Result<String, Refusal> {
     let mut site = site_of(alloc, &[(1, HELLO)])?;
@@ -149,7 +154,7 @@ fn shows_after_hello(
     rt: &impl Abort,
     alloc: Global,
     origin: u16,
-    parts: &[Sketch],
+    parts: &[PartSketch],
     rev: u64,
     want: &str,
 ) -> Result<(), Refusal> {
@@ -162,7 +167,7 @@ fn shows_after_hello(
 }
 
 /// An operation that a site of `hello` refuses, and why.
-type Misfit = (u16, &'static [Sketch], &'static str);
+type Misfit = (u16, &'static [PartSketch], &'static str);
 
 const MISFITS: &[Misfit] = &[
     (
@@ -214,7 +219,7 @@ fn is_refused(
     rt: &impl Abort,
     alloc: Global,
     origin: u16,
-    parts: &[Sketch],
+    parts: &[PartSketch],
     why: &str,
 ) -> Result<(), Refusal> {
     let came = after_hello(alloc, origin, parts)?;
@@ -235,7 +240,7 @@ fn what_does_not_fit_is_refused(rt: HostRuntime) -> Result<(), Fail> {
 }
 
 /// The parts of an operation, the number of characters that they hide, and the text of a site of `hello` afterwards.
-type Several = (u16, &'static [Sketch], u64, &'static str);
+type Several = (u16, &'static [PartSketch], u64, &'static str);
 
 const SEVERAL: &[Several] = &[
     (
@@ -265,7 +270,7 @@ fn is_one_revision(
     rt: &impl Abort,
     alloc: Global,
     origin: u16,
-    parts: &[Sketch],
+    parts: &[PartSketch],
     hidden: u64,
 ) -> Result<(), Refusal> {
     let came = after_hello(alloc, origin, parts)?;

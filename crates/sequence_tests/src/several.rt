@@ -1,9 +1,9 @@
 //! Operations of several parts on the sequence of blocks beside the plain one, and what both tell of older revisions.
 use crate::compared::{show_the_same, tell_the_same};
-use crate::converge::{Shares, erased, typed};
-use crate::site::Site;
+use crate::converge::{OperationShares, erased, typed};
+use crate::replica::Replica;
 use dice::Dice;
-use pad_model::{Name, Op, OpName, Part, Refusal, Row, Seen, Sequence};
+use pad_model::{Items, Name, Op, OpName, Part, Refusal, Seen, Sequence};
 use std::alloc::Global;
 use std::process::Abort;
 use std::test::Fail;
@@ -13,11 +13,11 @@ const OPERATIONS: u64 = 120;
 /// One to four insertions, and a deletion between them where there is text.
 fn parts_of(
     alloc: Global,
-    site: &Site,
+    site: &Replica,
     replica: u16,
     dice: &mut Dice,
-) -> Result<Row<Part>, Refusal> {
-    let mut parts = Row::new(alloc);
+) -> Result<Items<Part>, Refusal> {
+    let mut parts = Items::new(alloc);
     for turn in 0..=dice.roll(4) {
         parts.push(typed(
             alloc,
@@ -34,7 +34,7 @@ fn parts_of(
 }
 
 /// An operation of several parts by one of three replicas.
-pub fn op_of(alloc: Global, site: &Site, number: u64, dice: &mut Dice) -> Result<Op, Refusal> {
+pub fn op_of(alloc: Global, site: &Replica, number: u64, dice: &mut Dice) -> Result<Op, Refusal> {
     let origin = dice.roll(3).saturating_add(1) as u16;
     Ok(Op {
         name: OpName { origin, number },
@@ -45,9 +45,13 @@ pub fn op_of(alloc: Global, site: &Site, number: u64, dice: &mut Dice) -> Result
 }
 
 /// All operations are taken, and both sequences show the same after each.
-fn take_many(rt: &impl Abort, alloc: Global, site: &mut Site) -> Result<Shares, Refusal> {
+fn take_many(
+    rt: &impl Abort,
+    alloc: Global,
+    site: &mut Replica,
+) -> Result<OperationShares, Refusal> {
     let mut dice = Dice::new(5);
-    let mut shares = Shares::default();
+    let mut shares = OperationShares::default();
     for number in 1..=OPERATIONS {
         let op = op_of(alloc, site, number, &mut dice)?;
         shares.count_parts(op.parts.as_slice());
@@ -63,7 +67,7 @@ fn take_many(rt: &impl Abort, alloc: Global, site: &mut Site) -> Result<Shares, 
 
 #[test]
 fn several_parts_at_once(rt: HostRuntime) -> Result<(), Fail> {
-    let mut site = Site::new(rt.alloc())?;
+    let mut site = Replica::new(rt.alloc())?;
     let shares = take_many(&rt, rt.alloc(), &mut site)?;
     // Each has two or three insertions, and three of four have a deletion.
     assert!(rt;

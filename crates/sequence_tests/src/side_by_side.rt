@@ -1,9 +1,9 @@
 //! The sequence of blocks beside the plain one, in worked examples and in a seeded run of three replicas.
-use crate::converge::Shares;
-use crate::pair::{Pair, author_of};
+use crate::converge::OperationShares;
+use crate::pair::{SequencePair, author_of};
+use crate::replica::PartSketch::{Erased, Typed};
+use crate::replica::{PartSketch, part_of, stamp_of};
 use crate::sequences::HELLO;
-use crate::site::Sketch::{Erased, Typed};
-use crate::site::{Sketch, part_of, stamp_of};
 use block_seq::BlockSeq;
 use dice::Dice;
 use pad_model::{Part, Refusal, Run, Sequence, Text};
@@ -12,9 +12,9 @@ use std::process::Abort;
 use std::test::Fail;
 
 /// Changes by replicas, and the text after them.
-type Worked = (&'static [(u16, Sketch)], &'static str);
+type Worked = (&'static [(u16, PartSketch)], &'static str);
 
-const XY: (u16, Sketch) = (2, Typed((6, 2), Some((2, 1)), "XY"));
+const XY: (u16, PartSketch) = (2, Typed((6, 2), Some((2, 1)), "XY"));
 
 const WORKED: &[Worked] = &[
     (&[(1, HELLO)], "hello"),
@@ -55,8 +55,8 @@ const WORKED: &[Worked] = &[
 fn take_all(
     rt: &impl Abort,
     alloc: Global,
-    pair: &mut Pair,
-    changes: &[(u16, Sketch)],
+    pair: &mut SequencePair,
+    changes: &[(u16, PartSketch)],
 ) -> Result<(), Refusal> {
     for (origin, sketch) in changes {
         let part = part_of(alloc, sketch)?;
@@ -79,10 +79,10 @@ fn shows(rt: &impl Abort, alloc: Global, text: &Text, want: &str) -> Result<(), 
 fn is_worked(
     rt: &impl Abort,
     alloc: Global,
-    changes: &[(u16, Sketch)],
+    changes: &[(u16, PartSketch)],
     want: &str,
 ) -> Result<(), Refusal> {
-    let mut pair = Pair::new(alloc)?;
+    let mut pair = SequencePair::new(alloc)?;
     take_all(rt, alloc, &mut pair, changes)?;
     shows(rt, alloc, &pair.rows().text_at(alloc, pair.rev())?, want)?;
     pair.counts_agree(rt);
@@ -114,7 +114,7 @@ fn numbers_of(rows: &BlockSeq) -> [u64; 8] {
 
 #[test]
 fn blocks_tell_of_their_characters(rt: HostRuntime) -> Result<(), Fail> {
-    let mut pair = Pair::new(rt.alloc())?;
+    let mut pair = SequencePair::new(rt.alloc())?;
     take_all(&rt, rt.alloc(), &mut pair, &[(1, HELLO), XY])?;
     let (x, l, none) = (stamp_of((6, 2))?, stamp_of((3, 1))?, stamp_of((6, 1))?);
     let rows = pair.rows();
@@ -133,7 +133,7 @@ const ROUNDS: u64 = 100;
 /// Types one to three letters at a place of the text, or where the others of the round type.
 fn typed(
     alloc: Global,
-    pair: &Pair,
+    pair: &SequencePair,
     replica: u16,
     place: u64,
     dice: &mut Dice,
@@ -160,7 +160,7 @@ fn typed(
 }
 
 /// Erases up to four characters from a place of the text on.
-fn erased(alloc: Global, pair: &Pair, dice: &mut Dice) -> Result<Part, Refusal> {
+fn erased(alloc: Global, pair: &SequencePair, dice: &mut Dice) -> Result<Part, Refusal> {
     let (plain, rev) = (pair.plain(), pair.rev());
     let len = plain.len_at(rev);
     let at = dice.roll(len).min(len);
@@ -169,7 +169,7 @@ fn erased(alloc: Global, pair: &Pair, dice: &mut Dice) -> Result<Part, Refusal> 
 }
 
 /// What each of three replicas does next, from the same text: three of five times it types, else it erases.
-fn round(alloc: Global, pair: &Pair, dice: &mut Dice) -> Result<Vec<Part>, Refusal> {
+fn round(alloc: Global, pair: &SequencePair, dice: &mut Dice) -> Result<Vec<Part>, Refusal> {
     let place = dice.roll(pair.plain().len_at(pair.rev()).saturating_add(1));
     let mut parts = Vec::new(alloc);
     for replica in 1..=3 {
@@ -183,9 +183,13 @@ fn round(alloc: Global, pair: &Pair, dice: &mut Dice) -> Result<Vec<Part>, Refus
 }
 
 /// Each round leaves both the same.
-fn play_all(rt: &impl Abort, alloc: Global, pair: &mut Pair) -> Result<Shares, Refusal> {
+fn play_all(
+    rt: &impl Abort,
+    alloc: Global,
+    pair: &mut SequencePair,
+) -> Result<OperationShares, Refusal> {
     let mut dice = Dice::new(11);
-    let mut shares = Shares::default();
+    let mut shares = OperationShares::default();
     for _ in 0..ROUNDS {
         let parts = round(alloc, pair, &mut dice)?;
         shares.count_parts(&parts);
@@ -198,7 +202,7 @@ fn play_all(rt: &impl Abort, alloc: Global, pair: &mut Pair) -> Result<Shares, R
 fn are_taken(
     rt: &impl Abort,
     alloc: Global,
-    pair: &mut Pair,
+    pair: &mut SequencePair,
     parts: &[Part],
     dice: &mut Dice,
 ) -> Result<(), Refusal> {
@@ -219,7 +223,7 @@ fn are_taken(
 
 #[test]
 fn three_replicas_type_and_erase(rt: HostRuntime) -> Result<(), Fail> {
-    let mut pair = Pair::new(rt.alloc())?;
+    let mut pair = SequencePair::new(rt.alloc())?;
     let shares = play_all(&rt, rt.alloc(), &mut pair)?;
     assert!(rt;
         shares.typed >= 150 && shares.erased >= 90,

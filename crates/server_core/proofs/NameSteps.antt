@@ -15,7 +15,7 @@ use Rattle.pad_model.specs.declared.refusal.Refusal.TheVariants.{NoPad, NoSessio
 use Rattle.pad_model.specs.declared.who.Who.{Who}
 use Rattle.pad_model.specs.declared.who.Who.TheVariants.{Nobody, Author, Peer}
 use Rattle.sessions.specs.Accounts.{Accounts}
-use Rattle.sessions.specs.Presence.{joined}
+use Rattle.presence.specs.Presence.{joined}
 use Rattle.sessions.specs.Session.{is_of}
 use Rattle.sessions.specs.declared.session.Room.{Room}
 use Rattle.pad_core.specs.Machine.{Machine, claim, name_of, now_of, step}

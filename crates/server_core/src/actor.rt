@@ -2,9 +2,11 @@
 ghost use Rattle.std.specs.Prelude.{◌≡◌, ◌⊎◌, ◌≤◌, List, length, option_map, IfSome, IsTrue};
 ghost use Rattle.pad_model.specs.Checked.{is_name};
 ghost use Rattle.pad_model.specs.declared.refusal.Refusal.TheVariants as refusal;
-ghost use Rattle.server_core.specs.Actor.{is_busy as busy, nobody};
+ghost use Rattle.server_core.specs.Actor.{nobody};
+ghost use Rattle.server_core.specs.Actor as actor_spec;
 ghost use Rattle.server_core.specs.Served.{Acted, IsFormed};
-ghost use Rattle.server_core.specs.Steps.{actor_step as stepped, name_at};
+ghost use Rattle.server_core.specs.Steps.{name_at};
+ghost use Rattle.server_core.specs.Steps as steps;
 ghost use Rattle.server_core.specs.declared.limits.TheConstants.{MAX_CELLS};
 ghost use Rattle.pad_core.specs.Machine.{Machine};
 ghost use Rattle.server_core.specs.declared.step.Moved.TheVariants as moved;
@@ -61,7 +63,7 @@ impl Actor {
         request: &Request,
     ) -> Moved
         ensures { (cells : List Machine) → Acted (Step.Ask request.now) cells self.old
-            (stepped replica accounts.now (Step.Ask request.now) self.old cells) result self.new
+            (steps.actor_step replica accounts.now (Step.Ask request.now) self.old cells) result self.new
             cells }
     {
         let busy = is_busy(&self.task);
@@ -83,7 +85,7 @@ impl Actor {
     ) -> Moved
         requires { length cells.old ≤ MAX_CELLS }
         ensures acted { Acted step.now cells.old self.old
-            (stepped replica accounts.now step.now self.old cells.old) result self.new cells.new }
+            (steps.actor_step replica accounts.now step.now self.old cells.old) result self.new cells.new }
         ensures formed { (cell : _) → step.now ≡ Step.Look cell → IsFormed result }
     {
         match step {
@@ -108,7 +110,7 @@ impl Actor {
 
 /// Whether a scan, a list or an end is under way.
 fn is_busy(task: &Task) -> bool
-    ensures { result ≡ busy task.now }
+    ensures { result ≡ actor_spec.is_busy task.now }
 {
     !matches!(task, Task::Resting)
 }

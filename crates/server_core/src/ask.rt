@@ -1,10 +1,12 @@
 //! How a request is asked: one on the session itself is answered at once, one on a pad begins a scan.
 ghost use Rattle.std.specs.Prelude.{◌≡◌, ◌⊎◌, []};
 ghost use Rattle.pad_model.specs.declared.refusal.Refusal.TheVariants as refusal;
-ghost use Rattle.server_core.specs.Actor.{actor_of, first_cell as first_cell_of};
+ghost use Rattle.server_core.specs.Actor.{actor_of};
+ghost use Rattle.server_core.specs.Actor as actor;
 ghost use Rattle.server_core.specs.Rooms.{IsAsked, IsSoundTask};
 ghost use Rattle.server_core.specs.Served.{Tried};
-ghost use Rattle.server_core.specs.Steps.{ask as asked, told};
+ghost use Rattle.server_core.specs.Steps.{told};
+ghost use Rattle.server_core.specs.Steps as steps;
 ghost use Rattle.server_core.specs.declared.step.Moved.TheVariants as moved;
 ghost use Rattle.server_core.specs.declared.task.Task.TheVariants as doing;
 
@@ -12,7 +14,7 @@ use crate::opening::{act_refusal, create_refusal, hello, pads_refusal, peer};
 use crate::step::Moved;
 use crate::task::Task;
 use pad_core::{Reply, Request};
-use pad_model::{Name, Refusal, Row};
+use pad_model::{Items, Name, Refusal};
 use sessions::{Accounts, Session};
 use std::alloc::Global;
 
@@ -27,7 +29,7 @@ pub fn ask(
 ) -> Moved
     requires { task.old ≡ doing.Resting }
     ensures tried { Tried (actor_of session.old task.old)
-        (asked replica accounts.now request.now (actor_of session.old task.old)) result
+        (steps.ask replica accounts.now request.now (actor_of session.old task.old)) result
         (actor_of session.new task.new) }
     ensures sound { IsSoundTask task.new }
 {
@@ -60,7 +62,7 @@ fn begin(session: &Session, task: &mut Task, pad: &Name, request: &Request) -> M
     requires { IsAsked request.now }
     ensures begun { ((result ≡ moved.Refused refusal.Memory) × (task.new ≡ task.old))
         ⊎ ((result ≡ moved.Scanning) × (task.new
-        ≡ doing.Scanning request.now (first_cell_of pad.now session.now.rooms))) }
+        ≡ doing.Scanning request.now (actor.first_cell pad.now session.now.rooms))) }
 {
     match request.clone() {
         Ok(request) => {
@@ -77,14 +79,14 @@ fn begin_list(alloc: Global, task: &mut Task) -> Moved
     ensures told { result ≡ moved.Scanning }
     ensures task { task.new ≡ doing.Listing 0 [] }
 {
-    let found = Row::new(alloc);
+    let found = Items::new(alloc);
     task.turn(Task::Listing { cell: 0, found });
     Moved::Scanning
 }
 
 /// Where the scan for a pad begins: at the pad's cell if the session has joined it, and otherwise at the first cell.
 pub fn first_cell(session: &Session, pad: &Name) -> u32
-    ensures { result ≡ first_cell_of pad.now session.now.rooms }
+    ensures { result ≡ actor.first_cell pad.now session.now.rooms }
 {
     match session.room(pad.as_str()) {
         Some(room) => room.cell,

@@ -3,8 +3,8 @@ ghost use Rattle.std.specs.Prelude.{◌≡◌, ◌≤◌, IsTrue, IfErr, IfOk};
 ghost use Rattle.pad_model.specs.Checked.{is_name};
 ghost use Rattle.pad_core.specs.declared.act.Act.TheVariants as Act;
 ghost use Rattle.pad_core.specs.declared.request.Request.TheVariants as request;
-ghost use Rattle.server_core.specs.Actor.{visit_on as visit_there};
-ghost use Rattle.server_core.specs.AtCell.{act_at as acted_at, create_at as created_at, passed_on as passed, request_at as requested_at, rooms_after as rooms_then};
+ghost use Rattle.server_core.specs.Actor as actor;
+ghost use Rattle.server_core.specs.AtCell as at_cell;
 ghost use Rattle.server_core.specs.Rooms.{HasRoom, IsAsked};
 ghost use Rattle.server_core.specs.Served.{Visited};
 
@@ -24,7 +24,7 @@ pub fn request_at<S: Sequence>(
     requires { IsAsked request.now }
     ensures who { session.new.who ≡ session.old.who }
     ensures visited { Visited session.old.who request.now session.old.rooms cell.old
-        (requested_at session.old.who request.now place session.old.rooms cell.old) result
+        (at_cell.request_at session.old.who request.now place session.old.rooms cell.old) result
         session.new.rooms cell.new }
 {
     match request {
@@ -44,7 +44,7 @@ fn act_at<S: Sequence>(
 ) -> Result<Option<Reply>, Refusal>
     ensures who { session.new.who ≡ session.old.who }
     ensures visited { Visited session.old.who (request.On pad.now act.now) session.old.rooms
-        cell.old (acted_at session.old.who pad.now act.now place session.old.rooms cell.old) result
+        cell.old (at_cell.act_at session.old.who pad.now act.now place session.old.rooms cell.old) result
         session.new.rooms cell.new }
 {
     let name = make_room(alloc, session, pad, act)?;
@@ -61,7 +61,7 @@ fn act_at<S: Sequence>(
 
 /// The visit that the session has on a pad.
 pub fn visit_on(session: &Session, pad: &Name) -> Option<u64>
-    ensures { result ≡ visit_there pad.now session.now.rooms }
+    ensures { result ≡ actor.visit_on pad.now session.now.rooms }
 {
     match session.room(pad.as_str()) {
         Some(room) => Some(room.visit),
@@ -101,7 +101,7 @@ fn keep_rooms(
 )
     requires { HasRoom act.now pad.now name session.old.spare }
     ensures who { session.new.who ≡ session.old.who }
-    ensures rooms { session.new.rooms ≡ rooms_then pad.now place act.now answer.now
+    ensures rooms { session.new.rooms ≡ at_cell.rooms_after pad.now place act.now answer.now
         session.old.rooms }
 {
     match (act, answer) {
@@ -121,7 +121,7 @@ fn keep_rooms(
 
 /// Turns a pad's answer into the server's.
 fn pass_on(answer: Result<PadReply, Refusal>) -> Result<Option<Reply>, Refusal>
-    ensures { result ≡ passed answer }
+    ensures { result ≡ at_cell.passed_on answer }
 {
     match answer? {
         PadReply::Elsewhere => Ok(None),
@@ -139,7 +139,7 @@ fn create_at<S: Sequence>(
     requires { IsTrue (is_name pad.now) }
     ensures who { session.new.who ≡ session.old.who }
     ensures visited { Visited session.old.who (request.Create pad.now) session.old.rooms cell.old
-        (created_at session.old.who pad.now place session.old.rooms cell.old) result
+        (at_cell.create_at session.old.who pad.now place session.old.rooms cell.old) result
         session.new.rooms cell.new }
 {
     let name = pad.clone()?;

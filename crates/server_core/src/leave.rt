@@ -2,7 +2,8 @@
 ghost use Rattle.std.specs.Prelude.{◌≡◌};
 ghost use Rattle.server_core.specs.Actor.{actor_of};
 ghost use Rattle.server_core.specs.Rooms.{IsSoundTask};
-ghost use Rattle.server_core.specs.Steps.{alone, end as end_begun, ended, leave_first as first_left, left_room};
+ghost use Rattle.server_core.specs.Steps.{alone, ended, left_room};
+ghost use Rattle.server_core.specs.Steps as steps;
 
 use crate::step::Moved;
 use crate::task::Task;
@@ -12,7 +13,7 @@ use sessions::{Room, Session};
 
 /// Begins the end of a session. A scan is dropped; an end that is under way continues.
 pub fn end(session: &mut Session, task: &mut Task) -> Moved
-    ensures ended { end_begun task.old (actor_of session.old task.old)
+    ensures ended { steps.end task.old (actor_of session.old task.old)
         ≡ (result, actor_of session.new task.new) }
     ensures sound { IsSoundTask task.new }
 {
@@ -28,7 +29,7 @@ pub fn leave_first<S: Sequence>(
     session: &mut Session,
     task: &mut Task,
 ) -> Moved
-    ensures left { first_left (actor_of session.old task.old) session.old.rooms cells.old
+    ensures left { steps.leave_first (actor_of session.old task.old) session.old.rooms cells.old
         ≡ (result, actor_of session.new task.new, cells.new) }
     ensures sound { IsSoundTask task.new }
 {

@@ -4,7 +4,7 @@ ghost use Rattle.pad_model.specs.declared.refusal.Refusal.TheVariants as refusal
 ghost use Rattle.server_core.specs.Listing.{listed_at};
 
 use pad_core::{Listed, Pad};
-use pad_model::{Refusal, Row, Sequence, Who};
+use pad_model::{Items, Refusal, Sequence, Who};
 use std::alloc::Global;
 
 /// Adds the pad of the cell with this index in the row, if `who` may read it.
@@ -13,7 +13,7 @@ pub fn list_cell<S: Sequence>(
     cells: &[Pad<S>],
     place: u32,
     who: &Who,
-    found: &mut Row<Listed>,
+    found: &mut Items<Listed>,
 ) -> Result<(), Refusal>
     ensures listed { OnOk result (found.new ≡ found.old ++ listed_at who.now place cells.now) }
     ensures memory { IfErr result (λ e. (e ≡ refusal.Memory)

@@ -1,7 +1,8 @@
 //! How a session becomes an author's or a peer's, and what a request requires of its session.
 ghost use Rattle.std.specs.Prelude.{◌≡◌};
 ghost use Rattle.pad_model.specs.Answers.{Answers};
-ghost use Rattle.server_core.specs.Opening.{hello as author_opened, peer as peer_opened, relay as relay_opened, is_nobody, is_of_author, is_unsayable, create_refusal as create_refused, pads_refusal as pads_refused, act_refusal as act_refused};
+ghost use Rattle.server_core.specs.Opening.{is_nobody, is_of_author, is_unsayable};
+ghost use Rattle.server_core.specs.Opening as opening;
 
 use pad_core::{Act, Reply, session_refusal};
 use pad_model::{Author, Name, OLD_REPLICA, Refusal, Version, Who};
@@ -18,7 +19,7 @@ pub fn hello(
     session: &mut Session,
 ) -> Result<Reply, Refusal>
     ensures who { Answers session.old.who
-        (author_opened replica accounts.now name.now token.now session.old.who) result
+        (opening.hello replica accounts.now name.now token.now session.old.who) result
         session.new.who }
     ensures rooms { session.new.rooms ≡ session.old.rooms }
 {
@@ -45,7 +46,7 @@ pub fn peer(
     version: Version,
     session: &mut Session,
 ) -> Result<Reply, Refusal>
-    ensures who { peer_opened replica accounts.now number token.now version session.old.who
+    ensures who { opening.peer replica accounts.now number token.now version session.old.who
         ≡ (result, session.new.who) }
     ensures rooms { session.new.rooms ≡ session.old.rooms }
 {
@@ -70,7 +71,7 @@ pub fn peer(
 
 /// Makes a session that of a peer, for exchange with it.
 pub fn relay(replica: u16, number: u16, session: &mut Session) -> Result<Reply, Refusal>
-    ensures who { relay_opened replica number session.old.who ≡ (result, session.new.who) }
+    ensures who { opening.relay replica number session.old.who ≡ (result, session.new.who) }
     ensures rooms { session.new.rooms ≡ session.old.rooms }
 {
     let taken = !is_nobody(session.who());
@@ -84,7 +85,7 @@ pub fn relay(replica: u16, number: u16, session: &mut Session) -> Result<Reply, 
 
 /// The reason to refuse a creation before any cell is visited, if there is one.
 pub fn create_refusal(who: &Who, pad: &Name) -> Option<Refusal>
-    ensures { result ≡ create_refused who.now pad.now }
+    ensures { result ≡ opening.create_refusal who.now pad.now }
 {
     if !is_of_author(who) {
         return Some(Refusal::NoSession);
@@ -97,7 +98,7 @@ pub fn create_refusal(who: &Who, pad: &Name) -> Option<Refusal>
 
 /// The reason to refuse a list of pads, if there is one.
 pub fn pads_refusal(who: &Who) -> Option<Refusal>
-    ensures { result ≡ pads_refused who.now }
+    ensures { result ≡ opening.pads_refusal who.now }
 {
     if is_of_author(who) {
         None
@@ -108,7 +109,7 @@ pub fn pads_refusal(who: &Who) -> Option<Refusal>
 
 /// The reason to refuse an act before any cell is visited, if there is one.
 pub fn act_refusal(who: &Who, pad: &Name, act: &Act) -> Option<Refusal>
-    ensures { result ≡ act_refused who.now pad.now act.now }
+    ensures { result ≡ opening.act_refusal who.now pad.now act.now }
 {
     match session_refusal(who, act) {
         Some(refusal) => Some(refusal),

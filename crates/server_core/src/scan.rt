@@ -1,10 +1,11 @@
 //! The scan of a row: a request goes from cell to cell until one answers it.
 ghost use Rattle.std.specs.Prelude.{◌≡◌, ◌≤◌, length};
 ghost use Rattle.server_core.specs.Actor.{actor_of};
-ghost use Rattle.server_core.specs.AtCell.{past_row as row_passed, row_answer as row_answered};
+ghost use Rattle.server_core.specs.AtCell as at_cell_spec;
 ghost use Rattle.server_core.specs.Rooms.{IsAsked, IsSoundTask};
 ghost use Rattle.server_core.specs.Served.{Acted, RowVisited};
-ghost use Rattle.server_core.specs.Steps.{concluded, goes_on as going_on, move as moved_on};
+ghost use Rattle.server_core.specs.Steps.{concluded};
+ghost use Rattle.server_core.specs.Steps as steps;
 ghost use Rattle.server_core.specs.declared.step.Step.TheVariants as step;
 ghost use Rattle.server_core.specs.declared.limits.TheConstants.{MAX_CELLS};
 
@@ -15,7 +16,7 @@ use crate::listing::list_cell;
 use crate::step::Moved;
 use crate::task::Task;
 use pad_core::{Pad, Reply, Request};
-use pad_model::{Refusal, Row, Sequence};
+use pad_model::{Items, Refusal, Sequence};
 use sessions::Session;
 use std::alloc::Global;
 use std::mem;
@@ -30,7 +31,7 @@ pub fn go_on<S: Sequence>(
     requires row { length cells.old ≤ MAX_CELLS }
     requires sound { IsSoundTask task.old }
     ensures acted { Acted step.Move cells.old (actor_of session.old task.old)
-        (moved_on task.old (actor_of session.old task.old) cells.old) result
+        (steps.move task.old (actor_of session.old task.old) cells.old) result
         (actor_of session.new task.new) cells.new }
     ensures sound { IsSoundTask task.new }
 {
@@ -47,7 +48,7 @@ pub fn go_on<S: Sequence>(
                 *cell = place + 1;
                 return Moved::Scanning;
             }
-            let pads = mem::replace(found, Row::new(alloc));
+            let pads = mem::replace(found, Items::new(alloc));
             task.turn(Task::Resting);
             Moved::Done(Reply::Pads { pads })
         }
@@ -76,7 +77,7 @@ fn answer_at<S: Sequence>(
     requires { IsAsked request.now }
     ensures who { session.new.who ≡ session.old.who }
     ensures visited { RowVisited session.old.who request.now place session.old.rooms cells.old
-        (row_answered session.old.who request.now place session.old.rooms cells.old) result
+        (at_cell_spec.row_answer session.old.who request.now place session.old.rooms cells.old) result
         session.new.rooms cells.new }
 {
     let index = place as usize;
@@ -88,7 +89,7 @@ fn answer_at<S: Sequence>(
 
 /// Whether the cell had another name and another cell follows it.
 fn goes_on(answer: &Result<Option<Reply>, Refusal>, place: u32, count: usize) -> bool
-    ensures { result ≡ going_on answer.now place count }
+    ensures { result ≡ steps.goes_on answer.now place count }
 {
     match answer {
         Ok(None) => u64::from(place) + 1 < count as u64,
@@ -109,7 +110,7 @@ fn conclude(answer: Result<Option<Reply>, Refusal>, request: &Request) -> Moved
 
 /// The refusal of a request that finds no cell.
 pub fn past_row(request: &Request) -> Refusal
-    ensures { result ≡ row_passed request.now }
+    ensures { result ≡ at_cell_spec.past_row request.now }
 {
     match request {
         Request::Create { .. } => Refusal::NoSlot,

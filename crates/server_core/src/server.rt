@@ -8,7 +8,8 @@ ghost use Rattle.server_core.specs.declared.limits.TheConstants.{MAX_CELLS};
 ghost use Rattle.pad_core.specs.Delivered.{IsDelivered};
 ghost use Rattle.pad_core.specs.Laws.{HaveSame, ReadAlike};
 ghost use Rattle.pad_core.specs.Machine.{Machine};
-ghost use Rattle.server_core.specs.Machine.{new_server, with_accounts, with_newcomer, run as machine_run, unnamed};
+ghost use Rattle.server_core.specs.Machine.{new_server, with_accounts, with_newcomer, unnamed};
+ghost use Rattle.server_core.specs.Machine as machine;
 ghost use Rattle.server_core.specs.Served.{FoundMemory, GoesThrough, IsFormed, Ran, Served};
 ghost use Rattle.server_core.specs.declared.step.Step.TheVariants as Step;
 
@@ -141,7 +142,7 @@ impl<S: Sequence> Server<S> {
 
         // If no step ran out of memory, the results and the server are the machine's.
         ensures machine { IfOk result (λ answers. FoundMemory answers.items
-            → machine_run events.items self.old ≡ (answers.items, self.new)) }
+            → machine.run events.items self.old ≡ (answers.items, self.new)) }
 
         // The present text, authors and comments of a pad then depend only on the set of its operations: any other log
         // with the same operations reads the same.

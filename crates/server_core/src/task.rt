@@ -2,7 +2,7 @@
 ghost use Rattle.std.specs.Prelude.{◌≡◌};
 
 use pad_core::{Listed, Request};
-use pad_model::Row;
+use pad_model::Items;
 
 /// What is under way.
 #[derive(Drop)]
@@ -12,7 +12,7 @@ pub enum Task {
     /// A request goes from cell to cell; this one is next.
     Scanning { request: Request, cell: u32 },
     /// A list of pads goes from cell to cell; this one is next, and these pads were found so far.
-    Listing { cell: u32, found: Row<Listed> },
+    Listing { cell: u32, found: Items<Listed> },
     /// The session is leaving its pads.
     Leaving,
 }

@@ -1,4 +1,3 @@
 -- The lemmas, by topic.
 pub mod Lines
 pub mod Tokens
-pub mod Visits

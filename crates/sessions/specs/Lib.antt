@@ -2,7 +2,6 @@
 pub mod Accounts
 pub mod AccountsFile
 pub mod Inside
-pub mod Presence
 pub mod Said
 pub mod Session
 pub mod Tokens

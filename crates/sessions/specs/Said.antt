@@ -2,18 +2,18 @@
 use Rattle.std.specs.Prelude.{List, ℕ, [], Option, Some, None, Result, Ok, Err}
 use Rattle.std.specs.Borrow.{Bor}
 use Rattle.sessions.specs.AccountsFile.{Said, nothing, an_author, a_peer, words}
-use Rattle.sessions.specs.declared.line.Line as line
-use Rattle.sessions.specs.declared.line.Line.TheVariants.{Skip, Author, Peer}
+use Rattle.sessions.specs.declared.line.AccountLine as line
+use Rattle.sessions.specs.declared.line.AccountLine.TheVariants.{Skip, Author, Peer}
 use Rattle.sessions.specs.declared.mistake.Mistake.{Mistake}
 
 -- the meaning of a line that was read
-abbrev pub said : line.Line → Said
+abbrev pub said : line.AccountLine → Said
 said Skip = nothing
 said (Author name token) = an_author name.now token.now
 said (Peer number token address) = a_peer number token.now address.now
 
 -- the meaning of a line that was read, or what is wrong with it
-abbrev pub said_or_mistake : Result line.Line Mistake → Result Said Mistake
+abbrev pub said_or_mistake : Result line.AccountLine Mistake → Result Said Mistake
 said_or_mistake (Ok line) = Ok (said line)
 said_or_mistake (Err mistake) = Err mistake
 

@@ -6,7 +6,7 @@ ghost use Rattle.sessions.specs.AccountsFile.{an_author, a_peer};
 ghost use Rattle.sessions.specs.Said.{said};
 ghost use Rattle.sessions.specs.declared.accounts.AccountsError.TheVariants.{Memory};
 
-use crate::line::{Line, cut_line, read_line};
+use crate::line::{AccountLine, cut_line, read_line};
 use crate::mistake::Mistake;
 use crate::word::Word;
 use pad_model::Name;
@@ -115,14 +115,14 @@ impl Accounts {
     }
 
     /// Adds a line's account, or returns why it cannot be added.
-    fn add(&mut self, alloc: Global, line: Line<'_>) -> Result<Option<Mistake>, AllocError>
+    fn add(&mut self, alloc: Global, line: AccountLine<'_>) -> Result<Option<Mistake>, AllocError>
         ensures { IfOk result (λ refused. with_line self.old (Ok (said line.entry))
             ≡ outcome refused self.new) }
     {
         match line {
-            Line::Skip => Ok(None),
-            Line::Author { name, token } => self.add_author(alloc, name, token),
-            Line::Peer {
+            AccountLine::Skip => Ok(None),
+            AccountLine::Author { name, token } => self.add_author(alloc, name, token),
+            AccountLine::Peer {
                 number,
                 token,
                 address,

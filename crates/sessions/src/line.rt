@@ -19,7 +19,7 @@ pub const MAX_TOKEN: u64 = 64;
 pub const MAX_ADDRESS: u64 = 255;
 
 /// What a line says.
-pub enum Line<'a> {
+pub enum AccountLine<'a> {
     Skip,
     Author {
         name: &'a str,
@@ -66,11 +66,11 @@ fn without_return(line: &[u8]) -> &[u8]
 }
 
 /// What a line says, or what is wrong with it.
-pub fn read_line(line: &[u8]) -> Result<Line<'_>, Mistake>
+pub fn read_line(line: &[u8]) -> Result<AccountLine<'_>, Mistake>
     ensures { said_or_mistake result ≡ meaning line.now }
 {
     match line {
-        [] | [b'#', ..] => Ok(Line::Skip),
+        [] | [b'#', ..] => Ok(AccountLine::Skip),
         _ if line.contains(&b'\t') => Err(Mistake::Tab),
         _ if has_empty_word(line) => Err(Mistake::ExtraSpace),
         _ => read_words(line),
@@ -93,7 +93,7 @@ fn has_empty_word(line: &[u8]) -> bool
 }
 
 /// What the words of a line say: the first one tells the form of the others.
-fn read_words(line: &[u8]) -> Result<Line<'_>, Mistake>
+fn read_words(line: &[u8]) -> Result<AccountLine<'_>, Mistake>
     ensures { said_or_mistake result ≡ said_by (words line.now) }
 {
     let (kind, rest) = cut_word(line);
@@ -117,7 +117,7 @@ fn cut_word(text: &[u8]) -> (&[u8], Option<&[u8]>)
 }
 
 /// Reads `author NAME TOKEN`, from what follows its first word.
-fn author_line(rest: Option<&[u8]>) -> Result<Line<'_>, Mistake>
+fn author_line(rest: Option<&[u8]>) -> Result<AccountLine<'_>, Mistake>
     ensures { said_or_mistake result ≡ author_said (words_behind rest.entry) }
 {
     let (name, rest) = cut_word(rest.ok_or(Mistake::NoName)?);
@@ -125,14 +125,14 @@ fn author_line(rest: Option<&[u8]>) -> Result<Line<'_>, Mistake>
     if rest.is_some() {
         return Err(Mistake::ExtraWord);
     }
-    Ok(Line::Author {
+    Ok(AccountLine::Author {
         name: name_text(name)?,
         token: token_text(token)?,
     })
 }
 
 /// Reads `peer NUMBER TOKEN HOST:PORT`, from what follows its first word.
-fn peer_line(rest: Option<&[u8]>) -> Result<Line<'_>, Mistake>
+fn peer_line(rest: Option<&[u8]>) -> Result<AccountLine<'_>, Mistake>
     ensures { said_or_mistake result ≡ peer_said (words_behind rest.entry) }
 {
     let (number, rest) = cut_word(rest.ok_or(Mistake::NoNumber)?);
@@ -141,7 +141,7 @@ fn peer_line(rest: Option<&[u8]>) -> Result<Line<'_>, Mistake>
     if rest.is_some() {
         return Err(Mistake::ExtraWord);
     }
-    Ok(Line::Peer {
+    Ok(AccountLine::Peer {
         number: number_of(number)?,
         token: token_text(token)?,
         address: address_text(address)?,

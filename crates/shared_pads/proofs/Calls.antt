@@ -11,7 +11,7 @@ use Rattle.pad_core.specs.declared.act.Act.TheVariants as act
 use Rattle.pad_core.specs.declared.request.Request.{Request}
 use Rattle.server_core.specs.AtCell.{request_at}
 use Rattle.server_core.specs.Served.{Visited}
-use Rattle.shared_pads.specs.Kept.{Called, Counts, Departs, Fits, IsKept, IsKnown, Kept, departed, left, seat_after}
+use Rattle.shared_pads.specs.LockedPad.{Called, Counts, Departs, Fits, IsKept, IsKnown, LockedPad, departed, left, seat_after, was_called}
 use Rattle.shared_pads.specs.Seats.{Answer, Stands, counted, edit_of}
 use Rattle.shared_pads.specs.declared.seat.LastEdit.{LastEdit}
 use Rattle.shared_pads.specs.declared.seat.Seat.{Seat}
@@ -19,11 +19,11 @@ use Rattle.shared_pads.specs.declared.seat.Tally.{Tally}
 use Rattle.shared_pads.proofs.Grows.{Grown, step_grows, visited_grows}
 use Rattle.shared_pads.proofs.Tallies.{kept_on, one_of, one_within, stands_after, stands_on}
 
-abbrev pub kept_of : Machine → ℕ → List Tally → ℕ → ℕ → Kept
+abbrev pub kept_of : Machine → ℕ → List Tally → ℕ → ℕ → LockedPad
 kept_of pad base ts calls most = record { pad = pad; base = base; tallies = ts; calls = calls; seats = most }
 
 -- one more call of a seat that is known can be counted
-module _ (pad : Machine) (base : ℕ) (ts : List Tally) (calls most room : ℕ) (k : Kept) (seat : Seat)
+module _ (pad : Machine) (base : ℕ) (ts : List Tally) (calls most room : ℕ) (k : LockedPad) (seat : Seat)
     (view : kept_of pad base ts calls most ≡ k) (known : IsKnown k seat) (kept : IsKept pad.log base ts calls most room) where
   there : IsKnown (kept_of pad base ts calls most) seat
   there = subst (λ k. IsKnown k seat) (sym view) known
@@ -86,7 +86,7 @@ module _ (pad : Machine) (base : ℕ) (ts : List Tally) (calls most room : ℕ) 
       )))
 
 -- what a call was, before it is counted
-pub record Visit (pad : Machine) (base : ℕ) (ts : List Tally) (calls most room : ℕ) (k : Kept) (seat : Seat) (who : Who)
+pub record Visit (pad : Machine) (base : ℕ) (ts : List Tally) (calls most room : ℕ) (k : LockedPad) (seat : Seat) (who : Who)
     (asked : Request) (rooms : List Room) (answer : Answer) (new : List Room) (after : Machine)
     (before now : ℕ) : Type 0 where
   pub view : kept_of pad base ts calls most ≡ k
@@ -96,7 +96,7 @@ pub record Visit (pad : Machine) (base : ℕ) (ts : List Tally) (calls most room
   pub was : before ≡ length pad.log
   pub is : now ≡ length after.log
 
-module _ (pad : Machine) (base : ℕ) (ts : List Tally) (calls most room : ℕ) (k : Kept) (seat : Seat) (who : Who)
+module _ (pad : Machine) (base : ℕ) (ts : List Tally) (calls most room : ℕ) (k : LockedPad) (seat : Seat) (who : Who)
     (asked : Request)
     (rooms : List Room) (answer : Answer) (new : List Room) (after : Machine) (before now : ℕ)
     (v : Visit pad base ts calls most room k seat who asked rooms answer new after before now) where
@@ -190,7 +190,7 @@ module _ (pad : Machine) (base : ℕ) (ts : List Tally) (calls most room : ℕ) 
       let is : (let s : Seat = record seat { tally = t } in s) ≡ seat_after (length grown.0)
       (edit_of asked answer) seat = ap (λ (t : Tally). (let s : Seat = record seat { tally = t } in s))
       (told edit t edit_is t_is) in
-      inr (
+      was_called seat who asked rooms answer (record seat { tally = t }) new (inr (
         pad,
         after,
         length grown.0,
@@ -200,4 +200,4 @@ module _ (pad : Machine) (base : ℕ) (ts : List Tally) (calls most room : ℕ) 
         v.visited,
         is,
         subst (λ s. Fits s after) (sym is) (fits_after delivered sound now_delivered now_sound),
-      )
+      ))

@@ -20,7 +20,7 @@ use Rattle.pad_model.specs.declared.refusal.Refusal.TheVariants.{Memory, NoPad, 
 use Rattle.pad_model.specs.declared.who.Who.{Who}
 use Rattle.pad_model.specs.declared.who.Who.TheVariants as who
 use Rattle.pad_model.specs.declared.who.Version.{Version}
-use Rattle.sessions.specs.Presence.{Presence}
+use Rattle.presence.specs.Presence.{Presence}
 use Rattle.sessions.specs.declared.session.Room.{Room}
 use Rattle.pad_core.specs.Audit.{stands_at}
 use Rattle.pad_core.specs.Counts.{vector_of, next_name, op_of}

@@ -4,7 +4,7 @@ use Rattle.std.specs.Option.{IfSome}
 use Rattle.std.specs.Result.{IfOk}
 use Rattle.pad_model.specs.declared.refusal.Refusal.{Refusal}
 use Rattle.pad_core.specs.Machine.{Machine, name_of}
-use Rattle.shared_pads.specs.Kept.{CanBe, IsNamed, named}
+use Rattle.shared_pads.specs.LockedPad.{CanBe, IsNamed, named}
 
 -- a name that was read is that of the cell's pad
 pub named_by : (cell : ℕ) (m : Machine) (result : Result (Option (List ℕ)) Refusal) → CanBe m →

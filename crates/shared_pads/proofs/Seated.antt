@@ -9,7 +9,7 @@ use Rattle.std.specs.List.{AllByRecursion, list_any}
 use Rattle.std.specs.Option.{is_some, option_map}
 use Rattle.pad_core.specs.Machine.{Machine}
 use Rattle.server_core.proofs.Named.{get-set_other}
-use Rattle.shared_pads.specs.Kept.{AreAll, IsKept, IsOf, Kept}
+use Rattle.shared_pads.specs.LockedPad.{AreAll, IsKept, IsOf, LockedPad}
 use Rattle.shared_pads.specs.Seats.{are_apart}
 use Rattle.shared_pads.specs.declared.seat.Seat.{Seat}
 use Rattle.shared_pads.specs.declared.seat.Tally.{Tally}
@@ -51,13 +51,13 @@ within f (seat ∷ seats) counts apart h =
     get_or_from_slice_get counts seat.number (f seat.tally) 0 h.0 in
     omega arith
 
-placed : (f : Tally → ℕ) (cell : ℕ) (k : Kept) (seats : List Seat) → AllByRecursion (IsOf cell k) seats →
+placed : (f : Tally → ℕ) (cell : ℕ) (k : LockedPad) (seats : List Seat) → AllByRecursion (IsOf cell k) seats →
     Places f (map f k.tallies) seats
 placed f cell k [] h = tt
 placed f cell k (seat ∷ seats) h =
     (slice_get-map f k.tallies seat.number ∙ ap (option_map f) h.0.1, placed f cell k seats h.1)
 
-no_more : (f : Tally → ℕ) (cell : ℕ) (k : Kept) (seats : List Seat) → AreAll cell k seats →
+no_more : (f : Tally → ℕ) (cell : ℕ) (k : LockedPad) (seats : List Seat) → AreAll cell k seats →
     sum_by (λ seat. f seat.tally) seats ≤ sum_by f k.tallies
 no_more f cell k seats all = let least = within f seats (map f k.tallies) all.1 (placed f cell k seats all.2) in let is =
     sum-map f k.tallies in omega arith
@@ -90,7 +90,7 @@ as_many m (x ∷ xs) (y ∷ ys) e =
 
 -- as many seats as there are places, each with its own, add just what the places do: they add no more of what each has,
 -- and no more of what each lacks
-same_sum : (f : Tally → ℕ) (cell : ℕ) (k : Kept) (seats : List Seat) → AreAll cell k seats →
+same_sum : (f : Tally → ℕ) (cell : ℕ) (k : LockedPad) (seats : List Seat) → AreAll cell k seats →
     sum_by (λ seat. f seat.tally) seats ≡ sum_by f k.tallies
 same_sum f cell k seats all =
     let has = no_more f cell k seats all in
@@ -102,7 +102,7 @@ same_sum f cell k seats all =
     omega arith
 
 -- so they have made the revision of the pad, and all calls
-pub all_made : (pad : Machine) (base : ℕ) (ts : List Tally) (calls most room cell : ℕ) (k : Kept) (seats : List Seat) →
+pub all_made : (pad : Machine) (base : ℕ) (ts : List Tally) (calls most room cell : ℕ) (k : LockedPad) (seats : List Seat) →
     kept_of pad base ts calls most ≡ k → IsKept pad.log base ts calls most room → AreAll cell k seats →
     (length pad.log ≡ base + sum_by (λ seat. seat.tally.operations) seats)
     × (calls ≡ sum_by (λ seat. seat.tally.calls) seats)
@@ -115,7 +115,7 @@ all_made pad base ts calls most room cell k seats view kept all =
     (omega arith, omega arith)
 
 -- what is refused was not all seats
-pub not_all : (result : Option Sums) (cell : ℕ) (k : Kept) (seats : List Seat) → result ≡ None →
+pub not_all : (result : Option Sums) (cell : ℕ) (k : LockedPad) (seats : List Seat) → result ≡ None →
     (AreAll cell k seats → ⊥) → IsSome result ↔ AreAll cell k seats
 not_all result cell k seats none refuted = (
   (λ some. absurd (none_some (sym (ap is_some none) ∙ some))),

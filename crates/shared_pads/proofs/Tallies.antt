@@ -11,7 +11,7 @@ use Rattle.pad_model.specs.declared.op.Op.{Op}
 use Rattle.pad_model.specs.declared.op.OpName.{OpName}
 use Rattle.pad_core.specs.Audit.{stands_at}
 use Rattle.pad_core.specs.Machine.{Machine}
-use Rattle.shared_pads.specs.Kept.{HasClosed, IsClosed, IsKept, IsOf, Kept}
+use Rattle.shared_pads.specs.LockedPad.{HasClosed, IsClosed, IsKept, IsOf, LockedPad}
 use Rattle.shared_pads.specs.Seats.{Stands, counted, last_after, uncounted}
 use Rattle.shared_pads.specs.declared.seat.LastEdit.{LastEdit}
 use Rattle.shared_pads.specs.declared.seat.Seat.{Seat}
@@ -126,18 +126,18 @@ one_more log base calls most room ts kept = record {
     all_more (t ∷ ts) h = (h.0, all_more ts h.1)
 
 -- the seats that a lock knows have its base, and are of the cell
-one_base : (cell : ℕ) (k : Kept) (seats : List Seat) → AllByRecursion (IsOf cell k) seats →
+one_base : (cell : ℕ) (k : LockedPad) (seats : List Seat) → AllByRecursion (IsOf cell k) seats →
     AllByRecursion (λ seat. seat.base ≡ k.base) seats
 one_base cell k [] h = tt
 one_base cell k (seat ∷ seats) h = (h.0.0, one_base cell k seats h.1)
 
-one_cell : (cell : ℕ) (k : Kept) (seats : List Seat) → AllByRecursion (IsOf cell k) seats →
+one_cell : (cell : ℕ) (k : LockedPad) (seats : List Seat) → AllByRecursion (IsOf cell k) seats →
     AllByRecursion (λ seat. seat.cell ≡ cell) seats
 one_cell cell k [] h = tt
 one_cell cell k (seat ∷ seats) h = (h.0.2, one_cell cell k seats h.1)
 
 -- the last edit of each seat that a lock knows is in the log
-pub seats_stand : (cell : ℕ) (k : Kept) (seats : List Seat) → AllByRecursion (λ t. Stands k.pad.log t.last) k.tallies →
+pub seats_stand : (cell : ℕ) (k : LockedPad) (seats : List Seat) → AllByRecursion (λ t. Stands k.pad.log t.last) k.tallies →
     AllByRecursion (IsOf cell k) seats → AllByRecursion (λ seat. Stands k.pad.log seat.tally.last) seats
 seats_stand cell k [] stand h = tt
 seats_stand cell k (seat ∷ seats) stand h = (
@@ -146,7 +146,7 @@ seats_stand cell k (seat ∷ seats) stand h = (
 )
 
 -- what the lock was asked, of the pad that it gives up
-pub closed : (cell : ℕ) (k : Kept) (pad : Machine) (seats asked : List Seat) (sums : Sums) → IsClosed cell k asked sums →
+pub closed : (cell : ℕ) (k : LockedPad) (pad : Machine) (seats asked : List Seat) (sums : Sums) → IsClosed cell k asked sums →
     AllByRecursion (λ seat. Stands k.pad.log seat.tally.last) asked → asked ≡ seats → pad ≡ k.pad →
     HasClosed pad cell seats sums.operations sums.calls
 closed cell k pad seats asked sums all stand same is =

@@ -1,3 +1,4 @@
 -- The definitions that the contracts cite, by topic.
-pub mod Kept
+pub mod Gates
+pub mod LockedPad
 pub mod Seats

@@ -1,8 +1,12 @@
 //! Callbacks from a server to whoever keeps its pads: around a request, before a reply and at the end of a connection.
-ghost use Rattle.std.specs.Prelude.{◌≡◌, ◌⊎◌, IfErr};
+ghost use Rattle.std.specs.Prelude.{◌≡◌, ◌⊎◌, ℕ, Bool, false, ⊤, IfErr, OnOk};
+ghost use Rattle.pad_core.specs.declared.request.Request.{Request};
+ghost use Rattle.shared_pads.specs.Gates.{IsGained, IsLet};
+ghost use Rattle.shared_pads.specs.Seats as seats;
 
+use crate::locked_pad::LockedPad;
 use pad_core::{Reply, Request};
-use pad_model::{Op, Refusal, Row, Who};
+use pad_model::{Items, Op, Refusal, Sequence, Who};
 use std::alloc::Global;
 
 /// A request that was answered at a cell.
@@ -12,29 +16,44 @@ pub struct Answered<'a> {
     pub who: &'a Who,
     pub request: &'a Request,
     pub answer: &'a Result<Option<Reply>, Refusal>,
+    /// The revision of the pad before the request.
+    pub from: u64,
     /// The number of operations that it delivered.
     pub made: u64,
     /// These operations, in their order, or an error if memory ran out while they were read. A gate that reads
     /// none gets none.
-    pub more: &'a Result<Row<Op>, Refusal>,
+    pub more: &'a Result<Items<Op>, Refusal>,
 }
 
 /// Callbacks on the course of connections.
 pub trait Gate {
-    /// A request was answered at a cell, whose lock is still held, so the calls for a cell come in the order of its
-    /// steps.
-    fn answered(&self, _alloc: Global, _told: &Answered<'_>) {}
+    /// Whether it reads the operations that a request delivered.
+    ghost reads: { Self → Bool };
+
+    /// It was told of a request at a cell, and of its answer. Only `answered` says so.
+    ghost told: { Self → ℕ → Request → seats.Answer → Type 0 };
+
+    /// It was told of a reply to a connection, and whether this reports a delivered operation. Only `before_reply` says so.
+    ghost announced: { Self → ℕ → Bool → Type 0 };
+
+    /// A request was answered at a cell. Its pad is lent, so its lock is held, and the calls for a cell come in the order
+    /// of its steps.
+    fn answered<S: Sequence>(&self, alloc: Global, answered: &Answered<'_>, pad: &LockedPad<S>)
+        requires gained { IsGained (reads self.now) answered.now pad.now }
+        ensures told { told self.now answered.now.cell answered.now.request.now answered.now.answer.now };
 
     /// Whether it reads the operations that a request delivered. Otherwise it gets only their number.
-    fn reads_operations(&self) -> bool {
-        false
-    }
+    fn reads_operations(&self) -> bool
+        ensures { result ≡ reads self.now };
 
     /// Whether what a request leaves can be kept. If not, a request that may leave something is refused before its
     /// step: with 901, or with 900 if memory is missing.
-    fn keeps(&self, _alloc: Global, _request: &Request) -> Result<(), Refusal>
-        ensures { IfErr result (λ e. (e ≡ Refusal.StoreFull) ⊎ (e ≡ Refusal.Memory)) }
+    #[tactic(auto, using(crate::specs::Gates::let_pass))]
+    fn keeps(&self, _alloc: Global, request: &Request) -> Result<(), Refusal>
+        ensures refused { IfErr result (λ e. (e ≡ Refusal.StoreFull) ⊎ (e ≡ Refusal.Memory)) }
+        ensures kept { OnOk result (IsLet request.now) }
     {
+        let _any = request;
         Ok(())
     }
 
@@ -45,7 +64,8 @@ pub trait Gate {
     fn inside(&self, cell: u32);
 
     /// A reply is about to be written; whether it reports a delivered operation.
-    fn before_reply(&self, connection: u64, delivered: bool);
+    fn before_reply(&self, connection: u64, delivered: bool)
+        ensures { announced self.now connection delivered };
 
     /// A connection has ended.
     fn done(&self, connection: u64);
@@ -56,6 +76,23 @@ pub trait Gate {
 pub struct Open;
 
 impl Gate for Open {
+    ghost reads = { λ _. false };
+
+    ghost told = { λ _ _ _ _. ⊤ };
+
+    ghost announced = { λ _ _ _. ⊤ };
+
+    fn answered<S: Sequence>(
+        &self,
+        _alloc: Global,
+        _answered: &Answered<'_>,
+        _pad: &LockedPad<S>,
+    ) {}
+
+    fn reads_operations(&self) -> bool {
+        false
+    }
+
     fn inside(&self, _cell: u32) {}
 
     fn before_reply(&self, _connection: u64, _delivered: bool) {}

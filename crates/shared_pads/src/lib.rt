@@ -4,11 +4,12 @@
 #![tactic(auto)]
 
 mod gate;
-mod kept;
+mod locked_pad;
 mod seat;
 mod shared_pad;
 mod sums;
 
 pub use gate::{Answered, Gate, Open};
+pub use locked_pad::LockedPad;
 pub use seat::{LastEdit, MAX_SEATS, Seat, Tally};
 pub use shared_pad::{Closed, SharedPad};

@@ -1,6 +1,7 @@
 //! A seat at a shared pad, and what was counted of its calls.
 ghost use Rattle.std.specs.Prelude.{◌≡◌, ◌↔◌, ◌+◌, ◌≤◌, ◌<◌, IsTrue, None};
-ghost use Rattle.shared_pads.specs.Seats.{counted, uncounted, edit_of as edit_told_of, edit_told as edit_answered, effect_of as effect_is, last_after as last_then};
+ghost use Rattle.shared_pads.specs.Seats.{counted, uncounted};
+ghost use Rattle.shared_pads.specs.Seats as seats;
 
 use pad_core::{Act, PadReply, Reply, Request};
 use pad_model::{OpName, Refusal};
@@ -96,7 +97,7 @@ impl Seat {
 }
 
 fn last_after(edit: Option<LastEdit>, before: Option<LastEdit>) -> Option<LastEdit>
-    ensures { result ≡ last_then edit before }
+    ensures { result ≡ seats.last_after edit before }
 {
     match edit {
         Some(_) => edit,
@@ -116,7 +117,7 @@ pub enum Effect {
 }
 
 fn effect_of(act: &Act) -> Effect
-    ensures { result ≡ effect_is act.now }
+    ensures { result ≡ seats.effect_of act.now }
 {
     match act {
         Act::Insert { .. }
@@ -131,7 +132,7 @@ fn effect_of(act: &Act) -> Effect
 
 /// The edit that the answer to a request reports, if any.
 pub fn edit_of(request: &Request, answer: &Result<Option<Reply>, Refusal>) -> Option<LastEdit>
-    ensures { result ≡ edit_told_of request.now answer.now }
+    ensures { result ≡ seats.edit_of request.now answer.now }
 {
     let Request::On { act, .. } = request else {
         return None;
@@ -143,7 +144,7 @@ pub fn edit_of(request: &Request, answer: &Result<Option<Reply>, Refusal>) -> Op
 }
 
 fn edit_told(answer: &Result<Option<Reply>, Refusal>) -> Option<LastEdit>
-    ensures { result ≡ edit_answered answer.now }
+    ensures { result ≡ seats.edit_told answer.now }
 {
     match answer {
         Ok(Some(Reply::Pad(PadReply::Made { now, name } | PadReply::Changed { now, name, .. }))) =>

@@ -2,14 +2,14 @@
 ghost use Rattle.std.specs.Prelude.{◌≡◌, ◌⊎◌, ◌↔◌, IsTrue, IfOk, IfErr, IfSome, MatchResult, None};
 ghost use Rattle.pad_model.specs.Checked.{is_name};
 ghost use Rattle.server_core.specs.Rooms.{IsAsked};
-ghost use Rattle.shared_pads.specs.Kept.{Called, Departs, HasClosed, IsListing, IsNamed, seat_after};
+ghost use Rattle.shared_pads.specs.LockedPad.{Called, Departs, HasClosed, IsListing, IsNamed, seat_after};
 ghost use Rattle.shared_pads.specs.Seats.{uncounted};
 
 use crate::gate::{Answered, Gate};
-use crate::kept::Kept;
+use crate::locked_pad::LockedPad;
 use crate::seat::Seat;
 use pad_core::{Listed, Pad, Reply, Request};
-use pad_model::{Name, Refusal, Row, Sequence, Who};
+use pad_model::{Items, Name, Refusal, Sequence, Who};
 use sessions::{Room, Session};
 use std::alloc::Global;
 use std::sync::{Mutex, MutexGuard, Wait};
@@ -25,22 +25,18 @@ const LOOKS: u32 = 64;
 /// with the operations of all seats.
 #[derive(Drop)]
 pub struct SharedPad<S: Sequence> {
-    kept: Mutex<Kept<S>>,
+    kept: Mutex<LockedPad<S>>,
     cell: u32,
 }
 
 impl<S: Sequence> SharedPad<S> {
-    /// Puts a pad behind a lock, with room for the tallies of this many seats, at most 96. If there is no memory for
-    /// it, the pad is handed back.
-    pub fn new(alloc: Global, pad: Pad<S>, cell: u32, seats: u32) -> Result<SharedPad<S>, Pad<S>>
-        ensures { MatchResult result (λ shared. shared.cell ≡ cell) (λ back. back ≡ pad) }
+    /// Puts a pad behind a lock. `LockedPad::new` makes room for the tallies of its seats.
+    pub fn new(kept: LockedPad<S>, cell: u32) -> SharedPad<S>
+        ensures { result.cell ≡ cell }
     {
-        match Kept::new(alloc, pad, seats) {
-            Ok(kept) => Ok(SharedPad {
-                kept: Mutex::new(kept),
-                cell,
-            }),
-            Err(pad) => Err(pad),
+        SharedPad {
+            kept: Mutex::new(kept),
+            cell,
         }
     }
 
@@ -68,7 +64,7 @@ impl<S: Sequence> SharedPad<S> {
     }
 
     // The lock, for a step.
-    fn lock<R: Wait>(&self, rt: &R) -> MutexGuard<'_, Kept<S>> {
+    fn lock<R: Wait>(&self, rt: &R) -> MutexGuard<'_, LockedPad<S>> {
         for _look in 0..LOOKS {
             if let Some(kept) = self.kept.try_lock() {
                 return kept;
@@ -93,6 +89,7 @@ impl<S: Sequence> SharedPad<S> {
         ensures who { session.new.who ≡ session.old.who }
         ensures called { Called seat.old session.old.who request.now session.old.rooms result
             seat.new session.new.rooms }
+        ensures told { G.told gate.now self.now.cell request.now result }
     {
         let mut kept = self.lock(rt);
         let before = kept.revision();
@@ -100,17 +97,18 @@ impl<S: Sequence> SharedPad<S> {
         let more = if gate.reads_operations() {
             kept.since(alloc, before)
         } else {
-            Ok(Row::new(alloc))
+            Ok(Items::new(alloc))
         };
-        let told = Answered {
+        let answered = Answered {
             cell: self.cell,
             who: session.who(),
             request,
             answer: &answer,
+            from: before,
             made: kept.revision().saturating_sub(before),
             more: &more,
         };
-        gate.answered(alloc, &told);
+        gate.answered(alloc, &answered, &*kept);
         gate.inside(self.cell);
         answer
     }

@@ -1,7 +1,7 @@
 //! What several seats have done together.
 ghost use Rattle.std.specs.Prelude.{◌≡◌, ◌⊎◌, ◌<◌, ◌==◌, IfSome, IfNone, sum_by};
 ghost use Rattle.std.specs.List.{list_any};
-ghost use Rattle.shared_pads.specs.Seats.{are_apart as all_apart};
+ghost use Rattle.shared_pads.specs.Seats as seats_spec;
 
 use crate::seat::Seat;
 
@@ -37,7 +37,7 @@ pub fn sums_of(seats: &[Seat]) -> Option<Sums>
 
 /// Whether no two seats have one number.
 pub fn are_apart(seats: &[Seat]) -> bool
-    ensures { result ≡ all_apart seats.now }
+    ensures { result ≡ seats_spec.are_apart seats.now }
 {
     match seats.split_first() {
         None => true,

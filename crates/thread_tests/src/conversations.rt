@@ -1,19 +1,20 @@
 //! Conversations that are cut at each byte, moved to another thread in the middle of a line, or served side by side at
 //! the seats of one thread.
 ghost use Rattle.std.specs.Prelude.{◌≡◌, [], OnOk};
-ghost use Rattle.workers.specs.Talk.{unwritten};
+ghost use Rattle.conversation.specs.Talk.{unwritten};
 
 use crate::stage::accounts;
 use block_seq::BlockSeq;
+use conversation::{Conversation, LineOutcome, Names, PadTable, Shared, open_row, take_seats};
 use pad_model::Refusal;
-use sessions::{Accounts, DEFAULT_PRESENT, Session};
+use presence::DEFAULT_PRESENT;
+use sessions::{Accounts, Session};
 use shared_pads::{Open, Seat, SharedPad};
 use std::alloc::{AllocError, Global};
 use std::process::Abort;
 use std::sync::Wait;
 use std::test::Fail;
 use wire_lines::Fault;
-use workers::{Conversation, Names, Row, Shared, Turn, open_row, take_seats};
 
 const STORY: &str = concat!(
     r#"{"do":"hello","name":"a1","token":"t"}"#,
@@ -45,15 +46,15 @@ const REPLIES: &str = concat!(
 
 /// A client, with the replies that were written to it.
 #[derive(Drop)]
-struct Client {
+struct TalkingClient {
     session: Session,
     conversation: Conversation,
     written: Vec<u8>,
 }
 
-impl Client {
-    fn new(alloc: Global) -> Client {
-        Client {
+impl TalkingClient {
+    fn new(alloc: Global) -> TalkingClient {
+        TalkingClient {
             session: Session::new(alloc),
             conversation: Conversation::new(alloc),
             written: Vec::new(alloc),
@@ -74,7 +75,7 @@ impl Client {
             }
             let turn = pads.answer(alloc, &mut self.session, &mut self.conversation, 1)?;
             write(&mut self.conversation, &mut self.written)?;
-            if turn == Turn::Waits {
+            if turn == LineOutcome::Waits {
                 break;
             }
         }
@@ -91,7 +92,7 @@ impl Client {
             return Ok(false);
         }
         let turn = pads.answer(alloc, &mut self.session, &mut self.conversation, 1)?;
-        if turn != Turn::Waits {
+        if turn != LineOutcome::Waits {
             return Ok(false);
         }
         write(&mut self.conversation, &mut self.written)?;
@@ -114,25 +115,25 @@ fn write(conversation: &mut Conversation, written: &mut Vec<u8>) -> Result<(), A
 
 /// The pads of a test.
 #[derive(Drop)]
-struct Stage {
+struct TestPads {
     accounts: Accounts,
     cells: Vec<SharedPad<BlockSeq>>,
     names: Names,
 }
 
-impl Stage {
-    fn new<R: Wait>(rt: &R, alloc: Global) -> Result<Stage, Refusal> {
+impl TestPads {
+    fn new<R: Wait>(rt: &R, alloc: Global) -> Result<TestPads, Refusal> {
         let cells = open_row(alloc, 1, DEFAULT_PRESENT, 2, 2)?;
         let names = Names::fill(rt, alloc, cells.as_slice())?;
-        Ok(Stage {
+        Ok(TestPads {
             accounts: accounts(alloc)?,
             cells,
             names,
         })
     }
 
-    fn row<'a, R: Wait>(&'a self, rt: &'a R, gate: &'a Open) -> Row<'a, BlockSeq, R, Open> {
-        Row {
+    fn row<'a, R: Wait>(&'a self, rt: &'a R, gate: &'a Open) -> PadTable<'a, BlockSeq, R, Open> {
+        PadTable {
             rt,
             cells: self.cells.as_slice(),
             names: &self.names,
@@ -144,13 +145,16 @@ impl Stage {
 }
 
 // Makes seats at each cell of a row.
-fn seats<R: Wait>(alloc: Global, row: &Row<'_, BlockSeq, R, Open>) -> Result<Vec<Seat>, Refusal> {
+fn seats<R: Wait>(
+    alloc: Global,
+    row: &PadTable<'_, BlockSeq, R, Open>,
+) -> Result<Vec<Seat>, Refusal> {
     let mut seats = Vec::new(alloc);
     take_seats(row.rt, row.cells, &mut seats)?;
     Ok(seats)
 }
 
-fn says(rt: &impl Abort, client: &Client, want: &str, at: usize) {
+fn says(rt: &impl Abort, client: &TalkingClient, want: &str, at: usize) {
     let came = client.written.as_slice();
     assert!(rt;
         came == want.as_bytes(),
@@ -164,10 +168,10 @@ fn a_story_cut_at_each_byte_has_the_replies_of_the_whole(rt: HostRuntime) -> Res
     let alloc = rt.alloc();
     let bytes = STORY.as_bytes();
     for cut in 0..bytes.len() {
-        let stage = Stage::new(&rt, alloc)?;
+        let stage = TestPads::new(&rt, alloc)?;
         let row = stage.row(&rt, &Open);
         let mut pads = Shared::new(&row, seats(alloc, &row)?, Session::new(alloc));
-        let mut client = Client::new(alloc);
+        let mut client = TalkingClient::new(alloc);
         client.hear(alloc, &mut pads, &bytes[..cut])?;
         client.hear(alloc, &mut pads, &bytes[cut..])?;
         says(&rt, &client, REPLIES, cut);
@@ -185,11 +189,11 @@ fn a_client_goes_to_another_thread_in_the_middle_of_a_line(rt: HostRuntime) -> R
     let alloc = rt.alloc();
     let bytes = STORY.as_bytes();
     for cut in 0..bytes.len() {
-        let stage = Stage::new(&rt, alloc)?;
+        let stage = TestPads::new(&rt, alloc)?;
         let row = stage.row(&rt, &Open);
         let mut first = Shared::new(&row, seats(alloc, &row)?, Session::new(alloc));
         let mut second = Shared::new(&row, seats(alloc, &row)?, Session::new(alloc));
-        let mut client = Client::new(alloc);
+        let mut client = TalkingClient::new(alloc);
         client.hear(alloc, &mut first, &bytes[..cut])?;
         client.hear(alloc, &mut second, &bytes[cut..])?;
         says(&rt, &client, REPLIES, cut);
@@ -200,11 +204,11 @@ fn a_client_goes_to_another_thread_in_the_middle_of_a_line(rt: HostRuntime) -> R
 #[test]
 fn two_clients_of_one_thread_keep_their_sessions(rt: HostRuntime) -> Result<(), Fail> {
     let alloc = rt.alloc();
-    let stage = Stage::new(&rt, alloc)?;
+    let stage = TestPads::new(&rt, alloc)?;
     let row = stage.row(&rt, &Open);
     let mut pads = Shared::new(&row, seats(alloc, &row)?, Session::new(alloc));
-    let mut first = Client::new(alloc);
-    let mut second = Client::new(alloc);
+    let mut first = TalkingClient::new(alloc);
+    let mut second = TalkingClient::new(alloc);
     let other = concat!(
         r#"{"do":"hello","name":"a2","token":"t"}"#,
         "\n",
@@ -234,10 +238,10 @@ fn two_clients_of_one_thread_keep_their_sessions(rt: HostRuntime) -> Result<(), 
 #[test]
 fn a_last_line_without_its_line_feed_is_answered(rt: HostRuntime) -> Result<(), Fail> {
     let alloc = rt.alloc();
-    let stage = Stage::new(&rt, alloc)?;
+    let stage = TestPads::new(&rt, alloc)?;
     let row = stage.row(&rt, &Open);
     let mut pads = Shared::new(&row, seats(alloc, &row)?, Session::new(alloc));
-    let mut client = Client::new(alloc);
+    let mut client = TalkingClient::new(alloc);
     client.hear(alloc, &mut pads, STORY.trim_end().as_bytes())?;
     assert!(rt;
         client.end(alloc, &mut pads)?,

@@ -1,9 +1,14 @@
 //! Gates that hold a thread until another has made progress: neither a pad's lock nor a connection blocks the others.
+ghost use Rattle.std.specs.Prelude.{⊤, false};
+
+use crate::pool::{Connection, pool, serve_client};
 use crate::stage::{accounts, ask_all};
 use block_seq::BlockSeq;
-use pad_model::Refusal;
-use sessions::{DEFAULT_PRESENT, Session};
-use shared_pads::{Gate, Seat, SharedPad};
+use conversation::{Names, PadTable, Pads, Served, Shared, open_row, take_all_seats};
+use pad_model::{Refusal, Sequence};
+use presence::DEFAULT_PRESENT;
+use sessions::Session;
+use shared_pads::{Answered, Gate, LockedPad, Seat, SharedPad};
 use std::alloc::Global;
 use std::sync::Wait;
 use std::sync::atomic::{AtomicBool, Ordering};
@@ -11,23 +16,20 @@ use std::test::Fail;
 use std::thread;
 use std::time::{Clock, Duration};
 use wire_lines::{Fault, Input, Output};
-use workers::{
-    Connection, Names, Pads, Row, Served, Shared, open_row, pool, serve_client, take_all_seats,
-};
 
 // The number of turns after which a waiting thread gives up. Each is a look and a sleep of a millisecond.
 const TURNS: u32 = 30_000;
 
 // An event that one thread waits for and another causes.
 #[derive(Drop)]
-struct Event {
+struct Signal {
     has_come: AtomicBool,
     was_missed: AtomicBool,
 }
 
-impl Event {
-    fn new() -> Event {
-        Event {
+impl Signal {
+    fn new() -> Signal {
+        Signal {
             has_come: AtomicBool::new(false),
             was_missed: AtomicBool::new(false),
         }
@@ -62,13 +64,30 @@ impl Event {
 #[derive(Drop)]
 struct FirstCellHeld<'a, R: Clock> {
     rt: &'a R,
-    first_made: Event,
-    both_made: Event,
-    entered: Event,
-    answered: Event,
+    first_made: Signal,
+    both_made: Signal,
+    entered: Signal,
+    answered: Signal,
 }
 
 impl<R: Clock> Gate for FirstCellHeld<'_, R> {
+    ghost reads = { λ _. false };
+
+    ghost told = { λ _ _ _ _. ⊤ };
+
+    ghost announced = { λ _ _ _. ⊤ };
+
+    fn answered<S: Sequence>(
+        &self,
+        _alloc: Global,
+        _answered: &Answered<'_>,
+        _pad: &LockedPad<S>,
+    ) {}
+
+    fn reads_operations(&self) -> bool {
+        false
+    }
+
     fn inside(&self, cell: u32) {
         if cell == 0 && self.both_made.has_come() {
             self.entered.come();
@@ -91,7 +110,7 @@ const SECOND: [&str; 2] = [
     r#"{"do":"create","pad":"two"}"#,
 ];
 
-type HeldRow<'a, R> = Row<'a, BlockSeq, R, FirstCellHeld<'a, R>>;
+type HeldRow<'a, R> = PadTable<'a, BlockSeq, R, FirstCellHeld<'a, R>>;
 
 // Creates the first pad, and reads it once the second exists.
 fn read_first<R: Wait + Clock>(
@@ -130,12 +149,12 @@ fn cells_do_not_block_each_other(rt: HostRuntime) -> Result<(), Fail> {
     let names = Names::fill(&rt, alloc, cells.as_slice())?;
     let gate = FirstCellHeld {
         rt: &rt,
-        first_made: Event::new(),
-        both_made: Event::new(),
-        entered: Event::new(),
-        answered: Event::new(),
+        first_made: Signal::new(),
+        both_made: Signal::new(),
+        entered: Signal::new(),
+        answered: Signal::new(),
     };
-    let row = Row {
+    let row = PadTable {
         rt: &rt,
         cells: cells.as_slice(),
         names: &names,
@@ -178,11 +197,28 @@ fn cells_do_not_block_each_other(rt: HostRuntime) -> Result<(), Fail> {
 #[derive(Drop)]
 struct FirstConnectionHeld<'a, R: Clock> {
     rt: &'a R,
-    second_done: Event,
-    first_done: Event,
+    second_done: Signal,
+    first_done: Signal,
 }
 
 impl<R: Clock> Gate for FirstConnectionHeld<'_, R> {
+    ghost reads = { λ _. false };
+
+    ghost told = { λ _ _ _ _. ⊤ };
+
+    ghost announced = { λ _ _ _. ⊤ };
+
+    fn answered<S: Sequence>(
+        &self,
+        _alloc: Global,
+        _answered: &Answered<'_>,
+        _pad: &LockedPad<S>,
+    ) {}
+
+    fn reads_operations(&self) -> bool {
+        false
+    }
+
     fn inside(&self, _cell: u32) {}
 
     fn before_reply(&self, connection: u64, _delivered: bool) {
@@ -247,10 +283,10 @@ fn connections_do_not_block_each_other(rt: HostRuntime) -> Result<(), Fail> {
     let names = Names::fill(&rt, alloc, cells.as_slice())?;
     let gate = FirstConnectionHeld {
         rt: &rt,
-        second_done: Event::new(),
-        first_done: Event::new(),
+        second_done: Signal::new(),
+        first_done: Signal::new(),
     };
-    let row = Row {
+    let row = PadTable {
         rt: &rt,
         cells: cells.as_slice(),
         names: &names,

@@ -1,15 +1,18 @@
 //! A gate that can keep nothing, as when the disk of a store is full.
+ghost use Rattle.std.specs.Prelude.{⊤, false};
+
 use crate::stage::{accounts, ask, ask_all, tells};
 use block_seq::BlockSeq;
+use conversation::{Names, PadTable, Pads, Shared, open_row, take_seats};
 use pad_core::Request;
-use pad_model::Refusal;
-use sessions::{DEFAULT_PRESENT, Session};
-use shared_pads::{Gate, SharedPad};
+use pad_model::{Refusal, Sequence};
+use presence::DEFAULT_PRESENT;
+use sessions::Session;
+use shared_pads::{Answered, Gate, LockedPad, SharedPad};
 use std::alloc::Global;
 use std::process::Abort;
 use std::sync::atomic::{AtomicBool, Ordering};
 use std::test::Fail;
-use workers::{Names, Pads, Row, Shared, open_row, take_seats};
 
 // A disk that keeps what is answered, or nothing.
 #[derive(Drop)]
@@ -18,6 +21,24 @@ struct Disk {
 }
 
 impl Gate for Disk {
+    ghost reads = { λ _. false };
+
+    ghost told = { λ _ _ _ _. ⊤ };
+
+    ghost announced = { λ _ _ _. ⊤ };
+
+    fn answered<S: Sequence>(
+        &self,
+        _alloc: Global,
+        _answered: &Answered<'_>,
+        _pad: &LockedPad<S>,
+    ) {}
+
+    fn reads_operations(&self) -> bool {
+        false
+    }
+
+    #[tactic(auto, using(shared_pads::specs::Gates::let_pass))]
     fn keeps(&self, _alloc: Global, _request: &Request) -> Result<(), Refusal> {
         if self.has_room.load(Ordering::SeqCst) {
             Ok(())
@@ -80,7 +101,7 @@ fn what_cannot_be_kept_is_refused(rt: HostRuntime) -> Result<(), Fail> {
     let gate = Disk {
         has_room: AtomicBool::new(true),
     };
-    let row = Row {
+    let row = PadTable {
         rt: &rt,
         cells: cells.as_slice(),
         names: &names,

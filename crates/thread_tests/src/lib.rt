@@ -13,6 +13,8 @@ mod kept;
 #[cfg(test)]
 mod names;
 #[cfg(test)]
+mod pool;
+#[cfg(test)]
 mod rows;
 #[cfg(test)]
 mod seats;

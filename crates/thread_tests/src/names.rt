@@ -1,10 +1,14 @@
 //! Requests that find their pads by the names of the row, without a scan.
+ghost use Rattle.std.specs.Prelude.{⊤, false};
+
 use crate::stage::{accounts, ask, ask_all};
 use block_seq::BlockSeq;
+use conversation::{Names, PadTable, Pads, Shared, open_row, take_seats};
 use pad_core::Reply;
-use pad_model::Refusal;
-use sessions::{Accounts, DEFAULT_PRESENT, Session};
-use shared_pads::{Gate, Seat, SharedPad};
+use pad_model::{Refusal, Sequence};
+use presence::DEFAULT_PRESENT;
+use sessions::{Accounts, Session};
+use shared_pads::{Answered, Gate, LockedPad, Seat, SharedPad};
 use std::alloc::Global;
 use std::process::Abort;
 use std::sync::Wait;
@@ -13,7 +17,6 @@ use std::test::Fail;
 use std::thread;
 use std::thread::Threads;
 use wire_json::read_request;
-use workers::{Names, Pads, Row, Shared, open_row, take_seats};
 
 const FIRST: &str = r#"{"do":"hello","name":"a1","token":"t"}"#;
 
@@ -39,6 +42,23 @@ impl Steps {
 }
 
 impl Gate for Steps {
+    ghost reads = { λ _. false };
+
+    ghost told = { λ _ _ _ _. ⊤ };
+
+    ghost announced = { λ _ _ _. ⊤ };
+
+    fn answered<S: Sequence>(
+        &self,
+        _alloc: Global,
+        _answered: &Answered<'_>,
+        _pad: &LockedPad<S>,
+    ) {}
+
+    fn reads_operations(&self) -> bool {
+        false
+    }
+
     fn inside(&self, _cell: u32) {
         self.made.fetch_add(1, Ordering::SeqCst);
     }
@@ -50,18 +70,18 @@ impl Gate for Steps {
 
 // The pads of a test.
 #[derive(Drop)]
-struct Stage {
+struct TestPads {
     accounts: Accounts,
     cells: Vec<SharedPad<BlockSeq>>,
     gate: Steps,
 }
 
-type StageRow<'a, R> = Row<'a, BlockSeq, R, Steps>;
+type StageRow<'a, R> = PadTable<'a, BlockSeq, R, Steps>;
 
-impl Stage {
+impl TestPads {
     // Creates this many cells, each with room for this many seats.
-    fn new(alloc: Global, cells: u32, seats: u32) -> Result<Stage, Refusal> {
-        Ok(Stage {
+    fn new(alloc: Global, cells: u32, seats: u32) -> Result<TestPads, Refusal> {
+        Ok(TestPads {
             accounts: accounts(alloc)?,
             cells: open_row(alloc, 1, DEFAULT_PRESENT, cells, seats)?,
             gate: Steps::new(),
@@ -74,7 +94,7 @@ impl Stage {
     }
 
     fn row<'a, R: Wait>(&'a self, rt: &'a R, names: &'a Names) -> StageRow<'a, R> {
-        Row {
+        PadTable {
             rt,
             cells: self.cells.as_slice(),
             names,
@@ -135,7 +155,7 @@ fn is_missing<P: Pads>(alloc: Global, pads: &mut P, gate: &Steps, number: u32) -
 #[test]
 fn a_name_is_found_without_a_walk(rt: HostRuntime) -> Result<(), Fail> {
     let alloc = rt.alloc();
-    let stage = Stage::new(alloc, 9, 2)?;
+    let stage = TestPads::new(alloc, 9, 2)?;
     let names = stage.names(&rt, alloc)?;
     let row = stage.row(&rt, &names);
     let mut maker = thread_of(alloc, &row, FIRST)?;
@@ -200,7 +220,7 @@ fn both_create<R: Threads + Wait + Sync>(
     alloc: Global,
     numbers: [u32; 2],
 ) -> Result<[Created; 2], Refusal> {
-    let stage = Stage::new(alloc, 3, 4)?;
+    let stage = TestPads::new(alloc, 3, 4)?;
     let names = stage.names(rt, alloc)?;
     both_create_on(rt, alloc, &stage, &names, numbers)
 }
@@ -209,7 +229,7 @@ fn both_create<R: Threads + Wait + Sync>(
 fn both_create_on<R: Threads + Wait + Sync>(
     rt: &R,
     alloc: Global,
-    stage: &Stage,
+    stage: &TestPads,
     names: &Names,
     numbers: [u32; 2],
 ) -> Result<[Created; 2], Refusal> {
@@ -276,7 +296,7 @@ fn finds_in_time<R: Wait>(alloc: Global, row: &StageRow<'_, R>, number: u32) -> 
 #[test]
 fn a_name_is_created_meanwhile(rt: HostRuntime) -> Result<(), Fail> {
     let alloc = rt.alloc();
-    let stage = Stage::new(alloc, 3, 2)?;
+    let stage = TestPads::new(alloc, 3, 2)?;
     let names = stage.names(&rt, alloc)?;
     let row = stage.row(&rt, &names);
     let (found, made) = thread::join(
@@ -295,7 +315,7 @@ const MANY: u32 = 4096;
 fn all_are_found<R: Wait + Abort>(
     rt: &R,
     alloc: Global,
-    stage: &Stage,
+    stage: &TestPads,
     names: &Names,
 ) -> Result<(), Refusal> {
     let row = stage.row(rt, names);
@@ -316,7 +336,7 @@ fn all_are_found<R: Wait + Abort>(
 #[test]
 fn each_of_4096_pads_is_found(rt: HostRuntime) -> Result<(), Fail> {
     let alloc = rt.alloc();
-    let stage = Stage::new(alloc, MANY, 3)?;
+    let stage = TestPads::new(alloc, MANY, 3)?;
     let names = stage.names(&rt, alloc)?;
     let row = stage.row(&rt, &names);
     let mut maker = thread_of(alloc, &row, FIRST)?;
@@ -359,7 +379,7 @@ fn row_asked<R: Wait>(
 #[test]
 fn a_session_that_has_joined_needs_no_names(rt: HostRuntime) -> Result<(), Fail> {
     let alloc = rt.alloc();
-    let stage = Stage::new(alloc, 4, 3)?;
+    let stage = TestPads::new(alloc, 4, 3)?;
     let names = stage.names(&rt, alloc)?;
     let row = stage.row(&rt, &names);
     let mut maker = thread_of(alloc, &row, FIRST)?;

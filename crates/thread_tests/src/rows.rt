@@ -1,13 +1,14 @@
 //! A row of two pads. Each cell has a pad of its own, and all have the numbers of their server.
 use crate::stage::{accounts, ask_all, tells};
 use block_seq::BlockSeq;
+use conversation::{Names, PadTable, Pads, Shared, open_row, take_seats};
 use pad_model::Refusal;
-use sessions::{DEFAULT_PRESENT, Session};
+use presence::DEFAULT_PRESENT;
+use sessions::Session;
 use shared_pads::{Open, SharedPad};
 use std::alloc::Global;
 use std::process::Abort;
 use std::test::Fail;
-use workers::{Names, Pads, Row, Shared, open_row, take_seats};
 
 // A number that needs more than one byte.
 const REPLICA: u16 = 300;
@@ -59,7 +60,7 @@ fn each_cell_has_a_pad_of_its_own(rt: HostRuntime) -> Result<(), Fail> {
     let accounts = accounts(alloc)?;
     let cells: Vec<SharedPad<BlockSeq>> = open_row(alloc, REPLICA, DEFAULT_PRESENT, 2, 1)?;
     let names = Names::fill(&rt, alloc, cells.as_slice())?;
-    let row = Row {
+    let row = PadTable {
         rt: &rt,
         cells: cells.as_slice(),
         names: &names,
@@ -89,7 +90,7 @@ fn each_pad_has_room_for_as_many_as_the_row_was_told(rt: HostRuntime) -> Result<
     let accounts = accounts(alloc)?;
     let cells: Vec<SharedPad<BlockSeq>> = open_row(alloc, REPLICA, 1, 2, 2)?;
     let names = Names::fill(&rt, alloc, cells.as_slice())?;
-    let row = Row {
+    let row = PadTable {
         rt: &rt,
         cells: cells.as_slice(),
         names: &names,

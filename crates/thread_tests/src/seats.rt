@@ -2,9 +2,9 @@
 use crate::stage::typed;
 use block_seq::BlockSeq;
 use pad_core::{Act, PadReply, Present, Reply, Request};
-use pad_model::{Name, Refusal, Row, Who};
+use pad_model::{Items, Name, Refusal, Who};
 use sessions::Session;
-use shared_pads::{Open, Seat, SharedPad, Tally};
+use shared_pads::{LockedPad, Open, Seat, SharedPad, Tally};
 use std::alloc::Global;
 use std::mem::size_of;
 use std::sync::Wait;
@@ -38,8 +38,8 @@ fn ask<R: Wait>(
 
 // Shares a pad in the first cell, with room for this many seats.
 fn shared_pad(alloc: Global, seats: u32) -> Result<SharedPad<BlockSeq>, Refusal> {
-    match SharedPad::new(alloc, typed(alloc)?, 0, seats) {
-        Ok(shared) => Ok(shared),
+    match LockedPad::new(alloc, typed(alloc)?, seats) {
+        Ok(kept) => Ok(SharedPad::new(kept, 0)),
         Err(_) => Err(Refusal::Memory),
     }
 }
@@ -58,7 +58,7 @@ fn join<R: Wait>(
     }
 }
 
-fn are_visits(who: &Row<Present>, visits: [u64; 2]) -> bool {
+fn are_visits(who: &Items<Present>, visits: [u64; 2]) -> bool {
     match who.as_slice() {
         [first, second] => first.visit == visits[0] && second.visit == visits[1],
         _ => false,

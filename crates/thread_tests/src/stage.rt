@@ -1,12 +1,13 @@
 //! Accounts, pads and requests that the tests share.
 use block_seq::BlockSeq;
+use conversation::Pads;
 use pad_core::{Act, Claim, Pad, PadEvent, Reply};
 use pad_model::{Name, Refusal, Text, Who};
-use sessions::{Accounts, DEFAULT_PRESENT};
+use presence::DEFAULT_PRESENT;
+use sessions::Accounts;
 use std::alloc::Global;
 use std::process::Abort;
 use wire_json::{read_request, reply_line};
-use workers::Pads;
 
 /// The authors a1 to a5.
 pub fn accounts(alloc: Global) -> Result<Accounts, Refusal> {

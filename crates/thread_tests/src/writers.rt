@@ -1,16 +1,17 @@
 //! Four threads that write to one pad and read it, each with its own session and seat.
 use crate::stage::{accounts, ask, ask_all};
 use block_seq::BlockSeq;
+use conversation::{Names, PadTable, Pads, Shared, open_row, take_seats};
 use pad_core::{PadReply, Recorded, Reply, audit};
 use pad_model::{AuthorRun, Refusal, Text};
-use sessions::{DEFAULT_PRESENT, Session};
+use presence::DEFAULT_PRESENT;
+use sessions::Session;
 use shared_pads::{Open, Seat, SharedPad};
 use std::alloc::Global;
 use std::sync::Wait;
 use std::test::Fail;
 use std::thread;
 use std::thread::Threads;
-use workers::{Names, Pads, Row, Shared, open_row, take_seats};
 
 // The number of times that each author writes its letter.
 const ROUNDS: u64 = 250;
@@ -60,7 +61,7 @@ const NO_ANSWER: Refusal = Refusal::Busy;
 
 // The task of a thread, and its seats.
 #[derive(Drop)]
-struct Job {
+struct WriterTask {
     hello: &'static str,
     insert: &'static str,
     letter: char,
@@ -69,7 +70,7 @@ struct Job {
 
 // The answers to a thread, unless something was refused, and its seats.
 #[derive(Drop)]
-struct Written {
+struct WriterAnswers {
     records: Result<Vec<Recorded>, Refusal>,
     seats: Vec<Seat>,
 }
@@ -107,7 +108,7 @@ fn read<P: Pads>(
     Ok(Recorded::Read { rev, text })
 }
 
-fn write<P: Pads>(alloc: Global, pads: &mut P, job: &Job) -> Result<Vec<Recorded>, Refusal> {
+fn write<P: Pads>(alloc: Global, pads: &mut P, job: &WriterTask) -> Result<Vec<Recorded>, Refusal> {
     ask_all(alloc, pads, &[job.hello, JOIN])?;
     let mut records = Vec::new(alloc);
     for count in 1..=ROUNDS {
@@ -117,12 +118,16 @@ fn write<P: Pads>(alloc: Global, pads: &mut P, job: &Job) -> Result<Vec<Recorded
     Ok(records)
 }
 
-fn work<R: Wait>(alloc: Global, row: &Row<'_, BlockSeq, R, Open>, mut job: Job) -> Written {
+fn work<R: Wait>(
+    alloc: Global,
+    row: &PadTable<'_, BlockSeq, R, Open>,
+    mut job: WriterTask,
+) -> WriterAnswers {
     let seats = std::mem::replace(&mut job.seats, Vec::new(alloc));
     let mut shared = Shared::new(row, seats, Session::new(alloc));
     let records = write(alloc, &mut shared, &job);
     shared.end(alloc);
-    Written {
+    WriterAnswers {
         records,
         seats: shared.seats(),
     }
@@ -133,12 +138,12 @@ fn jobs<R: Wait>(
     rt: &R,
     alloc: Global,
     cells: &[SharedPad<BlockSeq>],
-) -> Result<Vec<Job>, Refusal> {
+) -> Result<Vec<WriterTask>, Refusal> {
     let mut jobs = Vec::new(alloc);
     for (hello, insert, letter) in AUTHORS {
         let mut seats = Vec::new(alloc);
         take_seats(rt, cells, &mut seats)?;
-        jobs.push(Job {
+        jobs.push(WriterTask {
             hello,
             insert,
             letter,
@@ -178,7 +183,7 @@ fn text_of<P: Pads>(alloc: Global, pads: &mut P) -> Result<Text, Refusal> {
     }
 }
 
-fn runs_of<P: Pads>(alloc: Global, pads: &mut P) -> Result<pad_model::Row<AuthorRun>, Refusal> {
+fn runs_of<P: Pads>(alloc: Global, pads: &mut P) -> Result<pad_model::Items<AuthorRun>, Refusal> {
     match ask(alloc, pads, RUNS)? {
         Reply::Pad(PadReply::Runs { runs, .. }) => Ok(runs),
         _ => Err(NO_ANSWER),
@@ -198,12 +203,12 @@ fn is_whole<P: Pads>(alloc: Global, pads: &mut P) -> Result<bool, Refusal> {
 
 // Collects all records and all seats, one thread after another.
 fn gather(
-    all: Vec<Written>,
+    all: Vec<WriterAnswers>,
     records: &mut Vec<Recorded>,
     seats: &mut Vec<Seat>,
 ) -> Result<(), Refusal> {
     for written in all {
-        let Written {
+        let WriterAnswers {
             records: more,
             seats: own,
         } = written;
@@ -249,7 +254,7 @@ fn is_closed(
 // Creates the pad as its owner.
 fn begin<'a, R: Wait>(
     alloc: Global,
-    row: &'a Row<'a, BlockSeq, R, Open>,
+    row: &'a PadTable<'a, BlockSeq, R, Open>,
 ) -> Result<Shared<'a, BlockSeq, R, Open>, Refusal> {
     let mut seats = Vec::new(alloc);
     take_seats(row.rt, row.cells, &mut seats)?;
@@ -262,12 +267,12 @@ fn begin<'a, R: Wait>(
 // not whole.
 fn write_all<R: Threads + Wait + Sync>(
     alloc: Global,
-    row: &Row<'_, BlockSeq, R, Open>,
+    row: &PadTable<'_, BlockSeq, R, Open>,
     seats: &mut Vec<Seat>,
 ) -> Result<Vec<Recorded>, Refusal> {
     let mut owner = begin(alloc, row)?;
     let jobs = jobs(row.rt, alloc, row.cells)?;
-    let written = thread::map_vec(row.rt, jobs, &|job: Job| work(alloc, row, job))?;
+    let written = thread::map_vec(row.rt, jobs, &|job: WriterTask| work(alloc, row, job))?;
     if !is_whole(alloc, &mut owner)? {
         return Err(NO_ANSWER);
     }
@@ -283,7 +288,7 @@ fn four_writers(rt: HostRuntime) -> Result<(), Fail> {
     let accounts = accounts(alloc)?;
     let cells: Vec<SharedPad<BlockSeq>> = open_row(alloc, 1, DEFAULT_PRESENT, 1, 8)?;
     let names = Names::fill(&rt, alloc, cells.as_slice())?;
-    let row = Row {
+    let row = PadTable {
         rt: &rt,
         cells: cells.as_slice(),
         names: &names,

@@ -3,7 +3,7 @@ use crate::sent::frames;
 use std::alloc::{AllocError, Global};
 use std::process::Abort;
 use std::test::Fail;
-use web_wire::{Frames, Turn, put_message};
+use web_wire::{Frames, NextMessage, put_message};
 
 // Feeds the bytes in pieces, and returns the lines and what is sent. A line `!` means that the socket is to be closed.
 fn talk(alloc: Global, bytes: &[u8], piece: usize) -> Result<(Vec<u8>, Vec<u8>), AllocError> {
@@ -22,9 +22,9 @@ fn talk(alloc: Global, bytes: &[u8], piece: usize) -> Result<(Vec<u8>, Vec<u8>),
 fn take(socket: &mut Frames, lines: &mut Vec<u8>, output: &mut Vec<u8>) -> Result<(), AllocError> {
     for _ in 0..100 {
         match socket.next_line(lines, output)? {
-            Turn::Line => {}
-            Turn::Read => return Ok(()),
-            Turn::Close => {
+            NextMessage::Line => {}
+            NextMessage::Read => return Ok(()),
+            NextMessage::Close => {
                 if !lines.ends_with(b"!\n") {
                     lines.extend_from_slice(b"!\n")?;
                 }
@@ -276,6 +276,6 @@ fn a_server_that_ends_closes_its_sockets(rt: HostRuntime) -> Result<(), Fail> {
     socket.go_away(&mut output)?;
     assert!(rt; output.as_slice() == b"\x88\x02\x03\xE9".as_slice());
     let next = socket.next_line(&mut line, &mut output)?;
-    assert!(rt; next == Turn::Close && line.is_empty() && output.len() == 4);
+    assert!(rt; next == NextMessage::Close && line.is_empty() && output.len() == 4);
     Ok(())
 }

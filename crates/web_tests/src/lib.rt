@@ -6,6 +6,6 @@ mod frames;
 #[cfg(test)]
 mod limits;
 #[cfg(test)]
-mod sent;
+mod page_requests;
 #[cfg(test)]
-mod visits;
+mod sent;

@@ -2,7 +2,7 @@
 use crate::sent::put_frame;
 use std::alloc::{AllocError, Global};
 use std::test::Fail;
-use web_wire::{Frames, LONGEST_MESSAGE, Turn};
+use web_wire::{Frames, LONGEST_MESSAGE, NextMessage};
 
 // A text of this many bytes.
 fn text(alloc: Global, length: usize) -> Result<Vec<u8>, AllocError> {
@@ -12,11 +12,11 @@ fn text(alloc: Global, length: usize) -> Result<Vec<u8>, AllocError> {
 }
 
 // What a message in fragments of these lengths leads to: the turn, the length of its line, and what is sent.
-fn parts(alloc: Global, lengths: &[usize]) -> Result<(Turn, usize, Vec<u8>), AllocError> {
+fn parts(alloc: Global, lengths: &[usize]) -> Result<(NextMessage, usize, Vec<u8>), AllocError> {
     let mut socket = Frames::new(alloc, Vec::new(alloc));
     let mut line = Vec::new(alloc);
     let mut output = Vec::new(alloc);
-    let mut turn = Turn::Read;
+    let mut turn = NextMessage::Read;
     let mut left = lengths.len();
     for length in lengths {
         left = left.saturating_sub(1);
@@ -35,7 +35,7 @@ fn the_longest_message(rt: HostRuntime) -> Result<(), Fail> {
     let half = LONGEST_MESSAGE / 2;
     for lengths in [&[LONGEST_MESSAGE].as_slice(), &[half, half].as_slice()] {
         let (turn, length, output) = parts(rt.alloc(), lengths)?;
-        assert!(rt; turn == Turn::Line && output.is_empty());
+        assert!(rt; turn == NextMessage::Line && output.is_empty());
         assert!(rt; length == LONGEST_MESSAGE + 1, "{length}");
     }
     Ok(())
@@ -49,7 +49,7 @@ fn a_longer_message(rt: HostRuntime) -> Result<(), Fail> {
         &[half, half, 1].as_slice(),
     ] {
         let (turn, length, output) = parts(rt.alloc(), lengths)?;
-        assert!(rt; turn == Turn::Close && length == 0);
+        assert!(rt; turn == NextMessage::Close && length == 0);
         assert!(rt; output.as_slice() == b"\x88\x02\x03\xF1".as_slice());
     }
     Ok(())
@@ -61,7 +61,7 @@ fn lengths_of_all_forms(rt: HostRuntime) -> Result<(), Fail> {
     for length in [1, 125, 126, 65_535, 65_536, 100_000] {
         let (turn, came, output) = parts(rt.alloc(), &[length])?;
         assert!(rt;
-            turn == Turn::Line && came == length + 1 && output.is_empty(),
+            turn == NextMessage::Line && came == length + 1 && output.is_empty(),
             "{length}"
         );
     }

@@ -4,4 +4,5 @@ pub mod Fronts
 pub mod Pieces
 pub mod Roles
 pub mod Steps
-pub mod Visits
+pub mod PageRequests
+pub mod Tags

@@ -1,5 +1,5 @@
 -- What a socket leads to, by the frame at the front of its bytes.
-use Rattle.std.proofs.Common.{◌≡◌, ℕ, ◌+◌, ◌<◌, true, false, List, [], ◌∷◌, ◌++◌, length, drop, Result, Ok, Err, refl, sym, ap, subst, ◌∙◌, inl, inr, cond, append_assoc, drop-drop}
+use Rattle.std.proofs.Common.{◌≡◌, ℕ, ◌<◌, true, false, List, [], ◌∷◌, ◌++◌, length, drop, Result, Ok, Err, refl, sym, ap, subst, ◌∙◌, inl, inr, cond, append_assoc}
 use Rattle.std.proofs.lemmas.List.{append-nil}
 use Rattle.std.specs.Prelude.{◌≢◌, OnErr}
 use Rattle.websocket.specs.Connection.{Connection}
@@ -39,40 +39,33 @@ whole_first old count heard line output after is whole more =
     ∙ ap (λ b. takes heard whole.effect (course_of after.conn (b ++ more))) (sym whole.rest)
 
 -- the socket after a frame
-abbrev behind : Socket → Connection → ℕ → List ℕ → Socket
-behind old conn from items = record { conn = conn; waiting = drop from items; ended = old.ended }
+abbrev behind : Socket → Connection → List ℕ → Socket
+behind old conn rest = record { conn = conn; waiting = rest; ended = old.ended }
 
-behind_course : (old : Socket) (conn : Connection) (count used : ℕ) (items more : List ℕ) → old.ended ≡ false
-    → course_of conn (drop count (drop used items) ++ more) ≡ course (behind old conn (used + count) items) more
-behind_course old conn count used items more is =
-    ap (λ b. course_of conn (b ++ more)) (drop-drop count used items)
-    ∙ sym (open_course (behind old conn (used + count) items) more is)
-
-pub goes_quiet : (old : Socket) (count used : ℕ) (heard : Heard) (given gives output room put items : List ℕ) (conn : Connection)
+pub goes_quiet : (old : Socket) (count : ℕ) (heard : Heard) (given gives output room put bytes : List ℕ) (conn : Connection)
     → old.ended ≡ false → room ≡ output → heard ≡ Nothing
-    → IsWhole count heard (desk old given room) (record { conn = conn; bytes = drop used items; line = gives; output = put })
-    → GoesOn [] old output (behind old conn (used + count) items) put
-    × (length (drop (used + count) items) < length old.waiting)
-goes_quiet old count used heard given gives output room put items conn is same nothing whole =
+    → IsWhole count heard (desk old given room) (record { conn = conn; bytes = bytes; line = gives; output = put })
+    → GoesOn [] old output (behind old conn (drop count bytes)) put × (length (drop count bytes) < length old.waiting)
+goes_quiet old count heard given gives output room put bytes conn is same nothing whole =
     ((frame_bytes whole.effect.reply, whole.sent ∙ ap (λ o. o ++ frame_bytes whole.effect.reply) same, comes), shorter)
   where
     comes : (more : List ℕ) → course old more
-        ≡ before [] (frame_bytes whole.effect.reply) (course (behind old conn (used + count) items) more)
+        ≡ before [] (frame_bytes whole.effect.reply) (course (behind old conn (drop count bytes)) more)
     comes more =
         whole_first old count heard given room _ is whole more
-        ∙ ap (λ h. takes h whole.effect (course_of conn (drop count (drop used items) ++ more))) nothing
-        ∙ ap (before [] (frame_bytes whole.effect.reply)) (behind_course old conn count used items more is)
+        ∙ ap (λ h. takes h whole.effect (course_of conn (drop count bytes ++ more))) nothing
+        ∙ ap (before [] (frame_bytes whole.effect.reply)) (sym (open_course (behind old conn (drop count bytes)) more is))
 
-    shorter : length (drop (used + count) items) < length old.waiting
+    shorter : length (drop count bytes) < length old.waiting
     shorter =
-        subst (λ b. length b < length old.waiting) (sym whole.rest ∙ drop-drop count used items)
+        subst (λ b. length b < length old.waiting) (sym whole.rest)
         (frame_shorter old.conn old.waiting (count, whole.effect) whole.read)
 
-pub goes_line : (old : Socket) (count used : ℕ) (heard : Heard) (given shelf gives output room put items : List ℕ) (conn : Connection)
+pub goes_line : (old : Socket) (count : ℕ) (heard : Heard) (given shelf gives output room put bytes : List ℕ) (conn : Connection)
     → old.ended ≡ false → shelf ≡ given → room ≡ output → heard ≡ Line
-    → IsWhole count heard (desk old shelf room) (record { conn = conn; bytes = drop used items; line = gives; output = put })
-    → GivesLine old given output (behind old conn (used + count) items) gives put
-goes_line old count used heard given shelf gives output room put items conn is found same line whole = (
+    → IsWhole count heard (desk old shelf room) (record { conn = conn; bytes = bytes; line = gives; output = put })
+    → GivesLine old given output (behind old conn (drop count bytes)) gives put
+goes_line old count heard given shelf gives output room put bytes conn is found same line whole = (
   text_of whole.effect.message,
   (whole.line line).0,
   (whole.line line).1 ∙ ap (λ g. g ++ with_feed (text_of whole.effect.message)) found,
@@ -80,11 +73,12 @@ goes_line old count used heard given shelf gives output room put items conn is f
 )
   where
     comes : (more : List ℕ) → course old more
-        ≡ before (text_of whole.effect.message ∷ []) (frame_bytes whole.effect.reply) (course (behind old conn (used + count) items) more)
+        ≡ before (text_of whole.effect.message ∷ []) (frame_bytes whole.effect.reply) (course (behind old conn (drop count bytes)) more)
     comes more =
         whole_first old count heard shelf room _ is whole more
-        ∙ ap (λ h. takes h whole.effect (course_of conn (drop count (drop used items) ++ more))) line
-        ∙ ap (before (text_of whole.effect.message ∷ []) (frame_bytes whole.effect.reply)) (behind_course old conn count used items more is)
+        ∙ ap (λ h. takes h whole.effect (course_of conn (drop count bytes ++ more))) line
+        ∙ ap (before (text_of whole.effect.message ∷ []) (frame_bytes whole.effect.reply))
+        (sym (open_course (behind old conn (drop count bytes)) more is))
 
 pub goes_closed : (old new : Socket) (count : ℕ) (heard : Heard) (given output room : List ℕ) (after : Desk)
     → old.ended ≡ false → room ≡ output → heard ≡ Closed → new.ended ≡ true → IsWhole count heard (desk old given room) after

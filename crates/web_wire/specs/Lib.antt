@@ -4,4 +4,6 @@ pub mod Front
 pub mod Laws
 pub mod Messages
 pub mod Socket
-pub mod Visits
+pub mod PageRequests
+pub mod Tags
+pub mod Waiting

@@ -4,9 +4,9 @@ ghost use Rattle.websocket.specs.declared.protocol.config.Role.TheVariants.{Serv
 ghost use Rattle.web_wire.specs.Course.{close_code, farewell, waits};
 ghost use Rattle.web_wire.specs.Socket.{GivesLine, GoesOn, course, fed, fresh, opened};
 
-use crate::front::{Front, read_from};
+use crate::frame_bytes::FrameBytes;
+use crate::front::Front;
 use crate::heard::Heard;
-use crate::held::drop_front;
 use std::alloc::{AllocError, Global};
 use std::marker::Model;
 use websocket::error::Error;
@@ -18,15 +18,9 @@ pub const LONGEST_MESSAGE: usize = 8_388_608;
 // The most bytes of a pong or a close frame.
 const LONGEST_REPLY: usize = 139;
 
-// The capacity that is kept for waiting bytes. What a longer message needed is freed when more bytes arrive.
-const KEPT: usize = 131_072;
-
-// The capacity that is kept while nothing arrives, so that a short message needs no allocation.
-const KEPT_IDLE: usize = 1_024;
-
 /// What comes next.
 #[derive(Clone, Copy, Debug, PartialEq, Eq)]
-pub enum Turn {
+pub enum NextMessage {
     /// No complete message waits: more bytes are needed.
     Read,
     /// A line was appended, with its line feed.
@@ -37,7 +31,7 @@ pub enum Turn {
 
 // The outcome of one frame.
 #[derive(Clone, Copy, Debug, PartialEq, Eq)]
-enum Step {
+enum FrameStep {
     Waits,
     Quiet,
     Line,
@@ -48,13 +42,12 @@ enum Step {
 #[derive(Drop)]
 pub struct Frames {
     context: WebSocketContext,
-    input: Vec<u8>,
-    used: usize,
+    bytes: FrameBytes,
     ended: bool,
 }
 
 impl Model for Frames {
-    ghost use Rattle.std.specs.Prelude.{◌≡◌, ◌≤◌, false, drop, length};
+    ghost use Rattle.std.specs.Prelude.{◌≡◌, false};
     ghost use Rattle.websocket.specs.declared.protocol.config.Role.TheVariants.{Server};
     ghost use Rattle.web_wire.specs.Socket.{Socket};
 
@@ -62,12 +55,11 @@ impl Model for Frames {
 
     ghost view = { λ f. record {
       conn = f.context;
-      waiting = drop f.used f.input.items;
+      waiting = f.bytes.waiting;
       ended = f.ended;
     } };
 
-    ghost invariant = { λ f. (f.used ≤ length f.input.items)
-        × (f.ended ≡ false → f.context.role ≡ Server) };
+    ghost invariant = { λ f. f.ended ≡ false → f.context.role ≡ Server };
 }
 
 impl Frames {
@@ -77,8 +69,7 @@ impl Frames {
     {
         Frames {
             context: WebSocketContext::new(alloc, Role::Server, config()),
-            input,
-            used: 0,
+            bytes: FrameBytes::new(input),
             ended: false,
         }
     }
@@ -88,8 +79,7 @@ impl Frames {
         ensures ok { OnOk result (self.new ≡ fed self.old bytes.now) }
         ensures err { OnErr result (self.new ≡ self.old) }
     {
-        self.make_space();
-        self.input.extend_from_slice(bytes)
+        self.bytes.push(bytes)
     }
 
     /// Takes frames up to the next message, and appends its line to `line`. Pongs and the close frame are appended to
@@ -101,28 +91,28 @@ impl Frames {
         &mut self,
         line: &mut Vec<u8>,
         output: &mut Vec<u8>,
-    ) -> Result<Turn, AllocError>
-        ensures line { result ≡ Ok Turn.Line → GivesLine self.old line.old.items output.old.items
+    ) -> Result<NextMessage, AllocError>
+        ensures line { result ≡ Ok NextMessage.Line → GivesLine self.old line.old.items output.old.items
             self.new line.new.items output.new.items }
-        ensures none { result ≡ Ok Turn.Read
+        ensures none { result ≡ Ok NextMessage.Read
             → GoesOn [] self.old output.old.items self.new output.new.items
             × (course self.new [] ≡ waits) }
-        ensures end { result ≡ Ok Turn.Close
+        ensures end { result ≡ Ok NextMessage.Close
             → GoesOn [] self.old output.old.items self.new output.new.items
             × (self.new.ended ≡ true) }
         ensures err { OnErr result (GoesOn [] self.old output.old.items self.new output.new.items
             ⊎ (self.new.ended ≡ true)) }
-        ensures lines { (result ≡ Ok Turn.Line) ⊎ (line.new.items ≡ line.old.items) }
+        ensures lines { (result ≡ Ok NextMessage.Line) ⊎ (line.new.items ≡ line.old.items) }
     {
         if self.ended {
-            return Ok(Turn::Close);
+            return Ok(NextMessage::Close);
         }
         loop {
             match self.step(line, output)? {
-                Step::Quiet => {}
-                Step::Waits => return Ok(Turn::Read),
-                Step::Line => return Ok(Turn::Line),
-                Step::Closes => return Ok(Turn::Close),
+                FrameStep::Quiet => {}
+                FrameStep::Waits => return Ok(NextMessage::Read),
+                FrameStep::Line => return Ok(NextMessage::Line),
+                FrameStep::Closes => return Ok(NextMessage::Close),
             }
         }
     }
@@ -147,14 +137,14 @@ impl Frames {
     pub fn len(&self) -> usize
         ensures { result ≡ length self.now.waiting }
     {
-        self.input.len() - self.used
+        self.bytes.len()
     }
 
     /// Whether no bytes wait.
     pub fn is_empty(&self) -> bool
         ensures { result ≡ nat_eq 0 (length self.now.waiting) }
     {
-        self.input.len() == self.used
+        self.bytes.is_empty()
     }
 
     /// Frees the capacity that waiting bytes do not need, except 1 KiB. It moves the bytes, so call it while none
@@ -162,42 +152,40 @@ impl Frames {
     pub fn release(&mut self)
         ensures { self.new ≡ self.old }
     {
-        self.drop_used();
-        self.input.shrink_to(KEPT_IDLE);
+        self.bytes.release();
     }
 
     // Takes one frame.
-    fn step(&mut self, line: &mut Vec<u8>, output: &mut Vec<u8>) -> Result<Step, AllocError>
+    fn step(&mut self, line: &mut Vec<u8>, output: &mut Vec<u8>) -> Result<FrameStep, AllocError>
         requires { self.old.ended ≡ false }
-        ensures quiet { result ≡ Ok Step.Quiet
+        ensures quiet { result ≡ Ok FrameStep.Quiet
             → GoesOn [] self.old output.old.items self.new output.new.items
             × (length self.new.waiting < length self.old.waiting) × (self.new.ended ≡ false) }
-        ensures line { result ≡ Ok Step.Line → GivesLine self.old line.old.items output.old.items
+        ensures line { result ≡ Ok FrameStep.Line → GivesLine self.old line.old.items output.old.items
             self.new line.new.items output.new.items }
-        ensures waits { result ≡ Ok Step.Waits
+        ensures waits { result ≡ Ok FrameStep.Waits
             → GoesOn [] self.old output.old.items self.new output.new.items
             × (course self.new [] ≡ waits) }
-        ensures closes { result ≡ Ok Step.Closes
+        ensures closes { result ≡ Ok FrameStep.Closes
             → GoesOn [] self.old output.old.items self.new output.new.items
             × (self.new.ended ≡ true) }
         ensures err { OnErr result (GoesOn [] self.old output.old.items self.new output.new.items
             ⊎ (self.new.ended ≡ true)) }
-        ensures lines { (result ≡ Ok Step.Line) ⊎ (line.new.items ≡ line.old.items) }
+        ensures lines { (result ≡ Ok FrameStep.Line) ⊎ (line.new.items ≡ line.old.items) }
     {
-        let used = self.used;
         // Memory is reserved before a frame is read. After that, only a message in fragments can run out of it.
         output.reserve(LONGEST_REPLY)?;
-        line.reserve((self.input.len() - used).min(LONGEST_MESSAGE) + 1)?;
-        match read_from(&mut self.context, &mut self.input, used, line, output) {
-            Ok(Front::Cut) => Ok(Step::Waits),
+        line.reserve(self.bytes.len().min(LONGEST_MESSAGE) + 1)?;
+        match self.bytes.read(&mut self.context, line, output) {
+            Ok(Front::Cut) => Ok(FrameStep::Waits),
             Ok(Front::Whole(count, heard)) => {
-                self.used = used + count;
+                self.bytes.take(count);
                 match heard {
-                    Heard::Nothing => Ok(Step::Quiet),
-                    Heard::Line => Ok(Step::Line),
+                    Heard::Nothing => Ok(FrameStep::Quiet),
+                    Heard::Line => Ok(FrameStep::Line),
                     Heard::Closed => {
                         self.ended = true;
-                        Ok(Step::Closes)
+                        Ok(FrameStep::Closes)
                     }
                     Heard::Refused(code) => self.end(code, output),
                 }
@@ -207,11 +195,11 @@ impl Frames {
     }
 
     // Ends the socket after a read that failed.
-    fn fail(&mut self, error: Error, output: &mut Vec<u8>) -> Result<Step, AllocError>
+    fn fail(&mut self, error: Error, output: &mut Vec<u8>) -> Result<FrameStep, AllocError>
         requires { self.old.conn.role ≡ Server }
         ensures ok { OnOk result (output.new.items
             ≡ output.old.items ++ farewell self.old.conn (close_code error)) }
-        ensures step { IfOk result (λ step. step ≡ Step.Closes) }
+        ensures step { IfOk result (λ step. step ≡ FrameStep.Closes) }
         ensures ended { self.new.ended ≡ true }
         ensures memory { error ≡ Error.OutOfMemory → result ≡ Err (record {}) }
     {
@@ -225,11 +213,11 @@ impl Frames {
     }
 
     // Ends the socket with a close frame that has this code.
-    fn end(&mut self, code: CloseCode, output: &mut Vec<u8>) -> Result<Step, AllocError>
+    fn end(&mut self, code: CloseCode, output: &mut Vec<u8>) -> Result<FrameStep, AllocError>
         requires { self.old.conn.role ≡ Server }
         ensures ok { OnOk result (output.new.items
             ≡ output.old.items ++ farewell self.old.conn code) }
-        ensures step { IfOk result (λ step. step ≡ Step.Closes) }
+        ensures step { IfOk result (λ step. step ≡ FrameStep.Closes) }
         ensures ended { self.new.ended ≡ true }
     {
         let frame = CloseFrame { code, reason: "" };
@@ -237,27 +225,9 @@ impl Frames {
         self.ended = true;
         // All of these codes may be sent, so only memory can be missing.
         match told {
-            Ok(()) => Ok(Step::Closes),
+            Ok(()) => Ok(FrameStep::Closes),
             Err(_) => Err(AllocError),
         }
-    }
-
-    // Drops the used bytes once they are half of those held, so that at most as many bytes are moved as arrive.
-    fn make_space(&mut self)
-        ensures { self.new ≡ self.old }
-    {
-        if self.used >= self.input.len() - self.used {
-            self.drop_used();
-            self.input.shrink_to(KEPT);
-        }
-    }
-
-    // Drops the used bytes.
-    fn drop_used(&mut self)
-        ensures { self.new ≡ self.old }
-    {
-        drop_front(&mut self.input, self.used);
-        self.used = 0;
     }
 }
 

@@ -1,5 +1,5 @@
 //! The frame at the front of the bytes.
-ghost use Rattle.std.specs.Prelude.{◌≡◌, ◌≤◌, drop, length, vec_len};
+ghost use Rattle.std.specs.Prelude.{◌≡◌};
 ghost use Rattle.websocket.specs.declared.protocol.config.Role.TheVariants.{Server};
 ghost use Rattle.web_wire.specs.Front.{Reads};
 
@@ -46,33 +46,4 @@ pub(crate) fn read_front(
             Ok(Front::Whole(step.consumed, heard))
         }
     }
-}
-
-/// Reads the frame at the front of the bytes from `used` on.
-pub(crate) fn read_from(
-    context: &mut WebSocketContext,
-    input: &mut Vec<u8>,
-    used: usize,
-    line: &mut Vec<u8>,
-    output: &mut Vec<u8>,
-) -> Result<Front, Error>
-    requires role { context.old.role ≡ Server }
-    requires inside { used ≤ vec_len input.old }
-    ensures reads { Reads result
-        (record {
-          conn = context.old;
-          bytes = drop used input.old.items;
-          line = line.old.items;
-          output = output.old.items;
-        })
-        (record {
-          conn = context.new;
-          bytes = drop used input.new.items;
-          line = line.new.items;
-          output = output.new.items;
-        }) }
-    ensures role { context.new.role ≡ Server }
-    ensures len { length input.new.items ≡ length input.old.items }
-{
-    read_front(context, &mut input.as_mut_slice()[used..], line, output)
 }

@@ -6,6 +6,7 @@
 #![tactic(auto)]
 
 mod field;
+mod frame_bytes;
 mod frames;
 mod front;
 mod heard;
@@ -14,11 +15,11 @@ pub mod laws;
 mod message;
 mod origin;
 mod page;
+mod page_request;
 mod plan;
 mod reply;
-mod visit;
 
-pub use frames::{Frames, LONGEST_MESSAGE, Turn};
+pub use frames::{Frames, LONGEST_MESSAGE, NextMessage};
 pub use message::put_message;
 pub use page::{Page, Site};
-pub use visit::{LONGEST_HEAD, Next, Parts, Visit};
+pub use page_request::{LONGEST_HEAD, Next, PageRequest, Parts};

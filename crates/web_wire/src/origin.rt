@@ -2,7 +2,7 @@
 ghost use Rattle.std.specs.Prelude.{◌≡◌, map, option_map, string_bytes};
 ghost use Rattle.std.specs.List.{list_any};
 ghost use Rattle.websocket.specs.Headers.{eq_ignore_case};
-ghost use Rattle.web_wire.specs.Visits.{is_at, is_own, may_connect};
+ghost use Rattle.web_wire.specs.PageRequests.{is_at, is_own, may_connect};
 
 use crate::field::is_same;
 

@@ -1,9 +1,10 @@
 //! How a request is answered.
-ghost use Rattle.std.specs.Prelude.{◌≡◌, ◌≤◌, Contains, IfNone, IfSome, true, false, take, map, string_bytes};
+ghost use Rattle.std.specs.Prelude.{◌≡◌, ◌≤◌, All, Contains, IfNone, IfSome, true, false, length, take, map, string_bytes};
 ghost use Rattle.std.specs.List.{position};
-ghost use Rattle.httparse.specs.Spans.{IsRequestWithin, span_bytes};
+ghost use Rattle.httparse.specs.Spans.{IsHeaderWithin, IsRequestWithin, span_bytes};
 ghost use Rattle.websocket.specs.Headers.{fields_of};
-ghost use Rattle.web_wire.specs.Visits.{IfSocket, IsNoPage, IsPlanned, MayOpen, has_page, is_query, path_of};
+ghost use Rattle.web_wire.specs.PageRequests.{IfSocket, IsNoPage, IsPlanned, MayOpen, has_copy, has_page, is_query, path_of};
+ghost use Rattle.web_wire.specs.Tags.{is_tag, names_tag, strong, trimmed};
 
 use crate::field::{field, is_single};
 use crate::origin::may_connect;
@@ -62,10 +63,10 @@ pub(crate) fn plan_of<'a>(
     let Some(page) = find_page(site.pages, path) else {
         return Plan::Refused(404, whole);
     };
-    match field(input, &spans[..head.headers], b"If-None-Match") {
-        Some(tags) if has_tag(tags, page.tag.as_bytes()) => Plan::Unchanged(page),
-        _ => Plan::Page(page, whole),
+    if has_copy(input, &spans[..head.headers], page) {
+        return Plan::Unchanged(page);
     }
+    Plan::Page(page, whole)
 }
 
 // How a request for the socket is answered.
@@ -141,10 +142,45 @@ fn find_page<'a>(pages: &'a [Page], path: &[u8]) -> Option<&'a Page>
     None
 }
 
-// Whether a list of tags contains this one. A weak tag matches too, and so does an asterisk.
-fn has_tag(tags: &[u8], tag: &[u8]) -> bool {
-    tags.split(|byte| *byte == b',').any(|one| {
-        let one = one.trim_ascii();
-        one == b"*".as_slice() || one.strip_prefix(b"W/".as_slice()).unwrap_or(one) == tag
-    })
+// Whether a request names the tag of a page as that of its copy.
+fn has_copy(input: &[u8], fields: &[HeaderSpan], page: &Page) -> bool
+    requires { All (IsHeaderWithin (length input.now)) fields.now }
+    ensures { result ≡ has_copy (fields_of input.now fields.now) page.now }
+{
+    match field(input, fields, b"If-None-Match") {
+        None => false,
+        Some(tags) => has_tag(tags, page.tag.as_bytes()),
+    }
+}
+
+// Whether a list of tags names this one. A weak tag matches too, and so does an asterisk.
+fn has_tag(tags: &[u8], tag: &[u8]) -> bool
+    ensures { result ≡ names_tag tags.now tag.now }
+{
+    tags.split(|byte| *byte == b',').any(|one| is_tag(one, tag))
+}
+
+// Whether a part of a list of tags is an asterisk, or this tag, which may be weak there.
+fn is_tag(part: &[u8], tag: &[u8]) -> bool
+    ensures { result ≡ is_tag part.now tag.now }
+{
+    let one = trimmed(part);
+    one == b"*".as_slice() || strong(one) == tag
+}
+
+// A text without the white space at either end.
+fn trimmed(text: &[u8]) -> &[u8]
+    ensures { result.now ≡ trimmed text.now }
+{
+    text.trim_ascii()
+}
+
+// A tag without the mark of a weak one.
+fn strong(tag: &[u8]) -> &[u8]
+    ensures { result.now ≡ strong tag.now }
+{
+    match tag.strip_prefix(b"W/".as_slice()) {
+        None => tag,
+        Some(rest) => rest,
+    }
 }

@@ -1,7 +1,8 @@
 //! The responses.
-ghost use Rattle.std.specs.Prelude.{◌≡◌, [], ◌++◌, OnOk};
+ghost use Rattle.std.specs.Prelude.{◌≡◌, [], ◌++◌, OnOk, length};
 ghost use Rattle.websocket.specs.Handshake.{response_bytes};
-ghost use Rattle.web_wire.specs.Visits.{Grows, PutsPage};
+ghost use Rattle.http1.specs.Head.{pairs};
+ghost use Rattle.web_wire.specs.PageRequests.{Grows, PutsPage, PutsRefusal, PutsUnchanged, PutsUnread, page_fields};
 
 use crate::page::Page;
 use http1::{BodySize, Header, Server, WriteError};
@@ -37,7 +38,9 @@ fn words(status: u16) -> &'static [u8] {
 }
 
 // The fields of a page's response.
-fn fields(page: &Page) -> [Header<'_>; 9] {
+fn fields(page: &Page) -> [Header<'_>; 9]
+    ensures { pairs result ≡ page_fields page.now }
+{
     [
         Header {
             name: b"content-type",
@@ -78,6 +81,13 @@ fn fields(page: &Page) -> [Header<'_>; 9] {
     ]
 }
 
+// The size of a text that is sent whole.
+fn size_of(text: &[u8]) -> BodySize
+    ensures { result ≡ BodySize.Known (length text.now) }
+{
+    BodySize::Known(text.len() as u64)
+}
+
 /// Appends a page: whole, or only its head.
 pub(crate) fn put_page(
     server: &mut Server,
@@ -85,11 +95,11 @@ pub(crate) fn put_page(
     page: &Page,
     whole: bool,
 ) -> Result<(), WriteError>
-    ensures ok { OnOk result (PutsPage page.now whole output.old.items output.new.items) }
+    ensures ok { OnOk result (PutsPage server.old page.now whole output.old.items output.new.items) }
     ensures grows { Grows output.old.items output.new.items }
 {
     let body = page.text.as_bytes();
-    let size = BodySize::Known(body.len() as u64);
+    let size = size_of(body);
     server.write_response(output, 200, b"OK", &fields(page), size)?;
     if whole {
         output.extend_from_slice(body)?;
@@ -103,6 +113,7 @@ pub(crate) fn put_unchanged(
     output: &mut Vec<u8>,
     page: &Page,
 ) -> Result<(), WriteError>
+    ensures ok { OnOk result (PutsUnchanged server.old page.now output.old.items output.new.items) }
     ensures grows { Grows output.old.items output.new.items }
 {
     server.write_response(output, 304, b"Not Modified", &fields(page), BodySize::Empty)
@@ -115,10 +126,11 @@ pub(crate) fn put_refusal(
     status: u16,
     whole: bool,
 ) -> Result<(), WriteError>
+    ensures ok { OnOk result (PutsRefusal server.old status whole output.old.items output.new.items) }
     ensures grows { Grows output.old.items output.new.items }
 {
     let text = words(status);
-    let size = BodySize::Known(text.len() as u64);
+    let size = size_of(text);
     server.write_response(
         output,
         status,
@@ -171,6 +183,7 @@ fn refusal_fields(status: u16) -> [Header<'static>; 4] {
 
 /// Appends a refusal of bytes that are not a request, or were not read. The response ends when the connection closes.
 pub(crate) fn put_unread(output: &mut Vec<u8>, status: u16) -> Result<(), WriteError>
+    ensures ok { OnOk result (PutsUnread status output.old.items output.new.items) }
     ensures grows { Grows output.old.items output.new.items }
 {
     http1::head::write_response(

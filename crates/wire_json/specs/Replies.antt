@@ -4,7 +4,7 @@ use Rattle.std.specs.List.{AllByRecursion}
 use Rattle.serde_json.specs.Data.{Data, boolean, string}
 use Rattle.serde_json.specs.Read.{read}
 use Rattle.serde_json.specs.Written.{compact_text}
-use Rattle.anchors.specs.declared.show.Shown.{Shown}
+use Rattle.comments.specs.declared.show.Shown.{Shown}
 use Rattle.rights.specs.declared.book.Grant.{Grant}
 use Rattle.pad_model.specs.Refusals.{code_of, name_of}
 use Rattle.pad_model.specs.declared.piece.Piece.{Piece}
@@ -13,7 +13,7 @@ use Rattle.pad_model.specs.declared.refusal.Refusal.{Refusal}
 use Rattle.pad_model.specs.declared.who.AuthorRun.{AuthorRun}
 use Rattle.pad_model.specs.declared.who.Version.{Version}
 use Rattle.pad_model.specs.declared.who.Version.TheVariants as version
-use Rattle.pad_core.specs.declared.reply.Entry.{Entry}
+use Rattle.pad_core.specs.declared.reply.LogEntry.{LogEntry}
 use Rattle.pad_core.specs.declared.reply.Listed.{Listed}
 use Rattle.pad_core.specs.declared.reply.Present.{Present}
 use Rattle.pad_core.specs.declared.reply.PadReply.{PadReply}
@@ -45,7 +45,7 @@ shown_data shown = fields_data
     ∷ (codes "text", text_data shown.text) ∷ [])
 
 -- the operation that made a revision
-abbrev pub entry_data : Entry → Data
+abbrev pub entry_data : LogEntry → Data
 entry_data entry = fields_data
     ((codes "author", author_data entry.author) ∷ (codes "kind", string (kind_word entry.kind))
     ∷ (codes "name", op_name_data entry.name)

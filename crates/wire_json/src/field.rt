@@ -3,7 +3,8 @@ ghost use Rattle.std.specs.Prelude.{◌≡◌, Some, None, IfOk, MatchResult};
 ghost use Rattle.std.specs.Str.{chars};
 ghost use Rattle.serde_json.specs.Find.{get, as_str};
 ghost use Rattle.serde_json.specs.View.{view};
-ghost use Rattle.wire_json.specs.Reading.{IsForm, IsRead, field as field_in, if_there, optional, number_in, within_in, name_in, text_in};
+ghost use Rattle.wire_json.specs.Reading.{IsForm, IsRead, if_there, optional, number_in, within_in, name_in, text_in};
+ghost use Rattle.wire_json.specs.Reading as reading;
 
 use pad_model::{Name, Refusal, Text};
 use serde_json::Value;
@@ -31,7 +32,7 @@ pub fn number(value: &Value) -> Result<u64, Refusal>
 }
 
 pub fn number_field(value: &Value, key: &str) -> Result<u64, Refusal>
-    ensures { IsForm (field_in number_in key.now (view value.now)) result }
+    ensures { IsForm (reading.field number_in key.now (view value.now)) result }
 {
     number(field(value, key)?)
 }
@@ -70,9 +71,9 @@ pub fn optional_limited_field(value: &Value, key: &str, most: u64) -> Result<Opt
 }
 
 pub fn str_field<'a>(value: &'a Value, key: &str) -> Result<&'a str, Refusal>
-    ensures { MatchResult result (λ found. field_in as_str key.now (view value.now)
+    ensures { MatchResult result (λ found. reading.field as_str key.now (view value.now)
         ≡ Some found.now) (λ e. (e ≡ Refusal.NotRequest)
-        × (field_in as_str key.now (view value.now) ≡ None)) }
+        × (reading.field as_str key.now (view value.now) ≡ None)) }
 {
     match field(value, key)?.as_str() {
         Some(text) => Ok(text),
@@ -89,19 +90,19 @@ fn text_of(alloc: Global, text: &str) -> Result<Text, AllocError>
 
 #[tactic(auto, using(crate::proofs::Fields::text_of_string))]
 pub fn text_field(alloc: Global, value: &Value, key: &str) -> Result<Text, Refusal>
-    ensures { IsRead (field_in text_in key.now (view value.now)) result }
+    ensures { IsRead (reading.field text_in key.now (view value.now)) result }
 {
     Ok(text_of(alloc, str_field(value, key)?)?)
 }
 
 pub fn name_field(alloc: Global, value: &Value, key: &str) -> Result<Name, Refusal>
-    ensures { IsRead (field_in name_in key.now (view value.now)) result }
+    ensures { IsRead (reading.field name_in key.now (view value.now)) result }
 {
     Ok(Name::from_str(alloc, str_field(value, key)?)?)
 }
 
 pub fn word_field(alloc: Global, value: &Value, key: &str) -> Result<Word, Refusal>
-    ensures { IsRead (field_in name_in key.now (view value.now)) result }
+    ensures { IsRead (reading.field name_in key.now (view value.now)) result }
 {
     Ok(Word::from_str(alloc, str_field(value, key)?)?)
 }

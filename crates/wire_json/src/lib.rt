@@ -1,6 +1,6 @@
 //! Requests and replies as lines of JSON, and operations as JSON values.
 //!
-//! It depends on the types of `pad_model`, `anchors`, `rights` and `sessions`, on the requests and replies of
+//! It depends on the types of `pad_model`, `comments`, `rights` and `sessions`, on the requests and replies of
 //! `pad_core`, and on `serde_json`. It sees the bytes of one line: the crates above decide where a line begins and
 //! ends, and who answers it.
 #![tactic(auto)]

@@ -3,10 +3,11 @@ ghost use Rattle.std.specs.Prelude.{◌≡◌, Option, IfOk};
 ghost use Rattle.serde_json.specs.Data.{Data};
 ghost use Rattle.serde_json.specs.View.{view};
 ghost use Rattle.wire_json.specs.Forms.{each_data};
-ghost use Rattle.wire_json.specs.Reading.{IsRead, field as field_in, list_in};
+ghost use Rattle.wire_json.specs.Reading.{IsRead, list_in};
+ghost use Rattle.wire_json.specs.Reading as reading;
 
 use crate::field::field;
-use pad_model::{Refusal, Row};
+use pad_model::{Items, Refusal};
 use serde_json::Value;
 use std::alloc::{AllocError, Global};
 
@@ -28,21 +29,21 @@ pub trait ToJson {
         ensures { IfOk result (λ v. view v ≡ says self.now) };
 }
 
-pub fn list<T: FromJson>(alloc: Global, value: &Value) -> Result<Row<T>, Refusal>
+pub fn list<T: FromJson>(alloc: Global, value: &Value) -> Result<Items<T>, Refusal>
     ensures { IsRead (list_in T.form (view value.now)) result }
 {
     let Some(items) = value.as_array() else {
         return Err(Refusal::NotRequest);
     };
-    let mut list = Row::new(alloc);
+    let mut list = Items::new(alloc);
     for item in items {
         list.push(T::from_json(alloc, item)?)?;
     }
     Ok(list)
 }
 
-pub fn list_field<T: FromJson>(alloc: Global, value: &Value, key: &str) -> Result<Row<T>, Refusal>
-    ensures { IsRead (field_in (list_in T.form) key.now (view value.now)) result }
+pub fn list_field<T: FromJson>(alloc: Global, value: &Value, key: &str) -> Result<Items<T>, Refusal>
+    ensures { IsRead (reading.field (list_in T.form) key.now (view value.now)) result }
 {
     list(alloc, field(value, key)?)
 }

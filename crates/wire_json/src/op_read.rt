@@ -1,15 +1,15 @@
 //! From a JSON value to an operation.
 ghost use Rattle.std.specs.Prelude.{◌≡◌, [], ◌∷◌, option_and_then, option_map, MatchResult, codes};
 ghost use Rattle.serde_json.specs.View.{view};
-ghost use Rattle.wire_json.specs.Reading.{IsForm, IsRead, field as field_in, list_in};
-ghost use Rattle.wire_json.specs.Requests.{op_in, kind_in, part_of, parts_of, edit_part_in, several as several_of};
+ghost use Rattle.wire_json.specs.Reading.{IsForm, IsRead, list_in};
+ghost use Rattle.wire_json.specs.Requests.{op_in, kind_in, part_of, parts_of, edit_part_in};
 
 use crate::field::{str_field, text_field};
 use crate::list::{FromJson, list_field};
 use crate::read_forms::{op_name_field, seen_field, stamp_field, stamp_or_null_field};
 use crate::word::kind_of_word;
 use pad_core::Kind;
-use pad_model::{Name, Op, Part, Refusal, Row, Run};
+use pad_model::{Items, Name, Op, Part, Refusal, Run};
 use serde_json::Value;
 use std::alloc::Global;
 
@@ -49,7 +49,7 @@ fn kind_field(value: &Value) -> Result<Kind, Refusal>
     }
 }
 
-fn read_parts(alloc: Global, kind: Kind, value: &Value) -> Result<Row<Part>, Refusal>
+fn read_parts(alloc: Global, kind: Kind, value: &Value) -> Result<Items<Part>, Refusal>
     ensures { IsRead (parts_of kind (view value.now)) result }
 {
     match kind {
@@ -58,17 +58,17 @@ fn read_parts(alloc: Global, kind: Kind, value: &Value) -> Result<Row<Part>, Ref
     }
 }
 
-fn only(alloc: Global, part: Part) -> Result<Row<Part>, Refusal>
+fn only(alloc: Global, part: Part) -> Result<Items<Part>, Refusal>
     ensures { MatchResult result (λ parts. parts ≡ part ∷ []) (λ e. e ≡ Refusal.Memory) }
 {
-    Ok(Row::of_one(alloc, part)?)
+    Ok(Items::of_one(alloc, part)?)
 }
 
 /// The parts of an edit. An operation of a single part has the form of its kind instead.
-fn several(alloc: Global, value: &Value) -> Result<Row<Part>, Refusal>
+fn several(alloc: Global, value: &Value) -> Result<Items<Part>, Refusal>
     ensures { IsRead (parts_of Kind.Edit (view value.now)) result }
 {
-    let parts: Row<Part> = list_field(alloc, value, "parts")?;
+    let parts: Items<Part> = list_field(alloc, value, "parts")?;
     if parts.len() == 1 {
         return Err(Refusal::NotRequest);
     }

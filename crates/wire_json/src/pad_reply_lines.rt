@@ -10,8 +10,8 @@ use crate::number_lines::{
 };
 use crate::value_lines::value_line;
 use crate::write_forms::{seen_value, text_value};
-use anchors::Shown;
-use pad_core::{Entry, PadReply, Present};
+use comments::Shown;
+use pad_core::{LogEntry, PadReply, Present};
 use pad_model::{AuthorRun, Op, Piece, Seen, Text};
 use rights::Grant;
 use serde_json::{Value, json};
@@ -145,7 +145,7 @@ fn changes_value(
     json!(in alloc; {"changes": changes, "notes": notes, "now": now, "ok": true, "rev": rev, "to": to})
 }
 
-fn entries_value(alloc: Global, now: u64, entries: &[Entry]) -> Result<Value, AllocError>
+fn entries_value(alloc: Global, now: u64, entries: &[LogEntry]) -> Result<Value, AllocError>
     ensures { IfOk result (λ v. view v ≡ pad_data (PadReply.Entries now entries.now)) }
 {
     answer_with(alloc, now, "entries", list_value(alloc, entries)?)

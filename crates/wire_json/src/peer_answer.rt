@@ -8,7 +8,8 @@ ghost use Rattle.serde_json.specs.View.{view};
 ghost use Rattle.pad_model.specs.declared.limits.TheConstants.{MAX_REPLICA};
 ghost use Rattle.wire_json.specs.Lines.{value_of};
 ghost use Rattle.wire_json.specs.Peers.{told, granted_in, refused_in, answered_version, peer_answer, vector_answer, pull_answer, push_answer};
-ghost use Rattle.wire_json.specs.Reading.{IsForm, IsRead, field as field_in, name_in};
+ghost use Rattle.wire_json.specs.Reading.{IsForm, IsRead, name_in};
+ghost use Rattle.wire_json.specs.Reading as reading;
 ghost use Rattle.wire_json.specs.Words.{state_of_word};
 
 use crate::field::{field, number, number_field, str_field};
@@ -17,7 +18,7 @@ use crate::read_forms::{replica, seen_field};
 use crate::request::read_value;
 use crate::word::state_of_word;
 use pad_core::Pushed;
-use pad_model::{Op, Refusal, Row, Seen, Version};
+use pad_model::{Items, Op, Refusal, Seen, Version};
 use serde_json::Value;
 use std::alloc::Global;
 
@@ -53,7 +54,7 @@ pub fn read_vector_answer(alloc: Global, line: &[u8]) -> Result<Told<Seen>, Refu
 }
 
 /// Reads the answer to `pull`: operations. `Op::check` tells whether each is within its limits.
-pub fn read_pull_answer(alloc: Global, line: &[u8]) -> Result<Told<Row<Op>>, Refusal>
+pub fn read_pull_answer(alloc: Global, line: &[u8]) -> Result<Told<Items<Op>>, Refusal>
     ensures { IsRead (told pull_answer line.now) result }
 {
     let value = answer_value(alloc, line)?;
@@ -131,7 +132,7 @@ fn peer_vector(alloc: Global, value: &Value) -> Result<Seen, Refusal>
     seen_field(alloc, value, "seen")
 }
 
-fn peer_ops(alloc: Global, value: &Value) -> Result<Row<Op>, Refusal>
+fn peer_ops(alloc: Global, value: &Value) -> Result<Items<Op>, Refusal>
     ensures { IsRead (pull_answer (view value.now)) result }
 {
     let _now = number_field(value, "now")?;
@@ -148,7 +149,7 @@ fn peer_state(value: &Value) -> Result<Pushed, Refusal>
 }
 
 fn state_field(value: &Value) -> Result<Pushed, Refusal>
-    ensures { IsForm (option_and_then state_of_word (field_in name_in (codes "state") (view value.now))) result }
+    ensures { IsForm (option_and_then state_of_word (reading.field name_in (codes "state") (view value.now))) result }
 {
     match state_of_word(str_field(value, "state")?) {
         Some(state) => Ok(state),

@@ -3,7 +3,8 @@ ghost use Rattle.std.specs.Prelude.{◌≡◌, ◌≤◌, Some, None, option_and
 ghost use Rattle.serde_json.specs.Find.{as_array};
 ghost use Rattle.serde_json.specs.View.{view, items_view};
 ghost use Rattle.pad_model.specs.declared.limits.TheConstants.{MAX_REPLICA};
-ghost use Rattle.wire_json.specs.Reading.{IsForm, IsRead, field as field_in, null_or, optional, number_in, positive_in, within_in, pair_in, triple_in, stamp_of, stamp_in, op_name_in, counted_in, span_in, seen_in, version_of};
+ghost use Rattle.wire_json.specs.Reading.{IsForm, IsRead, null_or, optional, number_in, positive_in, within_in, pair_in, triple_in, stamp_of, stamp_in, op_name_in, counted_in, span_in, seen_in, version_of};
+ghost use Rattle.wire_json.specs.Reading as reading;
 
 use crate::field::{field, number, optional_number_field};
 use crate::list::FromJson;
@@ -87,14 +88,14 @@ pub fn stamp(value: &Value) -> Result<Stamp, Refusal>
 }
 
 pub fn stamp_field(value: &Value, key: &str) -> Result<Stamp, Refusal>
-    ensures { IsForm (field_in stamp_in key.now (view value.now)) result }
+    ensures { IsForm (reading.field stamp_in key.now (view value.now)) result }
 {
     stamp(field(value, key)?)
 }
 
 /// A stamp, or null for the start of the pad.
 pub fn stamp_or_null_field(value: &Value, key: &str) -> Result<Option<Stamp>, Refusal>
-    ensures { IsForm (field_in (null_or stamp_in) key.now (view value.now)) result }
+    ensures { IsForm (reading.field (null_or stamp_in) key.now (view value.now)) result }
 {
     let found = field(value, key)?;
     if found.is_null() {
@@ -114,7 +115,7 @@ pub fn op_name(value: &Value) -> Result<OpName, Refusal>
 }
 
 pub fn op_name_field(value: &Value, key: &str) -> Result<OpName, Refusal>
-    ensures { IsForm (field_in op_name_in key.now (view value.now)) result }
+    ensures { IsForm (reading.field op_name_in key.now (view value.now)) result }
 {
     op_name(field(value, key)?)
 }
@@ -147,7 +148,7 @@ fn seen(alloc: Global, value: &Value) -> Result<Seen, Refusal>
 }
 
 pub fn seen_field(alloc: Global, value: &Value, key: &str) -> Result<Seen, Refusal>
-    ensures { IsRead (field_in seen_in key.now (view value.now)) result }
+    ensures { IsRead (reading.field seen_in key.now (view value.now)) result }
 {
     seen(alloc, field(value, key)?)
 }

@@ -7,8 +7,8 @@ ghost use Rattle.wire_json.specs.Replies.{run_data, piece_data, shown_data, entr
 
 use crate::list::{ToJson, list_value};
 use crate::word::{kind_word, right_word};
-use anchors::Shown;
-use pad_core::{Entry, Listed, Present};
+use comments::Shown;
+use pad_core::{Listed, LogEntry, Present};
 use pad_model::{Author, AuthorRun, Counted, Name, OpName, Piece, Seen, Span, Stamp, Text};
 use rights::Grant;
 use serde_json::{Map, Value, json, put};
@@ -140,7 +140,7 @@ impl ToJson for Shown {
     }
 }
 
-impl ToJson for Entry {
+impl ToJson for LogEntry {
     ghost says = { entry_data };
 
     fn to_json(&self, alloc: Global) -> Result<Value, AllocError> {

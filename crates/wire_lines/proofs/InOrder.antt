@@ -9,7 +9,7 @@ use Rattle.std.specs.List.{slice_split, onto_first, list_any}
 use Rattle.wire_lines.specs.Lines.{is_feed, line_end, first_line, behind_line, is_too_long, without_return}
 use Rattle.wire_lines.specs.Served.{is_long, lines_of, lines, is_cut, LinesLaw}
 use Rattle.wire_lines.specs.declared.feed.TheConstants.{MAX_LINE}
-use Rattle.wire_lines.specs.declared.buffer.Found.TheVariants.{Text, TooLong, End}
+use Rattle.wire_lines.specs.declared.buffer.FoundLine.TheVariants.{Text, TooLong, End}
 use Rattle.wire_lines.proofs.Feeds.{line_end-le}
 use Rattle.wire_lines.proofs.Taken.{first-of, first-whole}
 

@@ -1,13 +1,15 @@
 -- What a part of the bytes shows about all of them.
 use Rattle.std.proofs.Common.{◌≡◌, ℕ, ◌+◌, ◌-◌, ◌<◌, ◌≤◌, true, false, cond, ltb, List, ◌++◌, length, length-append}
-use Rattle.std.proofs.Common.{take, drop, refl, ap, ◌∙◌, sym, subst, arith, length-drop, drop-drop}
-use Rattle.std.proofs.lemmas.List.{take-append-le, drop-append-le}
+use Rattle.std.proofs.Common.{inl, inr, slice_index, take, drop, refl, ap, ◌∙◌, sym, subst, arith, length-drop, drop-drop}
+use Rattle.std.proofs.lemmas.Bool.{cases_lt, eqb-true}
+use Rattle.std.proofs.lemmas.List.{take-append-le, drop-append-le, get_or-drop}
+use Rattle.std.proofs.lemmas.List.Sums.{passes_at_first}
 use Rattle.std.specs.Prelude.{slice_range}
-use Rattle.wire_lines.specs.Lines.{line_end, first_line, behind_line, without_return}
+use Rattle.wire_lines.specs.Lines.{is_feed, line_end, first_line, behind_line, without_return}
 use Rattle.wire_lines.specs.Buffer.{ShowsBefore}
-use Rattle.wire_lines.specs.declared.buffer.Found.TheVariants.{Text, TooLong}
+use Rattle.wire_lines.specs.declared.buffer.FoundLine.TheVariants.{Text, TooLong}
 use Rattle.wire_lines.specs.declared.feed.TheConstants.{MAX_LINE}
-use Rattle.wire_lines.specs.Inside.{IsSplit}
+use Rattle.wire_lines.specs.Inside.{IsSearched, IsSplit}
 use Rattle.wire_lines.proofs.Feeds.{line_end-found, line_end-more, line_end-from, further}
 
 -- the first line of bytes that have a line feed
@@ -101,3 +103,17 @@ after_more held new more start end later from to kept is at later_in =
       line_ordered = kept.line_ordered;
       line_in = omega arith;
     }
+
+-- the end of the first line is where a search for it ended
+pub is_searched : (held : List ℕ) (start end : ℕ) → start ≤ length held → end ≡ start + line_end (drop start held)
+    → end ≤ length held → IsSearched held end
+is_searched held start end from at within = elim (cases_lt end (length held)) [
+  | inl before ↦ inr (feed before)
+  | inr behind ↦ inl (omega arith)
+]
+  where
+    feed : end < length held → slice_index held end ≡ 10
+    feed before =
+        let here = passes_at_first is_feed (drop start held) 0 (omega (arith, length-drop start held)) in
+        ap (λ i. slice_index held i) at ∙ sym (get_or-drop start held (line_end (drop start held)) 0)
+        ∙ eqb-true _ 10 here

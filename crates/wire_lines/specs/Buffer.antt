@@ -3,8 +3,8 @@ use Rattle.std.specs.Prelude.{◌≡◌, ℕ, ◌+◌, ◌-◌, ◌*◌, ◌<◌
 use Rattle.std.specs.Prelude.{⊤, Option, None, Some}
 use Rattle.std.specs.Io.KnownBytes.{prepend_known}
 use Rattle.wire_lines.specs.declared.fault.Fault.{Fault}
-use Rattle.wire_lines.specs.declared.buffer.Found.{Found}
-use Rattle.wire_lines.specs.declared.buffer.Found.TheVariants.{Text, TooLong, End}
+use Rattle.wire_lines.specs.declared.buffer.FoundLine.{FoundLine}
+use Rattle.wire_lines.specs.declared.buffer.FoundLine.TheVariants.{Text, TooLong, End}
 use Rattle.wire_lines.specs.declared.inlet.TheConstants.{MAX_READS, CHUNK}
 use Rattle.wire_lines.specs.declared.feed.TheConstants.{MAX_LINE}
 use Rattle.wire_lines.specs.Lines.{line_end, first_line, behind_line, is_too_long}
@@ -30,7 +30,7 @@ budget reading = length reading.waiting + (MAX_READS - reading.reads) * (CHUNK +
 
 -- what is at the front of the bytes, with the line and the bytes that stay: a line, which is taken; a line that is too
 -- long, which stays; or nothing
-abbrev pub Shows : Found → List ℕ → List ℕ → List ℕ → Type 0
+abbrev pub Shows : FoundLine → List ℕ → List ℕ → List ℕ → Type 0
 Shows Text bytes line rest =
     (0 < length bytes) × (is_too_long bytes ≡ false) × (line ≡ first_line bytes)
     × (rest ≡ behind_line bytes)
@@ -38,13 +38,13 @@ Shows TooLong bytes line rest = (is_too_long bytes ≡ true) × (rest ≡ bytes)
 Shows End bytes line rest = (bytes ≡ []) × (rest ≡ [])
 
 -- the same for bytes that may be unknown, of which nothing is said then
-abbrev pub Finds : Found → Option (List ℕ) → List ℕ → Option (List ℕ) → Type 0
+abbrev pub Finds : FoundLine → Option (List ℕ) → List ℕ → Option (List ℕ) → Type 0
 Finds found None line rest = ⊤
 Finds found (Some bytes) line None = ⊥
 Finds found (Some bytes) line (Some rest) = Shows found bytes line rest
 
 -- the bytes show this whatever follows them
-abbrev pub ShowsBefore : Found → List ℕ → List ℕ → List ℕ → Type 0
+abbrev pub ShowsBefore : FoundLine → List ℕ → List ℕ → List ℕ → Type 0
 ShowsBefore found bytes line rest = (more : List ℕ)
     → Shows found (bytes ++ more) line (rest ++ more)
 

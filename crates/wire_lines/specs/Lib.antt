@@ -3,6 +3,7 @@ pub mod Buffer
 pub mod Causes
 pub mod Device
 pub mod Devices
+pub mod Errors
 pub mod Faults
 pub mod Inside
 pub mod Lines

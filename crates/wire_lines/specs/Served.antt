@@ -4,8 +4,8 @@ use Rattle.std.specs.List.{slice_split, list_any}
 use Rattle.wire_lines.specs.Lines.{is_feed, without_return}
 use Rattle.wire_lines.specs.Buffer.{Shows}
 use Rattle.wire_lines.specs.declared.feed.TheConstants.{MAX_LINE}
-use Rattle.wire_lines.specs.declared.buffer.Found.{Found}
-use Rattle.wire_lines.specs.declared.buffer.Found.TheVariants.{Text, TooLong, End}
+use Rattle.wire_lines.specs.declared.buffer.FoundLine.{FoundLine}
+use Rattle.wire_lines.specs.declared.buffer.FoundLine.TheVariants.{Text, TooLong, End}
 
 -- whether a part between line feeds is longer than a line may be
 abbrev pub is_long : List ℕ → Bool
@@ -28,12 +28,12 @@ abbrev pub is_cut : List ℕ → Bool
 is_cut bytes = list_any is_long (slice_split is_feed bytes)
 
 -- what is found is the first of the lines, and the bytes that stay have the others
-abbrev pub GoesOn : Found → List ℕ → List ℕ → List ℕ → Type 0
+abbrev pub GoesOn : FoundLine → List ℕ → List ℕ → List ℕ → Type 0
 GoesOn Text bytes line rest = (lines bytes ≡ line ∷ lines rest) × (is_cut bytes ≡ is_cut rest)
 GoesOn TooLong bytes line rest = (lines bytes ≡ []) × (is_cut bytes ≡ true)
 GoesOn End bytes line rest = (lines bytes ≡ []) × (is_cut bytes ≡ false)
 
 -- successive finds give the lines of the bytes
 abbrev pub LinesLaw : Type 0
-LinesLaw = (found : Found) (bytes line rest : List ℕ) → Shows found bytes line rest
+LinesLaw = (found : FoundLine) (bytes line rest : List ℕ) → Shows found bytes line rest
     → GoesOn found bytes line rest

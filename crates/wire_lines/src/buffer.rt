@@ -16,7 +16,7 @@ use std::marker::Model;
 
 /// What is at the front of the bytes.
 #[derive(Clone, Copy, Debug, PartialEq, Eq)]
-pub enum Found {
+pub enum FoundLine {
     /// A line.
     Text,
     /// A line that is too long.
@@ -69,7 +69,7 @@ impl LineBuffer {
     }
 
     /// Finds the next line, reading as often as necessary. After a fault, every call returns that fault.
-    pub fn find_line<R: Source>(&mut self, source: &mut R) -> Result<Found, Fault>
+    pub fn find_line<R: Source>(&mut self, source: &mut R) -> Result<FoundLine, Fault>
         // The bytes to come are those that wait and those that the source still gives. The result describes their
         // front.
         ensures found { IfOk result (λ found. Finds found (ahead self.old (R.remaining source.old))
@@ -86,7 +86,7 @@ impl LineBuffer {
         ensures fault { self.new.fault ≡ result_err result }
 
         // Each line uses up some of a budget of bytes and reads.
-        ensures budget { result ≡ Ok Found.Text → budget self.new < budget self.old }
+        ensures budget { result ≡ Ok FoundLine.Text → budget self.new < budget self.old }
         ensures cause { IfNone self.old.fault
             (HasCause result (R.failures source.old) (R.failures source.new) self.new.reads) }
         ensures counted { IfNone self.old.fault
@@ -104,14 +104,14 @@ impl LineBuffer {
     }
 
     // Reads until the waiting bytes show what the first line is.
-    fn search<R: Source>(&mut self, source: &mut R) -> Result<Found, Fault>
+    fn search<R: Source>(&mut self, source: &mut R) -> Result<FoundLine, Fault>
         ensures found { IfOk result (λ found. Finds found (ahead self.old (R.remaining source.old))
             self.new.line (ahead self.new (R.remaining source.new))) }
         ensures kept { OnErr result (Keeps (ahead self.old (R.remaining source.old))
             (ahead self.new (R.remaining source.new))) }
         ensures served { OnErr result (line_end self.new.waiting ≡ length self.new.waiting) }
         ensures going { OnErr result (self.new.ended ≡ false) }
-        ensures budget { result ≡ Ok Found.Text → budget self.new < budget self.old }
+        ensures budget { result ≡ Ok FoundLine.Text → budget self.new < budget self.old }
         ensures fault { self.new.fault ≡ self.old.fault }
         ensures cause { HasCause result (R.failures source.old) (R.failures source.new)
             self.new.reads }
@@ -124,9 +124,9 @@ impl LineBuffer {
             }
             if self.inlet.has_ended() {
                 return Ok(if self.splitter.last_line() {
-                    Found::Text
+                    FoundLine::Text
                 } else {
-                    Found::End
+                    FoundLine::End
                 });
             }
             self.splitter.receive_from(&mut self.inlet, source)?;

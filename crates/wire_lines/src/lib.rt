@@ -5,6 +5,7 @@
 #![tactic(auto)]
 
 mod buffer;
+mod cause;
 mod device;
 mod fault;
 mod feed;
@@ -14,9 +15,11 @@ mod lines;
 mod memory;
 mod splitter;
 mod std_device;
+mod watched;
 mod write;
 
-pub use buffer::{Found, LineBuffer};
+pub use buffer::{FoundLine, LineBuffer};
+pub use cause::cause_of;
 pub use device::{ReadError, Sink, Source, WriteError};
 pub use fault::Fault;
 pub use feed::MAX_LINE;
@@ -25,4 +28,5 @@ pub use lines::{Line, Lines};
 pub use memory::{Input, Output};
 pub use splitter::LineSplitter;
 pub use std_device::Std;
+pub use watched::Watched;
 pub use write::write_all;

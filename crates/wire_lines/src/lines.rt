@@ -7,7 +7,7 @@ ghost use Rattle.wire_lines.specs.Reader.{lines_ahead, failures_of, fault_of, re
 ghost use Rattle.wire_lines.specs.contracts.lines.Lines.{the_row};
 ghost use Rattle.wire_lines.specs.declared.fault.Fault.TheVariants.{Memory};
 
-use crate::buffer::{Found, LineBuffer};
+use crate::buffer::{FoundLine, LineBuffer};
 use crate::device::Source;
 use crate::fault::Fault;
 use std::alloc::Global;
@@ -54,9 +54,9 @@ impl<R: Source> Lines<R> {
             (failures_of R.failures new) (reads_of new))) }
     {
         match self.buffer.find_line(&mut self.source)? {
-            Found::Text => Ok(Line::Text(self.buffer.line())),
-            Found::TooLong => Ok(Line::TooLong),
-            Found::End => Ok(Line::End),
+            FoundLine::Text => Ok(Line::Text(self.buffer.line())),
+            FoundLine::TooLong => Ok(Line::TooLong),
+            FoundLine::End => Ok(Line::End),
         }
     }
 }

@@ -4,11 +4,12 @@ ghost use Rattle.std.specs.Bool.{OnTrue};
 ghost use Rattle.std.specs.Io.KnownBytes.{Keeps, IsAtEnd, prepend_known};
 ghost use Rattle.wire_lines.specs.Lines.{behind_line, line_end};
 ghost use Rattle.wire_lines.specs.Buffer.{Shows, ShowsBefore, IsPart};
+ghost use Rattle.wire_lines.specs.Inside.{IsSearched};
 ghost use Rattle.wire_lines.specs.Splitter.{has_line};
 ghost use Rattle.wire_lines.specs.Causes.{AreCounted, HasCause, most_reads};
 ghost use Rattle.wire_lines.specs.declared.fault.Fault.TheVariants.{Memory};
 
-use crate::buffer::Found;
+use crate::buffer::FoundLine;
 use crate::device::Source;
 use crate::fault::Fault;
 use crate::feed::{MAX_LINE, end_from, end_without_return};
@@ -87,7 +88,7 @@ impl LineSplitter {
 
     /// The first line, without its line end, if its line feed has arrived and it is not too long. The line stays.
     pub fn first_line(&self) -> Option<&[u8]>
-        ensures some { IfSome result (λ line. ShowsBefore Found.Text self.now.waiting line.now
+        ensures some { IfSome result (λ line. ShowsBefore FoundLine.Text self.now.waiting line.now
             (behind_line self.now.waiting)) }
         ensures none { IfNone result (has_line self.now.waiting ≡ false) }
     {
@@ -151,19 +152,19 @@ impl LineSplitter {
     }
 
     /// Takes the first line, if its line feed has arrived. A line that is too long stays.
-    pub fn next_line(&mut self) -> Option<Found>
+    pub fn next_line(&mut self) -> Option<FoundLine>
         ensures found { IfSome result (λ found. ShowsBefore found self.old.waiting self.new.line
             self.new.waiting) }
         ensures none { IfNone result (IsPart self.new.waiting) }
-        ensures not_end { result ≢ Some Found.End }
-        ensures shorter { result ≡ Some Found.Text
+        ensures not_end { result ≢ Some FoundLine.End }
+        ensures shorter { result ≡ Some FoundLine.Text
             → length self.new.waiting < length self.old.waiting }
         ensures stays { IfNone result (self.new.waiting ≡ self.old.waiting) }
     {
         let (start, end) = (self.start, self.end);
         let is_long = end - start > MAX_LINE;
         if is_long {
-            return Some(Found::TooLong);
+            return Some(FoundLine::TooLong);
         }
         let is_part = end == self.held.len();
         if is_part {
@@ -173,13 +174,13 @@ impl LineSplitter {
         self.line_to = end_without_return(&self.held, start, end);
         self.start = end + 1;
         self.end = end_from(&self.held, end + 1);
-        Some(Found::Text)
+        Some(FoundLine::Text)
     }
 
     /// Takes all waiting bytes as the last line. Returns false if there are none.
     pub fn last_line(&mut self) -> bool
         requires { IsPart self.old.waiting }
-        ensures text { result ≡ true → Shows Found.Text self.old.waiting self.new.line
+        ensures text { result ≡ true → Shows FoundLine.Text self.old.waiting self.new.line
             self.new.waiting }
         ensures none { result ≡ false → self.old.waiting ≡ [] }
         ensures rest { self.new.waiting ≡ [] }
@@ -228,9 +229,11 @@ impl LineSplitter {
     }
 }
 
-// Appends bytes, and returns the new end of a line that was searched up to `end`.
+// Appends bytes, and returns the new end of a line that was searched up to `end`. All that is held was searched, unless a
+// line feed ended the search before: so no byte is searched twice.
 fn append(held: &mut Vec<u8>, end: usize, bytes: &[u8]) -> Result<usize, Fault>
-    requires { end ≤ vec_len held.old }
+    requires within { end ≤ vec_len held.old }
+    requires searched { IsSearched held.old.items end }
     ensures bytes { OnOk result (held.new.items ≡ held.old.items ++ bytes.now) }
     ensures end { IfOk result (λ new. (new ≡ end + line_end (drop end held.new.items))
         × (new ≤ length held.new.items)) }

@@ -1,5 +1,5 @@
 use Rattle.std.proofs.Common.{◌-◌, arith, ap, ◌∙◌, sym, set}
-use Rattle.authorship.specs.declared.kept.KeptRun.{KeptRun}
+use Rattle.authorship.specs.declared.stored_run.StoredRun.{StoredRun}
 use Rattle.authorship.proofs.At.{read}
 use Rattle.authorship.proofs.Puts.{characters-set}
 use Rattle.authorship.proofs.delete.cut_out.Goals as goal
@@ -7,11 +7,11 @@ use Rattle.authorship.proofs.delete.cut_out.Goals as goal
 pub replace-requires-clause-weight_fits : goal.replace-requires-clause-weight_fits
 replace-requires-clause-weight_fits c =
     let run = c.get-run.result.now in
-    let shorter : KeptRun = record run { len = run.len - c.args.len } in
+    let shorter : StoredRun = record run { len = run.len - c.args.len } in
     let total = characters-set c.args.runs.now.items c.args.index run shorter c.get-run.ensures.item in
     omega (arith, total, c.requires.fits)
 
 pub returns : goal.returns
 returns c =
     let there = read c.args.runs.now.items c.args.index c.get-run.result.now c.get-run.ensures.item in
-    record { items = c.replace.ensures.items ∙ ap (λ (r : KeptRun). set c.args.runs.now.items c.args.index (record r { len = r.len - c.args.len })) (sym there.1) }
+    record { items = c.replace.ensures.items ∙ ap (λ (r : StoredRun). set c.args.runs.now.items c.args.index (record r { len = r.len - c.args.len })) (sym there.1) }

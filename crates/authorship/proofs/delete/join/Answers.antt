@@ -1,6 +1,6 @@
 use Rattle.std.proofs.Common.{◌≡◌, ◌-◌, ap, sym, ◌∙◌, arith, slice_get}
-use Rattle.authorship.specs.declared.kept.KeptRun.{KeptRun}
-use Rattle.authorship.specs.Kept.{places, IsProper}
+use Rattle.authorship.specs.declared.stored_run.StoredRun.{StoredRun}
+use Rattle.authorship.specs.StoredRuns.{places, IsProper}
 use Rattle.authorship.proofs.At.{read}
 use Rattle.authorship.proofs.Takes.{proper-apart, joined-seam}
 use Rattle.authorship.proofs.delete.join.Goals as goal
@@ -33,7 +33,7 @@ returns-else-seam-gt0-clause-proper c =
           (ap (slice_get c.args.runs.now.items) (sym before) ∙ w.get.ensures.item) in
           let right = read c.args.runs.now.items c.args.seam w.get-then-seam-len.result.now
           w.get-then-seam-len.ensures.item in
-          w.if-get.false (ap (λ (r : KeptRun). r.author) (sym left.1) ∙ same ∙ ap (λ (r : KeptRun). r.author) right.1)
+          w.if-get.false (ap (λ (r : StoredRun). r.author) (sym left.1) ∙ same ∙ ap (λ (r : StoredRun). r.author) right.1)
       | else-seam-gt0-via-then-seam-gt0+else-seam-len w ↦ absurd (omega (arith, w.if-seam-len.false))
       | else-seam-gt0-via-else-seam-gt0 w ↦ absurd (omega (arith, w.if-seam-gt0.false))
     ])

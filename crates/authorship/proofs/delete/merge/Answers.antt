@@ -1,5 +1,5 @@
 use Rattle.std.proofs.Common.{◌≡◌, ◌+◌, ◌-◌, arith, ap, ◌∙◌, sym, set, Some, slice_get}
-use Rattle.authorship.specs.declared.kept.KeptRun.{KeptRun}
+use Rattle.authorship.specs.declared.stored_run.StoredRun.{StoredRun}
 use Rattle.authorship.proofs.Puts.{characters-set, one_fits}
 use Rattle.authorship.proofs.Takes.{characters-remove, get_before, merged}
 use Rattle.authorship.proofs.delete.merge.Goals as goal
@@ -7,7 +7,7 @@ use Rattle.authorship.proofs.delete.merge.Goals as goal
 pub overflow_add-run : goal.overflow_add-run
 overflow_add-run c =
     let fits = one_fits c.remove-right.new.self.items (c.args.seam - 1) c.get-run.result.now c.get-run.ensures.item in
-    let less = ap Rattle.authorship.specs.Kept.characters c.remove-right.ensures.items in
+    let less = ap Rattle.authorship.specs.StoredRuns.characters c.remove-right.ensures.items in
     let all = characters-remove c.args.runs.now.items c.args.seam c.remove-right.result
     c.remove-right.ensures.removed in
     omega (arith, fits, less, all, c.requires.fits)
@@ -15,9 +15,9 @@ overflow_add-run c =
 pub replace-requires-clause-weight_fits : goal.replace-requires-clause-weight_fits
 replace-requires-clause-weight_fits c =
     let run = c.get-run.result.now in
-    let longer : KeptRun = record run { len = run.len + c.remove-right.result.len } in
+    let longer : StoredRun = record run { len = run.len + c.remove-right.result.len } in
     let total = characters-set c.remove-right.new.self.items (c.args.seam - 1) run longer c.get-run.ensures.item in
-    let less = ap Rattle.authorship.specs.Kept.characters c.remove-right.ensures.items in
+    let less = ap Rattle.authorship.specs.StoredRuns.characters c.remove-right.ensures.items in
     let all = characters-remove c.args.runs.now.items c.args.seam c.remove-right.result
     c.remove-right.ensures.removed in
     omega (arith, total, less, all, c.requires.fits)
@@ -25,7 +25,7 @@ replace-requires-clause-weight_fits c =
 pub returns : goal.returns
 returns c =
     let run = c.get-run.result.now in
-    let longer : KeptRun = record run { len = run.len + c.remove-right.result.len } in
+    let longer : StoredRun = record run { len = run.len + c.remove-right.result.len } in
     let first : slice_get c.args.runs.now.items (c.args.seam - 1) ≡ Some c.get-run.result.now =
     sym (get_before c.args.runs.now.items (c.args.seam - 1) c.args.seam (omega arith))
     ∙ ap (λ l. slice_get l (c.args.seam - 1)) (sym c.remove-right.ensures.items) ∙ c.get-run.ensures.item in

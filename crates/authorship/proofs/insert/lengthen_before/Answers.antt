@@ -1,6 +1,6 @@
 use Rattle.std.proofs.Common.{◌+◌, ◌∙◌, arith, ap, subst, sym}
-use Rattle.authorship.specs.Kept.{IsProper, places}
-use Rattle.authorship.specs.declared.kept.KeptRun.{KeptRun}
+use Rattle.authorship.specs.StoredRuns.{IsProper, places}
+use Rattle.authorship.specs.declared.stored_run.StoredRun.{StoredRun}
 use Rattle.authorship.proofs.Puts.{characters-set, one_fits, places-read, proper-read}
 use Rattle.authorship.proofs.insert.lengthen_before.Goals as goal
 
@@ -12,7 +12,7 @@ overflow_add-run c =
 pub replace-requires-clause-weight_fits : goal.replace-requires-clause-weight_fits
 replace-requires-clause-weight_fits c =
     let run = c.get-run.result.now in
-    let longer : KeptRun = record run { len = run.len + c.args.len } in
+    let longer : StoredRun = record run { len = run.len + c.args.len } in
     let total = characters-set c.args.runs.now.items c.in-Some.found.rank run longer c.get-run.ensures.item in
     omega (arith, total, c.requires.fits)
 

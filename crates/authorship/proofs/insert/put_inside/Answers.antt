@@ -1,7 +1,7 @@
 use Rattle.std.proofs.Common.{◌≡◌, ◌+◌, ◌-◌, List, arith, ap, ◌∙◌, set}
 use Rattle.std.specs.List.{insert}
-use Rattle.authorship.specs.Kept.{characters}
-use Rattle.authorship.specs.declared.kept.KeptRun.{KeptRun}
+use Rattle.authorship.specs.StoredRuns.{characters}
+use Rattle.authorship.specs.declared.stored_run.StoredRun.{StoredRun}
 use Rattle.authorship.proofs.At.{read_inside}
 use Rattle.authorship.proofs.Puts.{characters-insert, characters-set, put_between}
 use Rattle.authorship.proofs.insert.put_inside.Goals as goal
@@ -14,10 +14,10 @@ overflow_sub-right c =
     omega (arith, inside)
 
 -- the parts of the run that is cut
-abbrev left : (c : After-get-whole) → KeptRun
+abbrev left : (c : After-get-whole) → StoredRun
 left c = record (c.get-whole.result.now) { len = c.args.place.offset }
 
-abbrev right : (c : After-get-whole) → KeptRun
+abbrev right : (c : After-get-whole) → StoredRun
 right c = record (c.get-whole.result.now) { len = c.get-whole.result.now.len - c.args.place.offset }
 
 -- have its characters
@@ -55,7 +55,7 @@ returns-clause-items c =
     let g = (goal.at.returns-clause-items c).After-get-whole in
     let j = c.args.place.index + 1 in
     c.put_run-2.ensures.items
-    ∙ ap (λ (l : List KeptRun). insert l j c.args.run)
-    (c.put_run.ensures.items ∙ ap (λ (l : List KeptRun). insert l j (right g)) c.replace.ensures.items)
+    ∙ ap (λ (l : List StoredRun). insert l j c.args.run)
+    (c.put_run.ensures.items ∙ ap (λ (l : List StoredRun). insert l j (right g)) c.replace.ensures.items)
     ∙ put_between c.args.runs.now.items c.args.place.index j c.args.place.offset c.get-whole.result.now c.args.run
     c.get-whole.ensures.item (omega arith) c.requires.cut

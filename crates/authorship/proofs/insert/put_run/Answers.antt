@@ -1,5 +1,5 @@
 use Rattle.std.proofs.Common.{arith, ap, ◌∙◌, set}
-use Rattle.authorship.specs.Kept.{characters}
+use Rattle.authorship.specs.StoredRuns.{characters}
 use Rattle.authorship.proofs.Puts.{characters-insert, set-insert}
 use Rattle.authorship.proofs.insert.put_run.Goals as goal
 

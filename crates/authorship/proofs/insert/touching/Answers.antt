@@ -1,5 +1,5 @@
 use Rattle.std.proofs.Common.{ap, sym, ◌∙◌, arith}
-use Rattle.authorship.specs.declared.kept.KeptRun.{KeptRun}
+use Rattle.authorship.specs.declared.stored_run.StoredRun.{StoredRun}
 use Rattle.authorship.proofs.At.{read, touch_here, touch_before}
 use Rattle.authorship.proofs.insert.touching.Goals as goal
 use Rattle.authorship.proofs.insert.touching.Goals.{else-index-len-via-then-index-len+else-get-author}
@@ -23,7 +23,7 @@ returns-clause-none c = record {
       elim c.else-index-len.branch [
         | else-index-len-via-then-index-len+else-get-author w ↦
             let there = read c.args.runs.now.items c.args.place.index w.get.result.now w.get.ensures.item in
-            λ e. w.if-get-author.false (ap (λ (r : KeptRun). r.author) (sym there.1) ∙ e)
+            λ e. w.if-get-author.false (ap (λ (r : StoredRun). r.author) (sym there.1) ∙ e)
         | else-index-len-via-else-index-len w ↦ absurd (omega (arith, w.if-index-len.false))
       ];
   before = λ none some.
@@ -31,7 +31,7 @@ returns-clause-none c = record {
         | else-place-eq0-via-then-place-eq0+then-index-gt0+else-get-author-2 w ↦
             let there = read c.args.runs.now.items _ w.get-then-index-gt0.result.now
             w.get-then-index-gt0.ensures.item in
-            λ e. w.if-get-author-2.false (ap (λ (r : KeptRun). r.author) (sym there.1) ∙ e)
+            λ e. w.if-get-author-2.false (ap (λ (r : StoredRun). r.author) (sym there.1) ∙ e)
         | else-place-eq0-via-then-place-eq0+else-index-gt0 w ↦ absurd (omega (arith, w.if-index-gt0.false))
         | else-place-eq0-via-else-place-eq0 w ↦ absurd (w.if-place-eq0.false none)
       ];

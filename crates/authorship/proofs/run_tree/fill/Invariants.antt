@@ -1,6 +1,6 @@
 -- The loop of `fill`: the nodes are empty, no fewer than before, and there is room for those that are wanted.
 use Rattle.std.proofs.Common.{◌-◌, ◌≤◌, length, vec_capacity}
-use Rattle.authorship.specs.Kept.{AreEmpty}
+use Rattle.authorship.specs.StoredRuns.{AreEmpty}
 use Rattle.authorship.proofs.run_tree.fill.Given as goal
 
 -- the nodes are empty and no fewer, and there is room for those that are wanted

@@ -1,6 +1,6 @@
 -- The loop of `list_runs`: the rows so far and those of the runs to come are all, and the authors of these are known.
 use Rattle.std.proofs.Common.{◌≡◌, ◌++◌, map, length}
-use Rattle.authorship.specs.Kept.{author_run, AreKnown}
+use Rattle.authorship.specs.StoredRuns.{author_run, AreKnown}
 use Rattle.authorship.proofs.run_tree.list_runs.Given as goal
 
 -- the rows so far and those of the runs to come are all

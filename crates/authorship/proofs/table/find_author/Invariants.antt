@@ -1,6 +1,6 @@
 -- The loop of `find_author`: no author passed so far is the one that is looked for.
 use Rattle.std.proofs.Common.{◌≢◌, ℕ, ◌<◌}
-use Rattle.authorship.specs.Kept.{author_in}
+use Rattle.authorship.specs.StoredRuns.{author_in}
 use Rattle.authorship.proofs.table.find_author.Given as goal
 
 -- no author that was passed is the one

@@ -3,16 +3,12 @@ use Rattle.std.proofs.lemmas.Bool.{cases_lt}
 use Rattle.pad_model.specs.declared.limits.TheConstants.{MAX_COUNTER}
 use Rattle.ident_index.specs.Index.{stamp_behind}
 use Rattle.blocks.proofs.Cells.{same_then}
-use Rattle.blocks.proofs.Counts.{labelled_then}
 use Rattle.block_seq.proofs.RowErase.{edge_past}
 use Rattle.block_seq.proofs.row_erase.cut_span.Goals as goal
 
 pub returns-in-Ok-clause-cells : goal.returns-in-Ok-clause-cells
 returns-in-Ok-clause-cells c = same_then c.args.tree.now.items c.cut_at.new.tree.items c.cut_at-in-Ok.new.tree.items
     c.in_ok-cut_at.ensures.cells c.cut_at-in-Ok.ensures.cells
-
-pub returns-in-Ok-clause-labelled : goal.returns-in-Ok-clause-labelled
-returns-in-Ok-clause-labelled c = labelled_then c.cut_at.ensures.labelled c.cut_at-in-Ok.ensures.labelled
 
 pub returns-in-Err-clause-cut : goal.returns-in-Err-clause-cut
 returns-in-Err-clause-cut c = (

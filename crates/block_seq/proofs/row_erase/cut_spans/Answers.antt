@@ -1,7 +1,5 @@
 use Rattle.std.proofs.Common.{refl, arith}
 use Rattle.blocks.proofs.Cells.{same_itself, same_then}
-use Rattle.blocks.specs.Counts.Labelled.{begins}
-use Rattle.blocks.proofs.Counts.{labelled_then}
 use Rattle.block_seq.proofs.RowErase.{cut_out_more}
 use Rattle.block_seq.proofs.row_erase.cut_spans.Goals as goal
 
@@ -11,18 +9,12 @@ loop-span-init c = record {
   cells = same_itself c.args.tree.now.items;
   cut = tt;
   more = omega arith;
-  labelled = begins;
-  counts = omega arith;
-  few = omega arith;
 }
 
 pub returns-in_err-cut_span-clause-cells : goal.returns-in_err-cut_span-clause-cells
 returns-in_err-cut_span-clause-cells c =
     same_then c.args.tree.now.items c.loop-span.tree.items c.cut_span.new.tree.items c.loop-span.invariant.cells
     c.cut_span.ensures.cells
-
-pub returns-in_err-cut_span-clause-labelled : goal.returns-in_err-cut_span-clause-labelled
-returns-in_err-cut_span-clause-labelled c = labelled_then c.loop-span.invariant.labelled c.cut_span.ensures.labelled
 
 pub loop-span-preserved : goal.loop-span-preserved
 loop-span-preserved c = record {
@@ -33,7 +25,4 @@ loop-span-preserved c = record {
       c.loop-span-test.true c.span-item.is refl c.cut_span.ensures.edges c.loop-span.invariant.cut
       c.in_ok-cut_span.ensures.cut;
   more = omega (arith, c.loop-span.invariant.more, c.cut_span.ensures.more);
-  labelled = labelled_then c.loop-span.invariant.labelled c.cut_span.ensures.labelled;
-  counts = omega (arith, c.loop-span.invariant.counts, c.cut_span.ensures.counts);
-  few = omega (arith, c.loop-span.invariant.few, c.cut_span.ensures.few);
 }

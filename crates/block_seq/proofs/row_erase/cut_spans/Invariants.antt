@@ -2,7 +2,6 @@
 use Rattle.std.proofs.Common.{◌≤◌, ◌+◌, ◌*◌, length, take}
 use Rattle.std.specs.List.{AllByRecursion}
 use Rattle.blocks.specs.Blocks.{IsKept}
-use Rattle.blocks.specs.Counts.{Labelled}
 use Rattle.blocks.specs.Cells.{SameCells}
 use Rattle.block_seq.specs.Rows.{IsCutOut}
 use Rattle.block_seq.proofs.row_erase.cut_spans.Given as goal
@@ -14,7 +13,4 @@ invariant-loop-span l = record {
   cells : SameCells l.initial.tree.items l.tree.items;
   cut : AllByRecursion (IsCutOut l.index) (take l.span-index l.spans);
   more : length l.tree.items ≤ length l.initial.tree.items + 2 * l.span-index;
-  labelled : Labelled l.initial.tree.items l.initial.respacings l.tree.items l.respacings;
-  counts : l.initial.respacings ≤ l.respacings;
-  few : l.respacings ≤ l.initial.respacings + 2 * l.span-index;
 }

@@ -1,6 +1,6 @@
 use Rattle.std.proofs.Common.{◌≡◌, ◌≤◌, false, [], ◌∷◌, ◌++◌, Some, None, refl, sym, ap, ◌∙◌, subst, arith, slice_set}
 use Rattle.std.specs.List.{AllByRecursion}
-use Rattle.slides.specs.Slide.{Slide}
+use Rattle.text_history.specs.Slide.{Slide}
 use Rattle.block_seq.specs.Rows.{IsDated}
 use Rattle.block_seq.specs.RowSlides.{IsSlid, live_blocks}
 use Rattle.block_seq.proofs.RowAuthors.{hidden_killed, hides_nothing}

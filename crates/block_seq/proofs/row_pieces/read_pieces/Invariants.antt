@@ -1,7 +1,7 @@
 -- The loop of `read_pieces`: the pieces are those of the blocks so far, and the touched ones behind are to come.
 use Rattle.std.proofs.Common.{◌≡◌, ℕ, ◌≤◌, ◌<◌, true, Some, get_or, min, length, slice_get}
 use Rattle.blocks.specs.declared.block.Block.{Block}
-use Rattle.slides.specs.Slides.{since}
+use Rattle.text_history.specs.Slides.{since}
 use Rattle.block_seq.specs.RowPieces.{is_touched}
 use Rattle.block_seq.proofs.RowGaps.{IsSoFar}
 use Rattle.block_seq.proofs.row_pieces.read_pieces.Given as goal

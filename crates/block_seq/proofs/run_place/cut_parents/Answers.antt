@@ -2,8 +2,6 @@ use Rattle.std.proofs.Common.{refl, arith}
 use Rattle.std.specs.Borrow.{Bor}
 use Rattle.pad_model.specs.declared.op.Run.{Run}
 use Rattle.blocks.proofs.Cells.{same_itself, same_then}
-use Rattle.blocks.specs.Counts.Labelled.{begins}
-use Rattle.blocks.proofs.Counts.{labelled_then}
 use Rattle.block_seq.specs.RowParts.{IsCutBehind}
 use Rattle.block_seq.proofs.RowRuns.{all_more, still_behind}
 use Rattle.block_seq.proofs.run_place.cut_parents.Goals as goal
@@ -15,18 +13,12 @@ loop-run-init c = record {
   edges = λ s edge. edge;
   cut = tt;
   more = omega arith;
-  labelled = begins;
-  counts = omega arith;
-  few = omega arith;
 }
 
 pub returns-in_err-cut_parent-clause-cells : goal.returns-in_err-cut_parent-clause-cells
 returns-in_err-cut_parent-clause-cells c =
     same_then c.args.tree.now.items c.loop-run.tree.items c.cut_parent.new.tree.items c.loop-run.invariant.cells
     c.cut_parent.ensures.cells
-
-pub returns-in_err-cut_parent-clause-labelled : goal.returns-in_err-cut_parent-clause-labelled
-returns-in_err-cut_parent-clause-labelled c = labelled_then c.loop-run.invariant.labelled c.cut_parent.ensures.labelled
 
 pub loop-run-preserved : goal.loop-run-preserved
 loop-run-preserved c = record {
@@ -41,7 +33,4 @@ loop-run-preserved c = record {
       (λ run. still_behind c.loop-run.index c.cut_parent.new.index run.now.after c.cut_parent.ensures.edges)
       c.loop-run.invariant.cut c.in_ok-cut_parent.ensures.cut;
   more = omega (arith, c.loop-run.invariant.more, c.cut_parent.ensures.more);
-  labelled = labelled_then c.loop-run.invariant.labelled c.cut_parent.ensures.labelled;
-  counts = omega (arith, c.loop-run.invariant.counts, c.cut_parent.ensures.counts);
-  few = omega (arith, c.loop-run.invariant.few, c.cut_parent.ensures.few);
 }

@@ -2,7 +2,6 @@
 use Rattle.std.proofs.Common.{◌≤◌, ◌+◌, length, take}
 use Rattle.std.specs.List.{AllByRecursion}
 use Rattle.blocks.specs.Blocks.{IsKept, KeepsEdges}
-use Rattle.blocks.specs.Counts.{Labelled}
 use Rattle.blocks.specs.Cells.{SameCells}
 use Rattle.block_seq.specs.RowParts.{IsCutBehind}
 use Rattle.block_seq.proofs.run_place.cut_parents.Given as goal
@@ -15,7 +14,4 @@ invariant-loop-run l = record {
   edges : KeepsEdges l.initial.index l.index;
   cut : AllByRecursion (λ run. IsCutBehind l.index run.now.after) (take l.run-index l.runs);
   more : length l.tree.items ≤ length l.initial.tree.items + l.run-index;
-  labelled : Labelled l.initial.tree.items l.initial.respacings l.tree.items l.respacings;
-  counts : l.initial.respacings ≤ l.respacings;
-  few : l.respacings ≤ l.initial.respacings + l.run-index;
 }

@@ -7,7 +7,7 @@ use Rattle.blocks.specs.declared.block.Block.{Block}
 use Rattle.blocks.specs.Blocks.{without_labels}
 use Rattle.blocks.specs.Cells.{author_at, cells_of}
 use Rattle.blocks.proofs.Cells.{same_itself, length-without_labels}
-use Rattle.slides.specs.Slide.{Slide}
+use Rattle.text_history.specs.Slide.{Slide}
 use Rattle.block_seq.specs.Rows.{IsBlockSeq, IsDated}
 use Rattle.block_seq.specs.RowSlides.{IsSlid}
 use Rattle.block_seq.proofs.RowAuthors.{shown_put}

@@ -8,14 +8,11 @@ use Rattle.pad_model.specs.Log.{has_spans}
 use Rattle.pad_model.specs.declared.op.Run.{Run}
 use Rattle.blocks.specs.Blocks.{without_labels}
 use Rattle.blocks.specs.Cells.{author_at, cells_of}
-use Rattle.blocks.specs.Counts.Labelled.{begins}
 use Rattle.blocks.proofs.Cells.{length-without_labels}
-use Rattle.blocks.proofs.Counts.{labelled_then}
 use Rattle.block_seq.specs.RowParts.{AreRanks, MayPut, without_ranks}
 use Rattle.pad_model.specs.Parts.{with_all}
 use Rattle.block_seq.specs.RowSlides.{IsSlidRow}
 use Rattle.block_seq.proofs.RowAuthors.{shows_nothing, shows_then}
-use Rattle.block_seq.proofs.RowCounts.{on_error, undone_nothing}
 use Rattle.block_seq.proofs.RowChange.{cut_out_put, lent_from, lent_sizes, named_below, run_sized}
 use Rattle.block_seq.proofs.RowRuns.{front_of_front, may_put_next, one_rank_more, take_front}
 use Rattle.pad_model.proofs.InTurn.{has_spans-with_run}
@@ -43,9 +40,6 @@ loop-run-init c =
       authors = shows_nothing c.args.batch.now.author c.args.slides.now.items c.args.tree.now.items;
       live = omega arith;
       more = omega arith;
-      labelled = begins;
-      counts = omega arith;
-      few = omega arith;
     }
   where
     take_all : {X : Type 0} (xs : List X) → take (length xs) xs ≡ xs
@@ -143,17 +137,6 @@ returns-in-Err-clause-more c =
     ∙ length-without_labels c.args.tree.now.items in
     omega (arith, size)
 
-pub returns-in_err-reserve-clause-undone : goal.returns-in_err-reserve-clause-undone
-returns-in_err-reserve-clause-undone c =
-    on_error c.from_residual.result (undone_nothing c.args.tree.now.items c.args.respacings.now)
-
-pub returns-in-Err-clause-undone : goal.returns-in-Err-clause-undone
-returns-in-Err-clause-undone c = (
-  c.put_run.new.tree.items,
-  labelled_then c.loop-run.invariant.labelled c.put_run.ensures.labelled,
-  c.take_blocks.ensures.labels,
-)
-
 pub returns-in-Err-clause-same_text : goal.returns-in-Err-clause-same_text
 returns-in-Err-clause-same_text c = c.truncate.ensures.items ∙ ap₂ (λ n l. take n l)
     (c.len-start.ensures ∙ c.args.text.now.ok.0) c.in-Err.ensures.same_text ∙ c.loop-run.invariant.text
@@ -233,9 +216,6 @@ loop-run-preserved c =
           c.in-Ok.ensures.authors;
       live = omega (arith, inv.live, c.in-Ok.ensures.live);
       more = omega (arith, inv.more, fewer, before, new_size, old_size);
-      labelled = labelled_then inv.labelled c.put_run.ensures.labelled;
-      counts = omega (arith, inv.counts, c.put_run.ensures.counts);
-      few = omega (arith, inv.few, c.put_run.ensures.few);
     }
 
 pub returns-clause-row : goal.returns-clause-row
@@ -266,9 +246,6 @@ returns-clause-live c = omega (arith, c.loop-run.invariant.live, c.loop-run.auto
 
 pub returns-clause-more : goal.returns-clause-more
 returns-clause-more c = omega (arith, c.loop-run.invariant.more, c.loop-run.auto.run-index-end)
-
-pub returns-clause-few : goal.returns-clause-few
-returns-clause-few c = omega (arith, c.loop-run.invariant.few, c.loop-run.auto.run-index-end)
 
 pub returns-clause-cells : goal.returns-clause-cells
 returns-clause-cells c =

@@ -6,7 +6,6 @@ use Rattle.pad_model.specs.Checked.{is_span}
 use Rattle.pad_model.specs.Log.{has_spans}
 use Rattle.pad_model.specs.declared.op.Span.{Span}
 use Rattle.blocks.specs.Blocks.{without_labels}
-use Rattle.blocks.specs.Counts.{Labelled}
 use Rattle.blocks.specs.Cells.{author_at, cells_of}
 use Rattle.block_seq.specs.RowParts.{AreRanks, MayPut, without_ranks}
 use Rattle.pad_model.specs.Parts.{with_all}
@@ -41,7 +40,4 @@ invariant-loop-run l =
       authors : Shows l.batch.author l.initial.slides.items l.slides.items l.initial.tree.items l.tree.items;
       live : live_blocks l.tree.items ≤ live_blocks l.initial.tree.items + l.run-index;
       more : length l.tree.items ≤ length l.initial.tree.items + l.run-index;
-      labelled : Labelled l.initial.tree.items l.initial.respacings l.tree.items l.respacings;
-      counts : l.initial.respacings ≤ l.respacings;
-      few : l.respacings ≤ l.initial.respacings + l.run-index;
     }

@@ -1,6 +1,5 @@
 use Rattle.std.proofs.Common.{◌-◌, take, get_or, sym, ap, ◌∙◌, subst, arith}
 use Rattle.blocks.specs.Blocks.{without_labels}
-use Rattle.blocks.proofs.Counts.{keeps_then}
 use Rattle.block_seq.specs.RowParts.{AreRanks, without_ranks}
 use Rattle.block_seq.proofs.RowRuns.{OneTaken, one_taken}
 use Rattle.block_seq.proofs.run_put.take_blocks.Goals as goal
@@ -29,8 +28,6 @@ loop-left-preserved c =
       kept = c.take_block.ensures.kept;
       ranks = subst (λ l. AreRanks (without_labels l) (take (c.loop-left.left - 1) c.args.ranks.now))
           (sym c.take_block.ensures.taken) n.ranks';
-      labels = keeps_then c.take_block.new.tree.items c.loop-left.tree.items c.args.tree.now.items
-          c.take_block.ensures.labels c.loop-left.invariant.labels;
       taken = ap (λ l. without_ranks (without_labels l) (take (c.loop-left.left - 1) c.args.ranks.now))
           c.take_block.ensures.taken ∙ n.taken;
     }

@@ -1,17 +1,14 @@
-use Rattle.std.proofs.Common.{◌≡◌, ◌<◌, inl, refl, sym, ap, ◌∙◌, slice_get, arith}
+use Rattle.std.proofs.Common.{◌≡◌, ◌<◌, sym, ap, ◌∙◌, slice_get, arith}
 use Rattle.pad_model.specs.Stamp.{Stamp}
 use Rattle.ident_index.specs.Index.{Holds, stamp_behind}
 use Rattle.ident_index.proofs.Order.{same_stamps}
 use Rattle.blocks.specs.declared.block.Block.{Block}
-use Rattle.blocks.specs.Blocks.{IsEdge}
-use Rattle.blocks.specs.Counts.Labelled.{begins as no_change}
 use Rattle.blocks.proofs.Parts.{holds_here, some_block}
 use Rattle.blocks.proofs.edit.cut_at.Goals as goal
-use Rattle.blocks.proofs.edit.cut_at.Goals.{Then-spot-eq0}
 
 -- the block that holds the stamp begins with it
-begins : (c : Then-spot-eq0) → IsEdge c.args.index.now c.args.stamp
-begins c = λ first held.
+pub returns-then-spot-eq0-clause-edge : goal.returns-then-spot-eq0-clause-edge
+returns-then-spot-eq0-clause-edge c = λ first held.
     let spot = c.in-Some.ensures.spot in
     let found = some_block (slice_get c.args.tree.now.items c.in-Some.spot.rank)
     (λ (x : Block). (c.args.stamp ≡ stamp_behind x.first c.in-Some.spot.offset) × (c.in-Some.spot.offset < x.len))
@@ -26,18 +23,3 @@ begins c = λ first held.
     (sym replica, omega (arith, counter), omega (arith, counter, inside)) in
     c.in-Some.ensures.sound.apart c.args.stamp first b.first held here
     ∙ same_stamps b.first c.args.stamp (omega (arith, counter, c.if-spot-eq0.true)) (sym replica)
-
-pub returns-then-spot-eq0-clause-edge : goal.returns-then-spot-eq0-clause-edge
-returns-then-spot-eq0-clause-edge c = begins (goal.at.returns-then-spot-eq0-clause-edge c).Then-spot-eq0
-
-pub returns-then-spot-eq0-clause-counted : goal.returns-then-spot-eq0-clause-counted
-returns-then-spot-eq0-clause-counted c = inl (
-  begins (goal.at.returns-then-spot-eq0-clause-counted c).Then-spot-eq0,
-  refl,
-)
-
-pub returns-in_default-clause-labelled : goal.returns-in_default-clause-labelled
-returns-in_default-clause-labelled c = no_change
-
-pub returns-then-spot-eq0-clause-labelled : goal.returns-then-spot-eq0-clause-labelled
-returns-then-spot-eq0-clause-labelled c = no_change

@@ -9,8 +9,6 @@ use Rattle.blocks.specs.Blocks.{entry, IsSized, IsEdge, left_part, unlabelled}
 use Rattle.blocks.proofs.Cells.{same_unlabelled, same_then, unlabelled_at, length-without_labels}
 use Rattle.blocks.proofs.Entries.{entry_here, each_get, weight_fits_set, len_small, count_small, edges_kept}
 use Rattle.blocks.proofs.Parts.{some_block, IsCutBlock, cut_leaves, room_for_part}
-use Rattle.blocks.specs.Counts.{Labelled}
-use Rattle.blocks.specs.Counts.Labelled.{begins, sought, changed}
 use Rattle.blocks.proofs.edit.cut_block.Goals as goal
 use Rattle.blocks.proofs.edit.cut_block.Goals.{After-free_label-label, After-get-whole, After-insert}
 
@@ -189,28 +187,3 @@ returns-in_err-node-clause-more c = let same =
 pub returns-in_err-cut-clause-more : goal.returns-in_err-cut-clause-more
 returns-in_err-cut-clause-more c = let same = size (goal.at.returns-in_err-cut-clause-more c).After-free_label-label in
     omega (arith, same)
-
--- a label is sought
-searched : (c : After-free_label-label) →
-    Labelled c.args.tree.now.items c.args.respacings.now c.free_label-label.new.tree.items
-    c.free_label-label.new.respacings
-searched c =
-    sought c.args.tree.now.items c.free_label-label.new.tree.items c.args.respacings.now
-    c.free_label-label.new.respacings (c.args.rank + 1) begins (
-      c.free_label-label.ensures.free,
-      c.free_label-label.ensures.full,
-    ) c.free_label-label.ensures.counted
-
-pub returns-in_err-node-clause-labelled : goal.returns-in_err-node-clause-labelled
-returns-in_err-node-clause-labelled c = searched (goal.at.returns-in_err-node-clause-labelled c).After-free_label-label
-
-pub returns-in_err-cut-clause-labelled : goal.returns-in_err-cut-clause-labelled
-returns-in_err-cut-clause-labelled c = searched (goal.at.returns-in_err-cut-clause-labelled c).After-free_label-label
-
-pub returns-clause-labelled : goal.returns-clause-labelled
-returns-clause-labelled c =
-    let a = goal.at.returns-clause-labelled c in
-    changed c.free_label-label.new.tree.items c.insert.new.self.items c.free_label-label.new.respacings
-    (searched a.After-free_label-label)
-    (left a.After-insert (inside a.After-get-whole) (there a.After-get-whole)
-    (in_range a.After-free_label-label)).labels

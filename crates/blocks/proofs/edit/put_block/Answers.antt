@@ -6,9 +6,7 @@ use Rattle.blocks.proofs.Cells.{length-without_labels}
 use Rattle.blocks.proofs.Entries.{count_small, weight_fits_insert, edges_kept}
 use Rattle.ident_index.specs.Index.{Holds}
 use Rattle.ident_index.proofs.Sound.{holds_insert}
-use Rattle.blocks.proofs.Parts.{put_keeps, put_leaves, insert-without_labels, sum-without_labels}
-use Rattle.blocks.specs.Counts.{KeepsLabels, Labelled}
-use Rattle.blocks.specs.Counts.Labelled.{begins, sought, changed}
+use Rattle.blocks.proofs.Parts.{put_leaves, insert-without_labels, sum-without_labels}
 use Rattle.blocks.proofs.edit.put_block.Goals as goal
 use Rattle.blocks.proofs.edit.put_block.Goals.{After-free_label-label}
 
@@ -66,31 +64,3 @@ returns-clause-edges c = λ s edge joins first held.
       | inr beside ↦ edges_kept c.args.index.now c.free_label-label.new.index c.free_label-label.ensures.held s edge
           first beside.1
     ]
-
--- a label is sought
-searched : (c : After-free_label-label) →
-    Labelled c.args.tree.now.items c.args.respacings.now c.free_label-label.new.tree.items
-    c.free_label-label.new.respacings
-searched c =
-    sought c.args.tree.now.items c.free_label-label.new.tree.items c.args.respacings.now
-    c.free_label-label.new.respacings c.args.rank begins (
-      c.free_label-label.ensures.free,
-      c.free_label-label.ensures.full,
-    ) c.free_label-label.ensures.counted
-
-pub returns-in_err-node-clause-labelled : goal.returns-in_err-node-clause-labelled
-returns-in_err-node-clause-labelled c = searched (goal.at.returns-in_err-node-clause-labelled c).After-free_label-label
-
-pub returns-in_err-add-clause-labelled : goal.returns-in_err-add-clause-labelled
-returns-in_err-add-clause-labelled c = searched (goal.at.returns-in_err-add-clause-labelled c).After-free_label-label
-
-pub returns-clause-labelled : goal.returns-clause-labelled
-returns-clause-labelled c =
-    let b : Block = record c.args.block { label = c.free_label-label.result } in
-    changed c.free_label-label.new.tree.items c.insert.new.self.items c.free_label-label.new.respacings
-    (searched (goal.at.returns-clause-labelled c).After-free_label-label)
-    (subst (KeepsLabels c.free_label-label.new.tree.items)
-    (sym (c.insert.ensures.items ∙ (rw c.in_ok-node.ensures refl)))
-    (put_keeps c.free_label-label.new.index c.free_label-label.new.tree.items c.args.rank b c.note_sound.ensures
-    c.free_label-label.ensures.kept c.requires.sized (λ s covers first held. c.requires.fresh s covers first
-    (c.free_label-label.ensures.held first s held))))

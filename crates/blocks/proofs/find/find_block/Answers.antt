@@ -2,7 +2,7 @@ use Rattle.std.proofs.Common.{◌≡◌, ◌<◌, sym, ap, ◌∙◌, subst, Som
 use Rattle.std.specs.FinMap.{get}
 use Rattle.std.specs.Option.{IsSomeAnd}
 use Rattle.ident_index.specs.Index.{stamp_behind}
-use Rattle.ident_index.specs.declared.place.Entry.{Entry}
+use Rattle.ident_index.specs.declared.place.BlockEntry.{BlockEntry}
 use Rattle.ident_index.proofs.Sound.{some_entry}
 use Rattle.blocks.specs.declared.block.Block.{Block}
 use Rattle.blocks.proofs.Entries.{found_block}
@@ -15,8 +15,8 @@ returns-clause-spot c =
     let some = some_entry (get c.args.index.now p.first) (λ e. (p.offset < e.len) × (p.label ≡ e.label)) place.block in
     let found = found_block c.args.tree.now.items p.first some.0 (sym (c.requires.listed.index p.first) ∙ some.1) in
     let b = found.1 in
-    let label : b.label ≡ p.label = ap (λ (e : Entry). e.label) found.4 ∙ sym some.2.1 in
-    let len : b.len ≡ some.0.len = ap (λ (e : Entry). e.len) found.4 in
+    let label : b.label ≡ p.label = ap (λ (e : BlockEntry). e.label) found.4 ∙ sym some.2.1 in
+    let len : b.len ≡ some.0.len = ap (λ (e : BlockEntry). e.len) found.4 in
     let rank : c.rank_of.result ≡ found.0 = c.rank_of.ensures found.0 b found.2 label in
     let there : slice_get c.args.tree.now.items c.rank_of.result ≡ Some b = ap (slice_get c.args.tree.now.items) rank
     ∙ found.2 in

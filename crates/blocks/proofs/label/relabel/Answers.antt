@@ -3,7 +3,7 @@ use Rattle.std.specs.FinMap.{get, get-insert}
 use Rattle.std.specs.Option.{IsSomeAnd}
 use Rattle.pad_model.specs.Stamp.{Stamp}
 use Rattle.ident_index.specs.Index.{Covers, Holds}
-use Rattle.ident_index.specs.declared.place.Entry.{Entry}
+use Rattle.ident_index.specs.declared.place.BlockEntry.{BlockEntry}
 use Rattle.ident_index.proofs.Order.{stamp_cmp_total}
 use Rattle.ident_index.proofs.Sound.{holds_insert}
 use Rattle.blocks.specs.declared.block.Block.{Block}
@@ -45,6 +45,6 @@ returns-clause-held c = λ first s h.
     elim (holds_insert c.args.index.now b.first (record (entry b) { label = c.args.label }) first s
     (subst (λ m. Holds m first s) new h)) [
       | inl here ↦ subst (λ (o : Stamp). Holds c.args.index.now o s) (sym here.0)
-          (subst (λ o. IsSomeAnd o (λ (x : Entry). Covers b.first x.len s)) (sym is) here.1)
+          (subst (λ o. IsSomeAnd o (λ (x : BlockEntry). Covers b.first x.len s)) (sym is) here.1)
       | inr beside ↦ beside.1
     ]

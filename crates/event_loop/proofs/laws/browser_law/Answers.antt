@@ -1,5 +1,5 @@
-use Rattle.workers.specs.WorkerThreads.{CallsRow, IsApart}
-use Rattle.workers.specs.Laws.{ServesApart}
+use Rattle.conversation.specs.ThreadSession.{CallsRow, IsApart}
+use Rattle.conversation.specs.Laws.{ServesApart}
 use Rattle.event_loop.proofs.Browsing.{browsers}
 use Rattle.event_loop.proofs.laws.browser_law.Goals as goal
 

@@ -1,7 +1,7 @@
 -- The copies are all where the next missing operation has no room or cannot be read, and else it is one more of them.
 use Rattle.std.proofs.Common.{◌≡◌, ◌≤◌, ◌<◌, ◌-◌, ◌+◌, suc, List, length, drop, take, filter, sym, ap, ◌∙◌, arith}
 use Rattle.pad_model.specs.declared.op.Op.{Op}
-use Rattle.revisions.specs.Log.{is_missing}
+use Rattle.op_log.specs.Log.{is_missing}
 use Rattle.pad_core.specs.Batch.{batch_of}
 use Rattle.pad_core.specs.Exchange.{readable}
 use Rattle.pad_core.proofs.Batched.{ended, full, rest_of, taken, unread}

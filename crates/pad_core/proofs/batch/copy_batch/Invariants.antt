@@ -1,6 +1,6 @@
 -- The loop of `copy_batch`: the copies so far and what the rest gives are all.
 use Rattle.std.proofs.Common.{◌≡◌, ◌≤◌, ◌-◌, ◌++◌, drop, take, filter}
-use Rattle.revisions.specs.Log.{is_missing}
+use Rattle.op_log.specs.Log.{is_missing}
 use Rattle.pad_core.specs.Batch.{batch_of}
 use Rattle.pad_core.specs.Exchange.{readable}
 use Rattle.pad_core.specs.declared.exchange.TheConstants.{MAX_BATCH_BYTES}

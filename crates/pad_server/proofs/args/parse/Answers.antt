@@ -3,7 +3,7 @@ use Rattle.clap.specs.Faults.{fault_of, is_simple_and_free}
 use Rattle.clap.specs.Words.{App, HasKind, found_of, is_simple, one_of, one_text}
 use Rattle.clap.proofs.WalkLemmas.{one_text-rows}
 use Rattle.command_line.proofs.CallerLemmas.{gives_number, gives_text, rows_found}
-use Rattle.sessions.specs.declared.presence.TheConstants.{DEFAULT_PRESENT, MAX_PRESENT}
+use Rattle.presence.specs.declared.presence.TheConstants.{DEFAULT_PRESENT, MAX_PRESENT}
 use Rattle.server_core.specs.declared.limits.TheConstants.{DEFAULT_CELLS, MAX_CELLS}
 use Rattle.pad_server.specs.declared.options.TheConstants.{DEFAULT_CLIENTS}
 use Rattle.pad_server.specs.CommandLine.{line}

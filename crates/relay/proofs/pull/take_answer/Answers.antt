@@ -1,7 +1,7 @@
 use Rattle.std.proofs.Common.{Ok, Some, ap, refl, ◌∙◌}
 use Rattle.pad_core.proofs.Exits.{fails_passed, passed_on}
 use Rattle.relay.specs.Kept.{world}
-use Rattle.relay.specs.declared.pull.Turn.TheVariants.{Gained, Spent}
+use Rattle.relay.specs.declared.pull.PullTurn.TheVariants.{Gained, Spent}
 use Rattle.relay.proofs.Pulls.{pulled_none, pulled_over, pulled_taken, pulled_wrong}
 use Rattle.relay.proofs.Steps.{unheard}
 use Rattle.relay.proofs.pull.take_answer.Goals as goal
@@ -19,7 +19,7 @@ pub returns-in_err-ops-clause-breaks : goal.returns-in_err-ops-clause-breaks
 returns-in_err-ops-clause-breaks g c =
     fails_passed _ c.from_residual.result c.from_residual.ensures.1
     (unheard g.P.Pads.calls g.P.Pads.names c.in_err-ops.field-0.0 _
-    (world c.args.talk.now c.args.pads.now (g.L.Exchange.wire c.args.link.now)) _ c.in_err-ops.ensures.fault)
+    (world c.args.talk.now c.args.pads.now (g.L.LineExchange.wire c.args.link.now)) _ c.in_err-ops.ensures.fault)
 
 pub returns-then-branch-clause-goes : goal.returns-then-branch-clause-goes
 returns-then-branch-clause-goes g c =

@@ -23,8 +23,8 @@ returns-in_err-ops-clause-breaks g c =
 pub loop-op-init : goal.loop-op-init
 loop-op-init g c = record {
   goes = λ turn. subst (λ l. Reaches g.P.Pads.calls g.P.Pads.names (Lacking c.args.pad.now turn c.args.seen)
-      (world c.args.talk.now c.args.pads.now (g.L.Exchange.wire c.args.link.now))
-      (Giving c.args.pad.now turn 0 l) (world c.args.talk.now c.own_ops.new.pads (g.L.Exchange.wire c.args.link.now)))
+      (world c.args.talk.now c.args.pads.now (g.L.LineExchange.wire c.args.link.now))
+      (Giving c.args.pad.now turn 0 l) (world c.args.talk.now c.own_ops.new.pads (g.L.LineExchange.wire c.args.link.now)))
       (sym c.as_slice-op-items.ensures)
       (lacks_ops g.P.Pads.calls g.P.Pads.names _ c.args.seen c.own_ops.result c.in-Some.ops c.args.talk.now _ _ _
       (c.in_ok-ops.was ∙ ap Ok c.in-Some.is) c.own_ops.ensures.asks turn);
@@ -41,7 +41,7 @@ returns-in_err-send_push-clause-breaks g c =
     fails_passed _ c.from_residual-in_err-send_push.result c.from_residual-in_err-send_push.ensures.1
     (gives_none g.P.Pads.calls g.P.Pads.names _ c.in_err-send_push.field-0.0
     (λ turn. Lacking c.args.pad.now turn c.args.seen)
-    (world c.args.talk.now c.args.pads.now (g.L.Exchange.wire c.args.link.now)) c.loop-op.due c.loop-op.op-index
+    (world c.args.talk.now c.args.pads.now (g.L.LineExchange.wire c.args.link.now)) c.loop-op.due c.loop-op.op-index
     c.op-item.result c.as_slice-op-items.result.now c.loop-op.talk _ _ _
     c.loop-op-test.true c.op-item.is (ap (λ b. is_readable c.loop-op.talk.version b) (sym c.op_in_v1.ensures)
     ∙ sym c.is_readable.ensures ∙ c.if-not-is_readable.false)
@@ -53,7 +53,7 @@ returns-in_err-send_push-clause-cell g c = c.loop-op.invariant.cell
 pub loop-op-preserved : goal.loop-op-preserved
 loop-op-preserved g c = record {
   goes = gives_more g.P.Pads.calls g.P.Pads.names _ (λ turn. Lacking c.args.pad.now turn c.args.seen)
-      (world c.args.talk.now c.args.pads.now (g.L.Exchange.wire c.args.link.now)) c.loop-op.due c.loop-op.op-index
+      (world c.args.talk.now c.args.pads.now (g.L.LineExchange.wire c.args.link.now)) c.loop-op.due c.loop-op.op-index
       c.op-item.result c.as_slice-op-items.result.now c.loop-op.talk _ _ _
       c.loop-op-test.true c.op-item.is (ap (λ b. is_readable c.loop-op.talk.version b) (sym c.op_in_v1.ensures)
       ∙ sym c.is_readable.ensures ∙ c.if-not-is_readable.false)
@@ -67,7 +67,7 @@ pub loop-init : goal.loop-init
 loop-init g c = elim c.loop-op-test.branch [
   | else-loop-op-test w ↦ (record {
     goes = gives_end g.P.Pads.calls g.P.Pads.names _ (λ turn. Lacking c.args.pad.now turn c.args.seen)
-        (world c.args.talk.now c.args.pads.now (g.L.Exchange.wire c.args.link.now)) c.loop-op.due (c.loop-op.due
+        (world c.args.talk.now c.args.pads.now (g.L.LineExchange.wire c.args.link.now)) c.loop-op.due (c.loop-op.due
         - 0) c.loop-op.op-index c.as_slice-op-items.result.now c.loop-op.talk c.loop-op-test.talk c.loop-op-test.whole _ _
         (drop_of_length-le c.as_slice-op-items.result.now w.loop-op-test.false) w.talk-is
         (w.whole-is ∙ c.loop-op.invariant.whole) (omega arith) c.loop-op.invariant.goes;
@@ -79,7 +79,7 @@ loop-init g c = elim c.loop-op-test.branch [
   })
   | then-loop-op-test+then-not-is_readable w ↦ (record {
     goes = gives_unsaid g.P.Pads.calls g.P.Pads.names _ (λ turn. Lacking c.args.pad.now turn c.args.seen)
-        (world c.args.talk.now c.args.pads.now (g.L.Exchange.wire c.args.link.now)) c.loop-op.due (c.loop-op.due
+        (world c.args.talk.now c.args.pads.now (g.L.LineExchange.wire c.args.link.now)) c.loop-op.due (c.loop-op.due
         - 0) c.loop-op.op-index w.op-item.result c.as_slice-op-items.result.now c.loop-op.talk c.loop-op-test.talk
         c.loop-op-test.whole _ _
         w.loop-op-test.true w.op-item.is (ap (λ b. is_readable c.loop-op.talk.version b) (sym w.op_in_v1.ensures)
@@ -98,7 +98,7 @@ returns-in_err-gained-clause-breaks g c =
     fails_passed _ c.from_residual-in_err-gained.result c.from_residual-in_err-gained.ensures.1
     (hears_none g.P.Pads.calls g.P.Pads.names _ c.in_err-gained.field-0.0
     (λ turn. Lacking c.args.pad.now turn c.args.seen)
-    (world c.args.talk.now c.args.pads.now (g.L.Exchange.wire c.args.link.now)) c.loop-op.due c.loop.counter
+    (world c.args.talk.now c.args.pads.now (g.L.LineExchange.wire c.args.link.now)) c.loop-op.due c.loop.counter
     (c.loop-op.due - (c.loop.counter + 1)) c.loop.gained _ c.loop.talk _ _ _
     (omega (arith, c.loop-test.true)) c.in_err-gained.ensures.fault c.loop.invariant.goes)
 
@@ -111,7 +111,7 @@ returns-in_err-gained-clause-cell g c = (
 pub loop-preserved : goal.loop-preserved
 loop-preserved g c = record {
   goes = hears_more g.P.Pads.calls g.P.Pads.names _ (λ turn. Lacking c.args.pad.now turn c.args.seen)
-      (world c.args.talk.now c.args.pads.now (g.L.Exchange.wire c.args.link.now)) c.loop-op.due c.loop.counter
+      (world c.args.talk.now c.args.pads.now (g.L.LineExchange.wire c.args.link.now)) c.loop-op.due c.loop.counter
       (c.loop-op.due - (c.loop.counter + 1)) c.loop.gained _ _ c.hear_delivered.result
       c.in_ok-gained.field-0 c.loop.talk _ _ _ _
       (omega (arith, c.loop-test.true)) c.in_ok-gained.was
@@ -127,9 +127,9 @@ loop-preserved g c = record {
 pub returns-clause-goes : goal.returns-clause-goes
 returns-clause-goes g c =
     hears_end g.P.Pads.calls g.P.Pads.names _ (λ turn. Lacking c.args.pad.now turn c.args.seen)
-    (world c.args.talk.now c.args.pads.now (g.L.Exchange.wire c.args.link.now))
+    (world c.args.talk.now c.args.pads.now (g.L.LineExchange.wire c.args.link.now))
     (c.loop-op.due - c.loop.counter) c.loop.gained _ c.if-gained.result
-    (world c.loop.talk c.own_ops.new.pads (g.L.Exchange.wire c.loop.link))
+    (world c.loop.talk c.own_ops.new.pads (g.L.LineExchange.wire c.loop.link))
     (omega (arith, c.loop-test.false))
     (elim c.if-gained.branch [
       | then-gained w ↦ and_so _ _ _ w.if-gained.true w.result-is

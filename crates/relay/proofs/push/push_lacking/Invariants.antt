@@ -8,8 +8,8 @@ use Rattle.relay.proofs.push.push_lacking.Given as goal
 abbrev pub invariant-loop-op : goal.invariant-loop-op
 invariant-loop-op g l = record {
   goes : (turn : ℕ) → Reaches g.P.Pads.calls g.P.Pads.names (Lacking l.pad turn l.fn.seen)
-      (world l.fn.talk l.fn.pads (g.L.Exchange.wire l.fn.link))
-      (Giving l.pad turn l.due (drop l.op-index l.op-items)) (world l.talk l.pads (g.L.Exchange.wire l.link));
+      (world l.fn.talk l.fn.pads (g.L.LineExchange.wire l.fn.link))
+      (Giving l.pad turn l.due (drop l.op-index l.op-items)) (world l.talk l.pads (g.L.LineExchange.wire l.link));
   count : l.due ≡ l.op-index;
   whole : l.whole ≡ true;
   cell : (l.talk.cell ≡ l.fn.talk.cell) × (l.talk.cells ≡ l.fn.talk.cells);
@@ -18,7 +18,7 @@ invariant-loop-op g l = record {
 abbrev pub invariant-loop : goal.invariant-loop
 invariant-loop g l = record {
   goes : (turn : ℕ) → Reaches g.P.Pads.calls g.P.Pads.names (Lacking l.pad turn l.fn.seen)
-      (world l.fn.talk l.fn.pads (g.L.Exchange.wire l.fn.link))
-      (Hearing l.pad turn (l.due - l.counter) l.gained l.whole) (world l.talk l.pads (g.L.Exchange.wire l.link));
+      (world l.fn.talk l.fn.pads (g.L.LineExchange.wire l.fn.link))
+      (Hearing l.pad turn (l.due - l.counter) l.gained l.whole) (world l.talk l.pads (g.L.LineExchange.wire l.link));
   cell : (l.talk.cell ≡ l.fn.talk.cell) × (l.talk.cells ≡ l.fn.talk.cells);
 }

@@ -14,9 +14,9 @@ pub returns-then-not-branch-clause-goes : goal.returns-then-not-branch-clause-go
 returns-then-not-branch-clause-goes g c =
     join_at g.P.Pads.calls g.P.Pads.names c.push_turn.result false (λ more. if more
     then Pushing c.args.pad.now (c.loop-turn.turn + 1) else Over) _
-    (world c.args.talk.now c.args.pads.now (g.L.Exchange.wire c.args.link.now)) _
-    (world c.loop-turn.talk c.loop-turn.pads (g.L.Exchange.wire c.loop-turn.link))
-    (world c.push_turn.new.talk c.push_turn.new.pads (g.L.Exchange.wire c.push_turn.new.link))
+    (world c.args.talk.now c.args.pads.now (g.L.LineExchange.wire c.args.link.now)) _
+    (world c.loop-turn.talk c.loop-turn.pads (g.L.LineExchange.wire c.loop-turn.link))
+    (world c.push_turn.new.talk c.push_turn.new.pads (g.L.LineExchange.wire c.push_turn.new.link))
     c.loop-turn.invariant.goes (c.in_ok-push_turn.was ∙ ap Ok c.if-not-branch.true) c.push_turn.ensures.goes
 
 pub returns-then-not-branch-clause-cell : goal.returns-then-not-branch-clause-cell
@@ -36,17 +36,17 @@ pub returns-in_err-push_turn-clause-breaks : goal.returns-in_err-push_turn-claus
 returns-in_err-push_turn-clause-breaks g c =
     fails_passed _ c.from_residual.result c.from_residual.ensures.1
     (later g.P.Pads.calls g.P.Pads.names c.in_err-push_turn.field-0.0 _
-    (world c.args.talk.now c.args.pads.now (g.L.Exchange.wire c.args.link.now)) _
-    (world c.loop-turn.talk c.loop-turn.pads (g.L.Exchange.wire c.loop-turn.link)) _ _ c.loop-turn.invariant.goes
+    (world c.args.talk.now c.args.pads.now (g.L.LineExchange.wire c.args.link.now)) _
+    (world c.loop-turn.talk c.loop-turn.pads (g.L.LineExchange.wire c.loop-turn.link)) _ _ c.loop-turn.invariant.goes
     c.in_err-push_turn.ensures.breaks)
 
 pub loop-turn-preserved : goal.loop-turn-preserved
 loop-turn-preserved g c = record {
   goes = join_at g.P.Pads.calls g.P.Pads.names c.push_turn.result true (λ more. if more
       then Pushing c.args.pad.now (c.loop-turn.turn + 1) else Over) _
-      (world c.args.talk.now c.args.pads.now (g.L.Exchange.wire c.args.link.now)) _
-      (world c.loop-turn.talk c.loop-turn.pads (g.L.Exchange.wire c.loop-turn.link))
-      (world c.push_turn.new.talk c.push_turn.new.pads (g.L.Exchange.wire c.push_turn.new.link))
+      (world c.args.talk.now c.args.pads.now (g.L.LineExchange.wire c.args.link.now)) _
+      (world c.loop-turn.talk c.loop-turn.pads (g.L.LineExchange.wire c.loop-turn.link))
+      (world c.push_turn.new.talk c.push_turn.new.pads (g.L.LineExchange.wire c.push_turn.new.link))
       c.loop-turn.invariant.goes (c.in_ok-push_turn.was ∙ ap Ok c.if-not-branch.false) c.push_turn.ensures.goes;
   cell = (
     c.push_turn.ensures.cell.0 ∙ c.loop-turn.invariant.cell.0,
@@ -57,8 +57,8 @@ loop-turn-preserved g c = record {
 
 pub returns-clause-goes : goal.returns-clause-goes
 returns-clause-goes g c =
-    let w = world c.loop-turn.talk c.loop-turn.pads (g.L.Exchange.wire c.loop-turn.link) in
-    join g.P.Pads.calls g.P.Pads.names _ (world c.args.talk.now c.args.pads.now (g.L.Exchange.wire c.args.link.now)) _ w
+    let w = world c.loop-turn.talk c.loop-turn.pads (g.L.LineExchange.wire c.loop-turn.link) in
+    join g.P.Pads.calls g.P.Pads.names _ (world c.args.talk.now c.args.pads.now (g.L.LineExchange.wire c.args.link.now)) _ w
     _ w
     c.loop-turn.invariant.goes (pushes_spent g.P.Pads.calls g.P.Pads.names c.args.pad.now c.loop-turn.turn w
     (search rules))

@@ -15,9 +15,9 @@ returns-in_err-send_vector-clause-breaks g c =
 
 pub returns-in-Some-Refused-clause-goes : goal.returns-in-Some-Refused-clause-goes
 returns-in-Some-Refused-clause-goes g c =
-    join g.P.Pads.calls g.P.Pads.names _ (world c.args.talk.now c.args.pads.now (g.L.Exchange.wire c.args.link.now)) _
-    (world c.args.talk.now c.args.pads.now (g.L.Exchange.wire c.send_vector.new.link)) _
-    (world c.args.talk.now c.args.pads.now (g.L.Exchange.wire c.hear_vector.new.link))
+    join g.P.Pads.calls g.P.Pads.names _ (world c.args.talk.now c.args.pads.now (g.L.LineExchange.wire c.args.link.now)) _
+    (world c.args.talk.now c.args.pads.now (g.L.LineExchange.wire c.send_vector.new.link)) _
+    (world c.args.talk.now c.args.pads.now (g.L.LineExchange.wire c.hear_vector.new.link))
     (vector_sent g.P.Pads.calls g.P.Pads.names c.args.pad.now c.args.turn c.args.talk.now _ _ _ c.requires
     c.in_ok-send_vector.ensures.sent)
     (counted_over g.P.Pads.calls g.P.Pads.names _ _ c.in_ok-seen.field-0 c.args.talk.now _ _ _ (c.in-Some-Refused.is
@@ -26,35 +26,35 @@ returns-in-Some-Refused-clause-goes g c =
 pub returns-in-None-clause-breaks : goal.returns-in-None-clause-breaks
 returns-in-None-clause-breaks g c =
     later g.P.Pads.calls g.P.Pads.names PeerReply _
-    (world c.args.talk.now c.args.pads.now (g.L.Exchange.wire c.args.link.now)) _
-    (world c.args.talk.now c.args.pads.now (g.L.Exchange.wire c.send_vector.new.link)) _
-    (g.L.Exchange.wire c.hear_vector.new.link)
+    (world c.args.talk.now c.args.pads.now (g.L.LineExchange.wire c.args.link.now)) _
+    (world c.args.talk.now c.args.pads.now (g.L.LineExchange.wire c.send_vector.new.link)) _
+    (g.L.LineExchange.wire c.hear_vector.new.link)
     (vector_sent g.P.Pads.calls g.P.Pads.names c.args.pad.now c.args.turn c.args.talk.now _ _ _ c.requires
     c.in_ok-send_vector.ensures.sent)
     (counted_wrong g.P.Pads.calls g.P.Pads.names _ _ c.in_ok-seen.field-0 c.args.talk.now _ _
-    (g.L.Exchange.wire c.hear_vector.new.link) c.in-None.is c.in_ok-seen.ensures.heard)
+    (g.L.LineExchange.wire c.hear_vector.new.link) c.in-None.is c.in_ok-seen.ensures.heard)
 
 pub returns-in_err-seen-clause-breaks : goal.returns-in_err-seen-clause-breaks
 returns-in_err-seen-clause-breaks g c =
     fails_passed _ c.from_residual-in_err-seen.result c.from_residual-in_err-seen.ensures.1
-    (later g.P.Pads.calls g.P.Pads.names _ _ (world c.args.talk.now c.args.pads.now (g.L.Exchange.wire c.args.link.now))
-    _ (world c.args.talk.now c.args.pads.now (g.L.Exchange.wire c.send_vector.new.link)) _ _
+    (later g.P.Pads.calls g.P.Pads.names _ _ (world c.args.talk.now c.args.pads.now (g.L.LineExchange.wire c.args.link.now))
+    _ (world c.args.talk.now c.args.pads.now (g.L.LineExchange.wire c.send_vector.new.link)) _ _
     (vector_sent g.P.Pads.calls g.P.Pads.names c.args.pad.now c.args.turn c.args.talk.now _ _ _ c.requires
     c.in_ok-send_vector.ensures.sent)
     (unheard g.P.Pads.calls g.P.Pads.names c.in_err-seen.field-0.0 _
-    (world c.args.talk.now c.args.pads.now (g.L.Exchange.wire c.send_vector.new.link)) _
+    (world c.args.talk.now c.args.pads.now (g.L.LineExchange.wire c.send_vector.new.link)) _
     c.in_err-seen.ensures.fault))
 
 pub returns-in-Some-Said-clause-goes : goal.returns-in-Some-Said-clause-goes
 returns-in-Some-Said-clause-goes g c =
     let at = c.in-Some-Said in
     turn_pushed g.P.Pads.calls g.P.Pads.names c.args.pad.now c.args.turn at.seen c.push_lacking.result
-    (world c.args.talk.now c.args.pads.now (g.L.Exchange.wire c.args.link.now))
-    (world c.args.talk.now c.args.pads.now (g.L.Exchange.wire c.hear_vector.new.link))
-    (world c.push_lacking.new.talk c.push_lacking.new.pads (g.L.Exchange.wire c.push_lacking.new.link))
-    (join g.P.Pads.calls g.P.Pads.names _ (world c.args.talk.now c.args.pads.now (g.L.Exchange.wire c.args.link.now)) _
-    (world c.args.talk.now c.args.pads.now (g.L.Exchange.wire c.send_vector.new.link)) _
-    (world c.args.talk.now c.args.pads.now (g.L.Exchange.wire c.hear_vector.new.link))
+    (world c.args.talk.now c.args.pads.now (g.L.LineExchange.wire c.args.link.now))
+    (world c.args.talk.now c.args.pads.now (g.L.LineExchange.wire c.hear_vector.new.link))
+    (world c.push_lacking.new.talk c.push_lacking.new.pads (g.L.LineExchange.wire c.push_lacking.new.link))
+    (join g.P.Pads.calls g.P.Pads.names _ (world c.args.talk.now c.args.pads.now (g.L.LineExchange.wire c.args.link.now)) _
+    (world c.args.talk.now c.args.pads.now (g.L.LineExchange.wire c.send_vector.new.link)) _
+    (world c.args.talk.now c.args.pads.now (g.L.LineExchange.wire c.hear_vector.new.link))
     (vector_sent g.P.Pads.calls g.P.Pads.names c.args.pad.now c.args.turn c.args.talk.now _ _ _ c.requires
     c.in_ok-send_vector.ensures.sent)
     (counted_then g.P.Pads.calls g.P.Pads.names _ _ c.in_ok-seen.field-0 at.seen c.args.talk.now _ _ _
@@ -65,11 +65,11 @@ pub returns-in-Some-Said-clause-breaks : goal.returns-in-Some-Said-clause-breaks
 returns-in-Some-Said-clause-breaks g c =
     let at = c.in-Some-Said in
     turn_broken g.P.Pads.calls g.P.Pads.names c.args.pad.now c.args.turn at.seen c.push_lacking.result
-    (world c.args.talk.now c.args.pads.now (g.L.Exchange.wire c.args.link.now))
-    (world c.args.talk.now c.args.pads.now (g.L.Exchange.wire c.hear_vector.new.link)) _ _
-    (join g.P.Pads.calls g.P.Pads.names _ (world c.args.talk.now c.args.pads.now (g.L.Exchange.wire c.args.link.now)) _
-    (world c.args.talk.now c.args.pads.now (g.L.Exchange.wire c.send_vector.new.link)) _
-    (world c.args.talk.now c.args.pads.now (g.L.Exchange.wire c.hear_vector.new.link))
+    (world c.args.talk.now c.args.pads.now (g.L.LineExchange.wire c.args.link.now))
+    (world c.args.talk.now c.args.pads.now (g.L.LineExchange.wire c.hear_vector.new.link)) _ _
+    (join g.P.Pads.calls g.P.Pads.names _ (world c.args.talk.now c.args.pads.now (g.L.LineExchange.wire c.args.link.now)) _
+    (world c.args.talk.now c.args.pads.now (g.L.LineExchange.wire c.send_vector.new.link)) _
+    (world c.args.talk.now c.args.pads.now (g.L.LineExchange.wire c.hear_vector.new.link))
     (vector_sent g.P.Pads.calls g.P.Pads.names c.args.pad.now c.args.turn c.args.talk.now _ _ _ c.requires
     c.in_ok-send_vector.ensures.sent)
     (counted_then g.P.Pads.calls g.P.Pads.names _ _ c.in_ok-seen.field-0 at.seen c.args.talk.now _ _ _

@@ -9,9 +9,9 @@ use Rattle.relay.proofs.round.exchange_cell.Goals as goal
 pub returns-in-Some-clause-goes : goal.returns-in-Some-clause-goes
 returns-in-Some-clause-goes g c =
     join_ok g.P.Pads.calls g.P.Pads.names c.exchange_pad.result (λ done. Over) _
-    (world c.args.talk.now c.args.pads.now (g.L.Exchange.wire c.args.link.now)) _
-    (world c.args.talk.now c.name_of.new.self (g.L.Exchange.wire c.args.link.now))
-    (world c.exchange_pad.new.talk c.exchange_pad.new.pads (g.L.Exchange.wire c.exchange_pad.new.link))
+    (world c.args.talk.now c.args.pads.now (g.L.LineExchange.wire c.args.link.now)) _
+    (world c.args.talk.now c.name_of.new.self (g.L.LineExchange.wire c.args.link.now))
+    (world c.exchange_pad.new.talk c.exchange_pad.new.pads (g.L.LineExchange.wire c.exchange_pad.new.link))
     (looked_pad g.P.Pads.calls g.P.Pads.names c.args.talk.now _ _ _ _ c.name_in.result c.in-Some.pad c.requires
     c.name_of.ensures c.name_in.ensures.name (c.in_ok-pad.was ∙ ap Ok c.in-Some.is))
     c.exchange_pad.ensures.goes
@@ -19,8 +19,8 @@ returns-in-Some-clause-goes g c =
 pub returns-in-Some-clause-breaks : goal.returns-in-Some-clause-breaks
 returns-in-Some-clause-breaks g c =
     join_err g.P.Pads.calls g.P.Pads.names c.exchange_pad.result _
-    (world c.args.talk.now c.args.pads.now (g.L.Exchange.wire c.args.link.now)) _
-    (world c.args.talk.now c.name_of.new.self (g.L.Exchange.wire c.args.link.now)) _ _
+    (world c.args.talk.now c.args.pads.now (g.L.LineExchange.wire c.args.link.now)) _
+    (world c.args.talk.now c.name_of.new.self (g.L.LineExchange.wire c.args.link.now)) _ _
     (looked_pad g.P.Pads.calls g.P.Pads.names c.args.talk.now _ _ _ _ c.name_in.result c.in-Some.pad c.requires
     c.name_of.ensures c.name_in.ensures.name (c.in_ok-pad.was ∙ ap Ok c.in-Some.is))
     c.exchange_pad.ensures.breaks

@@ -13,8 +13,8 @@ returns-in_err-version-clause-fault g c =
 pub returns-clause-all : goal.returns-clause-all
 returns-clause-all g c =
     made_then g.P.Pads.calls g.P.Pads.names c.args.own c.args.token.now c.visit_cells.result
-    (begun (g.P.Pads.width c.args.pads.now) c.args.pads.now (g.L.Exchange.wire c.args.link.now))
-    (ready c.in_ok-version.version (g.P.Pads.width c.args.pads.now) c.args.pads.now (g.L.Exchange.wire c.greet.new.link))
+    (begun (g.P.Pads.width c.args.pads.now) c.args.pads.now (g.L.LineExchange.wire c.args.link.now))
+    (ready c.in_ok-version.version (g.P.Pads.width c.args.pads.now) c.args.pads.now (g.L.LineExchange.wire c.greet.new.link))
     _ _
     (greets_then g.P.Pads.calls g.P.Pads.names c.args.own c.args.token.now c.in_ok-version.version
     (g.P.Pads.width c.args.pads.now) _ _ _ c.in_ok-version.ensures.greeted)
@@ -23,8 +23,8 @@ returns-clause-all g c =
 pub returns-clause-fault : goal.returns-clause-fault
 returns-clause-fault g c =
     join_err g.P.Pads.calls g.P.Pads.names c.visit_cells.result _
-    (begun (g.P.Pads.width c.args.pads.now) c.args.pads.now (g.L.Exchange.wire c.args.link.now)) _
-    (ready c.in_ok-version.version (g.P.Pads.width c.args.pads.now) c.args.pads.now (g.L.Exchange.wire c.greet.new.link))
+    (begun (g.P.Pads.width c.args.pads.now) c.args.pads.now (g.L.LineExchange.wire c.args.link.now)) _
+    (ready c.in_ok-version.version (g.P.Pads.width c.args.pads.now) c.args.pads.now (g.L.LineExchange.wire c.greet.new.link))
     _ _
     (greets_then g.P.Pads.calls g.P.Pads.names c.args.own c.args.token.now c.in_ok-version.version
     (g.P.Pads.width c.args.pads.now) _ _ _ c.in_ok-version.ensures.greeted)

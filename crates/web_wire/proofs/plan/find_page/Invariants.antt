@@ -1,6 +1,6 @@
 -- The loop of `find_page`: no page so far has the path.
 use Rattle.std.proofs.Common.{◌≡◌, drop}
-use Rattle.web_wire.specs.Visits.{has_page}
+use Rattle.web_wire.specs.PageRequests.{has_page}
 use Rattle.web_wire.proofs.plan.find_page.Given as goal
 
 abbrev pub invariant-loop-page : goal.invariant-loop-page

@@ -1,6 +1,6 @@
 use Rattle.std.proofs.Common.{◌∙◌, Some, ap, sym, length, slice_get, arith}
-use Rattle.authorship.specs.Kept.{AuthorPlaces}
-use Rattle.authorship.specs.declared.kept.KeptRun.{KeptRun}
+use Rattle.authorship.specs.StoredRuns.{AuthorPlaces}
+use Rattle.authorship.specs.declared.stored_run.StoredRun.{StoredRun}
 use Rattle.authorship.proofs.At.{at_place, read}
 use Rattle.authorship.proofs.Cuts.{length-places}
 use Rattle.authorship.proofs.run_tree.RunTree.author_at.Goals as goal
@@ -25,4 +25,4 @@ returns c =
     ap (λ (t : AuthorPlaces). slice_get t.places c.args.pos) (sym c.self.view_is)
     ∙ (at_place c.self.inside.runs.items c.place_of-place.result c.args.pos c.place_of-place.ensures.place
     c.place_of-place.ensures.position (omega (arith, size, all))).1
-    ∙ ap (λ (r : KeptRun). Some r.author) there.1
+    ∙ ap (λ (r : StoredRun). Some r.author) there.1

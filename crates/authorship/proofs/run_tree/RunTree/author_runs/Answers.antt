@@ -2,7 +2,7 @@ use Rattle.std.proofs.Common.{◌≡◌, ◌∙◌, ◌<◌, List, Result, Ok, E
 use Rattle.std.specs.List.{AllByRecursion}
 use Rattle.pad_model.specs.Visible.{runs}
 use Rattle.pad_model.specs.declared.who.AuthorRun.{AuthorRun}
-use Rattle.authorship.specs.Kept.{AuthorPlaces, author_in}
+use Rattle.authorship.specs.StoredRuns.{AuthorPlaces, author_in}
 use Rattle.authorship.proofs.Fewest.{known_runs, fewest}
 use Rattle.authorship.proofs.run_tree.RunTree.author_runs.Goals as goal
 

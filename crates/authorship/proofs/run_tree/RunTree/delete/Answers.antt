@@ -1,5 +1,5 @@
 use Rattle.std.proofs.Common.{ap, length, arith}
-use Rattle.authorship.specs.Kept.{AuthorPlaces}
+use Rattle.authorship.specs.StoredRuns.{AuthorPlaces}
 use Rattle.authorship.proofs.Changes.{fits_take}
 use Rattle.authorship.proofs.Cuts.{length-places}
 use Rattle.authorship.proofs.run_tree.RunTree.delete.Goals as goal

@@ -1,5 +1,5 @@
 use Rattle.std.proofs.Common.{◌∙◌, ap, sym, length}
-use Rattle.authorship.specs.Kept.{AuthorPlaces}
+use Rattle.authorship.specs.StoredRuns.{AuthorPlaces}
 use Rattle.authorship.proofs.Cuts.{length-places}
 use Rattle.authorship.proofs.run_tree.RunTree.len.Goals as goal
 

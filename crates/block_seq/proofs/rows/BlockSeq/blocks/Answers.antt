@@ -1,4 +1,4 @@
-use Rattle.block_seq.proofs.RowCounts.{cells_seen}
+use Rattle.block_seq.proofs.Views.{cells_seen}
 use Rattle.block_seq.proofs.rows.BlockSeq.blocks.Goals as goal
 
 pub returns-clause-row : goal.returns-clause-row

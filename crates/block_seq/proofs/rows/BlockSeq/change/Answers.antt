@@ -1,5 +1,5 @@
 mod Steps
-use Rattle.std.proofs.Common.{◌≡◌, ℕ, ◌+◌, max, drop, true, inr, Result, Ok, List, length, map, sym, ap, ap₂, ◌∙◌}
+use Rattle.std.proofs.Common.{◌≡◌, ℕ, ◌+◌, ◌*◌, ◌≤◌, max, drop, true, inr, Result, Ok, List, length, map, sym, ap, ap₂, ◌∙◌}
 use Rattle.std.proofs.Common.{refl, subst, arith, count_by}
 use Rattle.std.proofs.lemmas.List.{length-map}
 use Rattle.std.specs.List.{AllByRecursion}
@@ -11,10 +11,8 @@ use Rattle.pad_model.specs.declared.op.Run.{Run}
 use Rattle.pad_model.specs.declared.who.Author.{Author}
 use Rattle.pad_model.proofs.Exits.{answers_memory}
 use Rattle.blocks.specs.Cells.{author_at, cells_of}
-use Rattle.blocks.specs.Counts.Labelled.{begins, changed}
 use Rattle.blocks.proofs.Cells.{same_unlabelled, same_then}
-use Rattle.blocks.proofs.Counts.{keeps_listed, labelled_then}
-use Rattle.block_seq.specs.RowParts.{IsCounted, IsCutBehind, MayPut}
+use Rattle.block_seq.specs.RowParts.{IsCutBehind, MayPut}
 use Rattle.block_seq.specs.Rows.{IsBlockSeq, IsCutOut, cells_in, killed}
 use Rattle.block_seq.specs.RowAuthors.{Goes, IsAuthoredRow, MayHide, MayShow, live_authors, with_shown}
 use Rattle.block_seq.specs.RowAuthors.{without_hidden}
@@ -26,7 +24,7 @@ use Rattle.block_seq.proofs.RowChange.{cut_out_kept, lent_checked, lent_sizes}
 use Rattle.block_seq.proofs.RowErase.{all_aligned, killed_count, row_killed}
 use Rattle.block_seq.proofs.RowRuns.{all_commute, all_hidden, all_later, all_lent, all_rooted, few_runs}
 use Rattle.block_seq.proofs.RowSteps.{same_cells_kept}
-use Rattle.block_seq.proofs.RowCounts.{cells_seen, counted_by, counted_undone}
+use Rattle.block_seq.proofs.Views.{blocks_seen, cells_seen}
 use Rattle.block_seq.proofs.rows.BlockSeq.change.Answers.Steps.{moved, stays, whole, cut, cut_row}
 use Rattle.block_seq.proofs.rows.BlockSeq.change.Goals as goal
 use Rattle.block_seq.proofs.rows.BlockSeq.change.Goals.{After-cut_parents, After-as_slice}
@@ -296,70 +294,38 @@ returns-clause-answers c =
     let d = done g.After-kill_named-hidden (still_cut g.In_ok-clock same) same (who g.After-as_slice) in
     inr (ap₂ (λ n l. (Ok n, l)) (sym d.1) (sym d.0.1))
 
-pub returns-in_err-reserve-clause-counted : goal.returns-in_err-reserve-clause-counted
-returns-in_err-reserve-clause-counted c =
-    counted_by c.self.view_is (length c.args.runs.now + length c.args.spans.now) c.from_residual.result _ begins
-    (omega arith) (omega arith) (omega arith)
+pub returns-in_err-reserve-clause-blocks : goal.returns-in_err-reserve-clause-blocks
+returns-in_err-reserve-clause-blocks c = let seen = blocks_seen c.self.view_is in omega (arith, seen)
 
-pub returns-in_err-cut_spans-clause-counted : goal.returns-in_err-cut_spans-clause-counted
-returns-in_err-cut_spans-clause-counted c =
-    counted_by c.self.view_is (length c.args.runs.now + length c.args.spans.now) c.from_residual-in_err-cut_spans.result
-    _ c.cut_spans.ensures.labelled (omega (arith, c.cut_spans.ensures.more)) c.cut_spans.ensures.counts
-    (omega (arith, c.cut_spans.ensures.few))
+pub returns-in_err-cut_spans-clause-blocks : goal.returns-in_err-cut_spans-clause-blocks
+returns-in_err-cut_spans-clause-blocks c = let seen = blocks_seen c.self.view_is in
+    omega (arith, seen, c.cut_spans.ensures.more)
 
--- what the cuts did
-when_cut : (c : After-cut_parents) {A E : Type 0} (r : Result A E) (authors : List Author) (text : List ℕ) →
-    IsCounted (length c.args.runs.now + length c.args.spans.now) r c.args.self.now
-    (cells_in authors text c.cut_parents.new.tree.items c.cut_parents.new.respacings)
-when_cut c r authors text =
-    counted_by c.self.view_is (length c.args.runs.now + length c.args.spans.now) r _
-    (labelled_then c.cut_spans.ensures.labelled c.cut_parents.ensures.labelled)
-    (omega (arith, c.cut_spans.ensures.more, c.cut_parents.ensures.more))
-    (omega (arith, c.cut_spans.ensures.counts, c.cut_parents.ensures.counts))
-    (omega (arith, c.cut_spans.ensures.few, c.cut_parents.ensures.few))
+-- the cuts add two blocks for each span, and one for each run
+when_cut : (c : After-cut_parents) → length c.cut_parents.new.tree.items ≤ c.args.self.now.blocks
+    + 2 * (length c.args.runs.now + length c.args.spans.now)
+when_cut c = let seen = blocks_seen c.self.view_is in
+    omega (arith, seen, c.cut_spans.ensures.more, c.cut_parents.ensures.more)
 
-pub returns-in_err-cut_parents-clause-counted : goal.returns-in_err-cut_parents-clause-counted
-returns-in_err-cut_parents-clause-counted c =
-    when_cut (goal.at.returns-in_err-cut_parents-clause-counted c).After-cut_parents
-    c.from_residual-in_err-cut_parents.result _ _
+pub returns-in_err-cut_parents-clause-blocks : goal.returns-in_err-cut_parents-clause-blocks
+returns-in_err-cut_parents-clause-blocks c = when_cut (goal.at.returns-in_err-cut_parents-clause-blocks c).After-cut_parents
 
-pub returns-in_err-author-clause-counted : goal.returns-in_err-author-clause-counted
-returns-in_err-author-clause-counted c =
-    when_cut (goal.at.returns-in_err-author-clause-counted c).After-cut_parents
-    c.from_residual-in_err-author.result _ _
+pub returns-in_err-author-clause-blocks : goal.returns-in_err-author-clause-blocks
+returns-in_err-author-clause-blocks c = when_cut (goal.at.returns-in_err-author-clause-blocks c).After-cut_parents
 
-pub returns-in_err-reserve-2-clause-counted : goal.returns-in_err-reserve-2-clause-counted
-returns-in_err-reserve-2-clause-counted c =
-    when_cut (goal.at.returns-in_err-reserve-2-clause-counted c).After-cut_parents
-    c.from_residual-in_err-reserve-2.result _ _
+pub returns-in_err-reserve-2-clause-blocks : goal.returns-in_err-reserve-2-clause-blocks
+returns-in_err-reserve-2-clause-blocks c = when_cut (goal.at.returns-in_err-reserve-2-clause-blocks c).After-cut_parents
 
-pub returns-in_err-reserve-3-clause-counted : goal.returns-in_err-reserve-3-clause-counted
-returns-in_err-reserve-3-clause-counted c =
-    when_cut (goal.at.returns-in_err-reserve-3-clause-counted c).After-cut_parents
-    c.from_residual-in_err-reserve-3.result _ _
+pub returns-in_err-reserve-3-clause-blocks : goal.returns-in_err-reserve-3-clause-blocks
+returns-in_err-reserve-3-clause-blocks c = when_cut (goal.at.returns-in_err-reserve-3-clause-blocks c).After-cut_parents
 
-pub returns-in_err-clock-clause-counted : goal.returns-in_err-clock-clause-counted
-returns-in_err-clock-clause-counted c =
-    let undone = c.in_err-clock.ensures.undone in
-    counted_undone _ c.self.view_is (length c.args.runs.now + length c.args.spans.now)
-    c.from_residual-in_err-clock.result _ c.from_residual-in_err-clock.ensures.1 (
-      undone.0,
-      labelled_then (labelled_then c.cut_spans.ensures.labelled c.cut_parents.ensures.labelled) undone.1,
-      undone.2,
-    )
-    (omega (arith, c.cut_spans.ensures.more, c.cut_parents.ensures.more, c.put_runs.ensures.more))
-    (omega (arith, c.cut_spans.ensures.counts, c.cut_parents.ensures.counts, c.put_runs.ensures.counts))
-    (omega (arith, c.cut_spans.ensures.few, c.cut_parents.ensures.few, c.put_runs.ensures.few))
+pub returns-in_err-clock-clause-blocks : goal.returns-in_err-clock-clause-blocks
+returns-in_err-clock-clause-blocks c = let seen = blocks_seen c.self.view_is in
+    omega (arith, seen, c.cut_spans.ensures.more, c.cut_parents.ensures.more, c.put_runs.ensures.more)
 
-pub returns-clause-counted : goal.returns-clause-counted
-returns-clause-counted c =
+pub returns-clause-blocks : goal.returns-clause-blocks
+returns-clause-blocks c =
+    let seen = blocks_seen c.self.view_is in
     let size = ap length c.kill_named-hidden.ensures.items
     ∙ length-map c.put_runs.new.tree.items (killed c.args.rev c.args.spans.now) in
-    counted_by c.self.view_is (length c.args.runs.now + length c.args.spans.now) _ _
-    (changed c.put_runs.new.tree.items c.kill_named-hidden.new.tree.items c.put_runs.new.respacings
-    (labelled_then (labelled_then c.cut_spans.ensures.labelled c.cut_parents.ensures.labelled)
-    c.in_ok-clock.ensures.labelled) (keeps_listed c.put_runs.new.index c.put_runs.new.tree.items
-    c.kill_named-hidden.new.tree.items c.put_runs.ensures.kept.listed c.kill_named-hidden.ensures.kept.listed))
-    (omega (arith, size, c.cut_spans.ensures.more, c.cut_parents.ensures.more, c.put_runs.ensures.more))
-    (omega (arith, c.cut_spans.ensures.counts, c.cut_parents.ensures.counts, c.put_runs.ensures.counts))
-    (omega (arith, c.cut_spans.ensures.few, c.cut_parents.ensures.few, c.put_runs.ensures.few))
+    omega (arith, seen, size, c.cut_spans.ensures.more, c.cut_parents.ensures.more, c.put_runs.ensures.more)

@@ -3,8 +3,6 @@ use Rattle.std.proofs.lemmas.List.{length-map}
 use Rattle.std.specs.List.{AllByRecursion}
 use Rattle.pad_model.specs.Cell.{IsBy, is_hidden_by, without_spans}
 use Rattle.blocks.specs.Cells.{cells_of}
-use Rattle.blocks.specs.Counts.Labelled.{changed}
-use Rattle.blocks.proofs.Counts.{keeps_listed}
 use Rattle.block_seq.specs.Rows.{IsBlockSeq, killed}
 use Rattle.block_seq.specs.RowAuthors.{Goes, IsAuthoredRow, MayHide, live_authors, without_hidden}
 use Rattle.block_seq.specs.RowSlides.{IsSlid}
@@ -12,7 +10,7 @@ use Rattle.block_seq.proofs.RowAuthors.{authored_cut, hidden_from}
 use Rattle.block_seq.proofs.RowNow.{dated_blocks}
 use Rattle.block_seq.proofs.RowErase.{all_aligned, killed_count, row_killed}
 use Rattle.block_seq.proofs.RowSteps.{same_cells_kept}
-use Rattle.block_seq.proofs.RowCounts.{cells_seen, counted_by}
+use Rattle.block_seq.proofs.Views.{blocks_seen, cells_seen}
 use Rattle.block_seq.proofs.rows.BlockSeq.erase.Goals as goal
 use Rattle.block_seq.proofs.rows.BlockSeq.erase.Goals.{After-cut_spans, After-kill_named-hidden, After-as_slice}
 
@@ -97,22 +95,17 @@ returns-clause-answers c =
     let d = done (goal.at.returns-clause-answers c).After-kill_named-hidden in
     inr (ap₂ (λ n l. (Ok n, l)) (sym d.1) (sym d.0.1))
 
-pub returns-in_err-cut_spans-clause-counted : goal.returns-in_err-cut_spans-clause-counted
-returns-in_err-cut_spans-clause-counted c =
-    counted_by c.self.view_is (length c.args.spans.now) c.from_residual.result _ c.cut_spans.ensures.labelled
-    c.cut_spans.ensures.more c.cut_spans.ensures.counts c.cut_spans.ensures.few
+pub returns-in_err-cut_spans-clause-blocks : goal.returns-in_err-cut_spans-clause-blocks
+returns-in_err-cut_spans-clause-blocks c = let seen = blocks_seen c.self.view_is in
+    omega (arith, seen, c.cut_spans.ensures.more)
 
-pub returns-in_err-reserve-clause-counted : goal.returns-in_err-reserve-clause-counted
-returns-in_err-reserve-clause-counted c =
-    counted_by c.self.view_is (length c.args.spans.now) c.from_residual-in_err-reserve.result _
-    c.cut_spans.ensures.labelled c.cut_spans.ensures.more c.cut_spans.ensures.counts c.cut_spans.ensures.few
+pub returns-in_err-reserve-clause-blocks : goal.returns-in_err-reserve-clause-blocks
+returns-in_err-reserve-clause-blocks c = let seen = blocks_seen c.self.view_is in
+    omega (arith, seen, c.cut_spans.ensures.more)
 
-pub returns-clause-counted : goal.returns-clause-counted
-returns-clause-counted c =
+pub returns-clause-blocks : goal.returns-clause-blocks
+returns-clause-blocks c =
+    let seen = blocks_seen c.self.view_is in
     let size = ap length c.kill_named-hidden.ensures.items
     ∙ length-map c.cut_spans.new.tree.items (killed c.args.rev c.args.spans.now) in
-    counted_by c.self.view_is (length c.args.spans.now) _ _
-    (changed c.cut_spans.new.tree.items c.kill_named-hidden.new.tree.items c.cut_spans.new.respacings
-    c.cut_spans.ensures.labelled (keeps_listed c.cut_spans.new.index c.cut_spans.new.tree.items
-    c.kill_named-hidden.new.tree.items c.cut_spans.ensures.kept.listed c.kill_named-hidden.ensures.kept.listed))
-    (omega (arith, size, c.cut_spans.ensures.more)) c.cut_spans.ensures.counts c.cut_spans.ensures.few
+    omega (arith, seen, size, c.cut_spans.ensures.more)

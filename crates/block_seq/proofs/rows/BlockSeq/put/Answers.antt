@@ -4,7 +4,6 @@ use Rattle.pad_model.specs.declared.refusal.Refusal.TheVariants.{Memory}
 use Rattle.pad_model.specs.Cell.{with_run}
 use Rattle.pad_model.proofs.Erase.{without_none}
 use Rattle.pad_model.proofs.Exits.{answers_memory}
-use Rattle.block_seq.proofs.RowCounts.{counted_err, counted_ok}
 use Rattle.block_seq.proofs.rows.BlockSeq.put.Goals as goal
 
 pub returns-clause-answers : goal.returns-clause-answers
@@ -22,11 +21,3 @@ returns-in_err-change-clause-answers c = elim c.in_err-change.ensures.answers [
       (subst (λ m. IsErrAnd c.from_residual.result (λ e. e ≡ m)) same c.from_residual.ensures.1) failed.1 refl
   | inr made ↦ absurd (let e = ap (λ p. p.0) made in cc e)
 ]
-
-pub returns-clause-counted : goal.returns-clause-counted
-returns-clause-counted c = counted_ok 1 c.in_ok-change.field-0 _ c.args.self.now c.change.new.self
-    c.in_ok-change.ensures.counted
-
-pub returns-in_err-change-clause-counted : goal.returns-in_err-change-clause-counted
-returns-in_err-change-clause-counted c = counted_err _ 1 c.in_err-change.field-0.0 c.from_residual.result
-    c.args.self.now c.change.new.self c.from_residual.ensures.1 c.in_err-change.ensures.counted

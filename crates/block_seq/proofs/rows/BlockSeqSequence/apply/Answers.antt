@@ -14,11 +14,10 @@ use Rattle.pad_model.specs.Cell.{is_hidden_by, without_spans}
 use Rattle.pad_model.specs.Checked.{is_run}
 use Rattle.pad_model.specs.declared.limits.TheConstants.{MAX_CHARACTERS}
 use Rattle.pad_model.specs.declared.op.Span.{Span}
-use Rattle.block_seq.specs.RowParts.{count_changes}
 use Rattle.block_seq.proofs.RowChange.{lent_checked, lent_sizes, no_run}
 use Rattle.pad_model.specs.Log.{run_may_join}
 use Rattle.block_seq.proofs.RowRuns.{all_fit, join_before, runs_fit}
-use Rattle.block_seq.proofs.RowCounts.{cells_seen, counted_more, counted_nothing}
+use Rattle.block_seq.proofs.Views.{cells_seen}
 use Rattle.block_seq.proofs.rows.BlockSeqSequence.apply.Goals as goal
 use Rattle.block_seq.proofs.rows.BlockSeqSequence.apply.Goals.{After-parts_fit, After-count_inserted-more, In_ok-runs}
 
@@ -200,31 +199,14 @@ returns-clause-answers c =
           (map (λ run. run.now) l),
     )) (sym c.as_slice-3.ensures.value))) c.change.ensures.answers
 
-pub returns-then-not-parts_fit-clause-counted : goal.returns-then-not-parts_fit-clause-counted
-returns-then-not-parts_fit-clause-counted c = counted_nothing (count_changes c.args.parts.now) _ c.args.self.now
-
-pub returns-then-len-more-gt-MAX_CHARACTERS-clause-counted : goal.returns-then-len-more-gt-MAX_CHARACTERS-clause-counted
-returns-then-len-more-gt-MAX_CHARACTERS-clause-counted c = counted_nothing (count_changes c.args.parts.now) _
-    c.args.self.now
-
-pub returns-in_err-spans-clause-counted : goal.returns-in_err-spans-clause-counted
-returns-in_err-spans-clause-counted c = counted_nothing (count_changes c.args.parts.now) c.from_residual.result
-    c.args.self.now
-
-pub returns-in_err-runs-clause-counted : goal.returns-in_err-runs-clause-counted
-returns-in_err-runs-clause-counted c = counted_nothing (count_changes c.args.parts.now)
-    c.from_residual-in_err-runs.result c.args.self.now
-
-pub returns-then-is_empty-clause-counted : goal.returns-then-is_empty-clause-counted
-returns-then-is_empty-clause-counted c =
+pub returns-then-is_empty-clause-blocks : goal.returns-then-is_empty-clause-blocks
+returns-then-is_empty-clause-blocks c =
     let spans = ap length c.as_slice.ensures.value ∙ ap length c.in_ok-spans.ensures in
-    counted_more (length c.as_slice.result.now) (count_changes c.args.parts.now) c.erase.result c.args.self.now
-    c.erase.new.self (omega (arith, spans)) c.erase.ensures.counted
+    omega (arith, spans, c.erase.ensures.blocks)
 
-pub returns-clause-counted : goal.returns-clause-counted
-returns-clause-counted c =
+pub returns-clause-blocks : goal.returns-clause-blocks
+returns-clause-blocks c =
     let spans = ap length c.as_slice-2.ensures.value ∙ ap length c.in_ok-spans.ensures in
     let runs = ap length c.as_slice-3.ensures.value ∙ sym (length-map c.in_ok-runs.runs.items (λ run. run.now))
     ∙ ap length c.in_ok-runs.ensures in
-    counted_more (length c.as_slice-3.result.now + length c.as_slice-2.result.now) (count_changes c.args.parts.now)
-    c.change.result c.args.self.now c.change.new.self (omega (arith, spans, runs)) c.change.ensures.counted
+    omega (arith, spans, runs, c.change.ensures.blocks)

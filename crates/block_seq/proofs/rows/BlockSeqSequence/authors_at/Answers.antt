@@ -2,11 +2,11 @@ use Rattle.std.proofs.Common.{◌<◌, ◌∙◌, sym, ap, ap₂, subst, length,
 use Rattle.std.specs.List.{AllByRecursion}
 use Rattle.pad_model.specs.Cell.{cells_at}
 use Rattle.pad_model.specs.Visible.{runs}
-use Rattle.authorship.specs.Kept.{author_in, IsOnce}
+use Rattle.authorship.specs.StoredRuns.{author_in, IsOnce}
 use Rattle.block_seq.specs.RowLists.{shown_by}
 use Rattle.block_seq.proofs.RowAuthors.{authors_known, authors_now, once_of}
 use Rattle.block_seq.proofs.RowLists.{authors-at}
-use Rattle.block_seq.proofs.RowCounts.{cells_seen}
+use Rattle.block_seq.proofs.Views.{cells_seen}
 use Rattle.block_seq.proofs.RowNow.{dated_blocks}
 use Rattle.block_seq.proofs.RowSlides.{dated_later}
 use Rattle.block_seq.proofs.rows.BlockSeqSequence.authors_at.Goals as goal

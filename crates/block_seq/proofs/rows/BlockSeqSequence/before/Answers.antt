@@ -12,7 +12,7 @@ use Rattle.block_seq.proofs.BlockScan.{one_rank}
 use Rattle.block_seq.proofs.Kept.{unless_has, where_has}
 use Rattle.block_seq.proofs.RowReads.{before-blocks}
 use Rattle.block_seq.proofs.RowNow.{dated_blocks}
-use Rattle.block_seq.proofs.RowCounts.{cells_seen}
+use Rattle.block_seq.proofs.Views.{cells_seen}
 use Rattle.block_seq.proofs.rows.BlockSeqSequence.before.Goals as goal
 
 pub returns-in_err-spot : goal.returns-in_err-spot

@@ -1,7 +1,7 @@
 use Rattle.std.proofs.Common.{sym, ap, length, subst, ◌∙◌}
 use Rattle.pad_model.specs.Cell.{IsInOrder}
 use Rattle.block_seq.proofs.BlockCells.{length-cells}
-use Rattle.block_seq.proofs.RowCounts.{cells_seen}
+use Rattle.block_seq.proofs.Views.{cells_seen}
 use Rattle.block_seq.proofs.rows.BlockSeqSequence.cell_count.Goals as goal
 
 pub returns-clause-value : goal.returns-clause-value

@@ -3,7 +3,7 @@ use Rattle.pad_model.specs.Pieces.{changes, fewest}
 use Rattle.pad_model.specs.declared.who.Author.{Author}
 use Rattle.block_seq.specs.PieceLists.{block_pieces}
 use Rattle.block_seq.proofs.RowPieces.{pieces-blocks}
-use Rattle.block_seq.proofs.RowCounts.{cells_seen}
+use Rattle.block_seq.proofs.Views.{cells_seen}
 use Rattle.block_seq.proofs.rows.BlockSeqSequence.changes.Goals as goal
 
 pub returns : goal.returns

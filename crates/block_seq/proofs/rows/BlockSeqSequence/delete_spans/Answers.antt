@@ -1,10 +1,10 @@
-use Rattle.std.proofs.Common.{◌≡◌, Bool, true, false, inr, length, sym, ap, ◌∙◌, subst}
+use Rattle.std.proofs.Common.{◌≡◌, Bool, true, false, inr, sym, ap, ◌∙◌, subst}
 use Rattle.pad_model.specs.Answers.{Answers}
 use Rattle.pad_model.specs.Cell.{character_of}
 use Rattle.pad_model.specs.Log.{has_spans}
 use Rattle.block_seq.proofs.Kept.{delete-fault}
 use Rattle.block_seq.proofs.RowSteps.{delete-ok}
-use Rattle.block_seq.proofs.RowCounts.{cells_seen, counted_nothing}
+use Rattle.block_seq.proofs.Views.{cells_seen}
 use Rattle.block_seq.proofs.rows.BlockSeqSequence.delete_spans.Goals as goal
 use Rattle.block_seq.proofs.rows.BlockSeqSequence.delete_spans.Goals.{After-has_spans}
 
@@ -28,6 +28,3 @@ returns-clause-answers c =
     subst (λ x. Answers c.args.self.now.cells x c.erase.result c.erase.new.self.cells)
     (sym (delete-ok c.args.rev c.args.spans.now c.args.self.now.cells
     (there (goal.at.returns-clause-answers c).After-has_spans true c.if-not-has_spans.false))) c.erase.ensures.answers
-
-pub returns-then-not-has_spans-clause-counted : goal.returns-then-not-has_spans-clause-counted
-returns-then-not-has_spans-clause-counted c = counted_nothing (length c.args.spans.now) _ c.args.self.now

@@ -2,7 +2,7 @@ use Rattle.std.proofs.Common.{ap, sym, ◌∙◌}
 use Rattle.weight_tree.specs.ItemsAndHeight.{ItemsAndHeight}
 use Rattle.blocks.specs.declared.block.Block.{Block}
 use Rattle.pad_model.specs.Visible.{same_author}
-use Rattle.authorship.specs.Kept.{AuthorPlaces}
+use Rattle.authorship.specs.StoredRuns.{AuthorPlaces}
 use Rattle.block_seq.specs.RowAuthors.{live_authors}
 use Rattle.block_seq.proofs.AuthorTable.{distinct_none}
 use Rattle.block_seq.proofs.RowSlides.{slid_nothing}

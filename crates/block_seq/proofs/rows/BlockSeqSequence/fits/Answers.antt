@@ -3,7 +3,7 @@ use Rattle.std.specs.List.{list_all}
 use Rattle.pad_model.specs.Cell.{character_of}
 use Rattle.pad_model.specs.Parts.{part_fits}
 use Rattle.block_seq.proofs.Applied.{spans_checked}
-use Rattle.block_seq.proofs.RowCounts.{cells_seen}
+use Rattle.block_seq.proofs.Views.{cells_seen}
 use Rattle.block_seq.proofs.rows.BlockSeqSequence.fits.Goals as goal
 
 pub parts_fit-requires-clause-checked : goal.parts_fit-requires-clause-checked

@@ -1,7 +1,7 @@
 use Rattle.std.proofs.Common.{ap, ◌∙◌}
 use Rattle.pad_model.specs.Cell.{character_of}
 use Rattle.pad_model.specs.Legal.{has_stamp}
-use Rattle.block_seq.proofs.RowCounts.{cells_seen}
+use Rattle.block_seq.proofs.Views.{cells_seen}
 use Rattle.block_seq.proofs.rows.BlockSeqSequence.has.Goals as goal
 
 pub returns : goal.returns

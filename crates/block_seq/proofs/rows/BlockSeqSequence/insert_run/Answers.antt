@@ -4,7 +4,7 @@ use Rattle.pad_model.specs.Cell.{character_of}
 use Rattle.pad_model.specs.Log.{run_may_join}
 use Rattle.pad_model.proofs.Cells.{insert_run-fault, insert_run-full, insert_run-ok}
 use Rattle.block_seq.proofs.BlockCells.{length-cells}
-use Rattle.block_seq.proofs.RowCounts.{cells_seen, counted_nothing}
+use Rattle.block_seq.proofs.Views.{cells_seen}
 use Rattle.block_seq.proofs.rows.BlockSeqSequence.insert_run.Goals as goal
 use Rattle.block_seq.proofs.rows.BlockSeqSequence.insert_run.Goals.{After-run_fits}
 
@@ -48,9 +48,3 @@ returns-clause-answers c =
     (sym (insert_run-ok c.args.rev c.args.run.now c.args.author.now c.args.self.now.cells
     (fit g.After-run_fits true c.if-not-run_fits.false) (omega (arith, s, c.self.inside.text.ok.0))))
     c.put.ensures.answers
-
-pub returns-then-not-run_fits-clause-counted : goal.returns-then-not-run_fits-clause-counted
-returns-then-not-run_fits-clause-counted c = counted_nothing 1 _ c.args.self.now
-
-pub returns-then-len-gt-MAX_CHARACTERS-clause-counted : goal.returns-then-len-gt-MAX_CHARACTERS-clause-counted
-returns-then-len-gt-MAX_CHARACTERS-clause-counted c = counted_nothing 1 _ c.args.self.now

@@ -1,7 +1,7 @@
 use Rattle.std.proofs.Common.{ap, ◌∙◌}
 use Rattle.pad_model.specs.Cell.{last_of}
 use Rattle.block_seq.proofs.BlockCells.{greatest_held}
-use Rattle.block_seq.proofs.RowCounts.{cells_seen}
+use Rattle.block_seq.proofs.Views.{cells_seen}
 use Rattle.block_seq.proofs.rows.BlockSeqSequence.last_of.Goals as goal
 
 pub returns : goal.returns

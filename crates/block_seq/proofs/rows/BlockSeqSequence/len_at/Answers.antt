@@ -1,7 +1,7 @@
 use Rattle.std.proofs.Common.{sym, ap, length, ◌∙◌}
 use Rattle.pad_model.specs.Cell.{cells_at}
 use Rattle.block_seq.proofs.RowReads.{length-at}
-use Rattle.block_seq.proofs.RowCounts.{cells_seen}
+use Rattle.block_seq.proofs.Views.{cells_seen}
 use Rattle.block_seq.proofs.rows.BlockSeqSequence.len_at.Goals as goal
 
 pub returns : goal.returns

@@ -2,7 +2,7 @@ use Rattle.std.proofs.Common.{◌∙◌, sym, ap, map, take, drop}
 use Rattle.pad_model.specs.Cell.{cells_at}
 use Rattle.pad_model.specs.Visible.{spans}
 use Rattle.block_seq.proofs.RowLists.{stamps_between}
-use Rattle.block_seq.proofs.RowCounts.{cells_seen}
+use Rattle.block_seq.proofs.Views.{cells_seen}
 use Rattle.block_seq.proofs.rows.BlockSeqSequence.spans_at.Goals as goal
 
 pub returns : goal.returns

@@ -1,7 +1,7 @@
 use Rattle.std.proofs.Common.{sym, ap, ◌∙◌}
 use Rattle.pad_model.specs.Cell.{cell_stamp_at}
 use Rattle.block_seq.proofs.RowReads.{stamp-at}
-use Rattle.block_seq.proofs.RowCounts.{cells_seen}
+use Rattle.block_seq.proofs.Views.{cells_seen}
 use Rattle.block_seq.proofs.rows.BlockSeqSequence.stamp_at.Goals as goal
 
 pub returns : goal.returns

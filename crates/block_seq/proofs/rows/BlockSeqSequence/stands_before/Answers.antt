@@ -8,7 +8,7 @@ use Rattle.blocks.proofs.Parts.{some_block, holds_here}
 use Rattle.block_seq.proofs.BlockCells.{none_held, held_cell, spot_block}
 use Rattle.block_seq.proofs.Kept.{unless_first, unless_both, where_both}
 use Rattle.block_seq.proofs.RowOrder.{stands-spots, only_rank}
-use Rattle.block_seq.proofs.RowCounts.{cells_seen}
+use Rattle.block_seq.proofs.Views.{cells_seen}
 use Rattle.block_seq.proofs.rows.BlockSeqSequence.stands_before.Goals as goal
 
 pub returns-in_err-first : goal.returns-in_err-first

@@ -2,7 +2,7 @@ use Rattle.std.proofs.Common.{sym, ap, flat_map, ◌∙◌}
 use Rattle.pad_model.specs.Cell.{text_at}
 use Rattle.block_seq.specs.Rows.{shown_stretch}
 use Rattle.block_seq.proofs.RowReads.{text-at}
-use Rattle.block_seq.proofs.RowCounts.{cells_seen}
+use Rattle.block_seq.proofs.Views.{cells_seen}
 use Rattle.block_seq.proofs.rows.BlockSeqSequence.text_at.Goals as goal
 
 pub returns : goal.returns

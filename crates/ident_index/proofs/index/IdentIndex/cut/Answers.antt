@@ -3,7 +3,7 @@ use Rattle.std.specs.Option.{IsSome, IsSomeAnd}
 use Rattle.std.specs.FinMap.{get, insert}
 use Rattle.ident_index.specs.Index.{stamp_behind}
 use Rattle.ident_index.specs.View.{index_of}
-use Rattle.ident_index.specs.declared.place.Entry.{Entry}
+use Rattle.ident_index.specs.declared.place.BlockEntry.{BlockEntry}
 use Rattle.ident_index.proofs.Kept.{get-kept, kept_insert, there}
 use Rattle.ident_index.proofs.Sound.{some_entry, sound_cut}
 use Rattle.ident_index.proofs.Cut.{cut_kept, still_there, same_entry}
@@ -18,7 +18,7 @@ index-whole-requires c =
 pub overflow_sub-right : goal.overflow_sub-right
 overflow_sub-right c =
     let is = get-kept _ _ c.args.first c.self.view_is ∙ (rw c.new-key.ensures.value at c.index-whole.ensures) in
-    let inside = subst (λ o. IsSomeAnd o (λ (e : Entry). (0 < c.args.offset) × (c.args.offset < e.len))) is
+    let inside = subst (λ o. IsSomeAnd o (λ (e : BlockEntry). (0 < c.args.offset) × (c.args.offset < e.len))) is
     c.requires in
     omega arith
 
@@ -31,16 +31,16 @@ cut_in_two : (c : goal.Joined-get_mut) → let whole = c.index-whole.result.now 
     (record { len = whole.len - c.args.offset; label = c.args.label }))
 cut_in_two c =
     let whole = c.index-whole.result.now in
-    let right : Entry = record { len = whole.len - c.args.offset; label = c.args.label } in
+    let right : BlockEntry = record { len = whole.len - c.args.offset; label = c.args.label } in
     let is = get-kept _ _ c.args.first c.self.view_is ∙ (rw c.new-key.ensures.value at c.index-whole.ensures) in
-    let inside = subst (λ o. IsSomeAnd o (λ (e : Entry). (0 < c.args.offset) × (c.args.offset < e.len))) is
+    let inside = subst (λ o. IsSomeAnd o (λ (e : BlockEntry). (0 < c.args.offset) × (c.args.offset < e.len))) is
     c.requires in
     let entered = kept_insert _ _ _ (stamp_behind c.args.first c.args.offset) right c.self.view_is
     (rw (c.new.ensures.value, c.plus.ensures) at c.in_ok-insert.ensures.updates.0) in
     let found = still_there _ _ c.args.first c.args.offset whole right inside.0 is entered in
     elim c.match-get_mut.branch [
       | in-Some w ↦
-          let left : Entry = record w.in-Some.left.now { len = c.args.offset } in
+          let left : BlockEntry = record w.in-Some.left.now { len = c.args.offset } in
           let same = same_entry w.in-Some.left.now whole ((rw c.new-key.ensures.value at w.in-Some.ensures.value)
           ∙ found) in
           let some = subst (λ o. IsSome o) w.in-Some.ensures.value refl in
@@ -50,7 +50,7 @@ cut_in_two c =
             rw w.self-inside-is
                 (cut_kept _ _ _ c.args.first c.args.offset whole right left inside.0 entered
                 (rw c.new-key.ensures.value at written)
-                (ap (λ (e : Entry). record e { len = c.args.offset }) same)),
+                (ap (λ (e : BlockEntry). record e { len = c.args.offset }) same)),
           )
       | in_default w ↦
           absurd (there _ (subst (λ o. IsSome o) (sym found) refl)

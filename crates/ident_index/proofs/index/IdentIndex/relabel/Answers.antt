@@ -3,20 +3,20 @@ use Rattle.std.specs.Option.{IsSome, IfSome}
 use Rattle.std.specs.FinMap.{get, insert}
 use Rattle.ident_index.specs.Index.{IsBlock}
 use Rattle.ident_index.specs.View.{index_of}
-use Rattle.ident_index.specs.declared.place.Entry.{Entry}
+use Rattle.ident_index.specs.declared.place.BlockEntry.{BlockEntry}
 use Rattle.ident_index.proofs.Kept.{get-kept, kept_insert, there}
 use Rattle.ident_index.proofs.Sound.{sound_change}
 use Rattle.ident_index.proofs.index.IdentIndex.relabel.Goals as goal
 use Rattle.ident_index.proofs.index.IdentIndex.relabel.Goals.{in-Some, in_default}
 
 -- the entry that was there, and the index with its label changed
-relabelled : (c : goal.Joined-get_mut) → (old : Entry) × (get c.args.self.now c.args.first ≡ Some old)
+relabelled : (c : goal.Joined-get_mut) → (old : BlockEntry) × (get c.args.self.now c.args.first ≡ Some old)
     × (index_of c.match-get_mut.self-inside.entries.entries ≡ insert c.args.self.now c.args.first
     (record old { label = c.args.label }))
 relabelled c = elim c.match-get_mut.branch [
   | in-Some w ↦
       let old = w.in-Some.entry.now in
-      let e : Entry = record old { label = c.args.label } in
+      let e : BlockEntry = record old { label = c.args.label } in
       let some = subst (λ o. IsSome o) w.in-Some.ensures.value refl in
       let written = ((c.get_mut.follows.holds e).3 some).0 in (
         old,

@@ -2,7 +2,7 @@ use Rattle.std.proofs.Common.{sym, ap, ap₂, ◌∙◌, subst, ◌≡◌, take,
 use Rattle.pad_core.specs.Comments.{comments_of}
 use Rattle.pad_model.specs.History.{cells_of}
 use Rattle.pad_model.specs.declared.refusal.Refusal.TheVariants.{Memory}
-use Rattle.anchors.specs.Comments.{AreHeld, born_by, comments_at as list_of}
+use Rattle.comments.specs.Comments.{AreHeld, born_by, comments_at as list_of}
 use Rattle.pad_core.proofs.ListedComments.{held-book_of, comments_at-book_of}
 use Rattle.pad_core.proofs.ledger.Ledger.comments_at.Goals as goal
 

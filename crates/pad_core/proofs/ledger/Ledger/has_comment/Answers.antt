@@ -1,6 +1,6 @@
 use Rattle.std.proofs.Common.{ap, ◌∙◌}
 use Rattle.pad_core.specs.Notes.{has_comment as is_commented}
-use Rattle.anchors.specs.Comments as book
+use Rattle.comments.specs.Comments as book
 use Rattle.pad_core.proofs.Booked.{named_in_book}
 use Rattle.pad_core.proofs.ledger.Ledger.has_comment.Goals as goal
 

@@ -1,7 +1,7 @@
 use Rattle.std.proofs.Common.{sym, ap, ap₂, ◌∙◌, subst, unwrap_or}
 use Rattle.std.specs.List.{list_any}
 use Rattle.rights.specs.declared.right.Right.TheVariants as right
-use Rattle.sessions.specs.Presence.{has_number}
+use Rattle.presence.specs.Presence.{has_number}
 use Rattle.pad_core.specs.Machine.{IsAdmitted, IsOwned, IsPad, need_of}
 use Rattle.pad_core.proofs.Acted.{edit_answers, IsPad-granted}
 use Rattle.pad_core.proofs.Admitted.{admitted_leaver, admitted_visitor, admitted_name, admitted_grant, owned_stays}

@@ -5,20 +5,20 @@ use Rattle.web_wire.proofs.frames.Frames.step.Goals as goal
 
 pub returns-in-Nothing-clause-quiet : goal.returns-in-Nothing-clause-quiet
 returns-in-Nothing-clause-quiet c _ =
-    let goes = goes_quiet (the_view c.self.inside) c.in-Ok-Whole.count c.self.inside.used c.in-Ok-Whole.heard _ _ _ _ _ _ _
+    let goes = goes_quiet (the_view c.self.inside) c.in-Ok-Whole.count c.in-Ok-Whole.heard _ _ _ _ _ _ _
     (ap (λ s. s.ended) c.self.view_is ∙ c.requires) c.reserve.ensures.items c.in-Nothing.is
     (rw c.in-Ok-Whole.field-0-is at c.in-Ok-Whole.ensures.reads) in
-    (rw (sym c.self.view_is) goes.0, rw (sym c.self.view_is) goes.1, ap (λ s. s.ended) c.self.view_is ∙ c.requires)
+    (rw (sym c.self.view_is, c.take.ensures.waiting) goes.0, rw (sym c.self.view_is, c.take.ensures.waiting) goes.1, ap (λ s. s.ended) c.self.view_is ∙ c.requires)
 
 pub returns-in-Line-clause-line : goal.returns-in-Line-clause-line
 returns-in-Line-clause-line c _ =
-    rw (sym c.self.view_is) (goes_line (the_view c.self.inside) c.in-Ok-Whole.count c.self.inside.used c.in-Ok-Whole.heard
+    rw (sym c.self.view_is, c.take.ensures.waiting) (goes_line (the_view c.self.inside) c.in-Ok-Whole.count c.in-Ok-Whole.heard
     _ _ _ _ _ _ _ _ (ap (λ s. s.ended) c.self.view_is ∙ c.requires) c.reserve-2.ensures.items c.reserve.ensures.items c.in-Line.is
     (rw c.in-Ok-Whole.field-0-is at c.in-Ok-Whole.ensures.reads))
 
 pub returns-in-Closed-clause-closes : goal.returns-in-Closed-clause-closes
 returns-in-Closed-clause-closes c _ = (
-  rw (sym c.self.view_is) (goes_closed (the_view c.self.inside) (record { conn = c.read_from.new.context; waiting = []; ended = true })
+  rw (sym c.self.view_is) (goes_closed (the_view c.self.inside) (record { conn = c.read.new.context; waiting = []; ended = true })
       c.in-Ok-Whole.count c.in-Ok-Whole.heard _ _ _ _ (ap (λ s. s.ended) c.self.view_is ∙ c.requires) c.reserve.ensures.items
       c.in-Closed.is refl (rw c.in-Ok-Whole.field-0-is at c.in-Ok-Whole.ensures.reads)),
   refl,

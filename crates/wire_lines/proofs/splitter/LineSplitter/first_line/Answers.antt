@@ -2,7 +2,7 @@ use Rattle.std.proofs.Common.{ap, sym, subst, arith}
 use Rattle.std.specs.Prelude.{slice_range}
 use Rattle.wire_lines.specs.Buffer.{ShowsBefore}
 use Rattle.wire_lines.specs.Lines.{behind_line}
-use Rattle.wire_lines.specs.declared.buffer.Found.TheVariants.{Text}
+use Rattle.wire_lines.specs.declared.buffer.FoundLine.TheVariants.{Text}
 use Rattle.wire_lines.proofs.Taken.{first_shows}
 use Rattle.wire_lines.proofs.splitter.LineSplitter.first_line.Goals as goal
 

@@ -1,7 +1,7 @@
 use Rattle.std.proofs.Common.{ap, subst, arith}
 use Rattle.std.specs.Prelude.{slice_range}
 use Rattle.wire_lines.specs.Buffer.{ShowsBefore}
-use Rattle.wire_lines.specs.declared.buffer.Found.TheVariants.{Text}
+use Rattle.wire_lines.specs.declared.buffer.FoundLine.TheVariants.{Text}
 use Rattle.wire_lines.proofs.Taken.{first_shows, held_rest, shows_too_long}
 use Rattle.wire_lines.proofs.splitter.LineSplitter.next_line.Goals as goal
 

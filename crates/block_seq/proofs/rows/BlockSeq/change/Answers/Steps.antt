@@ -11,7 +11,7 @@ use Rattle.block_seq.specs.RowSlides.{IsSlid}
 use Rattle.block_seq.proofs.RowAuthors.{authored_cut}
 use Rattle.block_seq.proofs.RowSlides.{slid_cut}
 use Rattle.block_seq.proofs.RowSteps.{unchanged}
-use Rattle.block_seq.proofs.RowCounts.{cells_seen}
+use Rattle.block_seq.proofs.Views.{cells_seen}
 use Rattle.block_seq.proofs.rows.BlockSeq.change.Goals.{After-cut_parents, After-place_author}
 
 -- what a cut, one more author or other labels leave

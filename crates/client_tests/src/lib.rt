@@ -1,0 +1,14 @@
+//! Tests of a client as a worker has it, over a socket in memory: what it reads, answers and writes, in pieces of each
+//! size, and what it is told at its end.
+#![tactic(auto)]
+
+#[cfg(test)]
+mod browsers;
+#[cfg(test)]
+mod farewells;
+#[cfg(test)]
+mod lines;
+#[cfg(test)]
+mod memory_socket;
+#[cfg(test)]
+mod stage;

@@ -1,0 +1,23 @@
+use Rattle.std.proofs.Common.{rules, ◌≡◌, Ok, refl, ap, ◌∙◌}
+use Rattle.event_loop.specs.declared.party.Stage.TheVariants.{Talks}
+use Rattle.web_wire.specs.declared.page_request.Next.TheVariants.{Close, Socket}
+use Rattle.event_loop.proofs.Steps.{closed_with, upgraded}
+use Rattle.event_loop.proofs.party.Party.answer_request.Goals as goal
+
+pub returns-in-Ok-Close : goal.returns-in-Ok-Close
+returns-in-Ok-Close g c =
+    let talks : c.self.inside.stage ≡ Talks = search rules in
+    let is : c.answer-answered.result ≡ Ok (Close c.in-Ok-Close.field-0-0) = search rules in
+    rw (← c.self.view_is)
+    (closed_with _ _ c.close_request.new.self c.args.site.pages.now c.in-Ok-Close.field-0-0 c.in-PageRequest.request
+    c.answer-answered.new.self talks c.in-PageRequest.is
+    (λ found. c.answer-answered.ensures.page (is ∙ ap (λ status. Ok (Close status)) found)) refl
+    c.close_request.ensures)
+
+pub returns-in-Ok-Socket : goal.returns-in-Ok-Socket
+returns-in-Ok-Socket g c =
+    let talks : c.self.inside.stage ≡ Talks = search rules in
+    let is : c.answer-answered.result ≡ Ok Socket = search rules in
+    rw (← c.self.view_is)
+    (upgraded _ _ c.upgrade.new.self _ c.in-PageRequest.request c.answer-answered.new.self talks c.in-PageRequest.is
+    (c.answer-answered.ensures.socket is).1 refl c.upgrade.ensures)

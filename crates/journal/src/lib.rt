@@ -1,8 +1,0 @@
-//! The log of a running server, on standard error.
-//!
-//! It depends on std, `log` and `jiff`, and knows nothing of pads.
-#![tactic(auto)]
-
-mod journal;
-
-pub use journal::Journal;

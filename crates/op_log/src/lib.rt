@@ -1,0 +1,19 @@
+//! A pad's operations in the order in which they were delivered: operation k makes revision k.
+//!
+//! They are kept as bytes, some 20 for a typed letter. The crate depends on `pad_model`. It takes any operation, whatever
+//! its name, and judges none: whether an operation may be delivered is decided above it.
+#![tactic(auto)]
+
+mod index;
+mod number;
+mod op_log;
+mod op_store;
+mod packed_log;
+mod page;
+mod read;
+mod shelf;
+mod track;
+mod write;
+
+pub use op_log::OpLog;
+pub use packed_log::FoundOp;

@@ -1,5 +1,0 @@
-use Rattle.std.proofs.Common.{length}
-use Rattle.packed.proofs.number.+next_number.Given as goal
-
-abbrev pub decreases-next_number : goal.decreases-next_number
-decreases-next_number l = length l.bytes.now

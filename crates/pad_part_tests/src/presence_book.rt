@@ -1,0 +1,335 @@
+//! Who is present on a pad, and which pads a session has joined, compared with results worked out by hand.
+use crate::presence_book::VisitCase::{Caret, Holds, Join, Leave, Present};
+use pad_model::{Name, Refusal, Stamp, Version, Who};
+use presence::{DEFAULT_PRESENT, MAX_PRESENT, PresenceBook, Visit};
+use sessions::{Room, Session};
+use std::alloc::Global;
+use std::process::Abort;
+use std::test::Fail;
+
+/// The counter and the replica of a stamp.
+type CaretStamp = (u64, u16);
+
+/// A visit's number, its author, and its caret.
+type Plain = (u64, &'static str, Option<CaretStamp>);
+
+/// A call of a book and its result, or what the book shows.
+#[derive(Clone, Copy, Debug)]
+enum VisitCase {
+    Join(&'static str, Result<u64, Refusal>),
+    Caret(u64, Option<CaretStamp>, Result<(), Refusal>),
+    Leave(u64, Result<(), Refusal>),
+    Holds(u64, &'static str, bool),
+    Present(&'static [Plain]),
+}
+
+fn put_caret(
+    book: &mut PresenceBook,
+    visit: u64,
+    place: Option<CaretStamp>,
+) -> Result<(), Refusal> {
+    match place {
+        None => book.caret(visit, None),
+        Some((counter, replica)) => book.caret(visit, Some(Stamp::new(counter, replica)?)),
+    }
+}
+
+fn is_caret(caret: Option<Stamp>, want: Option<CaretStamp>) -> bool {
+    match (caret, want) {
+        (Some(stamp), Some((counter, replica))) => {
+            stamp.counter() == counter && stamp.replica() == replica
+        }
+        (None, None) => true,
+        _ => false,
+    }
+}
+
+fn is_visit(visit: &Visit, want: Plain) -> bool {
+    visit.number == want.0 && visit.author.is(want.1) && is_caret(visit.caret, want.2)
+}
+
+fn are_visits(visits: &[Visit], want: &[Plain]) -> bool {
+    for (visit, want) in visits.iter().zip(want) {
+        if !is_visit(visit, *want) {
+            return false;
+        }
+    }
+    visits.len() == want.len()
+}
+
+fn are_present(
+    rt: &impl Abort,
+    alloc: Global,
+    book: &PresenceBook,
+    place: usize,
+    want: &[Plain],
+) -> Result<(), Refusal> {
+    let visits = book.who(alloc)?;
+    assert!(rt;
+        are_visits(visits.as_slice(), want),
+        "step {place}: wanted the visits {want:?}, came {visits:?}"
+    );
+    Ok(())
+}
+
+/// Makes a call, or asserts that the book shows what the step says.
+fn play(
+    rt: &impl Abort,
+    alloc: Global,
+    book: &mut PresenceBook,
+    place: usize,
+    step: VisitCase,
+) -> Result<(), Refusal> {
+    match step {
+        Join(author, want) => {
+            let came = book.join(alloc, author);
+            assert!(rt; came == want, "step {place}, {step:?}: came {came:?}");
+        }
+        Caret(visit, at, want) => {
+            let came = put_caret(book, visit, at);
+            assert!(rt; came == want, "step {place}, {step:?}: came {came:?}");
+        }
+        Leave(visit, want) => {
+            let came = book.leave(visit);
+            assert!(rt; came == want, "step {place}, {step:?}: came {came:?}");
+        }
+        Holds(visit, author, want) => {
+            let came = book.holds(visit, author);
+            assert!(rt; came == want, "step {place}, {step:?}: came {came}");
+        }
+        Present(want) => are_present(rt, alloc, book, place, want)?,
+    }
+    Ok(())
+}
+
+fn play_all(
+    rt: &impl Abort,
+    alloc: Global,
+    book: &mut PresenceBook,
+    steps: &[VisitCase],
+) -> Result<(), Refusal> {
+    for (place, step) in steps.iter().enumerate() {
+        play(rt, alloc, book, place, *step)?;
+    }
+    Ok(())
+}
+
+const VISITS: &[VisitCase] = &[
+    Join("ann", Ok(1)),
+    Join("bob", Ok(2)),
+    Join("ann", Ok(3)),
+    Caret(3, Some((7, 2)), Ok(())),
+    Caret(4, None, Err(Refusal::NotJoined)),
+    Leave(2, Ok(())),
+    Leave(2, Err(Refusal::NotJoined)),
+    Join("bob", Ok(4)),
+    Leave(1, Ok(())),
+    Present(&[(3, "ann", Some((7, 2))), (4, "bob", None)]),
+    Holds(3, "ann", true),
+    Holds(3, "bob", false),
+    Holds(2, "bob", false),
+    Holds(0, "ann", false),
+    Caret(3, None, Ok(())),
+    Present(&[(3, "ann", None), (4, "bob", None)]),
+];
+
+#[test]
+fn join_and_leave(rt: HostRuntime) -> Result<(), Fail> {
+    let mut book = PresenceBook::new(rt.alloc(), DEFAULT_PRESENT);
+    Ok(play_all(&rt, rt.alloc(), &mut book, VISITS)?)
+}
+
+/// Steps in a book where 64 visits are present.
+const CROWDED: &[VisitCase] = &[
+    Join("ann", Err(Refusal::Crowded)),
+    Leave(64, Ok(())),
+    Join("ann", Ok(65)),
+];
+
+/// Steps in a book where 1,024 visits are present.
+const CROWDED_AT_MOST: &[VisitCase] = &[
+    Join("ann", Err(Refusal::Crowded)),
+    Leave(1, Ok(())),
+    Join("ann", Ok(1_025)),
+    Join("ann", Err(Refusal::Crowded)),
+];
+
+/// Joins this many visits of ann's, one after another, then plays the steps.
+fn after_joins(
+    rt: &impl Abort,
+    alloc: Global,
+    book: &mut PresenceBook,
+    count: u64,
+    steps: &[VisitCase],
+) -> Result<(), Refusal> {
+    for number in 1..=count {
+        let came = book.join(alloc, "ann");
+        assert!(rt; came == Ok(number), "join {number}: came {came:?}");
+    }
+    play_all(rt, alloc, book, steps)
+}
+
+#[test]
+fn limit_presence(rt: HostRuntime) -> Result<(), Fail> {
+    let mut book = PresenceBook::new(rt.alloc(), DEFAULT_PRESENT);
+    Ok(after_joins(&rt, rt.alloc(), &mut book, 64, CROWDED)?)
+}
+
+#[test]
+fn limit_presence_at_most(rt: HostRuntime) -> Result<(), Fail> {
+    let mut book = PresenceBook::new(rt.alloc(), MAX_PRESENT);
+    let steps = CROWDED_AT_MOST;
+    Ok(after_joins(&rt, rt.alloc(), &mut book, 1_024, steps)?)
+}
+
+/// Steps in a book where two visits may be present.
+const TWO: &[VisitCase] = &[
+    Join("ann", Ok(1)),
+    Join("bob", Ok(2)),
+    Join("ann", Err(Refusal::Crowded)),
+    Join("eve", Err(Refusal::Crowded)),
+    Leave(1, Ok(())),
+    Join("eve", Ok(3)),
+    Join("ann", Err(Refusal::Crowded)),
+    Present(&[(2, "bob", None), (3, "eve", None)]),
+];
+
+#[test]
+fn limit_presence_of_two(rt: HostRuntime) -> Result<(), Fail> {
+    let mut book = PresenceBook::new(rt.alloc(), 2);
+    Ok(play_all(&rt, rt.alloc(), &mut book, TWO)?)
+}
+
+#[test]
+fn enter_whatever_the_limit(rt: HostRuntime) -> Result<(), Fail> {
+    let mut book = PresenceBook::new(rt.alloc(), 0);
+    let came = book.join(rt.alloc(), "ann");
+    assert!(rt;
+        came == Err(Refusal::Crowded),
+        "wanted Crowded, came {came:?}"
+    );
+    let came = book.enter(rt.alloc(), "ann");
+    assert!(rt; came == Ok(1), "wanted visit 1, came {came:?}");
+    Ok(play_all(&rt, rt.alloc(), &mut book, &[Present(&[(1, "ann", None)])])?)
+}
+
+#[test]
+fn limit_visits(rt: HostRuntime) {
+    let mut book = PresenceBook::new(rt.alloc(), DEFAULT_PRESENT);
+    for number in 1..1_000_001 {
+        let came = book.join(rt.alloc(), "ann");
+        assert!(rt; came == Ok(number), "join {number}: came {came:?}");
+        let left = book.leave(number);
+        assert!(rt; left == Ok(()), "leave {number}: came {left:?}");
+    }
+    let came = book.join(rt.alloc(), "ann");
+    assert!(rt;
+        came == Err(Refusal::VisitsSpent),
+        "wanted VisitsSpent, came {came:?}"
+    );
+}
+
+const PEER: Who = Who::Peer {
+    number: 2,
+    version: Version::Two,
+};
+
+fn be_ann(alloc: Global, session: &mut Session) -> Result<(), Refusal> {
+    session.set(Who::Author(Name::from_str(alloc, "ann")?));
+    Ok(())
+}
+
+fn is_ann(who: &Who) -> bool {
+    match who {
+        Who::Author(name) => name.is("ann"),
+        _ => false,
+    }
+}
+
+fn enter(
+    alloc: Global,
+    session: &mut Session,
+    pad: &str,
+    cell: u32,
+    visit: u64,
+) -> Result<(), Refusal> {
+    let pad = Name::from_str(alloc, pad)?;
+    session.reserve()?;
+    session.enter(Room { pad, cell, visit });
+    Ok(())
+}
+
+/// Whether this is the room of a pad, with its cell and the visit; or there is none, if none is wanted.
+fn is_room(room: Option<&Room>, want: Option<(&str, u32, u64)>) -> bool {
+    match (room, want) {
+        (Some(room), Some((pad, cell, visit))) => {
+            room.pad.is(pad) && room.cell == cell && room.visit == visit
+        }
+        (None, None) => true,
+        _ => false,
+    }
+}
+
+fn takes_first(rt: &impl Abort, session: &mut Session, want: Option<(&str, u32, u64)>) {
+    let came = session.take_first();
+    assert!(rt;
+        is_room(came.as_ref(), want),
+        "first room: wanted {want:?}, came {came:?}"
+    );
+}
+
+/// Asserts the room of a pad.
+fn has_room(rt: &impl Abort, session: &Session, pad: &str, want: Option<(&str, u32, u64)>) {
+    let came = session.room(pad);
+    assert!(rt;
+        is_room(came, want),
+        "room of {pad}: wanted {want:?}, came {came:?}"
+    );
+}
+
+/// A pad, its cell and the visit.
+type Entry = (&'static str, u32, u64);
+
+const ENTERED: &[Entry] = &[("p", 0, 3), ("q", 5, 1), ("r", 2, 9)];
+
+/// The rooms that are taken from the front after `q` was left.
+const TAKEN: &[Option<Entry>] = &[Some(("p", 0, 3)), Some(("r", 2, 9)), None];
+
+fn enter_all(alloc: Global, session: &mut Session) -> Result<(), Refusal> {
+    for (pad, cell, visit) in ENTERED {
+        enter(alloc, session, pad, *cell, *visit)?;
+    }
+    Ok(())
+}
+
+/// Asserts that the rooms that were entered are there, and that one that was left is not.
+fn are_entered_and_left(rt: &impl Abort, session: &mut Session) {
+    has_room(rt, session, "q", Some(("q", 5, 1)));
+    has_room(rt, session, "s", None);
+    session.leave("q");
+    session.leave("s");
+    has_room(rt, session, "q", None);
+}
+
+#[test]
+fn rooms_of_a_session(rt: HostRuntime) -> Result<(), Fail> {
+    let mut session = Session::new(rt.alloc());
+    assert!(rt;
+        session.who() == &Who::Nobody,
+        "wanted Nobody, came {:?}",
+        session.who()
+    );
+    session.set(PEER);
+    be_ann(rt.alloc(), &mut session)?;
+    assert!(rt;
+        is_ann(session.who()),
+        "wanted ann, came {:?}",
+        session.who()
+    );
+    enter_all(rt.alloc(), &mut session)?;
+    are_entered_and_left(&rt, &mut session);
+    for want in TAKEN {
+        takes_first(&rt, &mut session, *want);
+    }
+    Ok(())
+}

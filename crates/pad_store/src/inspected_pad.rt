@@ -1,0 +1,194 @@
+//! The pad of a file, which its owner reads.
+ghost use Rattle.std.specs.Prelude.{◌≡◌, IfErr, IfOk, MatchResult, OnOk, Ok, Some, length};
+ghost use Rattle.pad_core.specs.Reads.{read_changes, read_comments, read_runs, read_text};
+ghost use Rattle.pad_core.specs.declared.reply.PadReply.TheVariants as reply;
+ghost use Rattle.pad_store.specs.Reading.{IsFault, IsNoDamage, IsTold, LeadTo};
+
+use crate::file_names::{FileNames, names_in};
+use crate::trouble::Trouble;
+use block_seq::BlockSeq;
+use comments::Shown;
+use pad_core::{Act, Pad, PadEvent, PadReply};
+use pad_model::{AuthorRun, Items, Name, Piece, Text, Who};
+use presence::DEFAULT_PRESENT;
+use std::alloc::Global;
+use store_format::{Loaded, load};
+
+/// The pad of a file, which its owner has joined to read it, with more information about the file.
+#[derive(Drop)]
+pub struct InspectedPad {
+    pad: Pad<BlockSeq>,
+    pub name: Name,
+    owner: Who,
+    visit: u64,
+    /// The sum of the last line.
+    pub sum: String,
+    /// The number of bytes of the whole lines.
+    pub whole: u64,
+    /// The number of bytes after them.
+    pub cut: u64,
+}
+
+impl InspectedPad {
+    /// Reads the bytes of a file, for the pad name in its first line.
+    pub fn read(alloc: Global, bytes: &[u8]) -> Result<InspectedPad, Trouble>
+        ensures { MatchResult result (λ book. LeadTo bytes.now book.pad.log)
+            (λ trouble. IsFault bytes.now trouble) }
+    {
+        let names = match names_in(alloc, bytes) {
+            Ok(names) => names,
+            Err(_) => return Err(Trouble::Memory),
+        };
+        match load_pad(alloc, names.pad.as_str(), bytes) {
+            Ok(loaded) => begin(alloc, loaded, names),
+            Err(trouble) => Err(trouble),
+        }
+    }
+
+    /// The number of revisions after the empty one. Each is made by one operation.
+    pub fn revision(&self) -> u64
+        ensures { result ≡ length self.now.pad.log }
+    {
+        self.pad.revision()
+    }
+
+    /// The text of a revision; None is the present one.
+    pub fn text(&mut self, alloc: Global, rev: Option<u64>) -> Result<Text, Trouble>
+        ensures told { IfOk result (λ text. (at : _)
+            × (read_text rev self.old.pad.log
+            ≡ Ok (reply.Text (length self.old.pad.log) at text))) }
+        ensures kept { OnOk result (self.new.pad.log ≡ self.old.pad.log) }
+        ensures fault { IfErr result IsNoDamage }
+    {
+        match self.ask(alloc, &Act::Text { rev })? {
+            PadReply::Text { text, .. } => Ok(text),
+            _ => Err(Trouble::Unread),
+        }
+    }
+
+    /// The author runs of a revision; None is the present one.
+    pub fn runs(&mut self, alloc: Global, rev: Option<u64>) -> Result<Items<AuthorRun>, Trouble>
+        ensures told { IfOk result (λ runs. (at : _)
+            × (read_runs rev self.old.pad.log
+            ≡ Ok (reply.Runs (length self.old.pad.log) at runs))) }
+        ensures kept { OnOk result (self.new.pad.log ≡ self.old.pad.log) }
+        ensures fault { IfErr result IsNoDamage }
+    {
+        match self.ask(alloc, &Act::Runs { rev })? {
+            PadReply::Runs { runs, .. } => Ok(runs),
+            _ => Err(Trouble::Unread),
+        }
+    }
+
+    /// The comments of a revision, in ascending order of name; None is the present one.
+    pub fn comments(&mut self, alloc: Global, rev: Option<u64>) -> Result<Items<Shown>, Trouble>
+        ensures told { IfOk result (λ comments. (at : _)
+            × (read_comments rev self.old.pad.log
+            ≡ Ok (reply.Comments (length self.old.pad.log) at comments))) }
+        ensures kept { OnOk result (self.new.pad.log ≡ self.old.pad.log) }
+        ensures fault { IfErr result IsNoDamage }
+    {
+        match self.ask(alloc, &Act::Comments { rev })? {
+            PadReply::Comments { comments, .. } => Ok(comments),
+            _ => Err(Trouble::Unread),
+        }
+    }
+
+    /// The changes from the text of one revision to that of a later one.
+    pub fn changes(&mut self, alloc: Global, rev: u64, to: u64) -> Result<Items<Piece>, Trouble>
+        ensures told { IfOk result (λ pieces. (notes : _)
+            × (read_changes rev (Some to) 0 self.old.pad.log
+            ≡ Ok (reply.Changes (length self.old.pad.log) rev to pieces notes))) }
+        ensures kept { OnOk result (self.new.pad.log ≡ self.old.pad.log) }
+        ensures fault { IfErr result IsNoDamage }
+    {
+        let act = Act::Changes {
+            rev,
+            to: Some(to),
+            wait: 0,
+        };
+        match self.ask(alloc, &act)? {
+            PadReply::Changes { pieces, .. } => Ok(pieces),
+            _ => Err(Trouble::Unread),
+        }
+    }
+
+    /// The number of characters of the present revision.
+    pub fn length(&mut self, alloc: Global) -> Result<u64, Trouble> {
+        match self.ask(alloc, &Act::Revs)? {
+            PadReply::Revs { length, .. } => Ok(length),
+            _ => Err(Trouble::Unread),
+        }
+    }
+
+    // Makes an act on the pad as its owner.
+    fn ask(&mut self, alloc: Global, act: &Act) -> Result<PadReply, Trouble>
+        ensures told { IfOk result (λ answer. IsTold act.now answer self.old.pad.log
+            self.new.pad.log) }
+        ensures fault { IfErr result IsNoDamage }
+    {
+        let event = PadEvent {
+            pad: self.name.as_str(),
+            who: &self.owner,
+            visit: Some(self.visit),
+            act,
+        };
+        match self.pad.step(alloc, &event) {
+            Ok(answer) => Ok(answer),
+            Err(refusal) => Err(Trouble::of(refusal)),
+        }
+    }
+}
+
+// Loads the pad with this name from the bytes of its file.
+fn load_pad(alloc: Global, name: &str, bytes: &[u8]) -> Result<Loaded<BlockSeq>, Trouble>
+    ensures { MatchResult result (λ loaded. LeadTo bytes.now loaded.pad.log)
+        (λ trouble. IsFault bytes.now trouble) }
+{
+    match load(alloc, 1, DEFAULT_PRESENT, name, bytes) {
+        Ok(loaded) => Ok(loaded),
+        Err(damage) => Err(Trouble::of_damage(damage)),
+    }
+}
+
+// Lets the owner join the pad that was loaded.
+fn begin(alloc: Global, loaded: Loaded<BlockSeq>, names: FileNames) -> Result<InspectedPad, Trouble>
+    ensures { MatchResult result (λ book. book.pad.log ≡ loaded.pad.log) IsNoDamage }
+{
+    let Loaded {
+        mut pad,
+        sum,
+        whole,
+        cut,
+        ..
+    } = loaded;
+    let FileNames { pad: name, owner } = names;
+    let owner = Who::Author(owner);
+    let visit = join(alloc, &mut pad, name.as_str(), &owner)?;
+    Ok(InspectedPad {
+        pad,
+        name,
+        owner,
+        visit,
+        sum,
+        whole,
+        cut,
+    })
+}
+
+// Lets an author join a pad, and returns the visit.
+fn join(alloc: Global, pad: &mut Pad<BlockSeq>, name: &str, who: &Who) -> Result<u64, Trouble>
+    ensures { MatchResult result (λ _. pad.new.log ≡ pad.old.log) IsNoDamage }
+{
+    let event = PadEvent {
+        pad: name,
+        who,
+        visit: None,
+        act: &Act::Join,
+    };
+    match pad.step(alloc, &event) {
+        Ok(PadReply::Joined { visit, .. }) => Ok(visit),
+        Ok(_) => Err(Trouble::Unread),
+        Err(refusal) => Err(Trouble::of(refusal)),
+    }
+}

@@ -1,0 +1,178 @@
+-- The visits of a pad, as the entries of the map that keeps them.
+use Rattle.std.proofs.Common.{◌≡◌, ℕ, ◌+◌, ◌<◌, Bool, true, false, ◌||◌, List, [], ◌∷◌, ◌++◌, Option, None}
+use Rattle.std.proofs.Common.{Some, Ok, Err, is_some, refl, sym, ap, subst, ◌∙◌, arith, nat_eq, bytes_eq}
+use Rattle.std.specs.List.{AllByRecursion, list_any}
+use Rattle.std.specs.Map.{lookup, remove_entry, set_value}
+use Rattle.std.proofs.lemmas.Bool.{ne_eqb, lt-leb, eqb-true, cond-true, cond-false}
+use Rattle.std.proofs.lemmas.Option.{same_Some}
+use Rattle.pad_model.specs.Stamp.{Stamp}
+use Rattle.pad_model.specs.declared.refusal.Refusal.TheVariants.{NotJoined}
+use Rattle.pad_model.proofs.Newer.{split}
+use Rattle.pad_model.proofs.Each.{each-append, each-imply}
+use Rattle.presence.specs.declared.presence.Visit.{Visit}
+use Rattle.presence.specs.declared.presence.Visitor.{Visitor}
+use Rattle.presence.specs.declared.presence.TheConstants.{MAX_VISITS}
+use Rattle.presence.specs.Presence.{Presence, joined, spent_refusal, OnVisit, AreNumbered, has_number, left, with_caret}
+use Rattle.presence.specs.Presence.{is_joined_by}
+use Rattle.presence.specs.Inside.{visit_of, visits_of}
+
+-- a visit is present if its entry is found
+pub present_where_found : (n : ℕ) (es : List (ℕ × Visitor)) → list_any (has_number n) (visits_of es)
+    ≡ is_some (lookup (nat_eq n) es)
+present_where_found n [] = refl
+present_where_found n (e ∷ es) = split (nat_eq n e.0) (λ t. rw t refl) (λ f. rw f (present_where_found n es))
+
+-- a number above the last one is not found
+pub new_number : (last n : ℕ) (es : List (ℕ × Visitor)) → AreNumbered last (visits_of es) → last < n →
+    lookup (nat_eq n) es ≡ None
+new_number last n [] h lt = refl
+new_number last n (e ∷ es) h lt = rw (ne_eqb n e.0 (λ same. omega (arith, h.1))) (new_number last n es h.3 lt)
+
+-- those with other numbers all stay
+others_stay : (n : ℕ) (vs : List Visit) → AllByRecursion (λ v. n < v.number) vs → left n vs ≡ vs
+others_stay n [] h = refl
+others_stay n (v ∷ vs) h = rw (ne_eqb n v.number (λ same. omega (arith, h.0)))
+    (ap (λ (r : List Visit). v ∷ r) (others_stay n vs h.1))
+
+pub left_entries : (last n : ℕ) (es : List (ℕ × Visitor)) → AreNumbered last (visits_of es) →
+    visits_of (remove_entry (nat_eq n) es) ≡ left n (visits_of es)
+left_entries last n [] h = refl
+left_entries last n (e ∷ es) h =
+    split (nat_eq n e.0)
+    (λ t. rw t (sym (others_stay n (visits_of es)
+    (each-imply (λ (v : Visit). e.0 < v.number) (λ (v : Visit). n < v.number) (λ v lt. omega (arith, eqb-true n e.0 t))
+    _ h.2))))
+    (λ f. rw f (ap (λ (r : List Visit). visit_of e.0 e.1 ∷ r) (left_entries last n es h.3)))
+
+each_stays : (P : Visit → Type 0) (n : ℕ) (vs : List Visit) → AllByRecursion P vs → AllByRecursion P (left n vs)
+each_stays P n [] h = tt
+each_stays P n (v ∷ vs) h = split (nat_eq n v.number) (λ t. rw t (each_stays P n vs h.1))
+    (λ f. rw f (h.0, each_stays P n vs h.1))
+
+pub left_numbered : (last n : ℕ) (vs : List Visit) → AreNumbered last vs → AreNumbered last (left n vs)
+left_numbered last n [] h = tt
+left_numbered last n (v ∷ vs) h =
+    split (nat_eq n v.number)
+    (λ t. rw t (left_numbered last n vs h.3))
+    (λ f. rw f (
+      h.0,
+      h.1,
+      each_stays (λ (later : Visit). v.number < later.number) n vs h.2,
+      left_numbered last n vs h.3,
+    ))
+
+-- those with other numbers keep their carets
+others_keep : (c : Option Stamp) (n : ℕ) (vs : List Visit) → AllByRecursion (λ v. n < v.number) vs → with_caret c n vs
+    ≡ vs
+others_keep c n [] h = refl
+others_keep c n (v ∷ vs) h = rw (ne_eqb n v.number (λ same. omega (arith, h.0)))
+    (ap (λ (r : List Visit). v ∷ r) (others_keep c n vs h.1))
+
+pub caret_entries : (c : Option Stamp) (last n : ℕ) (es : List (ℕ × Visitor)) (w : Visitor) →
+    AreNumbered last (visits_of es) → lookup (nat_eq n) es ≡ Some w
+    → visits_of (set_value (nat_eq n) es (record w { caret = c })) ≡ with_caret c n (visits_of es)
+caret_entries c last n [] w h at = refl
+caret_entries c last n (e ∷ es) w h at =
+    split (nat_eq n e.0)
+    (λ t.
+    let same : e.1 ≡ w = same_Some _ _ (sym (cond-true _ _ _ t) ∙ at) in
+    rw t (rw same (ap (λ (r : List Visit). visit_of e.0 (record w { caret = c }) ∷ r)
+    (sym (others_keep c n (visits_of es) (each-imply (λ (v : Visit). e.0 < v.number) (λ (v : Visit). n < v.number)
+    (λ v lt. omega (arith, eqb-true n e.0 t)) _ h.2))))))
+    (λ f. rw f (ap (λ (r : List Visit). visit_of e.0 e.1 ∷ r)
+    (caret_entries c last n es w h.3 (sym (cond-false _ _ _ f) ∙ at))))
+
+each_keeps : (c : Option Stamp) (m n : ℕ) (vs : List Visit) → AllByRecursion (λ v. m < v.number) vs →
+    AllByRecursion (λ v. m < v.number) (with_caret c n vs)
+each_keeps c m n [] h = tt
+each_keeps c m n (v ∷ vs) h = split (nat_eq n v.number) (λ t. rw t (h.0, each_keeps c m n vs h.1))
+    (λ f. rw f (h.0, each_keeps c m n vs h.1))
+
+pub caret_numbered : (c : Option Stamp) (last n : ℕ) (vs : List Visit) → AreNumbered last vs →
+    AreNumbered last (with_caret c n vs)
+caret_numbered c last n [] h = tt
+caret_numbered c last n (v ∷ vs) h =
+    let later = each_keeps c v.number n vs h.2 in
+    split (nat_eq n v.number)
+    (λ t. rw t (h.0, h.1, later, caret_numbered c last n vs h.3))
+    (λ f. rw f (h.0, h.1, later, caret_numbered c last n vs h.3))
+
+-- one more, whose number is the next
+pub joined_numbered : (last : ℕ) (vs : List Visit) (v : Visit) → AreNumbered last vs → v.number ≡ last + 1 →
+    AreNumbered (last + 1) (vs ++ v ∷ [])
+joined_numbered last [] v h e = (omega (arith, e), omega (arith, e), tt, tt)
+joined_numbered last (x ∷ vs) v h e = (
+  h.0,
+  omega (arith, h.1),
+  each-append (λ (later : Visit). x.number < later.number) vs (v ∷ []) h.2
+      (omega (arith, h.1, e), tt),
+  joined_numbered last vs v h.3 e,
+)
+
+-- the author of a visit is that of its entry
+pub author_where_found : (author : List ℕ) (last n : ℕ) (es : List (ℕ × Visitor)) (w : Visitor) →
+    AreNumbered last (visits_of es) → lookup (nat_eq n) es ≡ Some w
+    → is_joined_by n author (visits_of es) ≡ bytes_eq w.author author
+author_where_found author last n [] w h at = cc
+author_where_found author last n (e ∷ es) w h at =
+    split (nat_eq n e.0)
+    (λ t.
+    let same : e.1 ≡ w = same_Some _ _ (sym (cond-true _ _ _ t) ∙ at) in
+    let later = each-imply (λ (v : Visit). e.0 < v.number) (λ (v : Visit). n < v.number)
+    (λ v lt. omega (arith, eqb-true n e.0 t)) _ h.2 in
+    rw t (rw same (rw (no_other author n (visits_of es) later) (or_nothing (bytes_eq w.author author)))))
+    (λ f. rw f (author_where_found author last n es w h.3 (sym (cond-false _ _ _ f) ∙ at)))
+  where
+    or_nothing : (b : Bool) → (b || false) ≡ b
+    or_nothing true = refl
+    or_nothing false = refl
+
+    no_other : (author : List ℕ) (n : ℕ) (vs : List Visit) → AllByRecursion (λ v. n < v.number) vs →
+        is_joined_by n author vs ≡ false
+    no_other author n [] h = refl
+    no_other author n (v ∷ vs) h = rw (ne_eqb n v.number (λ same. omega (arith, h.0))) (no_other author n vs h.1)
+
+pub nobody_where_absent : (author : List ℕ) (n : ℕ) (es : List (ℕ × Visitor)) → lookup (nat_eq n) es ≡ None →
+    is_joined_by n author (visits_of es) ≡ false
+nobody_where_absent author n [] at = refl
+nobody_where_absent author n (e ∷ es) at =
+    split (nat_eq n e.0)
+    (λ t. let hit = sym (cond-true _ _ _ t) ∙ at in cc)
+    (λ f. rw f (nobody_where_absent author n es (sym (cond-false _ _ _ f) ∙ at)))
+
+-- a change of a visit that is present, and of one that is not
+pub done : (n limit given : ℕ) (vs new : List Visit) (change : ℕ → List Visit → List Visit) (old : Presence) →
+    record { limit = limit; given = given; present = vs } ≡ old
+    → list_any (has_number n) vs ≡ true → new ≡ change n vs
+    → OnVisit n old (record { limit = limit; given = given; present = new }) (Ok tt) change
+done n limit given vs new change old is there e =
+    subst (λ (p : Presence). OnVisit n p (record { limit = limit; given = given; present = new }) (Ok tt) change) is
+    (there, ap (λ (r : List Visit). let p : Presence = record { limit = limit; given = given; present = r } in p) e)
+
+pub refused : (n limit given : ℕ) (vs new : List Visit) (change : ℕ → List Visit → List Visit) (old : Presence) →
+    record { limit = limit; given = given; present = vs } ≡ old
+    → list_any (has_number n) vs ≡ false → new ≡ vs
+    → OnVisit n old (record { limit = limit; given = given; present = new }) (Err NotJoined) change
+refused n limit given vs new change old is absent e =
+    subst (λ (p : Presence). OnVisit n p (record { limit = limit; given = given; present = new }) (Err NotJoined)
+    change) is
+    (absent, refl, ap (λ (r : List Visit). let p : Presence = record { limit = limit; given = given; present = r } in p) e)
+
+pub enter_done : (author : List ℕ) (limit given : ℕ) (vs new : List Visit) (old : Presence) →
+    record { limit = limit; given = given; present = vs } ≡ old
+    → given < MAX_VISITS → new ≡ vs ++ record { number = given + 1; author = author; caret = None } ∷ []
+    → (spent_refusal old ≡ None) × (given + 1 ≡ old.given + 1)
+    × (record { limit = limit; given = given + 1; present = new } ≡ joined author old)
+enter_done author limit given vs new old is spent e =
+    subst (λ (p : Presence). (spent_refusal p ≡ None) × (given + 1 ≡ p.given + 1)
+    × (record { limit = limit; given = given + 1; present = new } ≡ joined author p)) is (
+      cond-false _ _ _ (lt-leb MAX_VISITS given spent),
+      refl,
+      ap (λ (r : List Visit). let p : Presence = record { limit = limit; given = given + 1; present = r } in p) e,
+    )
+
+-- one more entry is one more visit
+pub joined_entries : (es : List (ℕ × Visitor)) (n : ℕ) (w : Visitor) → visits_of (es ++ (n, w) ∷ []) ≡ visits_of es
+    ++ visit_of n w ∷ []
+joined_entries [] n w = refl
+joined_entries (e ∷ es) n w = ap (λ (r : List Visit). visit_of e.0 e.1 ∷ r) (joined_entries es n w)

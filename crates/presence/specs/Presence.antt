@@ -1,0 +1,70 @@
+-- Who is present on a pad.
+use Rattle.std.specs.Prelude.{◌≡◌, ℕ, ◌+◌, ◌≤◌, ◌<◌, Bool, true, false, not, ◌&&◌, ◌==◌, nat_le, if◌then◌else◌, Option}
+use Rattle.std.specs.Prelude.{Some, None, List, [], ◌∷◌, ◌++◌, length, map, bytes_eq, MatchResult, Result}
+use Rattle.std.specs.List.{AllByRecursion, filter, list_any}
+use Rattle.pad_model.specs.Stamp.{Stamp}
+use Rattle.pad_model.specs.declared.refusal.Refusal.{Refusal}
+use Rattle.pad_model.specs.declared.refusal.Refusal.TheVariants.{Crowded, VisitsSpent, NotJoined}
+use Rattle.presence.specs.declared.presence.TheConstants.{MAX_VISITS}
+use Rattle.presence.specs.declared.presence.Visit.{Visit}
+
+-- how many may be present at once, how many visit numbers were given out, and the visits that are present, in order of
+-- joining
+pub record Presence : Type 0 where
+  pub limit : ℕ
+  pub given : ℕ
+  pub present : List Visit
+
+-- the numbers of the visits are at least 1, rise, and are at most the last one
+abbrev pub AreNumbered : ℕ → List Visit → Type 0
+AreNumbered last [] = Unit {0}
+AreNumbered last (visit ∷ visits) =
+    (1 ≤ visit.number) × (visit.number ≤ last)
+    × AllByRecursion (λ later. visit.number < later.number) visits
+    × AreNumbered last visits
+
+-- why no further number is given out, if so
+abbrev pub spent_refusal : Presence → Option Refusal
+spent_refusal p = if nat_le MAX_VISITS p.given then Some VisitsSpent else None
+
+-- why nobody can join, apart from memory
+abbrev pub join_refusal : Presence → Option Refusal
+join_refusal p = if nat_le p.limit (length p.present) then Some Crowded else spent_refusal p
+
+-- the next number is given to an author, who is present after the others, without a caret
+abbrev pub joined : List ℕ → Presence → Presence
+joined author p =
+    let number = p.given + 1 in
+    record p {
+      given = number;
+      present = p.present
+          ++ record { number = number; author = author; caret = None } ∷ [];
+    }
+
+-- whether a visit has a number
+abbrev pub has_number : ℕ → Visit → Bool
+has_number number visit = number == visit.number
+
+-- the visits without this one
+abbrev pub left : ℕ → List Visit → List Visit
+left number present = filter (λ visit. not (has_number number visit)) present
+
+-- the visits with another caret of this one
+abbrev pub with_caret : Option Stamp → ℕ → List Visit → List Visit
+with_caret caret number present = map
+    (λ visit. if has_number number visit then record visit { caret = caret }
+    else visit) present
+
+-- whether a visit is present and belongs to the author
+abbrev pub is_joined_by : ℕ → List ℕ → List Visit → Bool
+is_joined_by number author present = list_any
+    (λ visit. has_number number visit && bytes_eq visit.author author) present
+
+-- a change of a visit is made if the visit is present; otherwise it is refused as not joined and nothing changes
+abbrev pub OnVisit : ℕ → Presence → Presence → Result Unit Refusal → (ℕ → List Visit → List Visit)
+    → Type 0
+OnVisit number old new result change =
+    MatchResult result
+    (λ _. (list_any (has_number number) old.present ≡ true)
+    × (new ≡ record old { present = change number old.present }))
+    (λ e. (list_any (has_number number) old.present ≡ false) × (e ≡ NotJoined) × (new ≡ old))

@@ -1,5 +1,0 @@
-use Rattle.records.proofs.Fronts.{front}
-use Rattle.records.proofs.laws.fronts_law.Goals as goal
-
-pub returns : goal.returns
-returns c replica present records m count life = front replica present records m count life

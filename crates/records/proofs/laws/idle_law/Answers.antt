@@ -1,6 +1,0 @@
-use Rattle.records.proofs.Idle.{request_idle}
-use Rattle.records.proofs.laws.idle_law.Goals as goal
-
-pub returns : goal.returns
-returns c who request cell rooms old answer new after more left idle =
-    request_idle who request cell rooms old answer new after more left idle

@@ -1,6 +1,0 @@
-use Rattle.records.proofs.Steps.{request_again}
-use Rattle.records.proofs.laws.steps_law.Goals as goal
-
-pub returns : goal.returns
-returns c who request cell rooms old answer new after more left =
-    request_again who request cell rooms old answer new after more left

@@ -1,8 +1,0 @@
--- The loop of `delivered`: the records so far and those of the rest are all.
-use Rattle.std.proofs.Common.{◌≡◌, ◌++◌, drop, map}
-use Rattle.records.specs.declared.kept_record.Record.TheVariants.{Delivered}
-use Rattle.records.proofs.step.delivered.Given as goal
-
--- the records so far and those of the rest are all
-abbrev pub invariant-loop-op : goal.invariant-loop-op
-invariant-loop-op l = l.records.items ++ map Delivered (drop l.op-index l.more) ≡ map Delivered l.more

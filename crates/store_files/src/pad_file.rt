@@ -1,0 +1,177 @@
+//! A pad's file at the start of the server.
+use crate::owner::Owner;
+use crate::pieces::load_pieces;
+use crate::store_error::StoreError;
+use log::warn;
+use pad_core::Pad;
+use pad_model::Sequence;
+use server_log::ServerLog;
+use std::alloc::Global;
+use std::fs::{File, OpenOptions};
+use std::io::{ErrorKind, Write};
+use std::{fs, io};
+use store_format::{Damage, Header, Loaded, header_text, link};
+
+/// How many files of one pad's name may be moved aside.
+const MOST_ASIDE: u32 = 1_000;
+
+/// A pad that was loaded, with its file open for appending, twice.
+#[derive(Drop)]
+pub struct PadFile<S: Sequence> {
+    pub pad: Pad<S>,
+    pub sum: String,
+    pub file: File,
+    pub handle: File,
+}
+
+/// Why a file of a store is refused.
+#[derive(Clone, Copy, Debug)]
+pub enum Unloaded {
+    /// It could not be read, cut or moved.
+    Untouched(io::Error),
+    /// It is damaged, and its line was printed.
+    Damaged,
+    /// It belongs to a server with this number.
+    OtherReplica(u64),
+    /// Operations have the number that is to be new.
+    UsedReplica(u16),
+}
+
+impl Unloaded {
+    /// The reason why the server does not start.
+    pub fn in_folder(self, folder: &str) -> StoreError<'_> {
+        match self {
+            Unloaded::Untouched(cause) => StoreError::Unopened { folder, cause },
+            Unloaded::Damaged => StoreError::Damaged { folder },
+            Unloaded::OtherReplica(replica) => StoreError::OtherReplica { folder, replica },
+            Unloaded::UsedReplica(number) => StoreError::UsedReplica { folder, number },
+        }
+    }
+}
+
+impl From<io::Error> for Unloaded {
+    fn from(cause: io::Error) -> Unloaded {
+        Unloaded::Untouched(cause)
+    }
+}
+
+/// Loads one pad. Its file is cut after the last line that was read; a file whose pad was never named is moved aside.
+pub fn load_file<S: Sequence>(
+    files: &HostRuntime,
+    folder: &str,
+    name: &str,
+    owner: &Owner,
+) -> Result<Option<PadFile<S>>, Unloaded> {
+    let path = path_of(files.alloc(), folder, name)?;
+    let pad = name.strip_suffix(".pad").unwrap_or(name);
+    match load_pieces(files, path.as_str(), pad, owner)? {
+        Ok(loaded) => {
+            check_owner(owner, &loaded)?;
+            let opened = open_loaded(files, path.as_str(), owner.replica(), loaded)?;
+            Ok(Some(opened))
+        }
+        Err(Damage::Empty) => {
+            move_aside(files, path.as_str())?;
+            Ok(None)
+        }
+        Err(damage) => {
+            let _told = eprintln!(files; "pad_server: {path}: {damage}");
+            Err(Unloaded::Damaged)
+        }
+    }
+}
+
+fn path_of(alloc: Global, folder: &str, name: &str) -> io::Result<String> {
+    Ok(format!(in alloc; "{folder}/{name}")?)
+}
+
+// Whether a pad's file is this server's, or may become so: if the number is new, no operation has it.
+fn check_owner<S: Sequence>(owner: &Owner, loaded: &Loaded<S>) -> Result<(), Unloaded> {
+    let replica = loaded.header.replica;
+    if replica == u64::from(owner.replica()) {
+        return Ok(());
+    }
+    if !owner.is_new() {
+        return Err(Unloaded::OtherReplica(replica));
+    }
+    let number = owner.replica();
+    if loaded.pad.count(number) > 0 {
+        return Err(Unloaded::UsedReplica(number));
+    }
+    Ok(())
+}
+
+// Moves aside a file whose pad was never named, to a name that no file has.
+fn move_aside(files: &HostRuntime, path: &str) -> io::Result<()> {
+    for number in 1..=MOST_ASIDE {
+        let aside = format!(in files.alloc(); "{path}.unnamed-{number}")?;
+        if !fs::exists(files, aside.as_str())? {
+            warn!(ServerLog(files); "{path}: it holds no pad, and is moved to {aside}");
+            return fs::rename(files, path, aside.as_str());
+        }
+    }
+    Err(io::Error::from(ErrorKind::AlreadyExists))
+}
+
+// A pad with its file, which is cut after the last line that was read. A server with a new number begins with a header.
+fn open_loaded<S: Sequence>(
+    files: &HostRuntime,
+    path: &str,
+    replica: u16,
+    loaded: Loaded<S>,
+) -> io::Result<PadFile<S>> {
+    let (sum, file, handle) = open_end(files, path, replica, &loaded)?;
+    Ok(PadFile {
+        pad: loaded.pad,
+        sum,
+        file,
+        handle,
+    })
+}
+
+// The sum of the file's last line, and the file, opened twice.
+fn open_end<S: Sequence>(
+    files: &HostRuntime,
+    path: &str,
+    replica: u16,
+    loaded: &Loaded<S>,
+) -> io::Result<(String, File, File)> {
+    let cut = loaded.cut;
+    if cut > 0 {
+        warn!(ServerLog(files); "{path}: dropped the last {cut} bytes, which an interrupted write left; nothing that was synced is lost");
+    }
+    let (mut file, handle) = open_file(files, path, loaded.whole)?;
+    let before = loaded.sum.as_str();
+    let sum = if loaded.header.replica == u64::from(replica) {
+        String::from_str(files.alloc(), before)?
+    } else {
+        begin_again(files.alloc(), &mut file, &loaded.header, replica, before)?
+    };
+    Ok((sum, file, handle))
+}
+
+// Appends the header of a server with another number, and returns its sum.
+fn begin_again(
+    alloc: Global,
+    file: &mut File,
+    header: &Header,
+    replica: u16,
+    before: &str,
+) -> io::Result<String> {
+    let text = header_text(alloc, &header.pad, replica)?;
+    let linked = link(alloc, before, text.as_str())?;
+    file.write_all(linked.line.as_bytes())?;
+    file.sync_all()?;
+    Ok(linked.sum)
+}
+
+// Opens a file for appending after its whole lines, twice.
+fn open_file(files: &HostRuntime, path: &str, whole: u64) -> io::Result<(File, File)> {
+    let mut options = OpenOptions::new();
+    options.append(true);
+    let file = options.open(files, path)?;
+    file.set_len(whole)?;
+    file.sync_all()?;
+    let handle = file.try_clone()?;
+    Ok((file, handle))
+}

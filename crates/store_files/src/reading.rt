@@ -1,0 +1,96 @@
+//! The files of a store at the start of the server.
+use crate::owner::Owner;
+use crate::pad_file::{PadFile, Unloaded, load_file};
+use pad_model::Sequence;
+use std::alloc::AllocError;
+use std::sync::atomic::{AtomicU64, Ordering};
+use std::thread;
+use std::thread::Threads;
+use std::time::{Clock, Instant};
+
+/// The seconds after which a start prints its progress, and then again each second.
+const SILENCE: u64 = 2;
+
+/// A file that is to be read, or was.
+#[derive(Drop)]
+pub struct Read<S: Sequence> {
+    name: String,
+    /// None: it was not read yet.
+    outcome: Option<Result<Option<PadFile<S>>, Unloaded>>,
+}
+
+impl<S: Sequence> Read<S> {
+    /// The pad of the file; None if no pad was named in it.
+    pub fn into_pad(self) -> Result<Option<PadFile<S>>, Unloaded> {
+        self.outcome.unwrap_or(Ok(None))
+    }
+}
+
+/// The progress of a start.
+#[derive(Drop)]
+struct ReadingTally {
+    files: usize,
+    began: Option<Instant>,
+    read: AtomicU64,
+    /// The second in which it was last printed.
+    told: AtomicU64,
+}
+
+impl ReadingTally {
+    // Counts one more file that was read. At most once a second, the count is printed.
+    fn note<R: Clock + Eprint>(&self, rt: &R) {
+        let read = self.read.fetch_add(1, Ordering::SeqCst).saturating_add(1);
+        let Some(Ok(passed)) = self.began.map(|began| began.elapsed(rt)) else {
+            return;
+        };
+        let (second, told) = (passed.as_secs(), self.told.load(Ordering::SeqCst));
+        if second > told
+            && self
+                .told
+                .compare_exchange(told, second, Ordering::SeqCst, Ordering::SeqCst)
+                .is_ok()
+        {
+            let files = self.files;
+            let _told = eprintln!(rt; "pad_server: {read} of {files} pads are read");
+        }
+    }
+}
+
+/// Reads the files of a folder, in as many threads as there are processors. A start that takes long prints its progress
+/// each second.
+pub fn read_all<R: Threads + Sync, S: Sequence + Send>(
+    rt: &R,
+    files: &HostRuntime,
+    folder: &str,
+    names: Vec<String>,
+    owner: &Owner,
+) -> Result<Vec<Read<S>>, AllocError> {
+    let mut reads = Vec::new(files.alloc());
+    for name in names {
+        reads.push(Read {
+            name,
+            outcome: None,
+        })?;
+    }
+    let tally = ReadingTally {
+        files: reads.len(),
+        began: Instant::now(files).ok(),
+        read: AtomicU64::new(0),
+        told: AtomicU64::new(SILENCE - 1),
+    };
+    let threads = match thread::available_parallelism(rt) {
+        Ok(count) => count.get().max(1),
+        Err(_) => 1,
+    };
+    let tally = &tally;
+    thread::for_each_mut(
+        rt,
+        reads.as_mut_slice(),
+        threads,
+        &|_place: usize, read: &mut Read<S>| {
+            read.outcome = Some(load_file(files, folder, read.name.as_str(), owner));
+            tally.note(files);
+        },
+    );
+    Ok(reads)
+}

@@ -1,0 +1,228 @@
+//! The pads of a store at the start of the server.
+use crate::handle::Handle;
+use crate::keeper::{Keeper, OpenFolder, OpenPadFile, OpenPadFiles};
+use crate::owner::Owner;
+use crate::pad_file::PadFile;
+use crate::reading::{Read, read_all};
+use crate::reserve::Reserve;
+use crate::spares::PRIVATE;
+use crate::store_error::StoreError;
+use block_seq::BlockSeq;
+use log::warn;
+use pad_core::Pad;
+use server_log::ServerLog;
+use shared_pads::{LockedPad, SharedPad};
+use std::alloc::{AllocError, Global};
+use std::fs::{DirBuilder, File, OpenOptions};
+use std::os::unix::fs::{DirBuilderExt, OpenOptionsExt};
+use std::rt::Runtime;
+use std::sync::{Mutex, Wait};
+use std::thread::Threads;
+use std::{fs, io};
+
+/// The permissions of a store's folder that the server makes: for its user alone.
+const PRIVATE_FOLDER: u32 = 0o700;
+
+/// The row of a server, and who keeps it in files.
+#[derive(Drop)]
+pub struct Stored {
+    /// The pads of the files, in the order of the files' names, and after them the free cells.
+    pub cells: Vec<SharedPad<BlockSeq>>,
+    /// The revision of the pad at each cell.
+    pub revisions: Vec<u64>,
+    /// Notes what is answered at these cells. It holds the folder's lock until it is dropped.
+    pub keeper: Keeper,
+}
+
+/// The size that a row is to have.
+#[derive(Clone, Copy)]
+pub struct Size {
+    /// The number of cells.
+    pub cells: u32,
+    /// The number of threads that have a seat at each pad.
+    pub seats: u32,
+}
+
+/// Loads the pads of a folder, each from its file, in the order of the files' names. The other cells are free. A server
+/// calls it once, before it serves anyone. The folder is made if it is not there, and its lock is taken; each file is
+/// cut off after its last whole line, and 16 MiB of the disk are taken as a reserve.
+pub fn restore<'f, R>(
+    rt: &R,
+    files: HostRuntime,
+    folder: &'f str,
+    owner: &Owner,
+    size: Size,
+) -> Result<Stored, StoreError<'f>>
+where
+    R: Runtime<A = Global, File = File> + Threads + Wait + Sync,
+{
+    let kept_in = String::from_str(rt.alloc(), folder)?;
+    let (held, names) = open_folder(rt, folder)?;
+    let LoadingPads {
+        cells,
+        revisions,
+        books,
+        ..
+    } = load_row(rt, &files, folder, names, owner, size)?;
+    let path = format!(in rt.alloc(); "{folder}/reserve")?;
+    let reserve = match Reserve::open(&files, path.as_str()) {
+        Ok(reserve) => reserve,
+        Err(cause) => return Err(StoreError::Unopened { folder, cause }),
+    };
+    if !reserve.is_whole(rt) {
+        warn!(ServerLog(rt); "the disk of the store {folder} is full: nothing is taken that has to be kept");
+    }
+    Ok(Stored {
+        cells,
+        revisions,
+        keeper: Keeper::new(files, kept_in, owner.replica(), books, reserve, held),
+    })
+}
+
+// The folder and its lock, and the names of its files.
+fn open_folder<'f, R>(rt: &R, folder: &'f str) -> Result<(OpenFolder, Vec<String>), StoreError<'f>>
+where
+    R: Runtime<A = Global, File = File>,
+{
+    let held = match lock_folder(rt, folder) {
+        Ok(Some(held)) => held,
+        Ok(None) => return Err(StoreError::InUse { folder }),
+        Err(cause) => return Err(StoreError::Unopened { folder, cause }),
+    };
+    match names_of(rt, folder) {
+        Ok(names) => Ok((held, names)),
+        Err(cause) => Err(StoreError::Unopened { folder, cause }),
+    }
+}
+
+// The pads of these files, and free cells after them.
+fn load_row<'f, R>(
+    rt: &R,
+    files: &HostRuntime,
+    folder: &'f str,
+    names: Vec<String>,
+    owner: &Owner,
+    size: Size,
+) -> Result<LoadingPads, StoreError<'f>>
+where
+    R: Runtime<A = Global, File = File> + Threads + Wait + Sync,
+{
+    let alloc = rt.alloc();
+    let mut row = LoadingPads {
+        seats: size.seats,
+        cells: Vec::new(alloc),
+        revisions: Vec::new(alloc),
+        books: OpenPadFiles {
+            all: Vec::new(alloc),
+            handles: Vec::new(alloc),
+        },
+    };
+    let reads: Vec<Read<BlockSeq>> = read_all(rt, files, folder, names, owner)?;
+    for read in reads {
+        row.take(alloc, folder, size.cells, read)?;
+    }
+    let taken = row.cells.len().min(size.cells as usize) as u32;
+    for cell in taken..size.cells {
+        row.add_free(alloc, owner, cell)?;
+    }
+    Ok(row)
+}
+
+// The pads so far, each with its file.
+#[derive(Drop)]
+struct LoadingPads {
+    /// The number of threads that have a seat at each pad.
+    seats: u32,
+    cells: Vec<SharedPad<BlockSeq>>,
+    revisions: Vec<u64>,
+    books: OpenPadFiles,
+}
+
+impl LoadingPads {
+    // Adds the pad of a file, if one was named in it and there is room for one more than these cells.
+    fn take<'f>(
+        &mut self,
+        alloc: Global,
+        folder: &'f str,
+        cells: u32,
+        read: Read<BlockSeq>,
+    ) -> Result<(), StoreError<'f>> {
+        match read.into_pad() {
+            Ok(Some(_)) if self.cells.len() >= cells as usize => {
+                Err(StoreError::TooManyPads { folder })
+            }
+            Ok(Some(loaded)) => Ok(self.add(alloc, loaded)?),
+            Ok(None) => Ok(()),
+            Err(unloaded) => Err(unloaded.in_folder(folder)),
+        }
+    }
+
+    // Adds a pad.
+    fn add(&mut self, alloc: Global, opened: PadFile<BlockSeq>) -> Result<(), AllocError> {
+        let PadFile {
+            pad,
+            sum,
+            file,
+            handle,
+        } = opened;
+        let booked = self.books.add(Some(file), sum, Some(handle));
+        let added = self.add_pad(alloc, pad);
+        booked.and(added)
+    }
+
+    // Adds a cell without a pad.
+    fn add_free(&mut self, alloc: Global, owner: &Owner, cell: u32) -> Result<(), AllocError> {
+        let booked = self.books.add(None, String::new(alloc), None);
+        let Ok(pad) = Pad::new(alloc, owner.replica(), owner.present()) else {
+            return Err(AllocError);
+        };
+        let added = self.add_pad(alloc, pad);
+        booked.and(added)
+    }
+
+    // Adds the pad of the next cell.
+    fn add_pad(&mut self, alloc: Global, pad: Pad<BlockSeq>) -> Result<(), AllocError> {
+        let cell = u32::try_from(self.cells.len()).unwrap_or(u32::MAX);
+        let revision = pad.revision();
+        let Ok(kept) = LockedPad::new(alloc, pad, self.seats) else {
+            return Err(AllocError);
+        };
+        self.cells.push(SharedPad::new(kept, cell))?;
+        self.revisions.push(revision)?;
+        Ok(())
+    }
+}
+
+// Makes the folder if it is not there, and takes its lock. None: another process has it.
+fn lock_folder<R: Runtime<A = Global, File = File>>(
+    rt: &R,
+    folder: &str,
+) -> io::Result<Option<OpenFolder>> {
+    let mut builder = DirBuilder::new();
+    builder.recursive(true).mode(PRIVATE_FOLDER);
+    builder.create(rt, folder)?;
+    let path = format!(in rt.alloc(); "{folder}/lock")?;
+    let mut options = OpenOptions::new();
+    options.write(true).create(true).mode(PRIVATE);
+    let lock = options.open(rt, path.as_str())?;
+    let open = File::open(rt, folder)?;
+    open.sync_all()?;
+    match lock.try_lock() {
+        Ok(()) => Ok(Some(OpenFolder { lock, folder: open })),
+        Err(_) => Ok(None),
+    }
+}
+
+// The names of the files of pads, in order.
+fn names_of<R: Runtime<A = Global, File = File>>(rt: &R, folder: &str) -> io::Result<Vec<String>> {
+    let alloc = rt.alloc();
+    let mut names = Vec::new(alloc);
+    for entry in fs::read_dir(rt, folder)? {
+        let entry = entry?;
+        if entry.file_name().ends_with(".pad") {
+            names.push(String::from_str(alloc, entry.file_name())?)?;
+        }
+    }
+    names.sort()?;
+    Ok(names)
+}

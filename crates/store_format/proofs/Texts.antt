@@ -1,0 +1,126 @@
+-- The written text of a header or a record has its meaning, and is one line.
+use Rattle.std.proofs.Common.{◌≡◌, ℕ, ◌≤◌, ◌≢◌, List, [], ◌∷◌, Bool, true, false, true≢false, Option, Some, None}
+use Rattle.std.proofs.Common.{option_map, option_and_then, Result, Ok, Err, IfOk, refl, sym, ap, ◌∙◌, subst, arith}
+use Rattle.std.proofs.Common.{lit≤}
+use Rattle.std.specs.List.{AllByRecursion}
+use Rattle.std.specs.Str.{IsUtf8}
+use Rattle.serde_json.specs.Data.{Data, depth}
+use Rattle.serde_json.specs.Read.{max_depth, read}
+use Rattle.serde_json.specs.Written.{compact_text, has_float}
+use Rattle.rights.specs.declared.right.Right.{Right}
+use Rattle.rights.specs.declared.right.Right.TheVariants as right
+use Rattle.pad_model.specs.declared.op.Op.{Op}
+use Rattle.store_records.specs.declared.kept_record.Record.{Record}
+use Rattle.store_records.specs.declared.kept_record.Record.TheVariants.{Named, Granted, Visited, Delivered}
+use Rattle.wire_json.specs.Lines.{value_of}
+use Rattle.wire_json.specs.Operations.{op_data}
+use Rattle.wire_json.specs.Peers.{push_request}
+use Rattle.wire_json.proofs.OneLine.{text_plain}
+use Rattle.wire_json.proofs.OpAgain.{reads_again}
+use Rattle.wire_json.proofs.Plain.{push_has_no_float, push_is_shallow}
+use Rattle.wire_json.proofs.Values.{value_of_text}
+use Rattle.store_format.specs.Entries.{entry_in, entry_said, header_data}
+use Rattle.store_format.specs.Forms.{IsSayableRecord, record_data}
+use Rattle.store_format.specs.Laws.{IsLine, Tells}
+use Rattle.store_format.specs.declared.entry.StoreLine.{StoreLine}
+use Rattle.store_format.specs.declared.entry.StoreLine.TheVariants as entry
+
+-- a text without a byte below 32 has no line feed
+no_feed : (bytes : List ℕ) → AllByRecursion (λ byte. 32 ≤ byte) bytes → IsLine bytes
+no_feed [] h = tt
+no_feed (byte ∷ bytes) (low, h) = (other, no_feed bytes h)
+  where
+    other : byte ≢ 10
+    other is = omega (arith, low, is)
+
+op_has_no_float : (op : Op) → has_float (op_data op) ≡ false
+op_has_no_float op = at (has_float (op_data op)) refl
+  where
+    at : (b : Bool) → has_float (op_data op) ≡ b → has_float (op_data op) ≡ false
+    at false is = is
+    at true is = absurd (true≢false (sym there ∙ push_has_no_float [] op))
+      where
+        there : has_float (push_request [] op) ≡ true
+        there = rw is refl
+
+pub record_has_no_float : (at : ℕ) (together : Bool) (kept : Record) → has_float (record_data at together kept) ≡ false
+record_has_no_float at true (Named name owner) = refl
+record_has_no_float at false (Named name owner) = refl
+record_has_no_float at true (Granted author given) = refl
+record_has_no_float at false (Granted author given) = refl
+record_has_no_float at true Visited = refl
+record_has_no_float at false Visited = refl
+record_has_no_float at true (Delivered op) = rw (op_has_no_float op) refl
+record_has_no_float at false (Delivered op) = rw (op_has_no_float op) refl
+
+pub record_is_shallow : (at : ℕ) (together : Bool) (kept : Record) → depth (record_data at together kept) ≤ max_depth
+record_is_shallow at true (Named name owner) = lit≤ tt
+record_is_shallow at false (Named name owner) = lit≤ tt
+record_is_shallow at true (Granted author given) = lit≤ tt
+record_is_shallow at false (Granted author given) = lit≤ tt
+record_is_shallow at true Visited = lit≤ tt
+record_is_shallow at false Visited = lit≤ tt
+record_is_shallow at true (Delivered op) = omega (arith, push_is_shallow [] op)
+record_is_shallow at false (Delivered op) = omega (arith, push_is_shallow [] op)
+
+granted_again : (at : ℕ) (together : Bool) (author : List ℕ) (given : Option Right) →
+    entry_in (record_data at together (Granted author given)) ≡ Some (entry.Record (Granted author given))
+granted_again at true author None = refl
+granted_again at true author (Some right.Read) = refl
+granted_again at true author (Some right.Comment) = refl
+granted_again at true author (Some right.Write) = refl
+granted_again at true author (Some right.Own) = refl
+granted_again at false author None = refl
+granted_again at false author (Some right.Read) = refl
+granted_again at false author (Some right.Comment) = refl
+granted_again at false author (Some right.Write) = refl
+granted_again at false author (Some right.Own) = refl
+
+-- the written form of a record is read as the record
+pub record_again : (at : ℕ) (together : Bool) (kept : Record) → IsSayableRecord kept →
+    entry_in (record_data at together kept) ≡ Some (entry.Record kept)
+record_again at true (Named name owner) h = refl
+record_again at false (Named name owner) h = refl
+record_again at together (Granted author given) h = granted_again at together author given
+record_again at true Visited h = refl
+record_again at false Visited h = refl
+record_again at true (Delivered op) (checked, sayable) =
+    ap (λ (o : Option Op). option_map entry.Record (option_map Delivered o)) (reads_again op checked sayable)
+record_again at false (Delivered op) (checked, sayable) =
+    ap (λ (o : Option Op). option_map entry.Record (option_map Delivered o)) (reads_again op checked sayable)
+
+pub header_again : (pad : List ℕ) (replica : ℕ) → entry_in (header_data pad replica)
+    ≡ Some (entry.Header (record { pad = pad; replica = replica }))
+header_again pad replica = refl
+
+-- the text of a value that is read as an entry
+pub told : {A E : Type 0} (bytes_of : A → List ℕ) (r : Result A E) (v d : Data) (said : StoreLine) (Premise : Type 0) →
+    ((x : A) → IsUtf8 (bytes_of x)) → v ≡ d → has_float d ≡ false → depth d ≤ max_depth →
+    (Premise → entry_in d ≡ Some said) → IfOk r (λ text. has_float v ≡ false → bytes_of text ≡ compact_text v) →
+    IfOk r (λ text. depth v ≤ max_depth → read (bytes_of text) ≡ Some v) →
+    IfOk r (λ text. Premise → Tells said (bytes_of text))
+told bytes_of (Err e) v d said Premise utf8 same floatless low again compact back = tt
+told bytes_of (Ok text) v d said Premise utf8 same floatless low again compact back = λ premise. (plain, says premise)
+  where
+    plain : IsLine (bytes_of text)
+    plain = subst IsLine (sym (compact (ap has_float same ∙ floatless))) (no_feed (compact_text v) (text_plain v))
+
+    says : Premise → entry_said (bytes_of text) ≡ Some said
+    says premise =
+        ap (option_and_then entry_in) (value_of_text (bytes_of text) v (utf8 text)
+        (back (subst (λ x. depth x ≤ max_depth) (sym same) low)))
+        ∙ (ap entry_in same ∙ again premise)
+
+-- the value of such a text
+pub valued : {A E : Type 0} (bytes_of : A → List ℕ) (r : Result A E) (v d : Data) → ((x : A) → IsUtf8 (bytes_of x)) →
+    v ≡ d → depth d ≤ max_depth → IfOk r (λ text. depth v ≤ max_depth → read (bytes_of text) ≡ Some v) →
+    IfOk r (λ text. value_of (bytes_of text) ≡ Some d)
+valued bytes_of (Err e) v d utf8 same low back = tt
+valued bytes_of (Ok text) v d utf8 same low back =
+    value_of_text (bytes_of text) v (utf8 text) (back (subst (λ x. depth x ≤ max_depth) (sym same) low)) ∙ ap Some same
+
+-- the same without conditions on the entry
+pub told_always : {A E : Type 0} (bytes_of : A → List ℕ) (r : Result A E) (said : StoreLine) →
+    IfOk r (λ text. Unit {0} → Tells said (bytes_of text)) → IfOk r (λ text. Tells said (bytes_of text))
+told_always bytes_of (Ok text) said h = h tt
+told_always bytes_of (Err e) said h = tt

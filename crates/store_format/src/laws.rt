@@ -1,0 +1,14 @@
+//! What is left of a pad's file after a crash. Each law is the contract of a function without parameters.
+ghost use Rattle.store_format.specs.Laws.{CrashLaw, LinesLaw};
+
+/// The whole lines of a file that was cut off anywhere are those of its first texts, and the text of each line can be
+/// read.
+pub fn lines_law()
+    ensures { LinesLaw }
+{}
+
+/// What a crash leaves of a pad's file is read as a restarted state that the pad had, and nothing that was synced is
+/// lost.
+pub fn crash_law()
+    ensures { CrashLaw }
+{}

@@ -1,0 +1,128 @@
+-- The operations of a log that a pad can have are delivered again, one after another.
+use Rattle.std.proofs.Common.{◌≡◌, ℕ, ◌+◌, ◌≤◌, true, cond, eq-eqb, List, [], ◌∷◌, ◌++◌}
+use Rattle.std.proofs.Common.{length, map, fold, flat_map, count_by, Option, None, Result, Ok, refl, sym, ap}
+use Rattle.std.proofs.Common.{◌∙◌, subst, arith, append-nil, append_assoc}
+use Rattle.std.specs.Prelude.{IsTrue, sum_by}
+use Rattle.std.proofs.lemmas.List.{length-append}
+use Rattle.std.proofs.lemmas.List.Concat.{flat_map-append}
+use Rattle.std.proofs.lemmas.List.Sums.{sum_by-append, sum_by-cons}
+use Rattle.pad_model.specs.Checked.{is_checked}
+use Rattle.pad_model.specs.History.{Continues}
+use Rattle.pad_model.specs.Log.{is_comment, is_valid}
+use Rattle.pad_model.specs.Operation.{characters_in, inserted_by}
+use Rattle.pad_model.specs.Seen.{count_in}
+use Rattle.pad_model.specs.declared.limits.TheConstants.{MAX_CHARACTERS, MAX_OPERATIONS, MAX_COMMENTS}
+use Rattle.pad_model.specs.declared.op.Op.{Op}
+use Rattle.pad_model.specs.declared.refusal.Refusal.{Refusal}
+use Rattle.pad_model.specs.declared.seen.Counted.{Counted}
+use Rattle.pad_core.specs.Counts.{AreNumbered, counted, vector_of}
+use Rattle.pad_core.specs.Delivered.{IsDelivered}
+use Rattle.pad_core.specs.Machine.{Machine}
+use Rattle.pad_core.specs.Restart.{delivered_again, is_next, restarted, restore_refusal}
+use Rattle.pad_core.specs.declared.owned.Owned.{Owned}
+use Rattle.pad_core.proofs.Judged.{Allowed, not_refused}
+use Rattle.store_records.specs.Records.{replay_all, replayed, unless_refused}
+use Rattle.store_records.specs.declared.kept_record.Record.TheVariants.{Delivered}
+
+-- a restarted pad with this owner, these numbers and this log
+abbrev pub bare : Option Owned → ℕ → ℕ → List Op → ℕ → Machine
+bare o replica limit log given = record { owned = o; replica = replica; log = log; held = []; presence = record { limit = limit; given = given; present = [] } }
+
+checked_at : (before log : List Op) (op : Op) (more : List Op) → Continues before (log ++ op ∷ more) →
+    IsTrue (is_checked op) × IsTrue (is_valid op (before ++ log))
+checked_at before [] op more c = (c.0, subst (λ l. IsTrue (is_valid op l)) (sym (append-nil before)) c.1)
+checked_at before (x ∷ log) op more c =
+    let h = checked_at (before ++ x ∷ []) log op more c.2 in
+    (h.0, subst (λ l. IsTrue (is_valid op l)) (append_assoc before (x ∷ []) log) h.1)
+
+next_at : (seen : List Counted) (log : List Op) (op : Op) (more : List Op) → AreNumbered seen (log ++ op ∷ more) →
+    op.name.number ≡ count_in (fold counted seen log) op.name.origin + 1
+next_at seen [] op more n = n.0
+next_at seen (x ∷ log) op more n = next_at (counted seen x) log op more n.1
+
+-- the number of a log's comments, with one of them in the middle
+comments_at : (log : List Op) (op : Op) (more : List Op) → is_comment op ≡ true → count_by is_comment log + 1
+    ≤ count_by is_comment (log ++ op ∷ more)
+comments_at log op more e =
+    let one : Op → ℕ = λ o. cond (is_comment o) 1 0 in
+    let whole : count_by is_comment (log ++ op ∷ more) ≡ count_by is_comment log + sum_by one (op ∷ more) =
+    sum_by-append one log (op ∷ more) in
+    let first : sum_by one (op ∷ more) ≡ 1 + sum_by one more = sum_by-cons one op more
+    ∙ ap (λ b. cond b 1 0 + sum_by one more) e in
+    omega arith
+
+allowed_at : (log : List Op) (op : Op) (more : List Op) → IsDelivered (log ++ op ∷ more) → Allowed log op
+allowed_at log op more d =
+    let room : length (characters_in (log ++ op ∷ more)).inserted ≤ MAX_CHARACTERS = d.room in
+    let short : length (log ++ op ∷ more) ≤ MAX_OPERATIONS = d.short in
+    let few : count_by is_comment (log ++ op ∷ more) ≤ MAX_COMMENTS = d.few in
+    let all : length (characters_in (log ++ op ∷ more)).inserted ≡ length (characters_in log).inserted
+    + length (flat_map inserted_by (op ∷ more)) =
+    ap length (flat_map-append inserted_by log (op ∷ more)) ∙ length-append (flat_map inserted_by log)
+    (flat_map inserted_by (op ∷ more))
+    in
+    let rest : length (flat_map inserted_by (op ∷ more)) ≡ length (inserted_by op)
+    + length (flat_map inserted_by more) = length-append (inserted_by op) (flat_map inserted_by more) in
+    let operations : length (log ++ op ∷ more) ≡ length log + length (op ∷ more) = length-append log (op ∷ more) in
+    record {
+      valid = (checked_at [] log op more d.history).1;
+      room = omega arith;
+      short = omega arith;
+      few = λ e. (let more_comments = comments_at log op more e in omega arith);
+    }
+
+-- an operation of such a log is delivered after those before it
+again_at : (log : List Op) (op : Op) (more : List Op) → IsDelivered (log ++ op ∷ more) → restore_refusal op log ≡ None
+again_at log op more d =
+    let checked : is_checked op ≡ true = (checked_at [] log op more d.history).0 in
+    let next : is_next (vector_of log) op.name ≡ true = eq-eqb op.name.number (count_in (vector_of log) op.name.origin
+    + 1) (next_at [] log op more d.numbered) in
+    rw (checked, next) (not_refused log op (allowed_at log op more d))
+
+-- a restarted pad delivers it
+one_again : (o : Option Owned) (replica limit : ℕ) (log : List Op) (given : ℕ) (op : Op) →
+    restore_refusal op log ≡ None →
+    replayed (Ok (bare o replica limit log given)) (Delivered op) ≡ Ok (bare o replica limit (log ++ op ∷ []) given)
+one_again o replica limit log given op e = ap (λ (d : Result (Unit {0}) Refusal × List Op). unless_refused (
+  d.0,
+  bare o replica limit d.1 given,
+)) again
+  where
+    again : delivered_again op log ≡ (Ok tt, log ++ op ∷ [])
+    again = rw e refl
+
+-- a restarted pad delivers all of them
+pub all_again : (o : Option Owned) (replica limit : ℕ) (log more : List Op) (given : ℕ) → IsDelivered (log ++ more) →
+    replay_all (map Delivered more) (bare o replica limit log given) ≡ Ok (bare o replica limit (log ++ more) given)
+all_again o replica limit log [] given d = ap (λ (l : List Op). Ok (bare o replica limit l given)) (sym (append-nil log))
+all_again o replica limit log (op ∷ more) given d =
+    ap (λ (m : Result Machine Refusal). fold replayed m (map Delivered more))
+    (one_again o replica limit log given op (again_at log op more d))
+    ∙ (all_again o replica limit (log ++ op ∷ []) more given
+    (subst IsDelivered (sym (append_assoc log (op ∷ []) more)) d)
+    ∙ ap (λ (l : List Op). Ok (bare o replica limit l given)) (append_assoc log (op ∷ []) more))
+
+-- a restarted pad delivers only the first of them
+pub front_again : (o : Option Owned) (replica limit : ℕ) (log first rest : List Op) (given : ℕ) →
+    IsDelivered (log ++ (first ++ rest)) → replay_all (map Delivered first) (bare o replica limit log given)
+    ≡ Ok (bare o replica limit (log ++ first) given)
+front_again o replica limit log [] rest given d = ap (λ (l : List Op). Ok (bare o replica limit l given))
+    (sym (append-nil log))
+front_again o replica limit log (op ∷ first) rest given d =
+    ap (λ (m : Result Machine Refusal). fold replayed m (map Delivered first))
+    (one_again o replica limit log given op (again_at log op (first ++ rest) d))
+    ∙ (front_again o replica limit (log ++ op ∷ []) first rest given
+    (subst IsDelivered (sym (append_assoc log (op ∷ []) (first ++ rest))) d)
+    ∙ ap (λ (l : List Op). Ok (bare o replica limit l given)) (append_assoc log (op ∷ []) first))
+
+-- if only the log and the present visits have changed
+pub quiet : (old after : Machine) (more : List Op) → after.owned ≡ old.owned → after.replica ≡ old.replica →
+    after.presence.limit ≡ old.presence.limit → after.presence.given ≡ old.presence.given → after.log ≡ old.log ++ more →
+    IsDelivered after.log → replay_all (map Delivered more) (restarted old) ≡ Ok (restarted after)
+quiet old after more owned replica limit given grown d =
+    all_again old.owned old.replica old.presence.limit old.log more old.presence.given (subst IsDelivered grown d)
+    ∙ (ap (λ (l : List Op). Ok (bare old.owned old.replica old.presence.limit l old.presence.given)) (sym grown)
+    ∙ (ap (λ (o : Option Owned). Ok (bare o old.replica old.presence.limit after.log old.presence.given)) (sym owned)
+    ∙ (ap (λ (r : ℕ). Ok (bare after.owned r old.presence.limit after.log old.presence.given)) (sym replica)
+    ∙ (ap (λ (n : ℕ). Ok (bare after.owned after.replica n after.log old.presence.given)) (sym limit)
+    ∙ ap (λ (g : ℕ). Ok (bare after.owned after.replica after.presence.limit after.log g)) (sym given)))))

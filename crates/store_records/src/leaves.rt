@@ -1,0 +1,34 @@
+//! Which requests may leave records.
+ghost use Rattle.std.specs.Prelude.{◌≡◌};
+ghost use Rattle.store_records.specs.Leaves.{may_leave};
+ghost use Rattle.store_records.specs.Leaves as leaves;
+
+use pad_core::{Act, Request};
+
+/// Whether a request may leave records, judged by the request alone. If it may not, `records_of` is empty whatever the
+/// answer.
+pub fn leaves_records(request: &Request) -> bool
+    ensures { result ≡ may_leave request.now }
+{
+    match request {
+        Request::Create { .. } => true,
+        Request::On { act, .. } => is_kept(act),
+        Request::Hello { .. } | Request::Peer { .. } | Request::Pads => false,
+    }
+}
+
+fn is_kept(act: &Act) -> bool
+    ensures { result ≡ leaves.is_kept act.now }
+{
+    match act {
+        Act::Join
+        | Act::Grant { .. }
+        | Act::Insert { .. }
+        | Act::Delete { .. }
+        | Act::Edit { .. }
+        | Act::Comment { .. }
+        | Act::Resolve { .. }
+        | Act::Push { .. } => true,
+        _ => false,
+    }
+}

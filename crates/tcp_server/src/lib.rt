@@ -1,0 +1,21 @@
+//! The server over TCP: its pads, its threads, and the clients and browsers that connect, until it ends.
+//!
+//! It depends on `event_loop` for the workers, on `store_files` for the store, on `peering` for the rounds with peers and on
+//! `accounts_file` for who may log in. It knows no command line: `Settings` says what is asked for.
+#![tactic(auto)]
+
+mod listen;
+mod listeners;
+mod opened;
+mod pad_gate;
+mod room;
+mod serving_error;
+mod settings;
+mod settling;
+mod threads;
+mod watch;
+
+pub use listen::serve_clients;
+pub use serving_error::ServingError;
+pub use settings::Settings;
+pub use threads::MAX_WORKERS;

@@ -1,0 +1,260 @@
+//! The server of many connections over TCP.
+ghost use Rattle.std.specs.Prelude.{◌≡◌, ◌≤◌, [], None, IfOk};
+ghost use Rattle.server_core.specs.declared.limits.TheConstants.{MAX_CELLS};
+
+use crate::listeners::listen_at;
+use crate::opened::{Opened, open_pads};
+use crate::pad_gate::PadGate;
+use crate::serving_error::ServingError;
+use crate::settings::Settings;
+use crate::settling::Settling;
+use crate::threads::{make_groups, make_threads};
+use crate::watch::{Watch, watch_accounts};
+use block_seq::BlockSeq;
+use conversation::PadTable;
+use event_loop::{Acceptor, Hub, Limits, Service, SetUp, Worker, accept_all, serve_all};
+use peering::{Bell, Exchange, Group, Guard, exchange_all};
+use std::alloc::{AllocError, Global};
+use std::fs::File;
+use std::net::{Net, TcpListener, TcpStream};
+use std::rt::Runtime;
+use std::sync::Wait;
+use std::thread;
+use std::thread::Threads;
+use std::time::Clock;
+use web_wire::{Page, Site};
+
+/// Threads that help to sync the files of many pads. They wait for the disk, so there are more of them than processors.
+const SYNCERS: u32 = 12;
+
+/// Serves connections at an address, and browsers at another one if the settings say so, until as many connections have
+/// ended as the settings say. Each address is printed with its real port. The path is that of the accounts file. With a
+/// store, the pads come from it, each reply waits until everything that it reveals is synced, and the server stops if
+/// the store fails.
+pub fn serve_clients<'a, R>(
+    rt: &R,
+    files: HostRuntime,
+    asked: Settings<'a>,
+    address: &'a str,
+    path: &'a str,
+    pages: &[Page],
+) -> Result<(), ServingError<'a>>
+where
+    R: Runtime<A = Global, File = File>
+        + Net<Listener = TcpListener, Stream = TcpStream>
+        + Threads
+        + Wait
+        + Sync
+        + Eprint,
+    requires { (1 ≤ asked.replica) × (asked.cells ≤ MAX_CELLS) }
+{
+    let watching = files.clone()?;
+    let (opened, bytes) = open_pads(rt, files, asked, path)?;
+    let watch = Watch::new(watching, path, bytes);
+    let has_stopped = serve_opened(rt, &opened, asked, address, pages, watch)?;
+    match asked.store {
+        Some(folder) if opened.has_failed() => Err(ServingError::StoreFailed { folder }),
+        _ if has_stopped => Err(ServingError::WorkerFailed),
+        _ => Ok(()),
+    }
+}
+
+/// Serves connections with what is open, and returns whether the workers have stopped.
+fn serve_opened<'a, R>(
+    rt: &R,
+    opened: &Opened,
+    asked: Settings<'a>,
+    address: &'a str,
+    pages: &[Page],
+    watch: Watch<'_>,
+) -> Result<bool, ServingError<'a>>
+where
+    R: Runtime<A = Global, File = File>
+        + Net<Listener = TcpListener, Stream = TcpStream>
+        + Threads
+        + Wait
+        + Sync
+        + Eprint,
+{
+    let listeners = listen_at(rt, asked, address)?;
+    let made = make_threads(rt, opened, asked, listeners)?;
+    let origins = origins_of(rt.alloc(), asked)?;
+    let site = Site {
+        pages,
+        origins: origins.as_slice(),
+    };
+    let SetUp {
+        hub,
+        acceptor,
+        workers,
+    } = made;
+    serve_row(rt, opened, &hub, asked, site, acceptor, workers, watch)?;
+    Ok(hub.has_stopped())
+}
+
+/// Serves connections with the pads of a row.
+fn serve_row<'s, R>(
+    rt: &'s R,
+    opened: &'s Opened,
+    hub: &'s Hub,
+    asked: Settings<'_>,
+    site: Site<'s>,
+    acceptor: Acceptor,
+    workers: Vec<Worker>,
+    watch: Watch<'s>,
+) -> Result<(), ServingError<'static>>
+where
+    R: Runtime<A = Global, File = File>
+        + Net<Listener = TcpListener, Stream = TcpStream>
+        + Threads
+        + Wait
+        + Sync
+        + Eprint,
+{
+    let (cells, keeper) = (opened.cells.as_slice(), opened.keeper.as_ref());
+    let guard = Guard {
+        keeper,
+        stop: &opened.stop,
+    };
+    let groups = make_groups(rt, opened, asked.replica, guard)?;
+    let gate = PadGate::new(rt, &opened.exchange, keeper, hub);
+    let row = PadTable {
+        rt,
+        cells,
+        names: &opened.names,
+        replica: asked.replica,
+        accounts: &opened.accounts,
+        gate: &gate,
+    };
+    let settle = Settling::new(rt, keeper);
+    let service = Service {
+        row: &row,
+        hub,
+        limits: Limits {
+            connections: asked.connections,
+            clients: asked.clients,
+            per_address: asked.clients_per_address,
+            idle: asked.idle,
+        },
+        settle: &settle,
+        site,
+    };
+    let others = Others {
+        exchange: &opened.exchange,
+        groups,
+        guard,
+        watch,
+        end: &opened.end,
+    };
+    serve(&service, acceptor, workers, others)
+}
+
+/// The origins of the settings, which are separated by commas; without the option, none.
+fn origins_of(alloc: Global, asked: Settings<'_>) -> Result<Vec<String>, AllocError>
+    ensures { asked.entry.web_origins ≡ None → IfOk result (λ origins. origins.items ≡ []) }
+{
+    let mut origins = Vec::new(alloc);
+    if let Some(all) = asked.web_origins {
+        for origin in all.split(',') {
+            origins.push(String::from_str(alloc, origin.trim())?)?;
+        }
+    }
+    Ok(origins)
+}
+
+/// What the threads that serve no connection have: those that exchange with peers, and the one that watches the
+/// accounts file.
+#[derive(Drop)]
+struct Others<'a, R> {
+    exchange: &'a Exchange,
+    groups: Vec<Group<'a, R>>,
+    guard: Guard<'a>,
+    watch: Watch<'a>,
+    /// Rung when the server ends.
+    end: &'a Bell,
+}
+
+/// Exchanges with peers until the server ends. If the store fails meanwhile, the whole server is stopped.
+fn exchange_or_stop<'a, R>(
+    row: &PadTable<'a, BlockSeq, R, PadGate<'_, R>>,
+    exchange: &Exchange,
+    group: Group<'a, R>,
+    guard: Guard<'a>,
+    hub: &Hub,
+)
+where
+    R: AllocGlobal + Net<Listener = TcpListener, Stream = TcpStream> + Clock + Wait + Eprint,
+{
+    exchange_all(row, exchange, group, guard);
+    if guard.has_failed() {
+        hub.stop();
+    }
+}
+
+/// Ends the threads that help to sync files.
+fn end_help(guard: Guard<'_>) {
+    if let Some(keeper) = guard.keeper {
+        keeper.end_help();
+    }
+}
+
+/// Accepts connections in one thread, and serves them in the workers' threads. Others exchange with the peers, and once more after
+/// the last connection.
+fn serve<R>(
+    service: &Service<'_, BlockSeq, R, PadGate<'_, R>, Settling<'_, R>>,
+    acceptor: Acceptor,
+    mut workers: Vec<Worker>,
+    others: Others<'_, R>,
+) -> Result<(), ServingError<'static>>
+where
+    R: AllocGlobal
+        + Net<Listener = TcpListener, Stream = TcpStream>
+        + Clock
+        + Threads
+        + Wait
+        + Sync
+        + Eprint,
+{
+    let (row, hub, limits) = (service.row, service.hub, service.limits);
+    let rt = row.rt;
+    let Others {
+        exchange,
+        groups,
+        guard,
+        watch,
+        end,
+    } = others;
+    thread::scope(thread::scope_env(), rt, |scope| {
+        let mut threads = 0u64;
+        let mut is_whole = true;
+        if let Some(keeper) = guard.keeper {
+            for _ in 0..SYNCERS {
+                let _helps = scope.spawn(move || keeper.help(rt));
+            }
+        }
+        for group in groups {
+            match scope.spawn(move || exchange_or_stop(row, exchange, group, guard, hub)) {
+                Ok(_) => threads = threads.saturating_add(1),
+                Err(_) => is_whole = false,
+            }
+        }
+        let watching = scope.spawn(move || watch_accounts(rt, hub, watch, end));
+        let accepting = scope.spawn(move || accept_all(rt, acceptor, hub, limits));
+        if !is_whole || watching.is_err() || accepting.is_err() {
+            end.ring_last(rt);
+            hub.stop();
+            guard.end(rt);
+            exchange.ring(rt);
+            end_help(guard);
+            return Err(ServingError::NoThread);
+        }
+        serve_all(service, workers.as_mut_slice());
+        end.ring_last(rt);
+        if hub.has_stopped() {
+            guard.end(rt);
+        }
+        exchange.finish(rt, threads, guard);
+        end_help(guard);
+        Ok(())
+    })
+}

@@ -1,0 +1,107 @@
+//! What a server has open before it serves anyone.
+ghost use Rattle.std.specs.Prelude.{◌≤◌};
+ghost use Rattle.server_core.specs.declared.limits.TheConstants.{MAX_CELLS};
+
+use crate::serving_error::ServingError;
+use crate::settings::Settings;
+use crate::threads::seats_for;
+use accounts_file::{read_accounts, warn_of_tokens};
+use block_seq::BlockSeq;
+use conversation::{Names, open_row};
+use pad_model::Refusal;
+use peering::{Bell, Exchange, Stop};
+use sessions::Accounts;
+use shared_pads::SharedPad;
+use std::alloc::Global;
+use std::fs::File;
+use std::rt::Runtime;
+use std::sync::Wait;
+use std::thread::Threads;
+use store_files::{Keeper, Owner, Size, Stored, restore};
+
+/// The pads of a server, their revisions, their keeper and the accounts that may use them.
+#[derive(Drop)]
+pub struct Opened {
+    pub cells: Vec<SharedPad<BlockSeq>>,
+    pub names: Names,
+    pub revisions: Vec<u64>,
+    pub keeper: Option<Keeper>,
+    pub accounts: Accounts,
+    /// What the threads that exchange with peers share, and the means to stop them.
+    pub exchange: Exchange,
+    pub stop: Stop,
+    /// Rung when the server ends.
+    pub end: Bell,
+}
+
+impl Opened {
+    /// Whether the store has failed, if there is one.
+    pub fn has_failed(&self) -> bool {
+        match &self.keeper {
+            Some(keeper) => keeper.has_failed(),
+            None => false,
+        }
+    }
+}
+
+/// The pads of the command line's store, or empty ones without it, and the accounts of a file, with the file's bytes.
+pub fn open_pads<'a, R>(
+    rt: &R,
+    files: HostRuntime,
+    asked: Settings<'a>,
+    path: &'a str,
+) -> Result<(Opened, Vec<u8>), ServingError<'a>>
+where
+    R: Runtime<A = Global, File = File> + Threads + Wait + Eprint + Sync,
+    requires { (1 ≤ asked.replica) × (asked.cells ≤ MAX_CELLS) }
+{
+    let (accounts, bytes) = read_accounts(rt, path)?;
+    warn_of_tokens(rt, path, bytes.as_slice());
+    let size = Size {
+        cells: asked.cells,
+        seats: seats_for(rt, asked, accounts.peers().len()),
+    };
+    let Some(folder) = asked.store else {
+        let cells = open_row(
+            rt.alloc(),
+            asked.replica,
+            asked.present,
+            size.cells,
+            size.seats,
+        )?;
+        let mut revisions = Vec::new(rt.alloc());
+        revisions.resize(cells.len(), 0)?;
+        let opened = open_row_of(rt, cells, revisions, None, accounts)?;
+        return Ok((opened, bytes));
+    };
+    let owner = Owner::new(asked.replica, asked.new_replica, asked.present);
+    let Stored {
+        cells,
+        revisions,
+        keeper,
+    } = restore(rt, files, folder, &owner, size)?;
+    let opened = open_row_of(rt, cells, revisions, Some(keeper), accounts)?;
+    Ok((opened, bytes))
+}
+
+// What a server with this row has open.
+fn open_row_of<R: AllocGlobal + Wait>(
+    rt: &R,
+    cells: Vec<SharedPad<BlockSeq>>,
+    revisions: Vec<u64>,
+    keeper: Option<Keeper>,
+    accounts: Accounts,
+) -> Result<Opened, Refusal> {
+    let alloc = rt.alloc();
+    let peers = accounts.peers().len();
+    Ok(Opened {
+        names: Names::fill(rt, alloc, cells.as_slice())?,
+        exchange: Exchange::new(alloc, peers, cells.len())?,
+        stop: Stop::new(alloc, peers)?,
+        end: Bell::new(alloc, 0)?,
+        cells,
+        revisions,
+        keeper,
+        accounts,
+    })
+}

@@ -1,4 +1,4 @@
-//! What came and went in a text since a revision, as `crates/slides` keeps it.
+//! What came and went in a text since a revision, as `crates/text_history` keeps it.
 use crate::index::Stamp;
 
 #[derive(Clone, Copy)]

@@ -50,11 +50,11 @@ const REQUESTS: &[(&str, &str)] = &[
     ),
     (
         r#"{"do":"edit","pad":"p","rev":1,"parts":[{"at":1,"len":3},{"at":4,"text":"e"}]}"#,
-        r#"On { pad: Name { text: "p" }, act: Edit { rev: 1, changes: Row { items: [Delete { at: 1, len: 3 }, Insert { at: 4, text: Text { characters: ['e'] } }] } } }"#,
+        r#"On { pad: Name { text: "p" }, act: Edit { rev: 1, changes: Items { items: [Delete { at: 1, len: 3 }, Insert { at: 4, text: Text { characters: ['e'] } }] } } }"#,
     ),
     (
         r#"{"do":"edit","pad":"p","rev":1,"parts":[]}"#,
-        r#"On { pad: Name { text: "p" }, act: Edit { rev: 1, changes: Row { items: [] } } }"#,
+        r#"On { pad: Name { text: "p" }, act: Edit { rev: 1, changes: Items { items: [] } } }"#,
     ),
     (
         r#"{"do":"text","pad":"p"}"#,

@@ -1,6 +1,6 @@
 // The card of a comment with the replies to it, or of a suggestion.
 import { named } from "./authors.js";
-import { suggestionIn } from "./client/threads.js";
+import { suggestionIn } from "../clients/js/src/threads.js";
 import { colourOf } from "./colours.js";
 import { element, wordsOf } from "./page.js";
 import { proposalOf } from "./suggesting.js";

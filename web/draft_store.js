@@ -1,7 +1,7 @@
-// Where the browser keeps drafts (client/drafts.js) and the last texts of pads: its IndexedDB. A note belongs to a window; one whose
-// window is gone, or that a window has released, can be taken by another one.
-import { Taken } from "./client/errors.js";
-import { pause } from "./client/clock.js";
+// Where the browser keeps drafts (drafts.js of the library) and the last texts of pads: its IndexedDB. A note belongs to a
+// window; one whose window is gone, or that a window has released, can be taken by another one.
+import { Taken } from "../clients/js/src/errors.js";
+import { pause } from "../clients/js/src/clock.js";
 
 const NAME = "pads", NOTES = "notes", TEXTS = "texts", MOST = 30;
 // How long other windows are waited for, where the browser has no locks.

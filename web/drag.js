@@ -1,7 +1,7 @@
 // Dragging. Selected words that are dropped elsewhere in the text move there, or come there as well if Ctrl is held; words
 // from outside are inserted.
 import { plainText, placeAt } from "./input.js";
-import { edgeBefore } from "./client/units.js";
+import { edgeBefore } from "../clients/js/src/units.js";
 
 export class Drag {
   constructor(editor) {

@@ -2,12 +2,12 @@
 // draws the lines that this changes. Only input methods write into the document themselves: the lines that they write into
 // are lent to the browser, and read. What others do in other lines is drawn meanwhile. What they do in the lent lines waits
 // until the input method ends or rests.
-import { add, apply, compose, extent, isEmpty, move, snapped, splice, transform, typed } from "./client/delta.js";
+import { add, apply, compose, extent, isEmpty, move, snapped, splice, transform, typed } from "../clients/js/src/delta.js";
 import { Drag } from "./drag.js";
 import { insertedBy, isComposing, isDeleting } from "./input.js";
 import { letterOf } from "./keys.js";
 import { Lines } from "./lines.js";
-import { edgeAfter, edgeBefore } from "./client/units.js";
+import { edgeAfter, edgeBefore } from "../clients/js/src/units.js";
 import { enter, once, tab } from "./writing.js";
 
 // An input method that does nothing for this long makes room for what others did in its lines.

@@ -2,7 +2,7 @@
 import { named, setOrigin } from "./authors.js";
 import { PadList } from "./pad_list.js";
 import { $, fill, say } from "./page.js";
-import { Lost, Superseded, Unsaved } from "./client/errors.js";
+import { Lost, Superseded, Unsaved } from "../clients/js/src/errors.js";
 import { forget } from "./storage.js";
 import { begin, offerTemplates, templateText } from "./templates.js";
 import { WORDS, refusal } from "./words.js";

@@ -6,10 +6,10 @@ import { KeptPads, LogInAgain } from "./kept_pads.js";
 import { KeysBox } from "./keys_box.js";
 import { offerLanguages } from "./language.js";
 import { $, label } from "./page.js";
-import { LostRevisions, Taken } from "./client/errors.js";
-import { Session } from "./client/session.js";
+import { LostRevisions, Taken } from "../clients/js/src/errors.js";
+import { Session } from "../clients/js/src/session.js";
 import { tellIfUnproved } from "./unproved.js";
-import { webSocket } from "./client/wire.js";
+import { webSocket } from "../clients/js/src/wire.js";
 import { WORDS } from "./words.js";
 
 label();

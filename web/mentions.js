@@ -1,6 +1,6 @@
 // Comments that address an author by @NAME, and that this browser has not shown to that author yet.
-import { SEEN } from "./client/history.js";
-import { addressed } from "./client/threads.js";
+import { SEEN } from "../clients/js/src/history.js";
+import { addressed } from "../clients/js/src/threads.js";
 import { storage } from "./storage.js";
 
 export class Mentions {

@@ -1,12 +1,12 @@
 // The slider: earlier revisions, who made them and when this page saw them, what differs between two of them, and the way
 // back to one.
 import { named } from "./authors.js";
-import { placed } from "./client/comments.js";
+import { placed } from "../clients/js/src/comments.js";
 import { reason } from "./enter.js";
-import { History } from "./client/history.js";
+import { History } from "../clients/js/src/history.js";
 import { Lines } from "./lines.js";
 import { $, say } from "./page.js";
-import { pause } from "./client/clock.js";
+import { pause } from "../clients/js/src/clock.js";
 import { storage } from "./storage.js";
 import { timeOf } from "./times.js";
 import { LABELS, WORDS } from "./words.js";

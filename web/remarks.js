@@ -1,7 +1,7 @@
 // The comments of the open pad: which are seen, where they are marked in the text, and the dialog in which one is written.
 import { named } from "./authors.js";
-import { accept } from "./client/suggestions.js";
-import { reply, threadsOf } from "./client/threads.js";
+import { accept } from "../clients/js/src/suggestions.js";
+import { reply, threadsOf } from "../clients/js/src/threads.js";
 import { reason } from "./enter.js";
 import { Margin } from "./margin.js";
 import { Mentions } from "./mentions.js";

@@ -1,7 +1,7 @@
 // Steps of the author's own: undo and redo, a revision that is restored, a suggestion that is accepted.
 import { named } from "./authors.js";
-import { extent } from "./client/delta.js";
-import { stepped } from "./client/suggestions.js";
+import { extent } from "../clients/js/src/delta.js";
+import { stepped } from "../clients/js/src/suggestions.js";
 import { $ } from "./page.js";
 import { WORDS } from "./words.js";
 

@@ -1,6 +1,6 @@
 // What the browser keeps for the page from one visit to the next: the times at which it saw revisions. An author can have
 // blocked that, and then merely to name localStorage is an error. So nothing is kept, and all else goes on.
-import { SEEN } from "./client/history.js";
+import { SEEN } from "../clients/js/src/history.js";
 
 const BLOCKED = { getItem: () => null, setItem: () => {}, removeItem: () => {} };
 

@@ -1,6 +1,6 @@
 // The box beside the text in which other words are suggested: it opens with the first key in the mode for it, and what is written
 // in it is shown in the text at once.
-import { suggestion } from "./client/threads.js";
+import { suggestion } from "../clients/js/src/threads.js";
 import { $, say } from "./page.js";
 import { proposalOf, stretchFor } from "./suggesting.js";
 import { WORDS } from "./words.js";

@@ -1,6 +1,6 @@
 // What a key, a paste or a deletion says in the mode in which it is a suggestion: other words for a stretch of the text.
-import { common } from "./client/suggestions.js";
-import { suggestionIn } from "./client/threads.js";
+import { common } from "../clients/js/src/suggestions.js";
+import { suggestionIn } from "../clients/js/src/threads.js";
 
 const WORD = /[\p{L}\p{N}\p{M}'’_:.-]/u, LONGEST = 60;
 

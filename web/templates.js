@@ -1,6 +1,6 @@
 // What a new pad begins with: nothing, an agenda, minutes, or the text of a pad whose name begins with `template-`.
 import { named } from "./authors.js";
-import { splice } from "./client/delta.js";
+import { splice } from "../clients/js/src/delta.js";
 import { $, element } from "./page.js";
 import { TEMPLATE } from "./pad_list.js";
 import { dayOf } from "./times.js";

@@ -1,4 +1,4 @@
-// Serves web/ as it is on disk, and passes each message of a WebSocket on to a server over TCP as a line, and back:
+// Serves web/ and the library as they are on disk, and passes each message of a WebSocket on to a server over TCP as a line, and back:
 //
 //     node tests/web/dev.mjs PORT SERVER_PORT [FOLDER]
 //
@@ -11,7 +11,8 @@ import path from "node:path";
 import { fileURLToPath } from "node:url";
 
 const [port, serverPort, folder] = process.argv.slice(2);
-const WEB = path.join(path.dirname(fileURLToPath(import.meta.url)), "..", "..", "web");
+const TOP = path.join(path.dirname(fileURLToPath(import.meta.url)), "..", "..");
+const WEB = path.join(TOP, "web"), LIBRARY = "clients/js/src";
 const KINDS = { ".html": "text/html", ".js": "text/javascript", ".css": "text/css", ".svg": "image/svg+xml" };
 const HEADERS = {
   "content-security-policy": "default-src 'none'; script-src 'self'; style-src 'self'; img-src 'self'; connect-src 'self'; base-uri 'none'; form-action 'none'; frame-ancestors 'none'",
@@ -23,13 +24,14 @@ const tagOf = (data) => `"${createHash("sha256").update(data).digest("hex").slic
 // The list of files for the service worker, as tests/pages writes it.
 function list() {
   const names = fs.readdirSync(WEB, { recursive: true }).map(String).filter((name) => KINDS[path.extname(name)] && name !== "sw.js");
-  const files = [...names, ...fs.readdirSync(path.join(WEB, "client")).map((name) => `client/${name}`)];
-  return [...new Set(files)].map((name) => `${tagOf(fs.readFileSync(fileOf(name)))} /${name === "index.html" ? "" : name}\n`).join("");
+  const files = [...names, ...fs.readdirSync(path.join(TOP, LIBRARY)).map((name) => `${LIBRARY}/${name}`)];
+  return files.map((name) => `${tagOf(fs.readFileSync(fileOf(name)))} /${name === "index.html" ? "" : name}\n`).join("");
 }
 
 function fileOf(name) {
   const own = folder && path.join(folder, name);
-  return own && fs.existsSync(own) ? own : path.join(WEB, name);
+  if (own && fs.existsSync(own)) return own;
+  return path.join(name.replace(/^\//, "").startsWith(LIBRARY) ? TOP : WEB, name);
 }
 
 const server = http.createServer((request, response) => {

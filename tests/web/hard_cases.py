@@ -74,8 +74,9 @@ def lost_pad(test):
 
 def full_pad(test, folder):
     """A page that believes in smaller limits."""
-    os.mkdir(os.path.join(folder, "client"))
-    with open(os.path.join(folder, "client", "limits.js"), "w", encoding="utf-8") as file:
+    library = os.path.join(folder, "clients", "js", "src")
+    os.makedirs(library)
+    with open(os.path.join(library, "limits.js"), "w", encoding="utf-8") as file:
         file.write("export const LIMITS = { operations: 40, characters: 4e6, comments: 1e4, edit: 1e4, parts: 16, comment: 2e3, entries: 100 };\n")
     ann, check = test.ann, test.check
     changed = ChangedPage(test.server, folder)

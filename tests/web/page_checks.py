@@ -50,7 +50,7 @@ return seen.words > 5 ? out : ['only ' + seen.words];
 LINES = """
 const done = arguments[0];
 (async () => {
-  const { Lines } = await import('/lines.js'), { splice, compose, apply, applyRuns, move } = await import('/client/delta.js');
+  const { Lines } = await import('/lines.js'), { splice, compose, apply, applyRuns, move } = await import('/clients/js/src/delta.js');
   let state = 7;
   const dice = (sides) => { state = (Math.imul(state, 1664525) + 1013904223) >>> 0; return Math.floor((state >>> 4) / 268435456 * sides); };
   const moved = (marks, delta) => marks.map((mark) => {

@@ -17,7 +17,8 @@ import { count, deltaOf, partsOf, unit } from "../../clients/js/src/units.js";
 import { LABELS, LANGUAGES, REFUSALS, WORDS, speak, spoken } from "../../web/words.js";
 import { dice as makeDice } from "./dice.mjs";
 
-const WEB = path.join(path.dirname(fileURLToPath(import.meta.url)), "..", "..", "web");
+const TOP = path.join(path.dirname(fileURLToPath(import.meta.url)), "..", "..");
+const WEB = path.join(TOP, "web"), LIBRARY = "clients/js/src";
 let passed = 0, failed = 0;
 
 function tell(name, have, want) {
@@ -163,7 +164,9 @@ function keys() {
   tell("a shortcut's letter is what a Latin key types, or else its place", letters.map(([key, code]) => letterOf({ key, code })), ["z", ";", "z", "z", "z", "z", "enter"]);
 }
 
-// The files of the page, with those of the library behind its link.
+// The files of the page by their paths on a server: its own, and those of the library.
+const pageFiles = () => [...filesOf(WEB), ...filesOf(path.join(TOP, LIBRARY)).map((name) => `${LIBRARY}/${name}`)];
+
 function filesOf(folder) {
   return fs.readdirSync(folder).flatMap((name) => {
     const here = path.join(folder, name);
@@ -179,7 +182,7 @@ function modules() {
   const html = fs.readFileSync(path.join(WEB, "index.html"), "utf8");
   const named = [...html.matchAll(/<link rel="modulepreload" href="\/([\w/]+\.js)">/g)].map(([, name]) => name);
   const main = html.match(/<script type="module" src="\/(\w+\.js)">/)[1];
-  tell("all modules are loaded at once", [main, ...named].sort(), filesOf(WEB).filter((name) => name.endsWith(".js") && !LATER.test(name)).sort());
+  tell("all modules are loaded at once", [main, ...named].sort(), pageFiles().filter((name) => name.endsWith(".js") && !LATER.test(name)).sort());
 }
 
 // Colours depend on who the authors are, whatever happened before.
@@ -208,7 +211,7 @@ const LISTS = ["LABELS", "RIGHTS", "WORDS", "REFUSALS", "TEMPLATES"];
 
 // What the modules and index.html say comes from a language's file, and nothing in it is left over.
 function words() {
-  const isOwn = (name) => /\.(js|html)$/.test(name) && !/^(languages|vendor|client)\/|^words\.js$/.test(name);
+  const isOwn = (name) => /\.(js|html)$/.test(name) && !/^(languages|vendor)\/|^words\.js$/.test(name);
   const read = (name) => fs.readFileSync(path.join(WEB, name), "utf8"), files = filesOf(WEB).filter(isOwn).map(read).join("\n");
   const named = [...files.matchAll(/data-(?:text|label|hint|place)="(\w+)"/g), ...files.matchAll(/LABELS\.(\w+)/g)].map(([, key]) => key);
   const listed = [...`${read("keys_box.js")}${read("templates.js")}`.matchAll(/"(\w+)"/g)].map(([, key]) => key);

@@ -1,5 +1,5 @@
 // Places of minutes in the text of the pad.
-import { move } from "../client/delta.js";
+import { move } from "../../clients/js/src/delta.js";
 
 const BOX = /^\[[ xX]\]/;
 

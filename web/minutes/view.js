@@ -1,5 +1,5 @@
 // The text of the pad as minutes: drawn by a worker's answers, a moment after the text has changed, block by block.
-import { compose } from "../client/delta.js";
+import { compose } from "../../clients/js/src/delta.js";
 import { boxAt } from "./places.js";
 
 // Milliseconds after a change until minutes are made, or so many times what the last ones took; and until the worker is given up.

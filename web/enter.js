@@ -1,6 +1,7 @@
 // The way in: log in, then choose a pad or create one.
 import { named, setOrigin } from "./authors.js";
 import { PadList } from "./pad_list.js";
+import { PadSearch } from "./pad_search.js";
 import { $, fill, say } from "./page.js";
 import { Lost, Superseded, Unsaved } from "../clients/js/src/errors.js";
 import { forget } from "./storage.js";
@@ -20,11 +21,14 @@ export function reason(error) {
 }
 
 export class Enter {
-  // `onPad` is called once a pad is open, and `onLeave` closes it. `onRefused` gets the name of a pad that is not opened though
+  // `onPad` is called once a pad is open, with what was found in it, and `onLeave` closes it. `onRefused` gets the name of a pad that is not opened though
   // something of it was not sent.
   constructor(session, kept, { onPad, onLeave, onRefused, onLogOut }) {
     Object.assign(this, { session, kept, onPad, onLeave, onRefused, onLogOut, wasLost: false, isLoggingIn: false });
-    this.list = new PadList((name) => this.enter("join", name));
+    this.list = new PadList(session, (name) => this.enter("join", name));
+    this.search = new PadSearch(session, this.list, {
+      onOpen: (name, found) => this.enter("join", name, "", found), onFault: (error) => say($("open-error"), reason(error)),
+    });
     $("log-in").addEventListener("submit", (event) => { event.preventDefault(); this.logIn(); });
     $("open").addEventListener("submit", (event) => { event.preventDefault(); this.enter("join", $("pad").value); });
     $("create").addEventListener("click", () => { if ($("open").reportValidity()) this.create($("pad").value); });
@@ -124,9 +128,10 @@ export class Enter {
     await this.enter("create", name, text);
   }
 
-  // Where several pads are asked for, the last one is opened.
-  async enter(how, name, text = "") {
+  // Where several pads are asked for, the last one is opened. `found` is what was found in its text, and is shown.
+  async enter(how, name, text = "", found = null) {
     say($("open-error"), "");
+    this.list.stop();
     if (this.session.pad && !this.session.entering && !(await this.onLeave())) return;
     try { await this.session[how](name); } catch (error) {
       if (error instanceof Superseded) return;
@@ -135,6 +140,7 @@ export class Enter {
       return;
     }
     begin(this.session, text);
-    this.onPad();
+    this.search.stop();
+    this.onPad(found);
   }
 }

@@ -1,6 +1,5 @@
 // The bar that finds words in the text that is shown, or in an earlier revision, and replaces them. The browser's own find works
-// beside it. (A search in the texts of all pads would be a request to the server, and a list of places like `found`: the bar knows
-// its text by `source` alone.)
+// beside it.
 import { findAll, indexFrom } from "./finding.js";
 import { $, gather, say } from "./page.js";
 import { WORDS } from "./words.js";
@@ -42,6 +41,15 @@ export class FindBar {
       $("find-words").select();
       this.search(this.place);
     } else if (wasOpen) this.close();
+  }
+
+  // Finds these words, at this place of the text.
+  show({ words, at }) {
+    this.open(true);
+    $("find-words").value = words;
+    $("find-exact").checked = false;
+    this.search(at);
+    this.reveal();
   }
 
   // The words that were found last are selected in the text.

@@ -18,7 +18,7 @@ const store = new DraftStore();
 const session = new Session({ store, open: webSocket(`${location.protocol === "https:" ? "wss" : "ws"}://${location.host}/socket`) });
 const kept = new KeptPads(session, store, { onPad: () => desk.open() });
 const enter = new Enter(session, kept, {
-  onPad: () => desk.open(), onLeave: () => desk.close(), onRefused: (name) => desk.notOpened(name),
+  onPad: (found) => { desk.open(); if (found) desk.find.show(found); }, onLeave: () => desk.close(), onRefused: (name) => desk.notOpened(name),
   onLogOut: (text) => desk.notice.show(text, { canLogOut: true }),
 });
 const desk = new Desk(session, { onClose: () => enter.show(), onLogOut: () => enter.logOut(true) });

@@ -1,45 +1,71 @@
 // The list of pads: the author's own and those that others share, the last used on this device first, with a search by name.
+import { named } from "./authors.js";
+import { glance } from "./glance.js";
 import { timeOf } from "./times.js";
 import { $, element, say } from "./page.js";
 import { WORDS } from "./words.js";
 
 export const TEMPLATE = /^template-./;
+// Of so many pads the last change is asked for.
+const MOST_ASKED = 100;
 
 export class PadList {
   // `onOpen` gets the name of a pad.
-  constructor(onOpen) {
-    Object.assign(this, { onOpen, pads: [] });
+  constructor(session, onOpen) {
+    Object.assign(this, { session, onOpen, pads: [], lines: new Map(), last: new Map(), asks: 0 });
     $("pads-search").addEventListener("input", () => this.draw());
-    $("pads-search").addEventListener("keydown", (event) => {
-      if (event.key !== "Enter") return;
-      event.preventDefault();
-      $("pads").querySelector("button")?.click();
-    });
   }
 
   // `pads` are { name, right, now, isUnsent, keptAt }: `keptAt` is when this browser has shown it last, or 0.
   show(pads) {
     this.pads = pads.map((pad, order) => ({ ...pad, order })).sort((a, b) => b.keptAt - a.keptAt || b.order - a.order);
     $("no-pads").hidden = pads.length > 0;
-    $("pads-search").hidden = pads.length < 2;
+    $("search").hidden = !pads.length;
     this.draw();
+    this.askLast();
   }
 
+  get words() { return $("pads-search").value.trim(); }
+  get found() { return this.pads.filter(({ name }) => name.includes(this.words.toLowerCase())); }
+
   draw() {
-    const words = $("pads-search").value.trim().toLowerCase(), found = this.pads.filter(({ name }) => name.includes(words));
-    const groups = [["own", found.filter(({ right }) => right === "own")], ["shared", found.filter(({ right }) => right !== "own")]];
+    const { found } = this, groups = [["own", found.filter(({ right }) => right === "own")], ["shared", found.filter(({ right }) => right !== "own")]];
+    this.lines.clear();
     for (const [group, pads] of groups) {
       $(`pads-${group}`).hidden = !pads.length;
       $(`pads-${group}`).querySelector("ul").replaceChildren(...pads.map((pad) => this.row(pad)));
     }
-    say($("pads-found"), words ? WORDS.padsFound(found.length) : "");
+    say($("pads-found"), this.words ? WORDS.padsFound(found.length) : "");
   }
 
-  // The server tells the revision of a pad, and not when it changed last.
-  row({ name, right, now, isUnsent, keptAt }) {
-    const said = element("span", { textContent: WORDS.padLine(right, now, keptAt ? timeOf(keptAt) : "", isUnsent) });
-    const button = element("button", { type: "button" }, element("b", { textContent: name }), said);
-    button.addEventListener("click", () => this.onOpen(name));
+  row(pad) {
+    const said = element("span", { textContent: this.lineOf(pad) });
+    const button = element("button", { type: "button" }, element("b", { textContent: pad.name }), said);
+    button.addEventListener("click", () => this.onOpen(pad.name));
+    this.lines.set(pad.name, said);
     return element("li", {}, button);
   }
+
+  lineOf({ name, right, now, isUnsent, keptAt }) {
+    const { rev, kind, author } = this.last.get(name) ?? {};
+    return WORDS.padLine(right, now, rev === now ? WORDS.madeBy(kind, named(author)) : "", keptAt ? timeOf(keptAt) : "", isUnsent);
+  }
+
+  // Who changed each pad last. The list of the server has only the number of changes, so each pad is asked, one behind the
+  // other, until one is opened. The lines are written anew one by one, since a button may have the keyboard.
+  async askLast() {
+    const asks = ++this.asks, { session } = this;
+    for (const pad of this.pads.slice(0, MOST_ASKED)) {
+      const { name, now } = pad;
+      if (!now || this.last.get(name)?.rev === now) continue;
+      try {
+        const { entries: [entry] } = await glance(session, name, { do: "entries", from: now, count: 1 });
+        if (entry) this.last.set(name, entry);
+      } catch (error) { if (!error.reply) return; } // a pad that cannot be visited is passed over
+      if (asks !== this.asks) return;
+      if (this.lines.has(name)) say(this.lines.get(name), this.lineOf(pad));
+    }
+  }
+
+  stop() { this.asks++; }
 }

@@ -1,6 +1,7 @@
 // What a new pad begins with: nothing, an agenda, minutes, or the text of a pad whose name begins with `template-`.
 import { named } from "./authors.js";
 import { splice } from "../clients/js/src/delta.js";
+import { glance } from "./glance.js";
 import { $, element } from "./page.js";
 import { TEMPLATE } from "./pad_list.js";
 import { dayOf } from "./times.js";
@@ -18,15 +19,11 @@ export function offerTemplates(pads) {
   if ([...select.options].some(({ value }) => value === chosen)) select.value = chosen;
 }
 
-// The text of the template that is chosen. A pad is read in a visit of its own.
+// The text of the template that is chosen.
 export async function templateText(session) {
   const { value } = $("template");
   if (!value.startsWith("#")) return TEMPLATES[value]?.(dayOf(Date.now()), named(session.me)) ?? "";
-  const pad = value.slice(1);
-  await session.call({ do: "join", pad });
-  const { text } = await session.call({ do: "text", pad });
-  await session.call({ do: "leave", pad });
-  return text;
+  return (await glance(session, value.slice(1), { do: "text" })).text;
 }
 
 // The new pad has this text, as its author's.

@@ -14,6 +14,7 @@ import { History, merged } from "../../clients/js/src/history.js";
 import { letterOf } from "../../web/keys.js";
 import { Undo } from "../../clients/js/src/undo.js";
 import { count, deltaOf, partsOf, unit } from "../../clients/js/src/units.js";
+import { linesWith } from "../../web/pad_search.js";
 import { LABELS, LANGUAGES, REFUSALS, WORDS, speak, spoken } from "../../web/words.js";
 import { dice as makeDice } from "./dice.mjs";
 
@@ -174,6 +175,17 @@ function filesOf(folder) {
   });
 }
 
+// A search in the texts of all pads finds lines, each once.
+function linesFound() {
+  const text = "One crane\n\nno match\nCRANE and crane\n" + `${"long ".repeat(30)}crane ${"end ".repeat(60)}`;
+  const found = linesWith(text, "crane");
+  tell("lines are found, each once, with their numbers", found.map(({ number, from }) => [number, from]), [[1, 4], [4, 20], [5, 186]]);
+  tell("the words of a line have what was found at its place", found.map(({ from, to, start, words }) => words.slice(from - start, to - start)), ["crane", "CRANE", "crane"]);
+  tell("of a long line, the part around it is told", found[2].words.length, 160);
+  tell("so many lines at most", linesWith("a\n".repeat(50), "a", 3).map(({ number }) => number), [1, 2, 3]);
+  tell("nothing is found where nothing is asked for", linesWith(text, ""), []);
+}
+
 // Every module is named in the document, so that a browser fetches all of them at once, and not one behind the other.
 // What workers load, and what a page loads only if it needs it.
 const LATER = /^(sw\.js|vendor\/.*|languages\/.*|minutes\/(rules|worker)\.js)$/;
@@ -273,6 +285,7 @@ await history();
 exported();
 exportedFromTwoServers();
 keys();
+linesFound();
 modules();
 colours();
 words();

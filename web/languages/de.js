@@ -9,7 +9,7 @@ export const LABELS = {
   pads: "Ihre Pads", noPads: "Sie haben noch keine Pads. Legen Sie eines an, oder bitten Sie um ein Recht an einem anderen.",
   openOrCreate: "Öffnen oder anlegen", open: "Öffnen", create: "Anlegen",
   template: "Ein neues Pad beginnt mit", blank: "nichts", agenda: "einer Tagesordnung", minutesTemplate: "einem Protokoll",
-  padsSearch: "Nach Namen suchen", padsOwn: "Eigene", padsShared: "Mit Ihnen geteilt", language: "Sprache",
+  padsSearch: "In Ihren Pads suchen", searchTexts: "In den Texten suchen", padsOwn: "Eigene", padsShared: "Mit Ihnen geteilt", language: "Sprache",
   nameRule: "1 bis 32 Kleinbuchstaben a–z, Ziffern oder Bindestriche, keine Leerzeichen",
   pad: "Pad", text: "Text des Pads", past: "Text einer früheren Revision", here: "Jetzt hier", authors: "Autoren",
   tools: "Menü",
@@ -56,10 +56,13 @@ export const WORDS = {
   unnamed: "Vindrughe",
   title: (pad) => `${pad} – Vindrughe`,
   loggedIn: (me) => `Angemeldet als ${me}`,
-  padLine: (right, revisions, time, isUnsent) => (
-    [RIGHTS[right], plural(revisions, "Revision", "Revisionen"), time && `hier gesehen ${time}`, isUnsent && "Änderungen noch nicht gesendet"].filter(Boolean).join(" · ")
+  padLine: (right, revisions, last, time, isUnsent) => (
+    [RIGHTS[right], plural(revisions, "Revision", "Revisionen"), last && `zuletzt: ${last}`, time && `hier gesehen ${time}`, isUnsent && "Änderungen noch nicht gesendet"].filter(Boolean).join(" · ")
   ),
   padsFound: (n) => plural(n, "Pad gefunden", "Pads gefunden"),
+  searching: "Es wird gesucht …",
+  linesFound: (n) => plural(n, "Zeile gefunden", "Zeilen gefunden"),
+  lineNumber: (n) => `Zeile ${number(n)}`,
   key: (name) => KEYS[name] ?? name,
   wrote: (who) => `${who} hat geschrieben.`,
   commentsButton: (n) => `Kommentare (${number(n)})`,

@@ -12,7 +12,7 @@ export const LABELS = {
   pads: "Your pads", noPads: "You have no pads yet. Create one, or ask for a right on another.",
   openOrCreate: "Open or create", open: "Open", create: "Create",
   template: "A new pad begins with", blank: "nothing", agenda: "an agenda", minutesTemplate: "minutes",
-  padsSearch: "Search by name", padsOwn: "Your own", padsShared: "Shared with you", language: "Language",
+  padsSearch: "Search your pads", searchTexts: "Search in the texts", padsOwn: "Your own", padsShared: "Shared with you", language: "Language",
   nameRule: "1 to 32 lowercase letters a–z, digits or hyphens, no spaces",
   pad: "Pad", text: "Text of the pad", past: "Text of an earlier revision", here: "Here now", authors: "Authors",
   tools: "Menu",
@@ -58,10 +58,13 @@ export const WORDS = {
   unnamed: "Vindrughe",
   title: (pad) => `${pad} – Vindrughe`,
   loggedIn: (me) => `Logged in as ${me}`,
-  padLine: (right, revisions, time, isUnsent) => (
-    [RIGHTS[right], plural(revisions, "revision", "revisions"), time && `seen here ${time}`, isUnsent && "changes not sent yet"].filter(Boolean).join(" · ")
+  padLine: (right, revisions, last, time, isUnsent) => (
+    [RIGHTS[right], plural(revisions, "revision", "revisions"), last && `last: ${last}`, time && `seen here ${time}`, isUnsent && "changes not sent yet"].filter(Boolean).join(" · ")
   ),
   padsFound: (n) => plural(n, "pad found", "pads found"),
+  searching: "Searching…",
+  linesFound: (n) => plural(n, "line found", "lines found"),
+  lineNumber: (n) => `Line ${number(n)}`,
   key: (name) => name,
   wrote: (who) => `${who} wrote.`,
   commentsButton: (n) => `Comments (${number(n)})`,

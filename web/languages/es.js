@@ -9,7 +9,7 @@ export const LABELS = {
   pads: "Sus pads", noPads: "Todavía no tiene pads. Cree uno, o pida un permiso sobre otro.",
   openOrCreate: "Abrir o crear", open: "Abrir", create: "Crear",
   template: "Un pad nuevo empieza con", blank: "nada", agenda: "un orden del día", minutesTemplate: "un acta",
-  padsSearch: "Buscar por nombre", padsOwn: "Propios", padsShared: "Compartidos con usted", language: "Idioma",
+  padsSearch: "Buscar en sus pads", searchTexts: "Buscar en los textos", padsOwn: "Propios", padsShared: "Compartidos con usted", language: "Idioma",
   nameRule: "De 1 a 32 letras minúsculas a–z, cifras o guiones, sin espacios",
   pad: "Pad", text: "Texto del pad", past: "Texto de una revisión anterior", here: "Presentes", authors: "Autores",
   tools: "Menú",
@@ -56,10 +56,13 @@ export const WORDS = {
   unnamed: "Vindrughe",
   title: (pad) => `${pad} – Vindrughe`,
   loggedIn: (me) => `Ha entrado como ${me}`,
-  padLine: (right, revisions, time, isUnsent) => (
-    [RIGHTS[right], plural(revisions, "revisión", "revisiones"), time && `visto aquí ${time}`, isUnsent && "cambios sin enviar"].filter(Boolean).join(" · ")
+  padLine: (right, revisions, last, time, isUnsent) => (
+    [RIGHTS[right], plural(revisions, "revisión", "revisiones"), last && `lo último: ${last}`, time && `visto aquí ${time}`, isUnsent && "cambios sin enviar"].filter(Boolean).join(" · ")
   ),
   padsFound: (n) => plural(n, "pad encontrado", "pads encontrados"),
+  searching: "Buscando…",
+  linesFound: (n) => plural(n, "línea encontrada", "líneas encontradas"),
+  lineNumber: (n) => `Línea ${number(n)}`,
   key: (name) => KEYS[name] ?? name,
   wrote: (who) => `${who} ha escrito.`,
   commentsButton: (n) => `Comentarios (${number(n)})`,

@@ -9,7 +9,7 @@ export const LABELS = {
   pads: "Vos pads", noPads: "Vous n'avez pas encore de pad. Créez-en un, ou demandez un droit sur un autre.",
   openOrCreate: "Ouvrir ou créer", open: "Ouvrir", create: "Créer",
   template: "Un nouveau pad commence par", blank: "rien", agenda: "un ordre du jour", minutesTemplate: "un compte rendu",
-  padsSearch: "Chercher par nom", padsOwn: "Les vôtres", padsShared: "Partagés avec vous", language: "Langue",
+  padsSearch: "Chercher dans vos pads", searchTexts: "Chercher dans les textes", padsOwn: "Les vôtres", padsShared: "Partagés avec vous", language: "Langue",
   nameRule: "1 à 32 lettres minuscules a–z, chiffres ou traits d'union, sans espace",
   pad: "Pad", text: "Texte du pad", past: "Texte d'une révision antérieure", here: "Présents", authors: "Auteurs",
   tools: "Menu",
@@ -56,10 +56,13 @@ export const WORDS = {
   unnamed: "Vindrughe",
   title: (pad) => `${pad} – Vindrughe`,
   loggedIn: (me) => `Connecté en tant que ${me}`,
-  padLine: (right, revisions, time, isUnsent) => (
-    [RIGHTS[right], plural(revisions, "révision", "révisions"), time && `vu ici le ${time}`, isUnsent && "modifications pas encore envoyées"].filter(Boolean).join(" · ")
+  padLine: (right, revisions, last, time, isUnsent) => (
+    [RIGHTS[right], plural(revisions, "révision", "révisions"), last && `en dernier : ${last}`, time && `vu ici le ${time}`, isUnsent && "modifications pas encore envoyées"].filter(Boolean).join(" · ")
   ),
   padsFound: (n) => plural(n, "pad trouvé", "pads trouvés"),
+  searching: "Recherche…",
+  linesFound: (n) => plural(n, "ligne trouvée", "lignes trouvées"),
+  lineNumber: (n) => `Ligne ${number(n)}`,
   key: (name) => KEYS[name] ?? name,
   wrote: (who) => `${who} a écrit.`,
   commentsButton: (n) => `Commentaires (${number(n)})`,

@@ -23,6 +23,7 @@ from looks import exports, looks
 from minutes_checks import minutes
 from page_checks import plain
 from threads_checks import threads
+from whole_day import whole_day
 from windows import BROKEN, ON_DISK, PAST, Keys, Line, Server, Window, units, until
 
 BOB_MAY = "Can write"
@@ -327,6 +328,7 @@ def play(program, folder, tally):
                 part(test)
             exports(test, downloads)
             minutes(test, downloads)
+            whole_day(test)
             hostile(test)
             threads(test)
             finding(test)

@@ -51,11 +51,6 @@ none_unread : (version : Version) (op : Op) (ops : List Op) → can_read version
 none_unread One op ops not = rw not refl
 none_unread Two op ops not = absurd (cc)
 
--- nothing more is given where nothing more is missing
-pub none_left : (version : Version) (copies : List Op) (room left : ℕ) → rest_of version copies room left [] ≡ []
-none_left version copies room zero = none_behind version copies room
-none_left version copies room (suc n) = none_behind version copies room
-
 -- nothing more is given where the next missing operation has no room
 pub full : (version : Version) (copies : List Op) (room left size : ℕ) (op : Op) (ops : List Op) →
     0 < length copies → size ≡ min (size_of op) 18446744073709551615 → room < size →

@@ -1,6 +1,6 @@
 -- A release step by step: what it takes out, and when it stops.
 use Rattle.std.proofs.Common.{◌≡◌, ℕ, zero, suc, ◌+◌, ◌-◌, ◌≤◌, Bool, true, false, not, cond, inl, inr, List, [], ◌∷◌}
-use Rattle.std.proofs.Common.{◌++◌, length, Result, Ok, Err, Option, Some, None, option_map, IsTrue, refl, sym, ap, ap₂}
+use Rattle.std.proofs.Common.{length, Result, Ok, Err, Option, Some, None, option_map, IsTrue, refl, sym, ap, ap₂}
 use Rattle.std.proofs.Common.{◌∙◌, subst, arith, eqb-true}
 use Rattle.std.proofs.lemmas.Bool.{and_parts}
 use Rattle.std.specs.List.{AllByRecursion, find}
@@ -129,17 +129,6 @@ steps_idle n (suc k) d still =
     let one : suc k + n ≡ suc (k + n) = omega arith in
     ap (λ (m : ℕ). steps m d) one ∙ ap release (steps_idle n k d still) ∙ still
 
--- an operation that is refused is taken out and counted as dropped
-pub drops : (log held rest : List Op) (a b : ℕ) (name : OpName) (op : Op) (r : Refusal) →
-    find (is_ready (vector_of log)) held ≡ Some op → op.name ≡ name → delivery_refusal op log ≡ Some r →
-    rest ≡ without name held →
-    (let d : Delivery = record { log = log; held = rest; released = a; dropped = b + 1 } in d)
-    ≡ release (record { log = log; held = held; released = a; dropped = b })
-drops log held rest a b name op r found named refused left =
-    ap (λ (l : List Op). (let d : Delivery = record { log = log; held = l; released = a; dropped = b + 1 } in d))
-    (left ∙ ap (λ (n : OpName). without n held) (sym named))
-    ∙ sym (release_found (record { log = log; held = held; released = a; dropped = b }) op (Some r) found refused)
-
 -- an operation that is found ready is the next of its origin
 pub ready_next : (seen : List Counted) (held : List Op) (op : Op) → find (is_ready seen) held ≡ Some op → op.name.number
     ≡ count_in seen op.name.origin + 1
@@ -154,16 +143,6 @@ ready_next seen (x ∷ held) op e =
   where
     same_some : (a b : Op) → Some a ≡ Some b → a ≡ b
     same_some a b q = cc
-
--- one that is not is delivered
-pub delivers : (log more held rest : List Op) (a b : ℕ) (name : OpName) (op : Op) → find (is_ready (vector_of log)) held
-    ≡ Some op → op.name ≡ name → delivery_refusal op log ≡ None → rest ≡ without name held → more ≡ log ++ op ∷ [] →
-    (let d : Delivery = record { log = more; held = rest; released = a + 1; dropped = b } in d)
-    ≡ release (record { log = log; held = held; released = a; dropped = b })
-delivers log more held rest a b name op found named allowed left grown =
-    ap₂ (λ (m l : List Op). (let d : Delivery = record { log = m; held = l; released = a + 1; dropped = b } in d)) grown
-    (left ∙ ap (λ (n : OpName). without n held) (sym named))
-    ∙ sym (release_found (record { log = log; held = held; released = a; dropped = b }) op None found allowed)
 
 taken_few : (op : Op) (r : Option Refusal) (d : Delivery) → (taken_out op r d).released + (taken_out op r d).dropped
     ≤ d.released + d.dropped + 1

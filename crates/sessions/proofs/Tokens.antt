@@ -1,7 +1,7 @@
 -- Texts that do not differ at any place.
 use Rattle.std.proofs.Common.{◌≡◌, ℕ, zero, suc, ◌+◌, ◌<◌, Bool, true, false, ◌&&◌, List, [], ◌∷◌, length, cond}
-use Rattle.std.proofs.Common.{take, get_or, ◌≢◌, refl, ap, ◌∙◌, arith, eqb, bytes_eq}
-use Rattle.std.proofs.lemmas.Bool.{and_right, ne_eqb}
+use Rattle.std.proofs.Common.{take, get_or, refl, ap, ◌∙◌, arith, eqb, bytes_eq}
+use Rattle.std.proofs.lemmas.Bool.{ne_eqb}
 use Rattle.sessions.specs.Tokens.{differences}
 
 -- the differences so far, and one more place
@@ -25,9 +25,3 @@ none_differs (x ∷ a) (y ∷ b) e = by_first (none_differs a b (omega (arith, e
         → eqb (cond same 0 1 + differences a b) 0 ≡ (same && bytes_eq a b)
     by_first rest true = let same : 0 + differences a b ≡ differences a b = omega arith in ap (λ n. eqb n 0) same ∙ rest
     by_first rest false = ne_eqb (1 + differences a b) 0 (λ e. omega (arith, e))
-
-pub other_length : (a b : List ℕ) → length a ≢ length b → bytes_eq a b ≡ false
-other_length [] [] ne = absurd (ne refl)
-other_length [] (y ∷ b) ne = refl
-other_length (x ∷ a) [] ne = refl
-other_length (x ∷ a) (y ∷ b) ne = and_right (eqb x y) _ (other_length a b (λ e. ne (ap suc e)))

@@ -19,7 +19,7 @@ def script(runner, name, *words):
     """Runs a script whose last line is `N passed, M failed`. What failed is told in its own words."""
     try:
         done = subprocess.run(
-            [runner, os.path.join(HERE, name), *map(str, words)], stdin=subprocess.DEVNULL,
+            [*runner.split(), os.path.join(HERE, name), *map(str, words)], stdin=subprocess.DEVNULL,
             stdout=subprocess.PIPE, stderr=subprocess.STDOUT, text=True, errors="replace",
         )
     except FileNotFoundError:
@@ -36,6 +36,10 @@ def the_pages_show_what_a_model_of_the_server_has(rounds=300):
 
 def the_parts_of_the_page_keep_their_laws():
     script(NODE, "parts_test.mjs")
+
+
+def what_is_served_is_what_the_page_is_on_disk():
+    script(f"{NODE} --expose-internals", "squeezed_test.mjs")
 
 
 def no_words_of_an_author_are_lost_by_the_page():
@@ -112,6 +116,7 @@ def named(function, seconds, name=None):
 
 TESTS = [
     named(the_parts_of_the_page_keep_their_laws, 60),
+    named(what_is_served_is_what_the_page_is_on_disk, 60),
     named(the_pages_show_what_a_model_of_the_server_has, 120),
     named(no_words_of_an_author_are_lost_by_the_page, 60),
     named(nor_what_the_server_did_not_take, 60),

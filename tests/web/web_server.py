@@ -9,8 +9,9 @@ from dataclasses import dataclass
 
 from harness import ROOT, Failed, want
 from sockets import WAIT, Server
+from squeeze import served
 
-WEB = os.path.join(ROOT, "web")
+WEB, LIBRARY = os.path.join(ROOT, "web"), os.path.join(ROOT, "clients/js/src")
 CONTINUATION, TEXT, BINARY, CLOSE, PING, PONG = 0, 1, 2, 8, 9, 10
 LONGEST = 8_388_608  # bytes of a message
 GREETING = "web on http://127.0.0.1:"
@@ -200,13 +201,14 @@ class Socket:
 
 
 def files():
-    """The files of web/ with those of the library, each with the path at which it is served, and the list of them."""
+    """The files of web/ with those of the library, as they are served, by their paths, and the list of them."""
     out = {}
-    for folder, _, names in os.walk(WEB, followlinks=True):
-        for name in names:
-            path = os.path.relpath(os.path.join(folder, name), WEB)
-            with open(os.path.join(WEB, path), "rb") as file:
-                out["/" if path == "index.html" else f"/{path}"] = file.read()
+    for top, below in ((WEB, WEB), (ROOT, LIBRARY)):
+        for folder, _, names in os.walk(below):
+            for name in names:
+                path = os.path.relpath(os.path.join(folder, name), top)
+                with open(os.path.join(top, path), encoding="utf-8", newline="") as file:
+                    out["/" if path == "index.html" else f"/{path}"] = served(path, file.read()).encode()
     listed = sorted((path for path in out if path not in ("/unproved.txt", "/sw.js")), key=lambda path: (path != "/", path))
     out["/files.txt"] = "".join(f'"{hashlib.sha256(out[path]).hexdigest()[:32]}" {path}\n' for path in listed).encode()
     return out

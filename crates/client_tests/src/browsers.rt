@@ -1,6 +1,6 @@
 //! A browser: its request, its messages, and what it is sent.
 use crate::memory_socket::MemorySocket;
-use crate::stage::{TestPads, browser_bytes, put_frame, seated, serve_browser};
+use crate::stage::{PartyPads, browser_bytes, put_frame, seated, serve_browser};
 use event_loop::{Party, Protocol, Stage};
 use std::process::Abort;
 use std::test::Fail;
@@ -44,7 +44,7 @@ fn a_browser_is_answered_by_messages_in_pieces_of_each_size(rt: HostRuntime) -> 
     wanted.extend_from_slice(CREATED)?;
     for read in 1..=bytes.len() {
         for taken in [1, 3, 1_000] {
-            let stage = TestPads::new(&rt, alloc)?;
+            let stage = PartyPads::new(&rt, alloc)?;
             let table = stage.table(&rt);
             let mut pads = seated(alloc, &table)?;
             let socket = MemorySocket::new(alloc, bytes.as_slice(), taken);
@@ -69,7 +69,7 @@ fn a_browser_is_answered_by_messages_in_pieces_of_each_size(rt: HostRuntime) -> 
 #[test]
 fn a_page_is_written_and_nothing_more_is_read(rt: HostRuntime) -> Result<(), Fail> {
     let alloc = rt.alloc();
-    let stage = TestPads::new(&rt, alloc)?;
+    let stage = PartyPads::new(&rt, alloc)?;
     let table = stage.table(&rt);
     let mut pads = seated(alloc, &table)?;
     let request = b"GET / HTTP/1.1\r\nHost: pads.example\r\n\r\nmore";
@@ -98,7 +98,7 @@ fn a_page_is_written_and_nothing_more_is_read(rt: HostRuntime) -> Result<(), Fai
 #[test]
 fn a_request_is_refused_while_the_server_is_full(rt: HostRuntime) -> Result<(), Fail> {
     let alloc = rt.alloc();
-    let stage = TestPads::new(&rt, alloc)?;
+    let stage = PartyPads::new(&rt, alloc)?;
     let table = stage.table(&rt);
     let mut pads = seated(alloc, &table)?;
     let socket = MemorySocket::new(alloc, b"GET / HTTP/1.1\r\n\r\n", 1_000);

@@ -1,6 +1,6 @@
 //! What a client is told once when it is no longer served.
 use crate::memory_socket::MemorySocket;
-use crate::stage::{TestPads, browser_bytes, seated, serve_browser, write};
+use crate::stage::{PartyPads, browser_bytes, seated, serve_browser, write};
 use event_loop::{Party, Protocol, Stage, Transfer};
 use std::process::Abort;
 use std::test::Fail;
@@ -9,7 +9,7 @@ use web_wire::PageRequest;
 #[test]
 fn a_client_of_lines_is_told_once_that_memory_ran_out(rt: HostRuntime) -> Result<(), Fail> {
     let alloc = rt.alloc();
-    let stage = TestPads::new(&rt, alloc)?;
+    let stage = PartyPads::new(&rt, alloc)?;
     let table = stage.table(&rt);
     let mut pads = seated(alloc, &table)?;
     let socket = MemorySocket::new(alloc, b"", 1_000);
@@ -31,7 +31,7 @@ fn a_client_of_lines_is_told_once_that_memory_ran_out(rt: HostRuntime) -> Result
 #[test]
 fn a_client_that_is_owed_a_reply_is_told_nothing(rt: HostRuntime) -> Result<(), Fail> {
     let alloc = rt.alloc();
-    let stage = TestPads::new(&rt, alloc)?;
+    let stage = PartyPads::new(&rt, alloc)?;
     let table = stage.table(&rt);
     let mut pads = seated(alloc, &table)?;
     let socket = MemorySocket::new(alloc, b"no JSON\n", 1_000);
@@ -53,7 +53,7 @@ fn a_client_that_is_owed_a_reply_is_told_nothing(rt: HostRuntime) -> Result<(), 
 #[test]
 fn a_socket_is_closed_once_with_1001(rt: HostRuntime) -> Result<(), Fail> {
     let alloc = rt.alloc();
-    let stage = TestPads::new(&rt, alloc)?;
+    let stage = PartyPads::new(&rt, alloc)?;
     let table = stage.table(&rt);
     let mut pads = seated(alloc, &table)?;
     let bytes = browser_bytes(alloc)?;

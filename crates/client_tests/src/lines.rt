@@ -1,6 +1,6 @@
 //! A client that speaks lines, in pieces of each size.
 use crate::memory_socket::MemorySocket;
-use crate::stage::{TestPads, seated, serve_lines};
+use crate::stage::{PartyPads, seated, serve_lines};
 use event_loop::{Party, Protocol};
 use std::process::Abort;
 use std::test::Fail;
@@ -34,7 +34,7 @@ fn a_story_is_answered_in_pieces_of_each_size(rt: HostRuntime) -> Result<(), Fai
     let alloc = rt.alloc();
     for read in 1..=STORY.len() {
         for taken in [1, 2, 7, 1_000] {
-            let stage = TestPads::new(&rt, alloc)?;
+            let stage = PartyPads::new(&rt, alloc)?;
             let table = stage.table(&rt);
             let mut pads = seated(alloc, &table)?;
             let socket = MemorySocket::new(alloc, STORY.as_bytes(), taken);
@@ -54,7 +54,7 @@ fn a_story_is_answered_in_pieces_of_each_size(rt: HostRuntime) -> Result<(), Fai
 #[test]
 fn two_clients_of_one_thread_keep_their_sessions(rt: HostRuntime) -> Result<(), Fail> {
     let alloc = rt.alloc();
-    let stage = TestPads::new(&rt, alloc)?;
+    let stage = PartyPads::new(&rt, alloc)?;
     let table = stage.table(&rt);
     let mut pads = seated(alloc, &table)?;
     let socket = MemorySocket::new(alloc, STORY.as_bytes(), 1_000);
@@ -93,7 +93,7 @@ fn two_clients_of_one_thread_keep_their_sessions(rt: HostRuntime) -> Result<(), 
 #[test]
 fn a_client_that_has_ended_leaves_its_pads(rt: HostRuntime) -> Result<(), Fail> {
     let alloc = rt.alloc();
-    let stage = TestPads::new(&rt, alloc)?;
+    let stage = PartyPads::new(&rt, alloc)?;
     let table = stage.table(&rt);
     let mut pads = seated(alloc, &table)?;
     let socket = MemorySocket::new(alloc, STORY.as_bytes(), 1_000);

@@ -24,21 +24,21 @@ const TURNS: u32 = 100_000;
 
 /// The pads of a test.
 #[derive(Drop)]
-pub struct TestPads {
+pub struct PartyPads {
     accounts: Accounts,
     cells: Vec<SharedPad<BlockSeq>>,
     names: Names,
 }
 
-impl TestPads {
+impl PartyPads {
     /// One pad, which is to be created, and the authors a1 and a2.
-    pub fn new<R: Wait>(rt: &R, alloc: Global) -> Result<TestPads, Refusal> {
+    pub fn new<R: Wait>(rt: &R, alloc: Global) -> Result<PartyPads, Refusal> {
         let cells = open_row(alloc, 1, DEFAULT_PRESENT, 2, 2)?;
         let names = Names::fill(rt, alloc, cells.as_slice())?;
         let Ok(accounts) = Accounts::read(alloc, b"author a1 t\nauthor a2 t\n") else {
             return Err(Refusal::Memory);
         };
-        Ok(TestPads {
+        Ok(PartyPads {
             accounts,
             cells,
             names,

@@ -3,6 +3,7 @@
 ghost use Rattle.std.specs.Prelude.{◌≡◌, ◌⊎◌, IfErr};
 
 use crate::handle::Handle;
+use crate::pad_device::{PadDevice, make_room};
 use crate::reserve::{Reserve, is_full};
 use crate::shared_sync::SharedSync;
 use crate::spares::{Spare, Spares};
@@ -15,23 +16,23 @@ use shared_pads::Answered;
 use std::alloc::{AllocError, Global};
 use std::fs::File;
 use std::io;
-use std::io::{ErrorKind, Write};
+use std::io::ErrorKind;
 use std::sync::atomic::{AtomicBool, Ordering};
 use std::sync::{Mutex, Wait};
 use std::thread::yield_now;
 use std::time::{SystemTime, UNIX_EPOCH};
-use store_format::{header_text, link, record_text};
+use store_format::PadWriter;
 use store_records::{Record, records_of};
 
 /// The most times that a thread yields before a sync, so that others' notes join its own. It waits for no more notes
 /// than the last sync had, so that a single author is never kept waiting.
 const LOOKS: u32 = 16;
 
-/// A pad's file, open for appending, and the sum of its last line.
+/// A pad's file, open for appending, and its writer. None: the file is still to be made.
 #[derive(Drop)]
 pub struct OpenPadFile {
     pub file: Option<File>,
-    pub sum: String,
+    pub writer: PadWriter,
 }
 
 /// The files of all cells.
@@ -73,10 +74,10 @@ impl OpenPadFiles {
     pub(crate) fn add(
         &mut self,
         file: Option<File>,
-        sum: String,
+        writer: PadWriter,
         handle: Option<File>,
     ) -> Result<(), AllocError> {
-        let kept = self.all.push(Mutex::new(OpenPadFile { file, sum }));
+        let kept = self.all.push(Mutex::new(OpenPadFile { file, writer }));
         let held = self.handles.push(Handle::new(handle));
         kept?;
         held?;
@@ -161,29 +162,32 @@ impl Keeper {
             return Err(io::Error::from(ErrorKind::NotFound));
         }
         let mut book = self.books[cell].lock(rt);
-        let mut lines = String::new(alloc);
-        if book.file.is_none() {
-            let (file, sum) = self.begin(rt, alloc, cell, first, &mut lines)?;
-            book.file = Some(file);
-            book.sum = sum;
+        let OpenPadFile { file, writer } = &mut *book;
+        let begins = file.is_none();
+        if begins {
+            *file = Some(self.begin(rt, alloc, cell, first, writer)?);
         }
-        let together = !lines.is_empty() || !self.is_synced(cell);
-        let sum = self.append(
-            alloc,
-            book.sum.as_str(),
-            together,
-            records.as_slice(),
-            &mut lines,
-        )?;
-        book.sum = sum;
-        match &mut book.file {
-            Some(file) => self.put(rt, file, lines.as_bytes())?,
-            None => return Err(io::Error::from(ErrorKind::NotFound)),
-        }
+        let together = begins || !self.is_synced(cell);
+        writer.note(alloc, self.seconds(), together, records.as_slice())?;
+        let Some(file) = file else {
+            return Err(io::Error::from(ErrorKind::NotFound));
+        };
+        writer.write(alloc, &mut self.device(rt, file))?;
         if let Some(handle) = self.handles.get(cell) {
             handle.note();
         }
         Ok(true)
+    }
+
+    // A pad's file, for its writer.
+    fn device<'a, R: Wait>(&'a self, rt: &'a R, file: &'a mut File) -> PadDevice<'a, R> {
+        PadDevice {
+            rt,
+            files: &self.files,
+            folder: self.folder.as_str(),
+            reserve: &self.reserve,
+            file,
+        }
     }
 
     // Whether everything that was appended to the file of a cell is synced.
@@ -192,27 +196,6 @@ impl Keeper {
             Some(handle) => handle.is_synced(),
             None => false,
         }
-    }
-
-    // Appends lines. If the disk is full, what was written of them is cut off, and they get the room of the reserve.
-    fn put<R: Wait>(&self, rt: &R, file: &mut File, lines: &[u8]) -> io::Result<()> {
-        let before = file.metadata()?.len();
-        match file.write_all(lines) {
-            Err(cause) if is_full(&cause) => {
-                file.set_len(before)?;
-                self.make_room(rt)?;
-                file.write_all(lines)
-            }
-            done => done,
-        }
-    }
-
-    // Spends the reserve.
-    fn make_room<R: Wait>(&self, rt: &R) -> io::Result<()> {
-        if self.reserve.spend(rt)? {
-            warn!(ServerLog(&self.files); "the disk of the store {} is full: edits, joins and grants are refused (901) until there is space", self.folder);
-        }
-        Ok(())
     }
 
     /// Whether what a request leaves can be kept, as far as that is known: 901 if it cannot, 900 if there is no memory
@@ -261,28 +244,6 @@ impl Keeper {
         has_room
     }
 
-    // The lines of records after a line with this sum, which is synced or not, and the sum of the last.
-    fn append(
-        &self,
-        alloc: Global,
-        before: &str,
-        together: bool,
-        records: &[Record],
-        lines: &mut String,
-    ) -> io::Result<String> {
-        let at = self.seconds();
-        let mut sum = String::from_str(alloc, before)?;
-        let mut is_together = together;
-        for kept in records {
-            let text = record_text(alloc, at, is_together, kept)?;
-            let linked = link(alloc, sum.as_str(), text.as_str())?;
-            lines.push_str(linked.line.as_str())?;
-            sum = linked.sum;
-            is_together = true;
-        }
-        Ok(sum)
-    }
-
     // Gives the file that was promised its pad's name, and makes the first line.
     fn begin<R: Wait>(
         &self,
@@ -290,8 +251,8 @@ impl Keeper {
         alloc: Global,
         cell: usize,
         first: &Record,
-        lines: &mut String,
-    ) -> io::Result<(File, String)> {
+        writer: &mut PadWriter,
+    ) -> io::Result<File> {
         let Record::Named { name, .. } = first else {
             return Err(io::Error::from(ErrorKind::InvalidData));
         };
@@ -303,7 +264,7 @@ impl Keeper {
         let path = format!(in alloc; "{folder}/{pad}.pad")?;
         match spare.rename(&self.files, path.as_str()) {
             Err(cause) if is_full(&cause) => {
-                self.make_room(rt)?;
+                make_room(rt, &self.files, folder, &self.reserve)?;
                 spare.rename(&self.files, path.as_str())?;
             }
             done => done?,
@@ -313,10 +274,8 @@ impl Keeper {
         if let Some(kept) = self.handles.get(cell) {
             kept.set(rt, handle);
         }
-        let text = header_text(alloc, name, self.replica)?;
-        let linked = link(alloc, "", text.as_str())?;
-        lines.push_str(linked.line.as_str())?;
-        Ok((file, linked.sum))
+        writer.begin(alloc, name, self.replica)?;
+        Ok(file)
     }
 
     // The time of day in seconds since 1970, or 0 if the clock fails.

@@ -8,6 +8,7 @@
 mod handle;
 mod keeper;
 mod owner;
+mod pad_device;
 mod pad_file;
 mod pieces;
 mod reading;

@@ -8,9 +8,9 @@ use pad_model::Sequence;
 use server_log::ServerLog;
 use std::alloc::Global;
 use std::fs::{File, OpenOptions};
-use std::io::{ErrorKind, Write};
+use std::io::ErrorKind;
 use std::{fs, io};
-use store_format::{Damage, Header, Loaded, header_text, link};
+use store_format::{Damage, Loaded, PadWriter};
 
 /// How many files of one pad's name may be moved aside.
 const MOST_ASIDE: u32 = 1_000;
@@ -19,7 +19,7 @@ const MOST_ASIDE: u32 = 1_000;
 #[derive(Drop)]
 pub struct PadFile<S: Sequence> {
     pub pad: Pad<S>,
-    pub sum: String,
+    pub writer: PadWriter,
     pub file: File,
     pub handle: File,
 }
@@ -120,49 +120,23 @@ fn open_loaded<S: Sequence>(
     replica: u16,
     loaded: Loaded<S>,
 ) -> io::Result<PadFile<S>> {
-    let (sum, file, handle) = open_end(files, path, replica, &loaded)?;
-    Ok(PadFile {
-        pad: loaded.pad,
-        sum,
-        file,
-        handle,
-    })
-}
-
-// The sum of the file's last line, and the file, opened twice.
-fn open_end<S: Sequence>(
-    files: &HostRuntime,
-    path: &str,
-    replica: u16,
-    loaded: &Loaded<S>,
-) -> io::Result<(String, File, File)> {
     let cut = loaded.cut;
     if cut > 0 {
         warn!(ServerLog(files); "{path}: dropped the last {cut} bytes, which an interrupted write left; nothing that was synced is lost");
     }
     let (mut file, handle) = open_file(files, path, loaded.whole)?;
-    let before = loaded.sum.as_str();
-    let sum = if loaded.header.replica == u64::from(replica) {
-        String::from_str(files.alloc(), before)?
-    } else {
-        begin_again(files.alloc(), &mut file, &loaded.header, replica, before)?
-    };
-    Ok((sum, file, handle))
-}
-
-// Appends the header of a server with another number, and returns its sum.
-fn begin_again(
-    alloc: Global,
-    file: &mut File,
-    header: &Header,
-    replica: u16,
-    before: &str,
-) -> io::Result<String> {
-    let text = header_text(alloc, &header.pad, replica)?;
-    let linked = link(alloc, before, text.as_str())?;
-    file.write_all(linked.line.as_bytes())?;
-    file.sync_all()?;
-    Ok(linked.sum)
+    let mut writer = PadWriter::new(files.alloc(), loaded.sum);
+    if loaded.header.replica != u64::from(replica) {
+        writer.begin(files.alloc(), &loaded.header.pad, replica)?;
+        writer.write(files.alloc(), &mut file)?;
+        file.sync_all()?;
+    }
+    Ok(PadFile {
+        pad: loaded.pad,
+        writer,
+        file,
+        handle,
+    })
 }
 
 // Opens a file for appending after its whole lines, twice.

@@ -19,6 +19,7 @@ use std::rt::Runtime;
 use std::sync::{Mutex, Wait};
 use std::thread::Threads;
 use std::{fs, io};
+use store_format::PadWriter;
 
 /// The permissions of a store's folder that the server makes: for its user alone.
 const PRIVATE_FOLDER: u32 = 0o700;
@@ -161,18 +162,19 @@ impl LoadingPads {
     fn add(&mut self, alloc: Global, opened: PadFile<BlockSeq>) -> Result<(), AllocError> {
         let PadFile {
             pad,
-            sum,
+            writer,
             file,
             handle,
         } = opened;
-        let booked = self.books.add(Some(file), sum, Some(handle));
+        let booked = self.books.add(Some(file), writer, Some(handle));
         let added = self.add_pad(alloc, pad);
         booked.and(added)
     }
 
     // Adds a cell without a pad.
     fn add_free(&mut self, alloc: Global, owner: &Owner, cell: u32) -> Result<(), AllocError> {
-        let booked = self.books.add(None, String::new(alloc), None);
+        let writer = PadWriter::new(alloc, String::new(alloc));
+        let booked = self.books.add(None, writer, None);
         let Ok(pad) = Pad::new(alloc, owner.replica(), owner.present()) else {
             return Err(AllocError);
         };

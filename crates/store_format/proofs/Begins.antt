@@ -11,8 +11,8 @@ use Rattle.store_format.specs.Files.{unbegun}
 use Rattle.store_format.specs.Entries.{entry_said}
 use Rattle.store_format.specs.Lines.{is_feed, sum_after, text_behind, whole_lines}
 use Rattle.store_format.specs.Pieces.{AreDamaged, IsFresh, LeadOn, lines_from, unless_begun}
-use Rattle.store_format.specs.declared.loading.Stage.{Stage}
-use Rattle.store_format.specs.declared.loading.Stage.TheVariants.{Start, Linked, Unbegun}
+use Rattle.store_format.specs.declared.loading.LoadStage.{LoadStage}
+use Rattle.store_format.specs.declared.loading.LoadStage.TheVariants.{Start, Linked, Unbegun}
 use Rattle.store_format.specs.declared.reader.Damage.{Damage}
 use Rattle.store_format.specs.declared.reader.Damage.TheVariants.{Memory}
 use Rattle.store_format.specs.declared.reader.Tail.{Tail}
@@ -96,7 +96,7 @@ first_same name m bytes rest end k first later behind left is fresh leads =
 
 -- so whatever they lead to, all do
 pub first_leads : (name : List ℕ) (m new : Machine) (bytes rest : List ℕ) (end k : ℕ) (first : Tail)
-    (r : Result Stage Damage) → k ≡ suc end → take (length bytes - k) (drop k bytes) ≡ rest →
+    (r : Result LoadStage Damage) → k ≡ suc end → take (length bytes - k) (drop k bytes) ≡ rest →
     Some end ≡ position is_feed bytes → IsFresh m Start →
     ((replica present : ℕ) (lines : List (List ℕ)) → first_read replica present name (take end bytes) lines
     ≡ Ok (so_far (unnamed replica present) first)) →

@@ -7,3 +7,4 @@ pub mod Fronts
 pub mod Names
 pub mod Pieces
 pub mod Texts
+pub mod Writings

@@ -8,8 +8,8 @@ use Rattle.store_format.specs.Files.{Read, if_named, lines_read, read_on}
 use Rattle.store_format.specs.Lines.{is_feed, whole_lines, with_byte}
 use Rattle.store_format.specs.Pieces.{AreDamaged, AreLines, IsBegun, IsFresh, IsWithin, LeadOn, Progress, bytes_from, lines_from}
 use Rattle.store_format.specs.Pieces.{rest_read}
-use Rattle.store_format.specs.declared.loading.Stage.{Stage}
-use Rattle.store_format.specs.declared.loading.Stage.TheVariants.{Start, Linked, Torn, Unbegun}
+use Rattle.store_format.specs.declared.loading.LoadStage.{LoadStage}
+use Rattle.store_format.specs.declared.loading.LoadStage.TheVariants.{Start, Linked, Torn, Unbegun}
 use Rattle.store_format.specs.declared.reader.Damage.{Damage}
 use Rattle.store_format.specs.declared.reader.Damage.TheVariants.{Memory}
 
@@ -48,7 +48,7 @@ some_lines bytes (inr (front, is)) some none = at (divides front)
     at (first, more, lines, all) = no_lines first more (sym lines ∙ (sym (ap whole_lines is) ∙ none))
 
 -- where there is a line, the lines decide
-from_lines : (name : List ℕ) (m : Machine) (stage : Stage) (bytes first : List ℕ) (more : List (List ℕ)) →
+from_lines : (name : List ℕ) (m : Machine) (stage : LoadStage) (bytes first : List ℕ) (more : List (List ℕ)) →
     whole_lines bytes ≡ first ∷ more →
     bytes_from name m stage bytes ≡ read_on (if_named name) (lines_from name m stage (first ∷ more))
 from_lines name m Start bytes first more is = ap (lines_read m.replica m.presence.limit name bytes) is
@@ -60,7 +60,7 @@ from_lines name m (Unbegun damage) bytes first more is =
     ap (λ (ls : List (List ℕ)). read_on (if_named name) (lines_from name m (Unbegun damage) ls)) is
 
 -- after the first line too
-begun_from : (name : List ℕ) (m : Machine) (stage : Stage) (bytes : List ℕ) → IsBegun stage →
+begun_from : (name : List ℕ) (m : Machine) (stage : LoadStage) (bytes : List ℕ) → IsBegun stage →
     bytes_from name m stage bytes ≡ read_on (if_named name) (lines_from name m stage (whole_lines bytes))
 begun_from name m Start bytes h = absurd h
 begun_from name m (Linked tail number) bytes h = refl
@@ -68,7 +68,7 @@ begun_from name m (Torn tail number) bytes h = refl
 begun_from name m (Unbegun damage) bytes h = refl
 
 -- what some whole lines and later bytes lead to
-fronted : (name : List ℕ) (m : Machine) (stage : Stage) (bytes rest : List ℕ) → AreLines bytes → bytes ≢ [] →
+fronted : (name : List ℕ) (m : Machine) (stage : LoadStage) (bytes rest : List ℕ) → AreLines bytes → bytes ≢ [] →
     bytes_from name m stage (bytes ++ rest)
     ≡ read_on (if_named name) (lines_from name m stage (whole_lines bytes ++ whole_lines rest))
 fronted name m stage bytes rest (inl is) some = absurd (some is)
@@ -90,7 +90,7 @@ parted bytes later end = ap (λ (bs : List ℕ). bs ++ later) (sym (take-append-
     ∙ append_assoc (take end bytes) (drop end bytes) later
 
 -- the whole lines of a piece were read, so the bytes after them decide
-pub leads_on : (name : List ℕ) (m new : Machine) (stage next : Stage) (bytes later : List ℕ) (end : ℕ) → end ≤ length bytes →
+pub leads_on : (name : List ℕ) (m new : Machine) (stage next : LoadStage) (bytes later : List ℕ) (end : ℕ) → end ≤ length bytes →
     end ≢ 0 → AreLines (take end bytes) → LeadOn name m stage (whole_lines (take end bytes)) new next → IsBegun next →
     bytes_from name m stage (bytes ++ later) ≡ bytes_from name new next (drop end bytes ++ later)
 leads_on name m new stage next bytes later end low some whole leads begun =
@@ -100,7 +100,7 @@ leads_on name m new stage next bytes later end low some whole leads begun =
     ∙ sym (begun_from name new next (drop end bytes ++ later) begun)))
 
 -- one of them is damaged, whatever comes later
-pub stays_damaged : (name : List ℕ) (m : Machine) (stage : Stage) (bytes : List ℕ) (end : ℕ) (damage : Damage) →
+pub stays_damaged : (name : List ℕ) (m : Machine) (stage : LoadStage) (bytes : List ℕ) (end : ℕ) (damage : Damage) →
     end ≤ length bytes → end ≢ 0 → AreLines (take end bytes) →
     AreDamaged name m stage (whole_lines (take end bytes)) damage →
     (damage ≡ Memory) ⊎ ((later : List ℕ) → bytes_from name m stage (bytes ++ later) ≡ Err damage)
@@ -111,21 +111,21 @@ stays_damaged name m stage bytes end damage low some whole (inr wrong) =
     ∙ ap (read_on (if_named name)) (wrong (whole_lines (drop end bytes ++ later)))))
 
 -- more room
-pub widened : (low high : ℕ) (stage : Stage) → low ≤ high → IsWithin low stage → IsWithin high stage
+pub widened : (low high : ℕ) (stage : LoadStage) → low ≤ high → IsWithin low stage → IsWithin high stage
 widened low high Start more h = tt
 widened low high (Linked tail number) more (whole, count) = (omega (arith, more, whole), omega (arith, more, count))
 widened low high (Torn tail number) more whole = omega (arith, more, whole)
 widened low high (Unbegun damage) more h = tt
 
 -- after the first line, the pad need not be as it was
-pub begun_fresh : (m : Machine) (stage : Stage) → IsBegun stage → IsFresh m stage
+pub begun_fresh : (m : Machine) (stage : LoadStage) → IsBegun stage → IsFresh m stage
 begun_fresh m Start h = absurd h
 begun_fresh m (Linked tail number) h = tt
 begun_fresh m (Torn tail number) h = tt
 begun_fresh m (Unbegun damage) h = tt
 
 -- after a piece, no line and no byte is counted twice
-pub within_piece : (taken end : ℕ) (bytes : List ℕ) (stage next : Stage) → end ≤ length bytes → IsWithin taken stage →
+pub within_piece : (taken end : ℕ) (bytes : List ℕ) (stage next : LoadStage) → end ≤ length bytes → IsWithin taken stage →
     ((most : ℕ) → length (take end bytes) ≤ most → IsWithin (most - length (take end bytes)) stage → IsWithin most next) →
     IsWithin (taken + end) next
 within_piece taken end bytes stage next low kept on = at (length-take-le end bytes low)

@@ -111,6 +111,12 @@ told bytes_of (Ok text) v d said Premise utf8 same floatless low again compact b
         (back (subst (λ x. depth x ≤ max_depth) (sym same) low)))
         ∙ (ap entry_in same ∙ again premise)
 
+-- the text of a value without numbers that are no integers
+pub written : {A E : Type 0} (bytes_of : A → List ℕ) (r : Result A E) (v d : Data) → v ≡ d → has_float d ≡ false →
+    IfOk r (λ text. has_float v ≡ false → bytes_of text ≡ compact_text v) → IfOk r (λ text. bytes_of text ≡ compact_text d)
+written bytes_of (Err e) v d same floatless compact = tt
+written bytes_of (Ok text) v d same floatless compact = compact (ap has_float same ∙ floatless) ∙ ap compact_text same
+
 -- the value of such a text
 pub valued : {A E : Type 0} (bytes_of : A → List ℕ) (r : Result A E) (v d : Data) → ((x : A) → IsUtf8 (bytes_of x)) →
     v ≡ d → depth d ≤ max_depth → IfOk r (λ text. depth v ≤ max_depth → read (bytes_of text) ≡ Some v) →

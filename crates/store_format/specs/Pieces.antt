@@ -6,8 +6,8 @@ use Rattle.store_records.specs.Records.{unnamed}
 use Rattle.store_format.specs.Batches.{begins_batch}
 use Rattle.store_format.specs.Files.{Read, file_read, if_named, pad_read, read_lines, read_on, so_far, torn_at}
 use Rattle.store_format.specs.Lines.{whole_lines}
-use Rattle.store_format.specs.declared.loading.Stage.{Stage}
-use Rattle.store_format.specs.declared.loading.Stage.TheVariants.{Start, Linked, Torn, Unbegun}
+use Rattle.store_format.specs.declared.loading.LoadStage.{LoadStage}
+use Rattle.store_format.specs.declared.loading.LoadStage.TheVariants.{Start, Linked, Torn, Unbegun}
 use Rattle.store_format.specs.declared.reader.Damage.{Damage}
 use Rattle.store_format.specs.declared.reader.Damage.TheVariants.{Memory, Unlinked}
 
@@ -15,21 +15,21 @@ use Rattle.store_format.specs.declared.reader.Damage.TheVariants.{Memory, Unlink
 pub record Progress : Type 0 where
   pub taken : ℕ
   pub pad : Machine
-  pub stage : Stage
+  pub stage : LoadStage
 
 -- a result, unless one of the lines begins a batch: then the line with this number is damaged
 abbrev pub unless_begun : ℕ → Result Read Damage → List (List ℕ) → Result Read Damage
 unless_begun number found lines = if list_any begins_batch lines then Err (Unlinked number) else found
 
 -- what the rest of a file's lines leads to from this stage on
-abbrev pub lines_from : List ℕ → Machine → Stage → List (List ℕ) → Result Read Damage
+abbrev pub lines_from : List ℕ → Machine → LoadStage → List (List ℕ) → Result Read Damage
 lines_from name m Start lines = file_read m.replica m.presence.limit name lines
 lines_from name m (Linked tail number) lines = read_lines (suc number) name (so_far m tail) lines
 lines_from name m (Torn tail number) lines = torn_at number (so_far m tail) lines
 lines_from name m (Unbegun damage) lines = unless_begun 1 (Err damage) lines
 
 -- what the rest of a file's bytes leads to from this stage on, and the pad must have this name
-abbrev pub bytes_from : List ℕ → Machine → Stage → List ℕ → Result Read Damage
+abbrev pub bytes_from : List ℕ → Machine → LoadStage → List ℕ → Result Read Damage
 bytes_from name m Start bytes = pad_read m.replica m.presence.limit name bytes
 bytes_from name m (Linked tail number) bytes = read_on (if_named name)
     (lines_from name m (Linked tail number) (whole_lines bytes))
@@ -43,31 +43,31 @@ abbrev pub rest_read : List ℕ → Progress → List ℕ → Result Read Damage
 rest_read name progress bytes = bytes_from name progress.pad progress.stage bytes
 
 -- whatever lines come later, these lead from one stage to the next
-abbrev pub LeadOn : List ℕ → Machine → Stage → List (List ℕ) → Machine → Stage → Type 0
+abbrev pub LeadOn : List ℕ → Machine → LoadStage → List (List ℕ) → Machine → LoadStage → Type 0
 LeadOn name m stage lines new next = (later : List (List ℕ)) →
     lines_from name m stage (lines ++ later) ≡ lines_from name new next later
 
 -- whatever lines come later, these lead to this damage; or memory ran out
-abbrev pub AreDamaged : List ℕ → Machine → Stage → List (List ℕ) → Damage → Type 0
+abbrev pub AreDamaged : List ℕ → Machine → LoadStage → List (List ℕ) → Damage → Type 0
 AreDamaged name m stage lines damage = (damage ≡ Memory)
     ⊎ ((later : List (List ℕ)) → lines_from name m stage (lines ++ later) ≡ Err damage)
 
 -- before the first line, the pad is unnamed and nothing was done on it
-abbrev pub IsFresh : Machine → Stage → Type 0
+abbrev pub IsFresh : Machine → LoadStage → Type 0
 IsFresh m Start = m ≡ unnamed m.replica m.presence.limit
 IsFresh m (Linked tail number) = Unit {0}
 IsFresh m (Torn tail number) = Unit {0}
 IsFresh m (Unbegun damage) = Unit {0}
 
 -- the first line was read
-abbrev pub IsBegun : Stage → Type 0
+abbrev pub IsBegun : LoadStage → Type 0
 IsBegun Start = ⊥
 IsBegun (Linked tail number) = Unit {0}
 IsBegun (Torn tail number) = Unit {0}
 IsBegun (Unbegun damage) = Unit {0}
 
 -- the numbers of lines and of bytes that were read are at most this
-abbrev pub IsWithin : ℕ → Stage → Type 0
+abbrev pub IsWithin : ℕ → LoadStage → Type 0
 IsWithin most Start = Unit {0}
 IsWithin most (Linked tail number) = (tail.whole ≤ most) × (number ≤ most)
 IsWithin most (Torn tail number) = tail.whole ≤ most

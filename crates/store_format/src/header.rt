@@ -1,6 +1,7 @@
 //! The first line of a pad's file, and each line from which on another server wrote.
 ghost use Rattle.std.specs.Prelude.{◌≡◌, IfOk, string_bytes};
 ghost use Rattle.serde_json.specs.View.{view};
+ghost use Rattle.serde_json.specs.Written.{compact_text};
 ghost use Rattle.wire_json.specs.Reading.{IsRead};
 ghost use Rattle.store_format.specs.Entries.{header_data, header_in};
 ghost use Rattle.store_format.specs.Laws.{Tells};
@@ -23,7 +24,8 @@ pub struct Header {
 
 /// The text of a header's line.
 pub fn header_text(alloc: Global, pad: &Name, replica: u16) -> Result<String, AllocError>
-    ensures { IfOk result (λ text. Tells
+    ensures text { IfOk result (λ text. string_bytes text ≡ compact_text (header_data pad.now replica)) }
+    ensures tells { IfOk result (λ text. Tells
         (StoreLine.Header (record { pad = pad.now; replica = replica })) (string_bytes text)) }
 {
     let value = header_value(alloc, pad, replica)?;

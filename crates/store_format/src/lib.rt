@@ -9,10 +9,12 @@ pub mod laws;
 mod line;
 mod loading;
 mod reader;
+mod writer;
 
 pub use entry::{StoreLine, read_entry};
 pub use form::{read_record, record_value};
-pub use header::{FORMAT, Header, header_text, read_header};
-pub use line::{Linked, link, text_of};
+pub use header::{FORMAT, Header, read_header};
+pub use line::{Linked, text_of};
 pub use loading::Loading;
-pub use reader::{Damage, Loaded, load, record_text};
+pub use reader::{Damage, Loaded, load};
+pub use writer::PadWriter;

@@ -19,7 +19,7 @@ use std::marker::Model;
 #[derive(Drop)]
 pub struct Loading<S: Sequence> {
     pad: Pad<S>,
-    stage: Stage,
+    stage: LoadStage,
     /// The number of bytes that were taken.
     taken: u64,
 }
@@ -40,7 +40,7 @@ impl<S: Sequence> Model for Loading<S> {
 
 // How far the lines of a file were read.
 #[derive(Drop)]
-enum Stage {
+enum LoadStage {
     /// No line was read.
     Start,
     /// All lines so far are linked; `number` counts them.
@@ -64,7 +64,7 @@ impl<S: Sequence> Loading<S> {
         match Pad::new(alloc, replica, present) {
             Ok(pad) => Ok(Loading {
                 pad,
-                stage: Stage::Start,
+                stage: LoadStage::Start,
                 taken: 0,
             }),
             Err(_) => Err(Damage::Memory),
@@ -140,10 +140,10 @@ impl<S: Sequence> Loading<S> {
     {
         let pad = self.pad;
         match self.stage {
-            Stage::Start => Err(damage_of_front(bytes)),
-            Stage::Linked { tail, .. } => loaded_with(pad, name, tail, all),
-            Stage::Torn { tail, .. } => loaded_with(pad, name, tail, all),
-            Stage::Unbegun { damage } => Err(damage),
+            LoadStage::Start => Err(damage_of_front(bytes)),
+            LoadStage::Linked { tail, .. } => loaded_with(pad, name, tail, all),
+            LoadStage::Torn { tail, .. } => loaded_with(pad, name, tail, all),
+            LoadStage::Unbegun { damage } => Err(damage),
         }
     }
 }
@@ -181,9 +181,9 @@ fn read_piece<S: Sequence>(
     alloc: Global,
     pad: &mut Pad<S>,
     name: &str,
-    stage: Stage,
+    stage: LoadStage,
     lines: &[u8],
-) -> Result<Stage, Damage>
+) -> Result<LoadStage, Damage>
     requires some { whole_lines lines.now ≡ [] → ⊥ }
     requires fresh { IsFresh pad.old stage }
     requires room { IsWithin (18446744073709551615 - length lines.now) stage }
@@ -195,15 +195,15 @@ fn read_piece<S: Sequence>(
         IsWithin (most - length lines.now) stage → IsWithin most next) }
 {
     match stage {
-        Stage::Start => begin(alloc, pad, name, lines),
-        Stage::Linked { tail, number } => replay_lines(alloc, pad, name, tail, number, lines),
-        Stage::Torn { tail, number } => {
+        LoadStage::Start => begin(alloc, pad, name, lines),
+        LoadStage::Linked { tail, number } => replay_lines(alloc, pad, name, tail, number, lines),
+        LoadStage::Torn { tail, number } => {
             check_torn(alloc, lines, number)?;
-            Ok(Stage::Torn { tail, number })
+            Ok(LoadStage::Torn { tail, number })
         }
-        Stage::Unbegun { damage } => {
+        LoadStage::Unbegun { damage } => {
             check_torn(alloc, lines, 1)?;
-            Ok(Stage::Unbegun { damage })
+            Ok(LoadStage::Unbegun { damage })
         }
     }
 }
@@ -214,22 +214,22 @@ fn begin<S: Sequence>(
     pad: &mut Pad<S>,
     name: &str,
     bytes: &[u8],
-) -> Result<Stage, Damage>
+) -> Result<LoadStage, Damage>
     requires some { whole_lines bytes.now ≡ [] → ⊥ }
-    requires fresh { IsFresh pad.old Stage.Start }
-    ensures read { MatchResult result (λ next. LeadOn name.now pad.old Stage.Start
+    requires fresh { IsFresh pad.old LoadStage.Start }
+    ensures read { MatchResult result (λ next. LeadOn name.now pad.old LoadStage.Start
         (whole_lines bytes.now) pad.new next)
-        (λ e. AreDamaged name.now pad.old Stage.Start (whole_lines bytes.now) e) }
+        (λ e. AreDamaged name.now pad.old LoadStage.Start (whole_lines bytes.now) e) }
     ensures begun { IfOk result (λ next. IsBegun next) }
     ensures within { IfOk result (λ next. IsWithin (length bytes.now) next) }
 {
     let Some(end) = find_feed(bytes) else {
-        return Ok(Stage::Start);
+        return Ok(LoadStage::Start);
     };
     let line = &bytes[..end];
     let Some(first) = first_line(alloc, name, line)? else {
         check_torn(alloc, bytes, 1)?;
-        return Ok(Stage::Unbegun {
+        return Ok(LoadStage::Unbegun {
             damage: damage_of_front(line),
         });
     };
@@ -244,14 +244,14 @@ fn replay_lines<S: Sequence>(
     first: Tail,
     before: u64,
     bytes: &[u8],
-) -> Result<Stage, Damage>
-    requires room { IsWithin (18446744073709551615 - length bytes.now) (Stage.Linked first before) }
-    ensures read { MatchResult result (λ next. LeadOn name.now pad.old (Stage.Linked first before)
+) -> Result<LoadStage, Damage>
+    requires room { IsWithin (18446744073709551615 - length bytes.now) (LoadStage.Linked first before) }
+    ensures read { MatchResult result (λ next. LeadOn name.now pad.old (LoadStage.Linked first before)
         (whole_lines bytes.now) pad.new next)
-        (λ e. AreDamaged name.now pad.old (Stage.Linked first before) (whole_lines bytes.now) e) }
+        (λ e. AreDamaged name.now pad.old (LoadStage.Linked first before) (whole_lines bytes.now) e) }
     ensures begun { IfOk result (λ next. IsBegun next) }
     ensures within { IfOk result (λ next. (most : ℕ) → length bytes.now ≤ most →
-        IsWithin (most - length bytes.now) (Stage.Linked first before) → IsWithin most next) }
+        IsWithin (most - length bytes.now) (LoadStage.Linked first before) → IsWithin most next) }
 {
     let mut last = first;
     let mut rest = bytes;
@@ -260,7 +260,7 @@ fn replay_lines<S: Sequence>(
         let Some((text, sum)) = text_of(alloc, last.sum.as_str(), &rest[..end])? else {
             let torn = number + 1;
             check_torn(alloc, rest, torn)?;
-            return Ok(Stage::Torn {
+            return Ok(LoadStage::Torn {
                 tail: last,
                 number: torn,
             });
@@ -274,7 +274,7 @@ fn replay_lines<S: Sequence>(
         last = enter(alloc, pad, name, behind, text, number)?;
         rest = &rest[end + 1..];
     }
-    Ok(Stage::Linked { tail: last, number })
+    Ok(LoadStage::Linked { tail: last, number })
 }
 
 // Checks that no line begins a batch: then the lines are what a crash left of lines that were never synced. The line with

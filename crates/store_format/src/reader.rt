@@ -1,5 +1,6 @@
 //! Loads a pad from the bytes of its file.
 ghost use Rattle.std.specs.Prelude.{◌≡◌, ◌⊎◌, ◌≤◌, ◌+◌, ℕ, List, [], length, true, false, bytes_eq, string_bytes, IfOk, IfSome, MatchOption, MatchResult, Some, None, Ok, Err};
+ghost use Rattle.serde_json.specs.Written.{compact_text};
 ghost use Rattle.pad_model.specs.declared.refusal.Refusal.{Refusal};
 ghost use Rattle.pad_core.specs.Machine.{name_of};
 ghost use Rattle.store_records.specs.Records.{unnamed};
@@ -73,6 +74,7 @@ pub fn record_text(
     together: bool,
     kept: &Record,
 ) -> Result<String, AllocError>
+    ensures text { IfOk result (λ text. string_bytes text ≡ compact_text (record_data at together kept.now)) }
     ensures value { IfOk result (λ text. lines_spec.value_of (string_bytes text)
         ≡ Some (record_data at together kept.now)) }
     ensures tells { IfOk result (λ text. IsSayableRecord kept.now

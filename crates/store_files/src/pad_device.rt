@@ -1,0 +1,52 @@
+//! A pad's file as its writer sees it: when the disk is full, it gets the room of the reserve.
+ghost use Rattle.std.specs.Prelude.{None};
+
+use crate::reserve::{Reserve, is_full};
+use log::warn;
+use server_log::ServerLog;
+use std::fs::File;
+use std::io;
+use std::io::Write;
+use std::sync::Wait;
+
+/// A pad's file, and the reserve of its store.
+#[derive(Drop)]
+pub struct PadDevice<'a, R> {
+    pub rt: &'a R,
+    /// Logs that the disk is full.
+    pub files: &'a HostRuntime,
+    pub folder: &'a str,
+    pub reserve: &'a Reserve,
+    pub file: &'a mut File,
+}
+
+/// Spends the reserve of a store, whose disk is full.
+pub fn make_room<R: Wait>(
+    rt: &R,
+    files: &HostRuntime,
+    folder: &str,
+    reserve: &Reserve,
+) -> io::Result<()> {
+    if reserve.spend(rt)? {
+        warn!(ServerLog(files); "the disk of the store {folder} is full: edits, joins and grants are refused (901) until there is space");
+    }
+    Ok(())
+}
+
+impl<R: Wait> Write for PadDevice<'_, R> {
+    ghost contents = { λ _. None };
+
+    fn write(&mut self, bytes: &[u8]) -> io::Result<usize> {
+        match self.file.write(bytes) {
+            Err(cause) if is_full(&cause) => {
+                make_room(self.rt, self.files, self.folder, self.reserve)?;
+                self.file.write(bytes)
+            }
+            done => done,
+        }
+    }
+
+    fn flush(&mut self) -> io::Result<()> {
+        self.file.flush()
+    }
+}

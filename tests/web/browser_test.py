@@ -19,6 +19,7 @@ from first_visit import first_visit
 from hard_cases import full_pad, hostile, lost_pad
 from kept_checks import kept_words
 from keyboard import by_hand
+from list_checks import lists
 from looks import exports, looks
 from minutes_checks import minutes
 from page_checks import plain
@@ -329,6 +330,7 @@ def play(program, folder, tally):
             exports(test, downloads)
             minutes(test, downloads)
             whole_day(test)
+            lists(test)
             hostile(test)
             threads(test)
             finding(test)

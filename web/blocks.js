@@ -2,19 +2,18 @@
 import { colourOf } from "./colours.js";
 
 // The pieces of a text between two units: { text, author, kind, marks, looks }, cut where an author, a mark or a stretch that
-// looks otherwise (looks.js) begins or ends.
-export function piecesBetween(text, runs, marks, from, to, spans = []) {
+// looks otherwise (looks.js) begins or ends. `place` is in the runs before `from`, and is moved up to it: whoever makes many lines
+// goes through the runs once.
+export function piecesBetween(text, runs, marks, from, to, spans = [], place = { run: 0, unit: 0 }) {
   const here = marks.filter((mark) => mark.from < to && mark.to > from && mark.from < mark.to), cuts = [from, to];
   const within = (unit) => Math.min(to, Math.max(from, unit));
   for (const { from: start, to: end, out = [] } of here) cuts.push(within(start), within(end), ...out.map((unit) => within(start + unit)));
   for (const [start, end] of spans) cuts.push(from + start, from + end);
-  let end = 0;
+  while (place.run < runs.length && place.unit + runs[place.run][1] <= from) place.unit += runs[place.run++][1];
   const owners = [];
-  for (const [author, units, kind] of runs) {
-    const start = end;
+  for (let { run, unit: end } = place; run < runs.length && end < to; run++) {
+    const [author, units, kind] = runs[run];
     end += units;
-    if (end <= from) continue;
-    if (start >= to) break;
     owners.push({ end, author, kind });
     if (end < to) cuts.push(end);
   }

@@ -86,7 +86,10 @@ export class Desk {
       if (this.session.isUnsent || this.session.kept.areWaiting) event.preventDefault();
     });
     new ResizeObserver(() => this.place()).observe($("paper"));
-    new ResizeObserver(() => document.documentElement.style.setProperty("--bar", `${$("bar").offsetHeight}px`)).observe($("bar"));
+    new ResizeObserver(() => {
+      const height = `${$("bar").offsetHeight}px`;
+      for (const node of [document.documentElement, $("format"), $("minutes")]) node.style.setProperty("--bar", height);
+    }).observe($("bar"));
   }
 
   // Letters with Ctrl and Alt, unless these keys type a letter of the keyboard, as Alt Gr does. Escape closes the history.
@@ -129,6 +132,7 @@ export class Desk {
     if (pad.isAdopted && pad.isUnsent && !this.session.isAway) this.notice.show(WORDS.adopted(timeOf(this.session.keptAt)));
     else if (this.session.kept.areWaiting) this.notice.show(""); // of a full pad that goes on in this one, or of an earlier page
     giveColours(authorsOf(this.session));
+    this.showEditable(); // before there are lines, whose style depends on it
     this.editor.show(pad.text);
     this.views.start();
     this.showAll();

@@ -53,10 +53,10 @@ export class Lines {
   }
 
   replace({ first, last, from, to }) {
-    const made = [];
+    const made = [], place = { run: 0, unit: 0 };
     for (let at = from; at <= to;) {
       const found = this.text.indexOf("\n", at), end = found < 0 || found > to ? to : found;
-      const look = looksOf(this.text.slice(at, end)), pieces = piecesBetween(this.text, this.runs, this.marks, at, end, look.spans);
+      const look = looksOf(this.text.slice(at, end)), pieces = piecesBetween(this.text, this.runs, this.marks, at, end, look.spans, place);
       made.push({ block: makeBlock(pieces, look.name), length: end - at });
       at = end + 1;
     }

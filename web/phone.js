@@ -9,7 +9,7 @@ export class Phone {
   constructor() {
     const view = globalThis.visualViewport, button = $("comments-button");
     // Where the keyboard covers the page instead of making it lower, as on some phones, the bar is moved.
-    const move = () => document.documentElement.style.setProperty("--keyboard", `${Math.max(0, innerHeight - view.height - view.offsetTop)}px`);
+    const move = () => $("format").style.setProperty("--keyboard", `${Math.max(0, innerHeight - view.height - view.offsetTop)}px`);
     view?.addEventListener("resize", move);
     view?.addEventListener("scroll", move);
     button.addEventListener("click", () => this.open(!this.isOpen));

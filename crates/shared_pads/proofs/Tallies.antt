@@ -2,7 +2,7 @@
 use Rattle.std.proofs.Common.{◌≡◌, ℕ, zero, suc, ◌+◌, ◌≤◌, true, false, List, [], ◌∷◌, ◌++◌, length, sum_by, slice_get}
 use Rattle.std.proofs.Common.{slice_set, get_or, Option, Some, None, refl, sym, ap, ◌∙◌, subst, arith}
 use Rattle.std.proofs.lemmas.List.{length-append}
-use Rattle.std.proofs.lemmas.List.Sums.{sum_by-append, sum_by-set}
+use Rattle.std.proofs.lemmas.List.Sums.{sum_by-set}
 use Rattle.std.proofs.lemmas.Option.{get_or_from_slice_get, slice_get_within}
 use Rattle.std.specs.List.{AllByRecursion}
 use Rattle.std.specs.Option.{option_map_or}
@@ -108,22 +108,6 @@ kept_on old new more base calls most room i ts t edit kept e grown stands = reco
       let was = kept.called in omega arith);
   roomy = kept.roomy;
 }
-
--- one more seat, which has made no call
-pub one_more : (log : List Op) (base calls most room : ℕ) (ts : List Tally) → IsKept log base ts calls most room →
-    IsKept log base (ts ++ uncounted ∷ []) calls most room
-one_more log base calls most room ts kept = record {
-  revision = (let sum = sum_by-append (λ t. t.operations) ts (uncounted ∷ []) in let was = kept.revision in
-      omega arith);
-  standing = all_more ts kept.standing;
-  called = (let sum = sum_by-append (λ t. t.calls) ts (uncounted ∷ []) in let was = kept.called in omega arith);
-  roomy = kept.roomy;
-}
-  where
-    all_more : (ts : List Tally) → AllByRecursion (λ t. Stands log t.last) ts → AllByRecursion (λ t. Stands log t.last)
-        (ts ++ uncounted ∷ [])
-    all_more [] h = (tt, tt)
-    all_more (t ∷ ts) h = (h.0, all_more ts h.1)
 
 -- the seats that a lock knows have its base, and are of the cell
 one_base : (cell : ℕ) (k : LockedPad) (seats : List Seat) → AllByRecursion (IsOf cell k) seats →

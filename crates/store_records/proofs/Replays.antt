@@ -1,5 +1,5 @@
 -- Records that are replayed one after another.
-use Rattle.std.proofs.Common.{◌≡◌, ◌⊎◌, inl, inr, List, [], ◌∷◌, fold, Result, Ok, Err, refl, sym, ap, ◌∙◌}
+use Rattle.std.proofs.Common.{◌≡◌, ◌⊎◌, inl, inr, List, [], ◌∷◌, fold, Result, Err, refl, sym, ap, ◌∙◌}
 use Rattle.pad_model.specs.Answers.{Answers}
 use Rattle.pad_model.specs.declared.refusal.Refusal.{Refusal}
 use Rattle.pad_model.specs.declared.refusal.Refusal.TheVariants.{Memory}
@@ -10,19 +10,6 @@ use Rattle.store_records.specs.declared.kept_record.Record.{Record}
 refused_stays : (records : List Record) (e : Refusal) → fold replayed (Err e) records ≡ Err e
 refused_stays [] e = refl
 refused_stays (x ∷ records) e = refused_stays records e
-
-not_err : (e : Refusal) → (let r : Result (Unit {0}) Refusal = Ok tt in r) ≡ Err e → ⊥
-not_err e h = cc
-
--- the records that remain after one more was replayed
-pub goes_on : (m new : Machine) (x : Record) (rest after : List Record) (result : Result (Unit {0}) Refusal)
-    (whole : Result Machine Refusal) → rest ≡ x ∷ after → Answers m (replay x m) result new → result ≡ Ok tt →
-    replay_all rest m ≡ whole → replay_all after new ≡ whole
-goes_on m new x rest after result whole is (inl (told, same, ok)) done h = absurd (not_err Memory (sym done ∙ told))
-goes_on m new x rest after result whole is (inr did) done h =
-    sym (ap (λ (d : Result (Unit {0}) Refusal × Machine). fold replayed (unless_refused d) after) did
-    ∙ ap (λ (r : Result (Unit {0}) Refusal). fold replayed (unless_refused (r, new)) after) done)
-    ∙ (sym (ap (λ rs. replay_all rs m) is) ∙ h)
 
 -- the first refusal is that of the whole
 pub ends : (m new : Machine) (x : Record) (rest after : List Record) (result : Result (Unit {0}) Refusal)

@@ -10,6 +10,7 @@ abbrev pub invariant-loop-kept : goal.invariant-loop-kept
 invariant-loop-kept l =
     (string_bytes l.lines ++ bytes_of (lines_behind (string_bytes l.sum)
     (texts_of l.at l.follows (drop l.kept-index l.records)))
-    ≡ bytes_of (lines_behind (string_bytes l.self.old.sum) (texts_of l.at l.together l.records)))
+    ≡ bytes_of (lines_behind (string_bytes l.fn.self.sum) (texts_of l.at l.together l.records)))
     × (last_sum (string_bytes l.sum) (texts_of l.at l.follows (drop l.kept-index l.records))
-    ≡ last_sum (string_bytes l.self.old.sum) (texts_of l.at l.together l.records))
+    ≡ last_sum (string_bytes l.fn.self.sum) (texts_of l.at l.together l.records))
+    × (l.self ≡ l.fn.self)

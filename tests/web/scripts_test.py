@@ -54,6 +54,10 @@ def threads_and_suggestions_come_once():
     script(NODE, "threads_test.mjs")
 
 
+def looks_at_other_pads_disturb_no_pad_that_is_open():
+    script(NODE, "glances_test.mjs")
+
+
 def minutes_are_what_markdown_says():
     script(NODE, "minutes_test.mjs")
 
@@ -121,6 +125,7 @@ TESTS = [
     named(no_words_of_an_author_are_lost_by_the_page, 60),
     named(nor_what_the_server_did_not_take, 60),
     named(threads_and_suggestions_come_once, 60),
+    named(looks_at_other_pads_disturb_no_pad_that_is_open, 60),
     named(minutes_are_what_markdown_says, 60),
     named(what_is_typed_outlives_the_page, 60),
     named(pages_agree_with_a_model_over_a_bad_network, 300),

@@ -291,6 +291,36 @@ class Day:
         self.check("and the browser reports no fault", not faults, faults)
 
 
+def languages(test):
+    """What is longer in another language has room in a narrow window, too."""
+    window = Window(test.server.url)
+    phone = Phone(window)
+    line = Line(test.server.port, "ann", "t1")
+    line.ask(do="create", pad="narrow")
+    line.ask(do="insert", pad="narrow", rev=0, at=0, text="# Narrow\n\n- [ ] a task\n")
+    line.ask(do="comment", pad="narrow", rev=1, at=2, len=6, text="a remark")
+    width = lambda: window.run("return document.documentElement.scrollWidth")
+    try:
+        for language in ("de", "fr", "es", "en"):
+            window.driver.get(window.url)
+            window.run("localStorage.setItem('language', arguments[0])", language)
+            window.log_in("ann", "t1")
+            seen = [(window.run("return document.documentElement.lang"), width())]
+            window.open("narrow")
+            window.click("tools-button")
+            seen.append(("menu", width()))
+            test.shot(window, f"narrow-{language}")
+            for control in ("comments-button", "history", "find"):
+                phone.press(control)
+                until(lambda: window.run("return document.body.getAnimations({ subtree: true }).length === 0"))
+                seen.append((control, width()))
+                if control == "comments-button":
+                    window.click("comments-close")
+            test.check(f"in 360 pixels: {language} has room", seen[0][0] == language and all(wide <= 360 for _, wide in seen), seen)
+    finally:
+        window.quit()
+
+
 def whole_day(test):
     for kind in (Keyboard, Tree, Phone):
         window = Window(test.server.url, width=1280, height=860)
@@ -299,3 +329,4 @@ def whole_day(test):
                 Day(test, kind(window), downloads).work()
             finally:
                 window.quit()
+    languages(test)

@@ -1,5 +1,4 @@
 -- The lemmas, by topic.
-pub mod CallerLemmas
 pub mod Causes
 pub mod Conversing
 pub mod Courses

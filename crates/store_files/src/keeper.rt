@@ -180,7 +180,11 @@ impl Keeper {
     }
 
     // A pad's file, for its writer.
-    fn device<'a, R: Wait>(&'a self, rt: &'a R, file: &'a mut File) -> PadDevice<'a, R> {
+    fn device<'r, 's, 'f, R: Wait>(
+        &'s self,
+        rt: &'r R,
+        file: &'f mut File,
+    ) -> PadDevice<'r, 's, 'f, R> {
         PadDevice {
             rt,
             files: &self.files,

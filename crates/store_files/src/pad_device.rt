@@ -11,13 +11,13 @@ use std::sync::Wait;
 
 /// A pad's file, and the reserve of its store.
 #[derive(Drop)]
-pub struct PadDevice<'a, R> {
-    pub rt: &'a R,
+pub struct PadDevice<'r, 's, 'f, R> {
+    pub rt: &'r R,
     /// Logs that the disk is full.
-    pub files: &'a HostRuntime,
-    pub folder: &'a str,
-    pub reserve: &'a Reserve,
-    pub file: &'a mut File,
+    pub files: &'s HostRuntime,
+    pub folder: &'s str,
+    pub reserve: &'s Reserve,
+    pub file: &'f mut File,
 }
 
 /// Spends the reserve of a store, whose disk is full.
@@ -33,7 +33,7 @@ pub fn make_room<R: Wait>(
     Ok(())
 }
 
-impl<R: Wait> Write for PadDevice<'_, R> {
+impl<R: Wait> Write for PadDevice<'_, '_, '_, R> {
     ghost contents = { λ _. None };
 
     fn write(&mut self, bytes: &[u8]) -> io::Result<usize> {

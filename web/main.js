@@ -24,7 +24,10 @@ const enter = new Enter(session, kept, {
 const desk = new Desk(session, { onClose: () => enter.show(), onLogOut: () => enter.logOut(true) });
 new LogInAgain(session, reason);
 new KeysBox();
-offerLanguages(() => { if (session.login) enter.show(); else kept.show(); });
+offerLanguages(() => {
+  if (session.login) enter.show(); else kept.show();
+  tellIfUnproved();
+});
 
 const whenOpen = (event, act) => session.on(event, (...given) => { if (desk.isShowing) act(...given); });
 whenOpen("receive", (delta) => desk.receive(delta));

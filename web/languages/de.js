@@ -54,6 +54,7 @@ const KEYS = { Ctrl: "Strg", Shift: "Umschalt", Enter: "Eingabe" };
 
 export const WORDS = {
   unnamed: "Vindrughe",
+  unproved: "Dieser Server wurde zum Ausprobieren ohne Beweise gebaut. Der bewiesene übernimmt von selbst, wenn er hier bewiesen wird.",
   title: (pad) => `${pad} – Vindrughe`,
   loggedIn: (me) => `Angemeldet als ${me}`,
   padLine: (right, revisions, last, time, isUnsent) => (

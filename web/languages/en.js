@@ -56,6 +56,7 @@ const KINDS = { insert: "typed", delete: "erased", edit: "edited", comment: "com
 
 export const WORDS = {
   unnamed: "Vindrughe",
+  unproved: "This server was built without proofs, for a try. The proved one takes over by itself, if it is being proved here.",
   title: (pad) => `${pad} – Vindrughe`,
   loggedIn: (me) => `Logged in as ${me}`,
   padLine: (right, revisions, last, time, isUnsent) => (

@@ -54,6 +54,7 @@ const KEYS = { Shift: "Mayús", Enter: "Intro" };
 
 export const WORDS = {
   unnamed: "Vindrughe",
+  unproved: "Este servidor se construyó sin demostraciones, para probarlo. El demostrado lo releva por sí solo, si se está demostrando aquí.",
   title: (pad) => `${pad} – Vindrughe`,
   loggedIn: (me) => `Ha entrado como ${me}`,
   padLine: (right, revisions, last, time, isUnsent) => (

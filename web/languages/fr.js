@@ -54,6 +54,7 @@ const KEYS = { Shift: "Maj", Enter: "Entrée", Esc: "Échap" };
 
 export const WORDS = {
   unnamed: "Vindrughe",
+  unproved: "Ce serveur a été construit sans preuves, pour un essai. Celui qui est prouvé prend le relais de lui-même, si sa preuve est en cours ici.",
   title: (pad) => `${pad} – Vindrughe`,
   loggedIn: (me) => `Connecté en tant que ${me}`,
   padLine: (right, revisions, last, time, isUnsent) => (

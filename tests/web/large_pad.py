@@ -4,8 +4,8 @@
     tests/web/large_pad.py [--disk] PROGRAM
 
 PROGRAM is crates/pad_server/out/pad_server. Prints milliseconds, and fails if a letter takes more than 50 to the next frame,
-if the page takes more than 3,000 to open the million characters, beside the server's own time for them, or if it takes more
-than 3,000 to select and erase them. With --disk, the page is that on disk.
+if the page works for more than 3,000 to open the million characters, or if it takes more than 3,000 to select and erase them.
+With --disk, the page is that on disk.
 """
 import os
 import random
@@ -59,27 +59,34 @@ def letters(window):
     return window.run("return window.took")
 
 
+def busy(window):
+    """How many milliseconds the page's thread has run so far, by the processor's time: other programs do not count."""
+    metrics = window.driver.execute_cdp_cmd("Performance.getMetrics", {})["metrics"]
+    return 1000 * next(one["value"] for one in metrics if one["name"] == "ThreadTime")
+
+
 def open_million(window, ann):
-    """How many milliseconds the page takes to open a million characters, without what the server takes to tell them."""
+    """How many milliseconds the page works to open a million characters. Prints also when it has them."""
     write(ann, "huge", 101, random.Random(2))
-    start = time.time()
-    for what in ("text", "runs"):
-        ann.ask(do=what, pad="huge")
-    server = 1000 * (time.time() - start)
     window.log_in("ann", "t1")
-    start = time.time()
+    window.driver.execute_cdp_cmd("Performance.enable", {"timeDomain": "threadTicks"})
+    start, had = time.time(), busy(window)
     window.open("huge")
     until(lambda: window.get("pad-name").text == "huge" and window.is_saved(1), 60)
     opened = 1000 * (time.time() - start)
-    print(f"a million characters are opened after {opened:.0f} ms, of which the server takes {server:.0f}")
-    return opened - server
+    time.sleep(2)
+    worked = busy(window) - had
+    print(f"a million characters are opened after {opened:.0f} ms, in which the page works for {worked:.0f}")
+    return worked
 
 
 def erase_all(window):
     """How many milliseconds it takes to select and erase a million characters, or None if it fails. Prints those of a letter."""
     window.select(0)
+    had = busy(window)
     frame = sorted(one[1] for one in letters(window))
-    print(f"a letter among a million: next frame after {frame[len(frame) // 2]:.1f} ms (median), {frame[-1]:.1f} ms (worst)")
+    worked = (busy(window) - had) / len(frame)
+    print(f"a letter among a million: next frame after {frame[len(frame) // 2]:.1f} ms (median), {frame[-1]:.1f} ms (worst); the page works for {worked:.1f}")
     start = time.time()
     window.keys("a", held=[Keys.CONTROL])
     window.keys(Keys.DELETE)

@@ -59,7 +59,7 @@ def map_is_whole():
     want(sorted(files), listed_crates(), "the crates of the map")
     for crate, named in files.items():
         if not crate.endswith("_tests"):
-            there = [name for name in os.listdir(f"{ROOT}/crates/{crate}/src") if name != "lib.rt"]
+            there = [name for _, _, names in os.walk(f"{ROOT}/crates/{crate}/src") for name in names if name != "lib.rt"]
             want(sorted(named), sorted(there), f"the map's files of {crate}")
 
 

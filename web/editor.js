@@ -329,6 +329,7 @@ export class Editor {
     const a = this.lines.pointOf(anchor), b = this.lines.pointOf(focus);
     const isAnchored = had?.anchorNode === a.node && had.anchorOffset === a.offset;
     if (isAnchored && had.focusNode === b.node && had.focusOffset === b.offset) return;
+    this.lines.groups.keepNear(b.node); // before anything is scrolled there
     getSelection().setBaseAndExtent(a.node, a.offset, b.node, b.offset);
   }
 
@@ -339,7 +340,9 @@ export class Editor {
   }
 
   selectionChange() {
-    if (this.isWaiting || document.activeElement !== this.root) return;
+    if (document.activeElement !== this.root) return;
+    this.lines.groups.keepNear(getSelection().focusNode);
+    if (this.isWaiting) return;
     const selected = this.selection();
     if (!selected || selected.focus === this.caret) return;
     this.caret = selected.focus;

@@ -1,17 +1,38 @@
 // The blocks of lines in the document, in groups of some hundred. A browser lays out a whole list of blocks again when one
-// of them changes, and a text can have tens of thousands; each group is laid out by itself (`contain` in style.css).
+// of them changes, and a text can have tens of thousands; each group is laid out by itself, and only near what is
+// seen (`contain` and `content-visibility` in style.css). All are in the document, for find, print, copies and screen readers.
 // Between the blocks there can be nodes that the browser has made itself, in a group or beside it.
 const SIZE = 100;
 
 export class Groups {
-  constructor(root) { this.root = root; }
+  constructor(root) { Object.assign(this, { root, near: [] }); }
 
-  clear() { this.root.replaceChildren(); }
+  clear() {
+    this.near = [];
+    this.root.replaceChildren();
+  }
 
   isGroup(node) { return node?.parentNode === this.root && node.className === "group"; }
 
   // Whether a node stands where blocks stand.
   holds(node) { return this.isGroup(node.parentNode) || (node.parentNode === this.root && !this.isGroup(node)); }
+
+  // The caret is in this node of the document. A browser moves it only to lines that it has laid out, so its group is laid out
+  // wherever it is, and beside it as many as have the lines of a group.
+  keepNear(node) {
+    const own = this.blockOf(node)?.parentNode, near = [own];
+    if (!this.isGroup(own)) return;
+    for (const way of ["previousElementSibling", "nextElementSibling"]) {
+      let lines = 0;
+      for (let group = own[way]; this.isGroup(group) && lines < SIZE; group = group[way]) {
+        near.push(group);
+        lines += group.childNodes.length;
+      }
+    }
+    for (const group of this.near) if (!near.includes(group)) group.removeAttribute("data-near");
+    for (const group of near) if (!group.hasAttribute("data-near")) group.setAttribute("data-near", "");
+    this.near = near;
+  }
 
   // The block, or the node in its place, that has a node of the document in it, or null.
   blockOf(node) {
@@ -22,9 +43,11 @@ export class Groups {
 
   get first() { return this.inside(this.root.firstChild); }
 
+  // Between blocks of a group there are no groups. This is asked for each line whenever one is drawn.
   next(block) {
-    if (block.nextSibling) return this.inside(block.nextSibling);
-    return block.parentNode === this.root ? null : this.inside(block.parentNode.nextSibling);
+    const { nextSibling, parentNode } = block;
+    if (parentNode === this.root) return this.inside(nextSibling);
+    return nextSibling ?? this.inside(parentNode.nextSibling);
   }
 
   // The first block from a child of the root on, or a block itself.
@@ -43,13 +66,13 @@ export class Groups {
       for (const block of blocks) made.append(block);
       near.insertBefore(made, next);
       if (mayMove && near.childNodes.length > 2 * SIZE) this.cut(near.childNodes[SIZE]);
-    } else if (blocks.length) this.root.insertBefore(groupsOf(blocks), isNear && next ? this.cut(next) : next);
+    } else if (blocks.length) this.root.insertBefore(this.groupsOf(blocks), isNear && next ? this.cut(next) : next);
   }
 
   // Begins a group with a block. Answers that group.
   cut(block) {
     const group = block.parentNode, all = [...group.childNodes], at = all.indexOf(block);
-    if (at) this.root.insertBefore(groupsOf(all.slice(at)), group.nextSibling);
+    if (at) this.root.insertBefore(this.groupsOf(all.slice(at)), group.nextSibling);
     return block.parentNode;
   }
 
@@ -60,13 +83,19 @@ export class Groups {
       if (this.isGroup(group) && !group.firstChild) group.remove();
     }
   }
-}
 
-function groupsOf(blocks) {
-  const groups = document.createDocumentFragment();
-  blocks.forEach((block, at) => {
-    if (at % SIZE === 0) groups.append(Object.assign(document.createElement("div"), { className: "group" }));
-    groups.lastChild.append(block);
-  });
-  return groups;
+  // Groups of blocks, which are about as high as they will be once they are laid out: that takes rows of characters half an em wide,
+  // less what a word leaves at a row's end.
+  groupsOf(blocks) {
+    const { clientWidth } = this.root, { fontSize, paddingLeft, paddingRight } = getComputedStyle(this.root), groups = document.createDocumentFragment();
+    const width = (clientWidth || 800) - parseFloat(paddingLeft) - parseFloat(paddingRight), row = Math.max(10, 2 * width / parseFloat(fontSize) - 3);
+    for (let at = 0; at < blocks.length; at += SIZE) {
+      const group = Object.assign(document.createElement("div"), { className: "group" }), some = blocks.slice(at, at + SIZE);
+      const rows = some.reduce((sum, { textContent }) => sum + Math.max(1, Math.ceil(textContent.length / row)), 0);
+      group.style.containIntrinsicHeight = `auto ${1.7 * rows}em`;
+      group.append(...some);
+      groups.append(group);
+    }
+    return groups;
+  }
 }

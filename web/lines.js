@@ -223,12 +223,14 @@ export class Lines {
   // The unit with which the line begins that is at a height of the window.
   unitAt(y) { return this.startOf(this.indexAt(y)); }
 
-  // The line at a height of the window. Lines stand below one another.
+  // The line at a height of the window. Lines stand below one another, and so do their groups, of which one that is out of
+  // sight can be less high than its lines.
   indexAt(y) {
     let low = 0, high = this.lines.length - 1;
     while (low < high) {
       const middle = (low + high) >> 1;
-      if (this.lines[middle].block.getBoundingClientRect().bottom < y) low = middle + 1; else high = middle;
+      const { block } = this.lines[middle], isAbove = (node) => node.getBoundingClientRect().bottom < y;
+      if (isAbove(block.closest(".group") ?? block) || isAbove(block)) low = middle + 1; else high = middle;
     }
     return low;
   }

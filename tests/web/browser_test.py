@@ -192,8 +192,8 @@ def comments(test):
     check("it is on its words, though others typed meanwhile", until(lambda: bob.run(MARKED) == "painted before June"), bob.run(MARKED))
     bob.type("2026: ", 0)
     check("and stays on them", until(lambda: ann.text.startswith("2026") and ann.run(MARKED) == "painted before June"), ann.run(MARKED))
-    card, mark = (ann.run("return document.querySelector(arguments[0]).getBoundingClientRect().top", one) for one in ("#margin .card", "#text .marked"))
-    check("its card is beside them", abs(card - mark) < 12, (card, mark))
+    tops = lambda: [ann.run("return document.querySelector(arguments[0]).getBoundingClientRect().top", one) for one in ("#margin .card", "#text .marked")]
+    check("its card is beside them", until(lambda: abs(tops()[0] - tops()[1]) < 12), tops())
     bob.select(bob.text.index("old customs") + 3)
     check("ann sees bob's caret", until(lambda: ann.run(CARETS) == ["bob@1"]), ann.run(CARETS))
     test.agree("they agree")

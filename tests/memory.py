@@ -267,9 +267,11 @@ def ask_once(server):
 
 
 def ask_or_lose(client, request):
-    """The answer; None where the connection was ended while the line was still being sent."""
+    """The answer; None where the connection was ended before, such as while the line was still being sent."""
     try:
-        return client.ask(**request)
+        client.send(json.dumps(request) + "\n")
+        answer = client.replies.readline()
+        return json.loads(answer) if answer else None
     except (ConnectionResetError, BrokenPipeError):
         return None
 

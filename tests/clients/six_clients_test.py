@@ -64,7 +64,8 @@ return text.slice(a, b);
 
 
 class Letters:
-    """Characters that nobody has typed yet, every fourth of them beyond 16 bits: who typed each, and which were erased."""
+    """Characters that nobody has typed yet, every fourth of them beyond 16 bits, and all behind 32,768, which is before the
+    surrogates begin: who typed each, and which were erased."""
 
     def __init__(self):
         self.lock, self.made, self.owner, self.erased = threading.Lock(), 0, {}, set()
@@ -74,7 +75,7 @@ class Letters:
             out = ""
             for _ in range(1 + dice.randrange(4)):
                 self.made += 1
-                letter = chr((0x20000 if self.made % 4 == 0 else 0x4E00) + self.made)
+                letter = chr((0x20000 if self.made % 4 == 0 or self.made > 0x8000 else 0x4E00) + self.made)
                 self.owner[letter] = author
                 out += letter
             return out + dice.choice(["", "", " ", "\n"])

@@ -170,8 +170,10 @@ class Window:
         self.driver.execute_cdp_cmd("Emulation.setEmulatedMedia", {"features": [{"name": "prefers-color-scheme", "value": scheme}]})
 
     def faults(self):
-        """What the browser logged as a fault, other than a connection that broke."""
-        return [line["message"] for line in self.driver.get_log("browser") if line["level"] == "SEVERE" and "WebSocket" not in line["message"]]
+        """What the browser logged as a fault, other than a connection that broke: the socket's, or that of the question whether
+        the server is proved, which follows each new one."""
+        told = [line["message"] for line in self.driver.get_log("browser") if line["level"] == "SEVERE"]
+        return [text for text in told if "WebSocket" not in text and not ("/unproved.txt" in text and "net::ERR_" in text)]
 
     def quit(self):
         self.driver.quit()

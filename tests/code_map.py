@@ -14,7 +14,7 @@ CRATE = re.compile(r"crates/(\w+)\b.*")
 CLIENT = re.compile(r"(clients/[\w/]+).*")
 FILE = re.compile(r"\b\w+\.(?:rt|js|py)\b")
 CLIENTS = ["clients/js", "clients/js/bindings", "clients/js/src", "clients/python/pads", "clients/python/vindrughe"]
-PROGRAMS = ["pad_server", "pad_store", "pad_replay"]
+PROGRAMS = ["pad_server", "pad_accounts", "pad_store", "pad_replay"]
 
 
 def mapped():

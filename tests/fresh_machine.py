@@ -39,10 +39,11 @@ uses = {name: [it for it in rest.split() if it in listed] for name, _, rest in l
 held = [os.open(f"../{name}", os.O_RDONLY) for name in sorted(below(crate) | {crate})]
 for folder in held:
     fcntl.flock(folder, fcntl.LOCK_EX)
-note("begin", crate, str(os.getpriority(os.PRIO_PROCESS, 0)), str(os.getpid()))
 os.makedirs("out/incremental", exist_ok=True)
 with open("out/incremental/kept", "a") as file:
     file.write("one run\\n")
+# A test that kills what has begun asks what it kept, so that is there before.
+note("begin", crate, str(os.getpriority(os.PRIO_PROCESS, 0)), str(os.getpid()))
 lacking = [name for name in uses[crate] if not os.path.exists(f"../{name}/out/rlib/stamp")]
 for name in lacking:
     print(f"{name} is not built")

@@ -7,7 +7,7 @@ import subprocess
 from harness import ROOT, Test, path_of, put_files, want
 
 PREFIX = "/opt/pads"
-PROGRAMS = ["pad_server", "pad_store", "pad_replay"]
+PROGRAMS = ["pad_server", "pad_accounts", "pad_store", "pad_replay"]
 PAGES = ["README.md", "CHANGELOG.md", "LICENSE-APACHE", "LICENSE-MIT", "NOTICE", "SECURITY.md"]
 UNIT = f"root{PREFIX}/lib/systemd/system/pad_server.service"
 EXAMPLE = "root/etc/pads/accounts.example"

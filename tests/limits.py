@@ -28,6 +28,18 @@ ROWS = [
     ("operations of other servers that a pad holds back", "holdback/src/held.rt", "MAX_HELD"),
     ("operations that a server gives another one at once", "pad_core/src/exchange.rt", "MAX_BATCH"),
     ("bytes of these operations, if they are several", "pad_core/src/exchange.rt", "MAX_BATCH_BYTES"),
+    ("seconds of `--confirm`", "pad_server/src/confirm.rt", "MAX_SECONDS"),
+    ("seconds that a reply waits with `--confirm strict`", "store_files/src/copying.rt", "STRICT_PATIENCE"),
+    ("bytes of files in a round", "standby/src/rounds.rt", "ROUND"),
+    ("bytes of files that a standby takes in a round", "standby/src/taking.rt", "LARGEST_ROUND"),
+    ("bytes of a standby's log", "store_files/src/round_log.rt", "LONGEST"),
+    ("bytes of a line to a standby", "standby/src/taking.rt", "LONGEST_LINE"),
+    ("seconds between two rounds", "standby/src/rounds.rt", "BEAT"),
+    ("seconds that a main server waits for its standby", "standby/src/connect.rt", "PATIENCE"),
+    ("seconds that a standby waits for its main server", "tcp_server/src/standby_server.rt", "SILENCE"),
+    ("reads in which a greeting comes", "standby/src/taking.rt", "GREETING_READS"),
+    ("seconds before a connection that broke", "standby/src/sending.rt", "PAUSE"),
+    ("seconds before one that was refused", "standby/src/sending.rt", "LONG_PAUSE"),
 ]
 
 
@@ -43,7 +55,7 @@ def rows_of_page():
     with open(f"{ROOT}/docs/LIMITS.md", encoding="utf-8") as file:
         lines = file.read().splitlines()
     rows = [line.strip("| ").split(" | ") for line in lines if line.startswith("| ")]
-    return rows[1:]  # without the titles
+    return [row for row in rows if row[1] != "At most"]  # without the titles
 
 
 def numbers_are_those_of_the_code():

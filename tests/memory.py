@@ -298,7 +298,9 @@ def a_long_line_without_memory_is_told():
 
 
 def who_moves_without_memory_leaves_its_pads():
-    """A long line begins, and its client moves to another worker. Whichever allocation fails then, nobody stays behind."""
+    """A long line begins, and its client moves to another worker. Whichever allocation fails then, nobody stays behind,
+    and who finds no memory on the way is told so. A client whose bytes find none as they are read ends without a word."""
+    told = []
     for allocation in itertools.count(1):
         # What a worker has made room for it keeps, so each time it is another server.
         server = Server("--workers 2")
@@ -308,7 +310,8 @@ def who_moves_without_memory_leaves_its_pads():
         server.faults.set("everywhere", 1)
         bob = server.author("bob")
         bob.join("p")
-        _, refused = server.refuses_one(allocation, lambda: begin_long_line(bob))
+        answer, refused = server.refuses_one(allocation, lambda: begin_long_line(bob))
+        told.append(answer)
         bob.close()
         end = time.monotonic() + 10
         while [visit["author"] for visit in ann.does(do="who", pad="p")["who"]] != ["ann@1"]:
@@ -320,16 +323,27 @@ def who_moves_without_memory_leaves_its_pads():
             break
     if allocation < 5:
         raise Failed(f"only {allocation - 1} allocations were refused")
+    want(told[-1], None, "what is told with all memory")
+    want(set(told) <= {None, b"", LINE.encode()}, True, f"900 or nothing, and not {told}")
+    want(LINE.encode() in told, True, f"that who finds no memory on the way is told so, and not {told}")
 
 
 def begin_long_line(client):
-    """Sends the beginning of a long line, and waits until the server has taken it, or has closed the connection."""
-    client.send(" " * 120_000)
-    client.socket.settimeout(0.3)
+    """Sends the beginning of a long line. What the client is told until its end, or None if the server goes on."""
     try:
-        return client.socket.recv(4_096)
-    except (TimeoutError, ConnectionResetError):
-        return b""
+        client.send(" " * 120_000)
+    except (ConnectionResetError, BrokenPipeError):
+        pass
+    client.socket.settimeout(0.3)
+    told = b""
+    try:
+        while part := client.socket.recv(4_096):
+            told += part
+    except TimeoutError:
+        return None
+    except ConnectionResetError:
+        pass
+    return told
 
 
 def the_room_of_a_long_line_is_given_back():

@@ -21,9 +21,9 @@ def limited(files):
 
 
 def use_up(server):
-    """Opens connections that say nothing, until the server has no files for one more, or for a pad: each takes two."""
+    """Opens connections that say nothing, until the server has no file for one more, or for a pad."""
     idle = []
-    while len(os.listdir(f"/proc/{server.process.pid}/fd")) < FILES - 1:
+    while len(os.listdir(f"/proc/{server.process.pid}/fd")) < FILES:
         idle.append(socket.create_connection(("127.0.0.1", server.port), timeout=5))
         time.sleep(0.01)
         if len(idle) > 4 * FILES:

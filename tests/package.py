@@ -15,7 +15,7 @@ from serve import Served, accounts_of, log_in
 from sockets import Client
 from web_server import read_web
 
-PROGRAMS = ["pad_server", "pad_store", "pad_replay"]
+PROGRAMS = ["pad_server", "pad_accounts", "pad_store", "pad_replay"]
 KIT = "kit 1 of a test"
 # The scripts are taken as they are here, whether or not they are committed.
 SCRIPTS = ["package", "install", "serve", "docs/man"]

@@ -2,6 +2,7 @@
 import json
 import random
 import resource
+import signal
 import socket
 import struct
 import subprocess
@@ -226,6 +227,22 @@ def a_broken_connection_ends_alone():
     want(server.author("ann").join("p"), 3, "the next visit")
 
 
+def what_is_reported_once_is_read():
+    """The end of a client, or an urgent byte, comes with the bytes before it, while the server does not look."""
+    server = Server("--workers 1")
+    ends, goes_on = server.author("ann"), server.author("ann")
+    asked, told = '{"do":"text","pad":"q"}\n', b'{"code":300,"error":"NoPad","ok":false}\n'
+    server.process.send_signal(signal.SIGSTOP)
+    for client in (ends, goes_on):
+        client.send(asked)
+    ends.socket.shutdown(socket.SHUT_WR)
+    goes_on.socket.send(b"!", socket.MSG_OOB)
+    goes_on.send(asked)
+    server.process.send_signal(signal.SIGCONT)
+    want(ends.replies.read(), told, "what is read up to the end")
+    want(goes_on.replies.readline() + goes_on.replies.readline(), 2 * told, "the answers around an urgent byte")
+
+
 def a_silent_connection_ends_where_the_server_says_so():
     """The one that goes on speaking stays, and sees the visit of the silent one end."""
     server = Server("--idle 2", stderr=subprocess.PIPE)
@@ -374,6 +391,7 @@ FUNCTIONS = [
     silent_clients_do_not_stop_others,
     more_clients_than_workers_are_served_in_the_end,
     a_broken_connection_ends_alone,
+    what_is_reported_once_is_read,
     a_silent_connection_ends_where_the_server_says_so,
     a_session_is_left_before_its_connection_ends,
     a_session_leaves_all_its_pads,

@@ -115,8 +115,8 @@ export class Desk {
     history.replaceState(null, "", `#${pad.name}`);
     document.title = WORDS.title(pad.name);
     say($("pad-name"), pad.name);
-    for (const id of ["enter", "log-out"]) $(id).hidden = true;
-    $("log-in-again").hidden = !this.session.isAway;
+    $("enter").hidden = true;
+    this.showWho();
     for (const id of ["work", "tools", "tools-button", "here", "pad-name"]) $(id).hidden = false;
     // What was drawn of another pad can look the same by its key.
     Object.assign(this, { percent: 0, peopleKey: null, isShutOut: false });
@@ -197,10 +197,17 @@ export class Desk {
     const { session } = this;
     if (!this.isOpen) return;
     this.stateLine.draw();
-    $("log-in-again").hidden = !session.isAway;
+    this.showWho();
     if (session.state === "saved") this.notice.takeBack(WORDS.unsaved, WORDS.unsavedChange);
     else if (session.isUnsent && this.notice.canClose) this.showUnsaved();
     this.steps.show();
+  }
+
+  // Who is not logged in can log in, and who is can log out.
+  showWho() {
+    const { isAway } = this.session;
+    $("log-in-again").hidden = !isAway;
+    $("log-out").hidden = $("menu-log-out").hidden = isAway;
   }
 
   showRights() {

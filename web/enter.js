@@ -1,14 +1,13 @@
-// The way in: log in, then choose a pad or create one.
+// Behind the log-in: the list of pads, of which one is chosen, or a new one created.
 import { named, setOrigin } from "./authors.js";
+import { NAME } from "./log_in_link.js";
 import { PadList } from "./pad_list.js";
 import { PadSearch } from "./pad_search.js";
 import { $, fill, say } from "./page.js";
 import { Lost, Superseded, Unsaved } from "../clients/js/src/errors.js";
-import { forget } from "./storage.js";
 import { begin, offerTemplates, templateText } from "./templates.js";
 import { WORDS, refusal } from "./words.js";
 
-export const NAME = /^[a-z0-9-]{1,32}$/;
 const DENIED = 312;
 
 // What an error means, in words.
@@ -23,48 +22,15 @@ export function reason(error) {
 export class Enter {
   // `onPad` is called once a pad is open, with what was found in it, and `onLeave` closes it. `onRefused` gets the name of a pad that is not opened though
   // something of it was not sent.
-  constructor(session, kept, { onPad, onLeave, onRefused, onLogOut }) {
-    Object.assign(this, { session, kept, onPad, onLeave, onRefused, onLogOut, wasLost: false, isLoggingIn: false });
+  constructor(session, kept, { onPad, onLeave, onRefused }) {
+    Object.assign(this, { session, kept, onPad, onLeave, onRefused, wasLost: false });
     this.list = new PadList(session, (name) => this.enter("join", name));
     this.search = new PadSearch(session, this.list, {
       onOpen: (name, found) => this.enter("join", name, "", found), onFault: (error) => say($("open-error"), reason(error)),
     });
-    $("log-in").addEventListener("submit", (event) => { event.preventDefault(); this.logIn(); });
     $("open").addEventListener("submit", (event) => { event.preventDefault(); this.enter("join", $("pad").value); });
     $("create").addEventListener("click", () => { if ($("open").reportValidity()) this.create($("pad").value); });
-    $("log-out").addEventListener("click", () => this.logOut());
     addEventListener("hashchange", () => this.follow());
-  }
-
-  // A second click on the button, while the first log-in is under way, does nothing.
-  async logIn() {
-    const { session } = this;
-    if (this.isLoggingIn) return;
-    this.isLoggingIn = true;
-    say($("log-in-error"), "");
-    say($("state"), WORDS.connecting);
-    try {
-      await session.logIn($("name").value, $("token").value);
-    } catch (error) {
-      say($("log-in-error"), reason(error));
-      $("token").select();
-      return;
-    } finally {
-      this.isLoggingIn = false;
-      say($("state"), "");
-    }
-    $("token").value = "";
-    await this.show();
-    this.enterNamed();
-  }
-
-  // Nothing of a pad stays in the browser. What is not sent of pads would be lost, so that is said first.
-  async logOut(isForced = false) {
-    const unsent = isForced ? [] : await this.kept.unsent();
-    if (unsent.length) { this.onLogOut(WORDS.unsentPads(unsent.join(", "))); return; }
-    forget();
-    await this.kept.forget();
-    location.reload();
   }
 
   // The list of pads.

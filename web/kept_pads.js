@@ -1,6 +1,7 @@
 // Pads that the browser has kept: on the way in, those that can be opened without a connection, and in the list of pads, those of
 // which something is not sent.
 import { named, setOrigin } from "./authors.js";
+import { doubt, forgetLogIn, stay, stayed } from "./log_in_link.js";
 import { $, element, say } from "./page.js";
 import { timeOf } from "./times.js";
 import { WORDS } from "./words.js";
@@ -47,22 +48,36 @@ export class LogInAgain {
     $("again-cancel").addEventListener("click", () => $("again-box").close());
   }
 
-  open() {
+  open(token = this.token) {
     say($("again-who"), WORDS.logInAs(named(this.session.me)));
     say($("again-error"), "");
-    $("again-token").value = "";
-    $("again-box").showModal();
+    $("again-name").value = this.session.name;
+    $("again-token").value = token;
+    $("again-stay").checked = $("stay").checked;
+    if (!$("again-box").open) $("again-box").showModal();
   }
 
+  // That of the tab, if it has stayed this author's.
+  get token() {
+    const login = stayed();
+    return login?.name === this.session.name ? login.token : "";
+  }
+
+  // Resolves to whether the author is logged in.
   async logIn() {
+    const token = $("again-token").value;
     say($("again-error"), "");
     $("again-go").disabled = true;
-    try { await this.session.logInAgain($("again-token").value); } catch (error) {
+    try { await this.session.logInAgain(token); } catch (error) {
+      doubt(error);
       say($("again-error"), this.reason(error));
       $("again-token").select();
-      return;
+      return false;
     } finally { $("again-go").disabled = false; }
+    $("stay").checked = $("again-stay").checked;
+    if ($("stay").checked) stay(this.session.name, token); else forgetLogIn();
     $("again-token").value = "";
     $("again-box").close();
+    return true;
   }
 }

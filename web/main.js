@@ -5,6 +5,7 @@ import { Enter, reason } from "./enter.js";
 import { KeptPads, LogInAgain } from "./kept_pads.js";
 import { KeysBox } from "./keys_box.js";
 import { offerLanguages } from "./language.js";
+import { LogIn } from "./log_in.js";
 import { $, label } from "./page.js";
 import { LostRevisions, Taken } from "../clients/js/src/errors.js";
 import { Session } from "../clients/js/src/session.js";
@@ -19,13 +20,16 @@ const session = new Session({ store, open: webSocket(`${location.protocol === "h
 const kept = new KeptPads(session, store, { onPad: () => desk.open() });
 const enter = new Enter(session, kept, {
   onPad: (found) => { desk.open(); if (found) desk.find.show(found); }, onLeave: () => desk.close(), onRefused: (name) => desk.notOpened(name),
-  onLogOut: (text) => desk.notice.show(text, { canLogOut: true }),
 });
-const desk = new Desk(session, { onClose: () => enter.show(), onLogOut: () => enter.logOut(true) });
-new LogInAgain(session, reason);
+const desk = new Desk(session, { onClose: () => (logIn.isLeaving ? null : enter.show()), onLogOut: () => logIn.logOut(true) });
+const again = new LogInAgain(session, reason);
+const logIn = new LogIn(session, {
+  kept, enter, onAgain: (token) => { again.open(token); return again.logIn(); },
+  onStay: () => desk.notice.show(""), onUnsent: (text) => desk.notice.show(text, { canLogOut: true }),
+});
 new KeysBox();
 offerLanguages(() => {
-  if (session.login) enter.show(); else kept.show();
+  if (session.login && !logIn.loggingIn) enter.show(); else if (!logIn.loggingIn) kept.show();
   tellIfUnproved();
 });
 
@@ -61,7 +65,6 @@ $("skip").addEventListener("click", (event) => {
   $("text").focus();
 });
 tellIfUnproved();
-kept.show();
 // Without a service worker, as where the page is not secure, it opens only with a network.
 navigator.serviceWorker?.register("/sw.js", { updateViaCache: "none" }).catch(() => {});
-$("name").focus();
+logIn.begin();

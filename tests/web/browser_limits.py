@@ -13,8 +13,7 @@ LONGEST = 3  # seconds for Ctrl+A and Delete, also on a busy machine
 def log_in_twice(test):
     """The button is clicked twice."""
     ann, check = test.ann, test.check
-    ann.driver.get("about:blank")
-    ann.driver.get(ann.url)
+    ann.begin()
     ann.run("""
     document.getElementById('name').value = 'ann';
     document.getElementById('token').value = 't1';

@@ -20,6 +20,7 @@ from hard_cases import full_pad, hostile, lost_pad
 from kept_checks import kept_words
 from keyboard import by_hand
 from list_checks import lists
+from log_in_checks import log_ins
 from looks import exports, looks
 from minutes_checks import minutes
 from page_checks import plain
@@ -70,6 +71,7 @@ class Test:
 def way_in(test):
     ann, bob, check = test.ann, test.bob, test.check
     ann.driver.get(ann.url)
+    until(lambda: ann.get("log-in").is_displayed())
     plain(test, ann, "log in")
     ann.get("name").send_keys("ann")
     ann.get("token").send_keys("wrong" + Keys.ENTER)
@@ -331,6 +333,7 @@ def play(program, folder, tally):
             minutes(test, downloads)
             whole_day(test)
             lists(test)
+            log_ins(test)
             hostile(test)
             threads(test)
             finding(test)

@@ -107,6 +107,8 @@ def other_pad(test):
     ann.open("taken-away")
     offered = lambda: ann.get("notice-words").get_property("textContent")
     check("words for a pad that cannot be opened are offered to be copied", until(lambda: offered() == "my decision"), offered())
+    ann.run("location.hash = '#in=bob.t2'")
+    check("and keep the author from somebody else's link", until(lambda: ann.get("notice-text").text.startswith("These changes were not accepted")) and offered() == "my decision" and ann.state == "Logged in as ann", (ann.get("notice-text").text, ann.state))
     ann.log_in("ann", "t1", "#taken-away")
     check("again the next time", until(lambda: offered() == "my decision"), offered())
     ann.click("log-out")

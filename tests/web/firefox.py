@@ -8,7 +8,7 @@ import threading
 import time
 
 import websockets
-from windows import SELECT, TEXT, free_port, until
+from windows import NOBODY, SELECT, TEXT, free_port, until
 
 PROGRAM = "firefox-esr"
 # Every window has the keyboard, nothing asks the author for anything, and what the browser wants from elsewhere goes to a
@@ -139,8 +139,14 @@ class Window:
     def shows(self, name):
         return self.run("return document.getElementById(arguments[0]).checkVisibility()", name)
 
+    def load(self, address="", wait="complete"):
+        self.browser.ask("browsingContext.navigate", context=self.context, url=self.url + address, wait=wait)
+
     def log_in(self, name, token):
-        self.browser.ask("browsingContext.navigate", context=self.context, url=self.url, wait="complete")
+        script = self.browser.ask("script.addPreloadScript", functionDeclaration=f"() => {{ {NOBODY} }}", contexts=[self.context])["script"]
+        self.load()
+        self.browser.ask("script.removePreloadScript", script=script)
+        until(lambda: self.shows("log-in"))
         self.focus("name")
         self.keys(name)
         self.focus("token")

@@ -211,13 +211,30 @@ def reloaded(test):
     check("and they are sent, once", until(lambda: test.server_text() == f"kept {before}", 30), test.server_text())
 
 
+def links(test):
+    """A log-in link, a window that is loaded again, and logging out."""
+    ann, check = test.ann, test.check
+    line = Line(test.server.port, "ann", "t1")
+    line.ask(do="join", pad="minutes")
+    line.ask(do="grant", pad="minutes", author="dora", right="write")
+    wanted = lambda: ann.text_of("pad-name") == "minutes" and ann.text == test.server_text() and "dora" in ann.run("return document.querySelector('#here .is-me').textContent")
+    ann.load("#in=dora.k7Qw%26d%3DT3.x%2541-zB9&pad=minutes", wait="none")
+    check("somebody else's link logs in and opens its pad", until(wanted), (ann.text_of("log-in-error"), ann.text_of("state")))
+    places = ann.run("return JSON.stringify([document.URL, history.state, { ...localStorage }, performance.getEntries().map(({ name }) => name)])")
+    check("its token is gone from the page", "k7Qw" not in places and "#minutes" in places, places)
+    ann.run("window.isOld = true; location.reload()")
+    check("a window that is loaded again stays logged in", until(lambda: not ann.run("return window.isOld") and wanted()), ann.text_of("state"))
+    ann.click("log-out")
+    check("until its author logs out", until(lambda: ann.shows("log-in") and ann.run("return sessionStorage.length") == 0), ann.text_of("state"))
+
+
 def main(program):
     with tempfile.TemporaryDirectory() as home:
         server, browser = Server(program, home), None
         try:
             browser = Firefox()
             test = Test(server, browser)
-            for part in (way_in, typing, pasting, composing, emoji, comments, minutes, offline, reloaded):
+            for part in (way_in, typing, pasting, composing, emoji, comments, minutes, offline, reloaded, links):
                 part(test)
         finally:
             if browser:

@@ -81,14 +81,15 @@ def text_of(machine):
     return reader.does(do="text", pad="p")["text"]
 
 
-def main():
+def judge(play, prefix):
+    """Plays in a folder of its own, and tells of each check. The status is 1 if one has failed."""
     tally = {True: 0, False: 0}
 
     def check(name, holds, seen):
         tally[bool(holds)] += 1
         print("ok     " if holds else "FAILED ", name, "" if holds else repr(seen)[:900], flush=True)
 
-    with tempfile.TemporaryDirectory(prefix="handover-") as folder:
+    with tempfile.TemporaryDirectory(prefix=prefix) as folder:
         os.chdir(folder)
         play(check)
         os.chdir(HERE)
@@ -126,4 +127,4 @@ def play(check):
 
 
 if __name__ == "__main__":
-    sys.exit(main())
+    sys.exit(judge(play, "handover-"))

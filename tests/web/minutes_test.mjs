@@ -29,6 +29,7 @@ function markdown() {
   tell("tables", html("| a | b |\n|---|---|\n| c | d |"), "<table>\n<thead>\n<tr>\n<th>a</th>\n<th>b</th>\n</tr>\n</thead>\n<tbody>\n<tr>\n<td>c</td>\n<td>d</td>\n</tr>\n</tbody>\n</table>\n");
   tell("a link opens elsewhere", html("[x](https://a.b/c?d=e&f)"), `<p><a href="https://a.b/c?d=e&amp;f" ${REL}>x</a></p>\n`);
   tell("and one to a pad opens here", html("[x](#minutes-may)"), '<p><a href="#minutes-may">x</a></p>\n');
+  tell("but one that logs somebody in opens elsewhere", html("[x](#in=ann.t1&pad=p)"), `<p><a href="#in=ann.t1&amp;pad=p" ${REL}>x</a></p>\n`);
   tell("an address is a link, and a file's name is none", html("see http://a.b/c and minutes.md"), `<p>see <a href="http://a.b/c" ${REL}>http://a.b/c</a> and minutes.md</p>\n`);
   tell("a picture is a link", html("![a crane](https://a.b/c.png)"), `<p><a href="https://a.b/c.png" ${REL}>a crane</a></p>\n`);
   tell("dashes below words are a rule", html("words\n---"), "<p>words</p>\n<hr>\n");

@@ -14,6 +14,7 @@ import { History, merged } from "../../clients/js/src/history.js";
 import { letterOf } from "../../web/keys.js";
 import { Undo } from "../../clients/js/src/undo.js";
 import { count, deltaOf, partsOf, unit } from "../../clients/js/src/units.js";
+import { linkOf } from "../../web/log_in_link.js";
 import { linesWith } from "../../web/pad_search.js";
 import { LABELS, LANGUAGES, REFUSALS, WORDS, speak, spoken } from "../../web/words.js";
 import { dice as makeDice } from "./dice.mjs";
@@ -187,14 +188,30 @@ function linesFound() {
 }
 
 // Every module is named in the document, so that a browser fetches all of them at once, and not one behind the other.
+// What the fragment of an address says of a log-in.
+function logInLinks() {
+  const link = (name, token, pad = "") => ({ name, token, pad });
+  tell("a link has a name and a token", linkOf("#in=ann.t1"), link("ann", "t1"));
+  tell("and a pad", linkOf("#in=ann.t1&pad=minutes-may"), link("ann", "t1", "minutes-may"));
+  tell("in either order", linkOf("#pad=minutes-may&in=ann.t1"), link("ann", "t1", "minutes-may"));
+  tell("a token has its own points", linkOf("#in=ann.a.b..c."), link("ann", "a.b..c."));
+  tell("and can be written as addresses are", linkOf("#in=ann.a%26b%3Dc%2Ed%2541%23"), link("ann", "a&b=c.d%41#"));
+  tell("what is not written so stays", linkOf("#in=ann.a%zz%"), link("ann", "a%zz%"));
+  tell("without a token, it is cut off", [linkOf("#in=ann"), linkOf("#in=ann."), linkOf("#in=")], [link("ann", ""), link("ann", ""), link("", "")]);
+  tell("a name that no author can have is none", [linkOf("#in=Ann.t1"), linkOf("#in=.t1"), linkOf(`#in=${"a".repeat(33)}.t1`)], [link("", "t1"), link("", "t1"), link("", "t1")]);
+  tell("and so is a pad's", [linkOf("#in=ann.t1&pad=A"), linkOf("#in=ann.t1&pad="), linkOf("#in=ann.t1&pad=//a.b")], [link("ann", "t1"), link("ann", "t1"), link("ann", "t1")]);
+  tell("a pad's address is no link", ["", "#", "#in", "#minutes-may", "#begin=ann.t1"].map(linkOf), [null, null, null, null, null]);
+}
+
 // What workers load, and what a page loads only if it needs it.
 const LATER = /^(sw\.js|vendor\/.*|languages\/.*|minutes\/(rules|worker)\.js)$/;
 
 function modules() {
   const html = fs.readFileSync(path.join(WEB, "index.html"), "utf8");
   const named = [...html.matchAll(/<link rel="modulepreload" href="\/([\w/]+\.js)">/g)].map(([, name]) => name);
-  const main = html.match(/<script type="module" src="\/(\w+\.js)">/)[1];
-  tell("all modules are loaded at once", [main, ...named].sort(), pageFiles().filter((name) => name.endsWith(".js") && !LATER.test(name)).sort());
+  const scripts = [...html.matchAll(/<script type="module" src="\/(\w+\.js)"( async)?>/g)].map(([, name]) => name);
+  tell("a log-in link is taken out of the address before anything else", scripts, ["log_in_link.js", "main.js"]);
+  tell("all modules are loaded at once", [...scripts, ...named].sort(), pageFiles().filter((name) => name.endsWith(".js") && !LATER.test(name)).sort());
 }
 
 // Colours depend on who the authors are, whatever happened before.
@@ -286,6 +303,7 @@ exported();
 exportedFromTwoServers();
 keys();
 linesFound();
+logInLinks();
 modules();
 colours();
 words();

@@ -21,10 +21,13 @@ NOT_YET = (ElementClickInterceptedException, ElementNotInteractableException, St
 # What is raised where the browser or its driver has broken.
 BROKEN = (WebDriverException, HTTPError)
 ON_DISK = "--disk"
-ACCOUNTS = "author ann t1\nauthor bob t2\nauthor cyd t3\n"
+DORA = "k7Qw&d=T3.x%41-zB9"  # a token with what means something in an address
+ACCOUNTS = f"author ann t1\nauthor bob t2\nauthor cyd t3\nauthor dora {DORA}\n"
 FLAGS = ("--headless=new", "--no-sandbox", "--disable-gpu", "--disable-dev-shm-usage", "--force-color-profile=srgb")
 TEXT = "return [...document.querySelectorAll('#text .line')].map(line => line.textContent).join('\\n')"
 PAST = "return [...document.querySelectorAll('#past .line')].map(line => line.textContent).join('\\n')"
+# A tab forgets who is logged in, but not where a page loads itself again.
+NOBODY = "try { if (performance.navigation.type !== 1) sessionStorage.clear(); } catch { /* it is blocked, or there is none here */ }"
 SELECT = """
 const [from, to] = arguments, root = document.getElementById('text'), places = [];
 root.focus();
@@ -125,9 +128,16 @@ class Window:
             chain.key_up(key)
         chain.perform()
 
-    def log_in(self, name, token, address=""):
+    def begin(self, address=""):
+        """Opens the page in a tab that nobody is logged in in."""
         self.driver.get("about:blank")
+        script = self.driver.execute_cdp_cmd("Page.addScriptToEvaluateOnNewDocument", {"source": NOBODY})["identifier"]
         self.driver.get(self.url + address)
+        self.driver.execute_cdp_cmd("Page.removeScriptToEvaluateOnNewDocument", {"identifier": script})
+
+    def log_in(self, name, token, address=""):
+        self.begin(address)
+        until(lambda: self.get("log-in").is_displayed())
         self.get("name").send_keys(name)
         self.get("token").send_keys(token + Keys.ENTER)
         return until(lambda: not self.get("choose").get_property("hidden"))

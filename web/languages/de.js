@@ -4,7 +4,7 @@ const plural = (n, one, many) => `${number(n)} ${n === 1 ? one : many}`;
 
 export const LABELS = {
   skip: "Zum Text springen",
-  logIn: "Anmelden", name: "Name", token: "Token", logOut: "Abmelden",
+  logIn: "Anmelden", name: "Name", token: "Token", logOut: "Abmelden", stay: "In diesem Tab angemeldet bleiben",
   tokenHelp: "Beides bekommen Sie von der Person, die den Server betreibt.",
   pads: "Ihre Pads", noPads: "Sie haben noch keine Pads. Legen Sie eines an, oder bitten Sie um ein Recht an einem anderen.",
   openOrCreate: "Öffnen oder anlegen", open: "Öffnen", create: "Anlegen",

@@ -7,7 +7,7 @@ const plural = (n, one, many) => `${number(n)} ${n === 1 ? one : many}`;
 // data-hint="KEY" as its tooltip, and with data-place="KEY" as what stands in an empty field.
 export const LABELS = {
   skip: "Skip to the text",
-  logIn: "Log in", name: "Name", token: "Token", logOut: "Log out",
+  logIn: "Log in", name: "Name", token: "Token", logOut: "Log out", stay: "Stay logged in in this tab",
   tokenHelp: "Whoever runs the server gives you both.",
   pads: "Your pads", noPads: "You have no pads yet. Create one, or ask for a right on another.",
   openOrCreate: "Open or create", open: "Open", create: "Create",

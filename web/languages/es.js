@@ -4,7 +4,7 @@ const plural = (n, one, many) => `${number(n)} ${n === 1 ? one : many}`;
 
 export const LABELS = {
   skip: "Ir al texto",
-  logIn: "Entrar", name: "Nombre", token: "Clave", logOut: "Salir",
+  logIn: "Entrar", name: "Nombre", token: "Clave", logOut: "Salir", stay: "Seguir conectado en esta pestaña",
   tokenHelp: "Quien administra el servidor le da ambas cosas.",
   pads: "Sus pads", noPads: "Todavía no tiene pads. Cree uno, o pida un permiso sobre otro.",
   openOrCreate: "Abrir o crear", open: "Abrir", create: "Crear",

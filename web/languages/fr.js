@@ -4,7 +4,7 @@ const plural = (n, one, many) => `${number(n)} ${n < 2 ? one : many}`;
 
 export const LABELS = {
   skip: "Aller au texte",
-  logIn: "Se connecter", name: "Nom", token: "Jeton", logOut: "Se déconnecter",
+  logIn: "Se connecter", name: "Nom", token: "Jeton", logOut: "Se déconnecter", stay: "Rester connecté dans cet onglet",
   tokenHelp: "La personne qui gère le serveur vous donne les deux.",
   pads: "Vos pads", noPads: "Vous n'avez pas encore de pad. Créez-en un, ou demandez un droit sur un autre.",
   openOrCreate: "Ouvrir ou créer", open: "Ouvrir", create: "Créer",

@@ -24,10 +24,10 @@ function findTasks(state, md) {
   });
 }
 
-// A link opens elsewhere, unless it names another pad of this server: #NAME.
+// A link opens elsewhere, unless it names another pad of this server: #NAME. One that logs somebody in is in a tab of its own.
 function linkOpen(tokens, index, options, env, self) {
   const token = tokens[index];
-  if (!token.attrGet("href").startsWith("#")) {
+  if (!/^#[^=]*$/.test(token.attrGet("href"))) {
     token.attrSet("rel", OUT);
     token.attrSet("target", "_blank");
   }

@@ -1,5 +1,5 @@
 //! A browser's part of a turn: its request is answered, and the messages of its socket become lines.
-use crate::buffers::{Buffers, first_bytes};
+use crate::buffers::Buffers;
 use crate::client::{Client, Phase};
 use crate::hub::Hub;
 use crate::limits::Limits;
@@ -25,7 +25,7 @@ impl Client {
         if self.phase == Phase::Ended {
             self.phase = Phase::Over;
         }
-        if self.phase != Phase::Open || !self.is_readable {
+        if self.phase != Phase::Open || !self.readiness.takes_read() {
             return ClientStep::Rests;
         }
         let chunk = buffers.chunk.as_mut_slice();
@@ -88,28 +88,13 @@ impl Client {
         }
         match self.party.hear(&mut buffers.line) {
             Ok(NextMessage::Line) => ClientStep::Goes,
-            Ok(NextMessage::Read) => self.read_frames(lobby, buffers),
+            Ok(NextMessage::Read) => self.read_once(lobby, buffers),
             Ok(NextMessage::Close) => {
                 self.phase = Phase::Over;
                 ClientStep::Rests
             }
             Err(fault) => self.fail(fault),
         }
-    }
-
-    // Reads once, if a read may give bytes.
-    fn read_frames(&mut self, lobby: &Lobby, buffers: &mut Buffers) -> ClientStep {
-        if !self.is_readable {
-            return ClientStep::Rests;
-        }
-        let Some(most) = self.may_read(lobby) else {
-            return ClientStep::Rests;
-        };
-        let before = self.waiting();
-        let chunk = first_bytes(buffers.chunk.as_mut_slice(), most);
-        let read = self.party.read(chunk);
-        self.note_read(before);
-        self.has_read(read)
     }
 }
 

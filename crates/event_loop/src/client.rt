@@ -7,6 +7,7 @@ use crate::lobby::Lobby;
 use crate::newcomer::Newcomer;
 use crate::party::Party;
 use crate::protocol::Protocol;
+use crate::readiness::Readiness;
 use crate::serve::ClientStep;
 use crate::times::{Late, Times};
 use crate::transfer::{BrokenSocket, Transfer};
@@ -42,7 +43,7 @@ pub struct Client {
     pub(crate) party: Party<TcpStream>,
     pub(crate) phase: Phase,
     /// Whether a read may give bytes.
-    pub(crate) is_readable: bool,
+    pub(crate) readiness: Readiness,
     /// Whether the client is queued to be served.
     is_queued: bool,
     /// Whether the client is in the list of those held back.
@@ -72,7 +73,7 @@ impl Client {
             address,
             party: Party::new(alloc, stream, protocol),
             phase: Phase::Open,
-            is_readable: true,
+            readiness: Readiness::new(),
             is_queued: true,
             is_listed: false,
             moves: false,
@@ -112,9 +113,10 @@ impl Client {
         }
     }
 
-    /// Notes that the socket can be read again. Returns whether the caller has to queue the client.
-    pub fn note_readable(&mut self) -> bool {
-        self.is_readable = true;
+    /// Notes that the socket can be read again. `reads_on`: its end, a failure or urgent bytes were reported with it.
+    /// Returns whether the caller has to queue the client.
+    pub fn note_readable(&mut self, reads_on: bool) -> bool {
+        self.readiness.note_report(reads_on);
         self.queue()
     }
 
@@ -154,7 +156,7 @@ impl Client {
     /// Prepares the client for a new worker, where it is queued.
     pub fn settle_in(&mut self) {
         self.moves = false;
-        self.is_readable = true;
+        self.readiness = Readiness::new();
         self.is_queued = true;
     }
 
@@ -169,7 +171,7 @@ impl Client {
             Phase::Open => match self.delay {
                 Delay::Over => true,
                 Delay::LogIn { .. } => false,
-                _ => self.is_readable && !self.newcomer.is_stalled,
+                _ => self.readiness.is_readable() && !self.newcomer.is_stalled,
             },
             Phase::Ended => match self.delay {
                 Delay::LogIn { .. } => false,
@@ -179,15 +181,20 @@ impl Client {
         }
     }
 
-    /// Reads once, if a read may give bytes; for a WebSocket, takes the next message.
+    /// Reads once, if a read may give bytes. For a WebSocket whose bytes wait, takes the next message first.
     pub(crate) fn read_more(&mut self, lobby: &Lobby, buffers: &mut Buffers) -> ClientStep {
         if self.phase != Phase::Open {
             return ClientStep::Rests;
         }
-        if let Protocol::Socket(_) = self.party.protocol() {
-            return self.listen(lobby, buffers);
+        match self.party.protocol() {
+            Protocol::Socket(frames) if !frames.is_empty() => self.listen(lobby, buffers),
+            _ => self.read_once(lobby, buffers),
         }
-        if !self.is_readable {
+    }
+
+    /// Reads once, if a read may give bytes.
+    pub(crate) fn read_once(&mut self, lobby: &Lobby, buffers: &mut Buffers) -> ClientStep {
+        if !self.readiness.takes_read() {
             return ClientStep::Rests;
         }
         let Some(most) = self.may_read(lobby) else {
@@ -195,8 +202,13 @@ impl Client {
         };
         let before = self.waiting();
         let chunk = first_bytes(buffers.chunk.as_mut_slice(), most);
+        let room = chunk.len();
         let read = self.party.read(chunk);
-        self.note_read(before);
+        let came = self.waiting().saturating_sub(before);
+        self.newcomer.note_read(came);
+        if let Ok(Transfer::Passed) = read {
+            self.readiness.note_read(came, room);
+        }
         self.has_read(read)
     }
 
@@ -209,7 +221,7 @@ impl Client {
                 ClientStep::Goes
             }
             Ok(Transfer::Blocked) => {
-                self.is_readable = false;
+                self.readiness.note_blocked();
                 ClientStep::Rests
             }
             Err(broken) => {

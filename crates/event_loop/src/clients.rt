@@ -73,8 +73,8 @@ impl Clients {
     fn register(&mut self, registry: &Registry, client: &mut Client) -> io::Result<()> {
         self.reserve()?;
         let key = self.all.vacant_key();
-        let both = Interest::READABLE | Interest::WRITABLE;
-        client.party.register(registry, Token(key), both)?;
+        let interests = Interest::READABLE | Interest::WRITABLE | Interest::PRIORITY;
+        client.party.register(registry, Token(key), interests)?;
         self.queue.push(key)?;
         Ok(())
     }
@@ -106,7 +106,8 @@ impl Clients {
                 self.owed.push(token.0)?;
             }
             let ends = event.is_read_closed() || event.is_error();
-            if (event.is_readable() || ends) && client.note_readable() {
+            let reads_on = ends || event.is_priority();
+            if (event.is_readable() || ends) && client.note_readable(reads_on) {
                 self.queue.push(token.0)?;
             }
         }

@@ -35,6 +35,11 @@ impl Newcomer {
             is_stalled: false,
         }
     }
+
+    /// Notes that this many bytes came.
+    pub fn note_read(&mut self, came: usize) {
+        self.unfinished = self.unfinished.saturating_add(came);
+    }
 }
 
 impl Client {
@@ -68,12 +73,6 @@ impl Client {
         }
         self.newcomer.is_stalled = true;
         None
-    }
-
-    /// Notes how many bytes wait now, of which `before` waited before a read.
-    pub(crate) fn note_read(&mut self, before: usize) {
-        let came = self.waiting().saturating_sub(before);
-        self.newcomer.unfinished = self.newcomer.unfinished.saturating_add(came);
     }
 
     /// Notes that a line was answered: what waits now is the beginning of the next one.

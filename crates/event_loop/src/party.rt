@@ -27,7 +27,7 @@ use std::io;
 use std::marker::Model;
 use std::net::SocketAddr;
 use std::sync::Wait;
-use wire_lines::Fault;
+use wire_lines::{Fault, MAX_LINE};
 
 /// How far a client is.
 #[derive(Clone, Copy, Debug, PartialEq, Eq)]
@@ -198,6 +198,11 @@ impl<K: ByteSocket> Party<K> {
         } = self;
         pads.end_session(&mut session);
         socket
+    }
+
+    /// Whether a line waits to be answered: a whole one, or one that is too long.
+    pub fn has_line(&self) -> bool {
+        self.conversation.first_line().is_some() || self.conversation.waiting() > MAX_LINE
     }
 
     /// The first line, if it is whole and not too long.

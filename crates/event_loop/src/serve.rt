@@ -101,7 +101,8 @@ impl Client {
         }
     }
 
-    // Answers one line, or reads once if none is complete.
+    // Answers one line, or reads once if none is complete. While more bytes may come, the conversation is asked only where
+    // it has a line.
     fn answer_or_read<S: Sequence, R: Wait, G: Gate>(
         &mut self,
         alloc: Global,
@@ -109,6 +110,9 @@ impl Client {
         pads: &mut Shared<'_, S, R, G>,
         buffers: &mut Buffers,
     ) -> ClientStep {
+        if self.phase == Phase::Open && !self.party.has_line() {
+            return self.read_more(lobby, buffers);
+        }
         let before = self.party.replies().len();
         let claim = self.claim(alloc);
         match self.party.answer(alloc, pads, self.number) {

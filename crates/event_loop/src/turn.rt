@@ -1,9 +1,10 @@
 //! One turn of a worker.
 use crate::arrivals::Arrival;
 use crate::client::Client;
-use crate::clients::{Clients, NotServed};
+use crate::clients::Clients;
 use crate::delay::LogIn;
 use crate::hub::Connected;
+use crate::leaving::{end, move_away, turn_away};
 use crate::limits::CHECK;
 use crate::lobby::{Noted, PATIENT};
 use crate::serve::ClientStep;
@@ -113,10 +114,8 @@ where
             }
             Err(TryRecvError::Empty | TryRecvError::Disconnected) => return,
         };
-        if let Err(NotServed { client, cause }) = clients.insert(worker.poll.registry(), client) {
-            let number = client.number();
-            warn!(ServerLog(rt); "connection {number} is not served: {cause}");
-            close(service, pads, client);
+        if let Err(not_served) = clients.insert(worker.poll.registry(), client) {
+            turn_away(service, pads, not_served);
         }
     }
 }
@@ -242,87 +241,6 @@ where
     }
     clients.turn_over();
     Ok(())
-}
-
-// Sends a client to the worker for long lines, or back.
-fn move_away<S, R, G, T>(
-    service: &Service<'_, S, R, G, T>,
-    worker: &Worker,
-    clients: &mut Clients,
-    pads: &mut Shared<'_, S, R, G>,
-    key: usize,
-)
-where
-    S: Sequence,
-    R: AllocGlobal + Wait + Clock + Eprint,
-    G: Gate,
-    T: Settle,
-{
-    let rt = service.row.rt;
-    let Some(mut client) = clients.all.try_remove(key) else {
-        return;
-    };
-    let (number, home) = (client.number(), client.home());
-    let to = if worker.place == service.hub.long_lines() {
-        home
-    } else {
-        service.hub.long_lines()
-    };
-    let _registered = client.party.deregister(worker.poll.registry());
-    if let Some(Arrival::Moved(client)) = service.hub.send(rt, to, Arrival::Moved(client)) {
-        warn!(ServerLog(rt); "connection {number} ended: out of memory");
-        close(service, pads, client);
-    }
-}
-
-// Takes a client out, ends its session and closes its socket.
-fn end<S, R, G, T>(
-    service: &Service<'_, S, R, G, T>,
-    clients: &mut Clients,
-    pads: &mut Shared<'_, S, R, G>,
-    key: usize,
-)
-where
-    S: Sequence,
-    R: AllocGlobal + Wait + Clock + Eprint,
-    G: Gate,
-    T: Settle,
-{
-    let Some(client) = clients.all.try_remove(key) else {
-        return;
-    };
-    let number = client.number();
-    match client.fault() {
-        Some((fault, Some(cause))) =>
-            warn!(ServerLog(service.row.rt); "connection {number} ended: {fault}: {cause}"),
-        Some((fault, None)) =>
-            warn!(ServerLog(service.row.rt); "connection {number} ended: {fault}"),
-        None => {}
-    }
-    close(service, pads, client);
-}
-
-// Ends a client's session, and closes its socket. Each client that the worker no longer serves ends here, unless it
-// moves to another worker.
-fn close<S, R, G, T>(
-    service: &Service<'_, S, R, G, T>,
-    pads: &mut Shared<'_, S, R, G>,
-    mut client: Client,
-)
-where
-    S: Sequence,
-    R: AllocGlobal + Wait + Clock + Eprint,
-    G: Gate,
-    T: Settle,
-{
-    let lobby = service.hub.lobby();
-    client.leave_lobby(lobby);
-    if service.limits.per_address.is_some() {
-        lobby.disconnect(service.row.rt, client.address());
-    }
-    let (home, connected) = (client.home(), client.connected());
-    client.end(pads);
-    service.hub.leave(home, connected);
 }
 
 // Ends the clients that have exceeded a time limit.

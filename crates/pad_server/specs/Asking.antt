@@ -1,10 +1,12 @@
 -- The settings of a server over TCP, from the command line.
+use Rattle.std.specs.Prelude.{option_map}
+use Rattle.group_commit.specs.declared.confirming.Confirm.{Confirm}
 use Rattle.pad_server.specs.declared.args.ServerArguments.{ServerArguments}
 use Rattle.tcp_server.specs.declared.settings.Settings.{Settings}
 
--- everything that a server over TCP has to know, except its address and its accounts
-abbrev pub settings_of : ServerArguments → Settings
-settings_of asked = record {
+-- everything that a server over TCP has to know, except its address and its accounts; replies wait for the standby so
+abbrev pub settings_of : Confirm → ServerArguments → Settings
+settings_of confirm asked = record {
   replica = asked.replica;
   cells = asked.cells;
   present = asked.present;
@@ -14,6 +16,7 @@ settings_of asked = record {
   clients_per_address = asked.clients_per_address;
   idle = asked.idle;
   store = asked.store;
+  standby = option_map (λ number. record { number = number; confirm = confirm }) asked.standby;
   new_replica = asked.new_replica;
   web = asked.web;
   web_origins = asked.web_origins;

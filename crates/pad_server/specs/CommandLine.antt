@@ -49,6 +49,18 @@ new_replica_rule = flag_rule (codes "new-replica")
 abbrev pub unproved_rule : Rule
 unproved_rule = flag_rule (codes "unproved")
 
+-- `--standby N`
+abbrev pub standby_rule : Rule
+standby_rule = number_rule (codes "standby") 1 65535
+
+-- `--standby-of N`
+abbrev pub standby_of_rule : Rule
+standby_of_rule = number_rule (codes "standby-of") 1 65535
+
+-- `--confirm WHEN`
+abbrev pub confirm_rule : Rule
+confirm_rule = option_rule (codes "confirm")
+
 -- `--web ADDR`
 abbrev pub web_rule : Rule
 web_rule = option_rule (codes "web")
@@ -74,10 +86,14 @@ abbrev pub line_with_clients_and_store : App
 line_with_clients_and_store = with_rule (with_rule (with_rule (with_rule line_with_sizes clients_rule) idle_rule)
     store_rule) new_replica_rule
 
+-- the same, with the options of a page, of the clients of an address, and of a build without proofs
+abbrev pub line_with_page : App
+line_with_page = with_rule (with_rule (with_rule (with_rule line_with_clients_and_store web_rule) web_origins_rule)
+    clients_per_address_rule) unproved_rule
+
 -- the whole command line, in the terms of clap, which define the words that it accepts and what they give under a name
 abbrev pub line : App
-line = with_rule (with_rule (with_rule (with_rule line_with_clients_and_store web_rule) web_origins_rule)
-    clients_per_address_rule) unproved_rule
+line = with_rule (with_rule (with_rule line_with_page standby_rule) standby_of_rule) confirm_rule
 
 -- what the words give: the numbers, the flags and the texts under the names of the options
 pub record AsksFor (words : List (List ℕ)) (asked : ServerArguments) : Type 0 where
@@ -96,6 +112,9 @@ pub record AsksFor (words : List (List ℕ)) (asked : ServerArguments) : Type 0 
   pub idle : (other : ℕ) → Gives line words (codes "idle") 0 4294967295 other (unwrap_or asked.idle other)
   pub store : option_map (λ folder. folder.now) asked.store ≡ text_given line words (codes "store")
   pub new_replica : IsFlag (one_of (codes "new-replica") (matches_of line words)) asked.new_replica
+  pub standby : (other : ℕ) → Gives line words (codes "standby") 0 65535 other (unwrap_or asked.standby other)
+  pub standby_of : (other : ℕ) → Gives line words (codes "standby-of") 0 65535 other (unwrap_or asked.standby_of other)
+  pub confirm : option_map (λ word. word.now) asked.confirm ≡ text_given line words (codes "confirm")
   pub unproved : IsFlag (one_of (codes "unproved") (matches_of line words)) asked.unproved
   pub web : option_map (λ address. address.now) asked.web ≡ text_given line words (codes "web")
   pub web_origins : option_map (λ origins. origins.now) asked.web_origins ≡ text_given line words (codes "web-origin")

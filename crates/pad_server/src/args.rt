@@ -3,11 +3,12 @@ ghost use Rattle.std.specs.Prelude.{◌≡◌, ◌≤◌, IfOk, map, string_byte
 ghost use Rattle.clap.specs.Faults.{fault_of};
 ghost use Rattle.clap.specs.Words.{FailsBy, app_of};
 ghost use Rattle.server_core.specs.declared.limits.TheConstants.{MAX_CELLS};
-ghost use Rattle.pad_server.specs.CommandLine.{AsksFor, line_with_service, line, line_with_sizes, line_with_clients_and_store};
+ghost use Rattle.pad_server.specs.CommandLine.{AsksFor, line_with_service, line, line_with_page, line_with_sizes, line_with_clients_and_store};
 
 use crate::options::{
-    clients_of, clients_option, clients_per_address_of, clients_per_address_option, connections_of,
-    connections_option, idle_of, idle_option, listen_option, new_replica_flag, stdin_flag,
+    clients_of, clients_option, clients_per_address_of, clients_per_address_option, confirm_option,
+    connections_of, connections_option, idle_of, idle_option, listen_option, main_number_of,
+    new_replica_flag, standby_number_of, standby_of_option, standby_option, stdin_flag,
     store_option, unproved_flag, web_option, web_origins_option, workers_of, workers_option,
 };
 use clap::{Command, Error};
@@ -46,6 +47,12 @@ pub struct ServerArguments<'a> {
     pub store: Option<&'a str>,
     /// Whether no server has used the replica number before. Then the store may be that of another number.
     pub new_replica: bool,
+    /// The number of the peer that has a copy of the store. None: no peer has one.
+    pub standby: Option<u16>,
+    /// The number of the peer of whose store this server keeps a copy. None: it serves pads.
+    pub standby_of: Option<u16>,
+    /// What replies wait for: so many seconds, or `strict`. None: they do not wait for the standby.
+    pub confirm: Option<&'a str>,
     /// Whether the page says that this program was built without proofs.
     pub unproved: bool,
     /// The address at which to serve the page for browsers.
@@ -100,14 +107,24 @@ fn with_client_and_store_options<'a>(alloc: Global) -> Result<Command<'a>, Alloc
         .arg(new_replica_flag(alloc))
 }
 
-fn command<'a>(alloc: Global) -> Result<Command<'a>, AllocError>
-    ensures { IfOk result (λ command. app_of command ≡ line) }
+// Adds the options `--web`, `--web-origin`, `--clients-per-address` and `--unproved`.
+fn with_page_options<'a>(alloc: Global) -> Result<Command<'a>, AllocError>
+    ensures { IfOk result (λ command. app_of command ≡ line_with_page) }
 {
     with_client_and_store_options(alloc)?
         .arg(web_option(alloc))?
         .arg(web_origins_option(alloc))?
         .arg(clients_per_address_option(alloc))?
         .arg(unproved_flag(alloc))
+}
+
+fn command<'a>(alloc: Global) -> Result<Command<'a>, AllocError>
+    ensures { IfOk result (λ command. app_of command ≡ line) }
+{
+    with_page_options(alloc)?
+        .arg(standby_option(alloc))?
+        .arg(standby_of_option(alloc))?
+        .arg(confirm_option(alloc))
 }
 
 /// What the words of the command line give, or what is wrong with them.
@@ -134,6 +151,9 @@ pub fn parse<'a>(alloc: Global, words: &'a [String]) -> Result<ServerArguments<'
         idle: idle_of(&matches),
         store: matches.get_str("store"),
         new_replica: matches.get_flag("new-replica"),
+        standby: standby_number_of(&matches),
+        standby_of: main_number_of(&matches),
+        confirm: matches.get_str("confirm"),
         unproved: matches.get_flag("unproved"),
         web: matches.get_str("web"),
         web_origins: matches.get_str("web-origin"),

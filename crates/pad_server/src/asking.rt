@@ -3,13 +3,18 @@ ghost use Rattle.std.specs.Prelude.{◌≡◌};
 ghost use Rattle.pad_server.specs.Asking.{settings_of};
 
 use crate::args::ServerArguments;
-use tcp_server::Settings;
+use group_commit::Confirm;
+use tcp_server::{Settings, StandbyPeer};
 
 impl<'a> ServerArguments<'a> {
-    /// The settings of a server over TCP.
-    pub fn settings(self) -> Settings<'a>
-        ensures { result ≡ settings_of self.entry }
+    /// The settings of a server over TCP, whose replies wait for the standby so.
+    pub fn settings(self, confirm: Confirm) -> Settings<'a>
+        ensures { result ≡ settings_of confirm self.entry }
     {
+        let standby = match self.standby {
+            Some(number) => Some(StandbyPeer { number, confirm }),
+            None => None,
+        };
         Settings {
             replica: self.replica,
             cells: self.cells,
@@ -20,6 +25,7 @@ impl<'a> ServerArguments<'a> {
             clients_per_address: self.clients_per_address,
             idle: self.idle,
             store: self.store,
+            standby,
             new_replica: self.new_replica,
             web: self.web,
             web_origins: self.web_origins,

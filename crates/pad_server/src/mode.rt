@@ -1,6 +1,6 @@
 //! What the server serves.
 ghost use Rattle.std.specs.Prelude.{◌≡◌};
-ghost use Rattle.pad_server.specs.Modes.{mode_of};
+ghost use Rattle.pad_server.specs.Modes.{mode_of, names_itself, serving};
 
 use crate::args::ServerArguments;
 use thiserror::Error;
@@ -16,6 +16,17 @@ pub enum ServerMode<'a> {
         address: &'a str,
         /// The path of the accounts file.
         accounts: &'a str,
+    },
+    /// The main server, whose store is copied.
+    Standby {
+        /// The address at which the main server connects, such as `10.0.0.2:7878`.
+        address: &'a str,
+        /// The path of the accounts file.
+        accounts: &'a str,
+        /// The directory where the copies are kept.
+        store: &'a str,
+        /// The number of the main server.
+        main: u16,
     },
 }
 
@@ -38,12 +49,22 @@ pub enum Misuse {
     NoWebOrigins,
     #[error("--clients-per-address <N> needs --listen <ADDR>")]
     NoClientsPerAddress,
+    #[error("--standby <N> and --standby-of <N> need --listen <ADDR>")]
+    NoStandby,
+    #[error("--standby <N> and --standby-of <N> need --store <DIR>")]
+    NoCopies,
+    #[error("--confirm <WHEN> needs --standby <N>")]
+    NoConfirm,
+    #[error("--standby <N> and --standby-of <N> name another server than --replica <N>")]
+    OwnStandby,
+    #[error("--standby-of <N> goes with none of --standby, --web and --new-replica: a standby serves no pads")]
+    ServingStandby,
 }
 
 impl<'a> ServerArguments<'a> {
     /// Returns what is served. Exactly one of `--stdin` and `--listen` has to be given: the first without `--store`,
-    /// `--idle`, `--new-replica`, `--web` and `--clients-per-address`, the second with `--accounts`. `--web-origin` is
-    /// for `--web`.
+    /// `--idle`, `--new-replica`, `--web`, `--clients-per-address` and a standby, the second with `--accounts`.
+    /// `--web-origin` is for `--web`, and `--confirm` for `--standby`.
     pub fn mode(self) -> Result<ServerMode<'a>, Misuse>
         ensures { result ≡ mode_of self.entry }
     {
@@ -54,15 +75,53 @@ impl<'a> ServerArguments<'a> {
             (true, None) if self.web.is_some() => Err(Misuse::NoWeb),
             (true, None) if self.web_origins.is_some() => Err(Misuse::NoWebOrigins),
             (true, None) if self.clients_per_address.is_some() => Err(Misuse::NoClientsPerAddress),
+            (true, None) if self.standby.is_some() || self.standby_of.is_some() => {
+                Err(Misuse::NoStandby)
+            }
+            (true, None) if self.confirm.is_some() => Err(Misuse::NoConfirm),
             (true, None) => Ok(ServerMode::Stdin),
             (true, Some(_)) | (false, None) => Err(Misuse::NotOne),
             (false, Some(address)) => match self.accounts {
                 Some(_) if self.web.is_none() && self.web_origins.is_some() => {
                     Err(Misuse::NoWebOrigins)
                 }
-                Some(accounts) => Ok(ServerMode::Listen { address, accounts }),
+                Some(_) if self.standby.is_none() && self.confirm.is_some() => {
+                    Err(Misuse::NoConfirm)
+                }
+                Some(accounts) => self.serving(address, accounts),
                 None => Err(Misuse::NoAccounts),
             },
         }
+    }
+
+    // Whether pads are served at an address, or copies kept.
+    fn serving(self, address: &'a str, accounts: &'a str) -> Result<ServerMode<'a>, Misuse>
+        ensures { result ≡ serving address.entry accounts.entry self.entry }
+    {
+        if self.names_itself() {
+            return Err(Misuse::OwnStandby);
+        }
+        match (self.standby_of, self.store) {
+            (None, None) if self.standby.is_some() => Err(Misuse::NoCopies),
+            (None, _) => Ok(ServerMode::Listen { address, accounts }),
+            (Some(_), None) => Err(Misuse::NoCopies),
+            (Some(_), Some(_))
+                if self.standby.is_some() || self.web.is_some() || self.new_replica => {
+                Err(Misuse::ServingStandby)
+            }
+            (Some(main), Some(store)) => Ok(ServerMode::Standby {
+                address,
+                accounts,
+                store,
+                main,
+            }),
+        }
+    }
+
+    // Whether the standby or the main server would be this server itself.
+    fn names_itself(self) -> bool
+        ensures { result ≡ names_itself self.entry }
+    {
+        self.standby == Some(self.replica) || self.standby_of == Some(self.replica)
     }
 }

@@ -2,7 +2,7 @@
 ghost use Rattle.std.specs.Prelude.{◌≡◌, ◌≤◌, ℕ, codes, false, unwrap_or};
 ghost use Rattle.clap.specs.Words.{rule_of};
 ghost use Rattle.command_line.specs.Options.{Holds};
-ghost use Rattle.pad_server.specs.CommandLine.{clients_per_address_rule, clients_rule, connections_rule, idle_rule, listen_rule, new_replica_rule, stdin_rule, store_rule, unproved_rule, web_origins_rule, web_rule, workers_rule};
+ghost use Rattle.pad_server.specs.CommandLine.{clients_per_address_rule, clients_rule, confirm_rule, connections_rule, idle_rule, listen_rule, new_replica_rule, standby_of_rule, standby_rule, stdin_rule, store_rule, unproved_rule, web_origins_rule, web_rule, workers_rule};
 
 use clap::{Arg, ArgAction, ArgMatches, value_parser};
 use std::alloc::Global;
@@ -108,6 +108,40 @@ pub fn new_replica_flag<'a>(alloc: Global) -> Arg<'a>
         .help("Continues a store under a replica number that no server has used")
 }
 
+/// `--standby N`.
+pub fn standby_option<'a>(alloc: Global) -> Arg<'a>
+    ensures { (rule_of result ≡ standby_rule) × (result.global ≡ false) }
+{
+    Arg::new(alloc, "standby")
+        .long("standby")
+        .value_name("N")
+        .value_parser(value_parser!(u16).range(1..))
+        .help("Sends the store to peer N of the accounts file, which runs with --standby-of")
+}
+
+/// `--standby-of N`.
+pub fn standby_of_option<'a>(alloc: Global) -> Arg<'a>
+    ensures { (rule_of result ≡ standby_of_rule) × (result.global ≡ false) }
+{
+    Arg::new(alloc, "standby-of")
+        .long("standby-of")
+        .value_name("N")
+        .value_parser(value_parser!(u16).range(1..))
+        .help("Keeps a copy of the store of peer N, and serves nobody else")
+}
+
+/// `--confirm WHEN`.
+pub fn confirm_option<'a>(alloc: Global) -> Arg<'a>
+    ensures { (rule_of result ≡ confirm_rule) × (result.global ≡ false) }
+{
+    Arg::new(alloc, "confirm")
+        .long("confirm")
+        .value_name("WHEN")
+        .help(
+            "How long replies wait until the standby has what they reveal: SECONDS, after which the server goes on alone, or strict [default: they do not wait]",
+        )
+}
+
 /// `--unproved`.
 pub fn unproved_flag<'a>(alloc: Global) -> Arg<'a>
     ensures { (rule_of result ≡ unproved_rule) × (result.global ≡ false) }
@@ -144,6 +178,20 @@ pub fn workers_of(matches: &ArgMatches<'_>) -> Option<u32>
     ensures { (other : ℕ) → Holds (codes "workers") 0 4294967295 other matches.now (unwrap_or result other) }
 {
     matches.get_one::<u32>("workers")
+}
+
+/// The number of `--standby`, if there is one.
+pub fn standby_number_of(matches: &ArgMatches<'_>) -> Option<u16>
+    ensures { (other : ℕ) → Holds (codes "standby") 0 65535 other matches.now (unwrap_or result other) }
+{
+    matches.get_one::<u16>("standby")
+}
+
+/// The number of `--standby-of`, if there is one.
+pub fn main_number_of(matches: &ArgMatches<'_>) -> Option<u16>
+    ensures { (other : ℕ) → Holds (codes "standby-of") 0 65535 other matches.now (unwrap_or result other) }
+{
+    matches.get_one::<u16>("standby-of")
 }
 
 /// The number of `--clients`, or 10,000 without one.

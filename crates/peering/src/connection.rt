@@ -110,7 +110,10 @@ impl<'a, R: Wait + Clock> PeerConnection<'a, R> {
 }
 
 // Why a connection broke, with the system's error.
-fn why<R: Wait>(link: PeerLines<PeerReader, PeerWriter<'_, R>>, fault: Fault) -> BrokenRound {
+fn why<R: Wait + Clock>(
+    link: PeerLines<PeerReader, PeerWriter<'_, R>>,
+    fault: Fault,
+) -> BrokenRound {
     let (reader, writer) = link.into_parts();
     let cause = match fault {
         Fault::WriteFault => writer.into_inner().cause(),

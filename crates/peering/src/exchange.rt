@@ -107,6 +107,22 @@ fn is_past<C: Clock>(clock: &C, began: Option<Instant>) -> bool {
     }
 }
 
+/// The peers with which a server exchanges no operations.
+#[derive(Clone, Copy)]
+pub struct Skipped {
+    /// The number of the server itself, which may have a line in the accounts file.
+    pub own: u16,
+    /// That of its standby, which has a copy of the store.
+    pub standby: Option<u16>,
+}
+
+impl Skipped {
+    // Whether the peer with this number is one of them.
+    fn has(self, number: u16) -> bool {
+        number == self.own || self.standby == Some(number)
+    }
+}
+
 /// The peers of one thread, and its seats at the pads.
 #[derive(Drop)]
 pub struct Group<'a, R> {
@@ -123,18 +139,18 @@ where
     R: Net<Listener = TcpListener, Stream = TcpStream> + Clock + Wait + Eprint,
 {
     /// The group of the thread with an index, and its seats, one at each cell. Every 16th peer, from that index on, is
-    /// in it, except the server itself.
+    /// in it, except those that are skipped.
     pub fn new(
         alloc: Global,
         place: usize,
         peers: &'a [Peer],
-        own: u16,
+        skipped: Skipped,
         guard: Guard<'a>,
         seats: Vec<Seat>,
     ) -> Result<Group<'a, R>, AllocError> {
         let mut links = Vec::new(alloc);
         for (number, peer) in peers.iter().enumerate() {
-            if number % MAX_THREADS == place && peer.number != own {
+            if number % MAX_THREADS == place && !skipped.has(peer.number) {
                 links.push(PeerLink::new(alloc, peer, number, guard, seats.len())?)?;
             }
         }

@@ -12,5 +12,5 @@ mod peer_link;
 mod stop;
 
 pub use bell::Bell;
-pub use exchange::{Exchange, Group, MAX_THREADS, exchange_all};
+pub use exchange::{Exchange, Group, MAX_THREADS, Skipped, exchange_all};
 pub use stop::{Guard, Stop};

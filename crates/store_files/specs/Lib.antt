@@ -1,2 +1,3 @@
 -- The definitions that the contracts cite, by topic.
 pub mod Ownership
+pub mod Noting

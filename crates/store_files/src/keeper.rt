@@ -1,16 +1,19 @@
 //! The files of a server's pads while it runs: each answer is noted under its pad's lock, and synced before its reply
 //! is written.
-ghost use Rattle.std.specs.Prelude.{◌≡◌, ◌⊎◌, IfErr};
+ghost use Rattle.std.specs.Prelude.{◌≡◌, ◌⊎◌, IfErr, OnErr, OnOk};
+ghost use Rattle.group_commit.specs.Notes.{NothingSettles};
+ghost use Rattle.store_files.specs.Noting.{IsKept};
 
-use crate::handle::Handle;
-use crate::pad_device::{PadDevice, make_room};
+use crate::appending::Files;
+use crate::copying::{Copying, Waited};
+use crate::pad_device::make_room;
 use crate::reserve::{Reserve, is_full};
-use crate::shared_sync::SharedSync;
+use crate::settlement::Promised;
 use crate::spares::{Spare, Spares};
-use crate::sync_progress::{SyncProgress, SyncRole};
+use group_commit::{Commits, Note, Unnoted};
 use log::{error, warn};
 use pad_core::Request;
-use pad_model::Refusal;
+use pad_model::{Name, Refusal};
 use server_log::ServerLog;
 use shared_pads::Answered;
 use std::alloc::{AllocError, Global};
@@ -19,41 +22,35 @@ use std::io;
 use std::io::ErrorKind;
 use std::sync::atomic::{AtomicBool, Ordering};
 use std::sync::{Mutex, Wait};
-use std::thread::yield_now;
-use std::time::{SystemTime, UNIX_EPOCH};
+use std::time::{Clock, Duration, SystemTime, UNIX_EPOCH};
 use store_format::PadWriter;
-use store_records::{Record, records_of};
+use store_records::records_of;
 
-/// The most times that a thread yields before a sync, so that others' notes join its own. It waits for no more notes
-/// than the last sync had, so that a single author is never kept waiting.
-const LOOKS: u32 = 16;
+/// The seconds after which a server that waits for the standby at its start looks whether the store has failed.
+const A_WHILE: u64 = 1;
 
-/// A pad's file, open for appending, and its writer. None: the file is still to be made.
+/// A pad's file, open for appending and reading, and its writer. None: the file is still to be made.
 #[derive(Drop)]
 pub struct OpenPadFile {
     pub file: Option<File>,
     pub writer: PadWriter,
-}
-
-/// The files of all cells.
-#[derive(Drop)]
-pub struct OpenPadFiles {
-    pub all: Vec<Mutex<OpenPadFile>>,
-    pub handles: Vec<Handle>,
+    /// The name of the pad.
+    pub name: Option<String>,
+    /// How many bytes of the file are synced, where a standby has a copy.
+    pub synced: u64,
 }
 
 /// Keeps the pads of a server in files, one for each pad that has a name. `restore` makes it, and all threads share it.
 #[derive(Drop)]
 pub struct Keeper {
     // Makes files, reads the time and logs faults.
-    files: HostRuntime,
-    folder: String,
+    pub(crate) files: HostRuntime,
+    pub(crate) folder: String,
     replica: u16,
-    books: Vec<Mutex<OpenPadFile>>,
-    handles: Vec<Handle>,
-    progress: SyncProgress,
-    syncs: SharedSync,
-    reserve: Reserve,
+    pub(crate) pads: Vec<Mutex<OpenPadFile>>,
+    pub(crate) commits: Commits,
+    pub(crate) copying: Copying,
+    pub(crate) reserve: Reserve,
     spares: Spares,
     // Whether it was logged that no file can be made for a pad.
     is_short: AtomicBool,
@@ -69,67 +66,68 @@ pub struct OpenFolder {
     pub folder: File,
 }
 
-impl OpenPadFiles {
-    // Adds the book of the next cell. Where memory runs out, the start fails, so one of the two may then be longer.
-    pub(crate) fn add(
-        &mut self,
-        file: Option<File>,
-        writer: PadWriter,
-        handle: Option<File>,
-    ) -> Result<(), AllocError> {
-        let kept = self.all.push(Mutex::new(OpenPadFile { file, writer }));
-        let held = self.handles.push(Handle::new(handle));
-        kept?;
-        held?;
-        Ok(())
-    }
-}
-
 impl Keeper {
-    // A keeper of these books.
+    // A keeper of these files, one for each cell.
     pub(crate) fn new(
         files: HostRuntime,
         folder: String,
         replica: u16,
-        books: OpenPadFiles,
+        pads: Vec<Mutex<OpenPadFile>>,
+        copying: Copying,
         reserve: Reserve,
         held: OpenFolder,
-    ) -> Keeper {
+    ) -> Result<Keeper, AllocError> {
+        let cells = u32::try_from(pads.len()).unwrap_or(u32::MAX);
+        let commits = Commits::new(files.alloc(), cells)?;
         let spares = Spares::new(files.alloc());
-        Keeper {
+        Ok(Keeper {
             files,
             folder,
             replica,
-            books: books.all,
-            handles: books.handles,
-            progress: SyncProgress::new(),
-            syncs: SharedSync::new(),
+            pads,
+            commits,
+            copying,
             reserve,
             spares,
             is_short: AtomicBool::new(false),
             held,
-        }
+        })
     }
 
-    /// Notes what a request leaves to be kept, as a line for each record at the end of the pad's file. It is called
-    /// under the pad's lock, so that the lines have the order of the steps. A failure is logged, and from then on
-    /// nothing is settled.
-    pub fn note<R: Wait>(&self, rt: &R, alloc: Global, told: &Answered<'_>) {
-        // Anything after a line that was not written whole would count as damage at the next start.
-        if self.progress.has_failed() {
-            return;
-        }
-        match self.write(rt, alloc, told) {
-            Ok(false) => {}
-            Ok(true) => self.progress.note(),
-            Err(cause) => {
-                self.progress.fail();
-                error!(ServerLog(&self.files); "the store {} cannot be written: {cause}", self.folder);
-            }
+    /// Notes what a request leaves to be kept: a line for each record, which whoever settles appends to the pad's file. It
+    /// is called under the pad's lock, so that the lines have the order of the steps. A failure is logged, and from then
+    /// on nothing is settled.
+    pub fn note<R: Wait>(&self, rt: &R, alloc: Global, told: &Answered<'_>)
+        ensures { IsKept told.now }
+    {
+        if let Err(cause) = self.put(rt, alloc, told) {
+            self.commits.fail(rt);
+            error!(ServerLog(&self.files); "the store {} cannot be written: {cause}", self.folder);
         }
         if self.has_named_nothing(told) {
             self.spares.release(rt);
         }
+    }
+
+    // Notes the records of a request, if it leaves any.
+    fn put<R: Wait>(&self, rt: &R, alloc: Global, told: &Answered<'_>) -> Result<(), Unnoted>
+        ensures { OnOk result (IsKept told.now) }
+    {
+        let Ok(more) = told.more else {
+            return Err(Unnoted::Memory);
+        };
+        let Ok(records) = records_of(alloc, told.who, told.request, told.answer, more.as_slice())
+        else {
+            return Err(Unnoted::Memory);
+        };
+        if records.is_empty() {
+            return Ok(());
+        }
+        let note = Note {
+            at: self.seconds(),
+            records,
+        };
+        self.commits.note(rt, told.cell, note)
     }
 
     /// A creation that was promised a file came to no cell. If it came to one, `note` finds out itself.
@@ -142,63 +140,9 @@ impl Keeper {
         match (told.request, told.answer) {
             (Request::Create { .. }, Err(_)) => true,
             (Request::Create { .. }, Ok(None)) => {
-                (told.cell as usize).saturating_add(1) >= self.books.len()
+                (told.cell as usize).saturating_add(1) >= self.pads.len()
             }
             _ => false,
-        }
-    }
-
-    // Appends the records of a request to the pad's file, and returns whether there were any.
-    fn write<R: Wait>(&self, rt: &R, alloc: Global, told: &Answered<'_>) -> io::Result<bool> {
-        let Ok(more) = told.more else {
-            return Err(io::Error::from(AllocError));
-        };
-        let records = records_of(alloc, told.who, told.request, told.answer, more.as_slice())?;
-        let Some(first) = records.first() else {
-            return Ok(false);
-        };
-        let cell = told.cell as usize;
-        if cell >= self.books.len() {
-            return Err(io::Error::from(ErrorKind::NotFound));
-        }
-        let mut book = self.books[cell].lock(rt);
-        let OpenPadFile { file, writer } = &mut *book;
-        let begins = file.is_none();
-        if begins {
-            *file = Some(self.begin(rt, alloc, cell, first, writer)?);
-        }
-        let together = begins || !self.is_synced(cell);
-        writer.note(alloc, self.seconds(), together, records.as_slice())?;
-        let Some(file) = file else {
-            return Err(io::Error::from(ErrorKind::NotFound));
-        };
-        writer.write(alloc, &mut self.device(rt, file))?;
-        if let Some(handle) = self.handles.get(cell) {
-            handle.note();
-        }
-        Ok(true)
-    }
-
-    // A pad's file, for its writer.
-    fn device<'r, 's, 'f, R: Wait>(
-        &'s self,
-        rt: &'r R,
-        file: &'f mut File,
-    ) -> PadDevice<'r, 's, 'f, R> {
-        PadDevice {
-            rt,
-            files: &self.files,
-            folder: self.folder.as_str(),
-            reserve: &self.reserve,
-            file,
-        }
-    }
-
-    // Whether everything that was appended to the file of a cell is synced.
-    fn is_synced(&self, cell: usize) -> bool {
-        match self.handles.get(cell) {
-            Some(handle) => handle.is_synced(),
-            None => false,
         }
     }
 
@@ -248,18 +192,14 @@ impl Keeper {
         has_room
     }
 
-    // Gives the file that was promised its pad's name, and makes the first line.
-    fn begin<R: Wait>(
+    // Gives a pad's name to the file that was promised to it, and makes the first line.
+    pub(crate) fn begin<R: Wait>(
         &self,
         rt: &R,
         alloc: Global,
-        cell: usize,
-        first: &Record,
+        name: &Name,
         writer: &mut PadWriter,
     ) -> io::Result<File> {
-        let Record::Named { name, .. } = first else {
-            return Err(io::Error::from(ErrorKind::InvalidData));
-        };
         let Some(spare) = self.spares.take(rt) else {
             return Err(io::Error::from(ErrorKind::NotFound));
         };
@@ -274,10 +214,7 @@ impl Keeper {
             done => done?,
         }
         self.held.folder.sync_all()?;
-        let Spare { file, handle, .. } = spare;
-        if let Some(kept) = self.handles.get(cell) {
-            kept.set(rt, handle);
-        }
+        let Spare { file, .. } = spare;
         writer.begin(alloc, name, self.replica)?;
         Ok(file)
     }
@@ -295,52 +232,57 @@ impl Keeper {
 
     /// Whether a write or a sync has failed, after which nothing is settled.
     pub fn has_failed(&self) -> bool {
-        self.progress.has_failed()
+        self.commits.has_failed()
     }
 
-    /// Waits until everything noted before is synced, or fails. It is called before a reply is written, under no pad's
-    /// lock. One thread syncs for all that wait; after a failed write or sync each call fails.
-    pub fn settle<R: Wait>(&self, rt: &R) -> io::Result<()> {
-        match self.progress.turn(rt) {
-            SyncRole::Done => Ok(()),
-            SyncRole::Failed => Err(io::Error::from(ErrorKind::Other)),
-            SyncRole::Leads => {
-                self.gather();
-                let noted = self.progress.noted();
-                let synced = self.sync(rt);
-                self.progress.finish(noted, synced.is_ok());
-                synced
+    /// Waits until everything noted before is synced, and the standby has it where that was promised, or fails. It is called
+    /// before a reply is written, under no pad's lock. Threads that wait append and sync together; after a failure each call
+    /// fails.
+    pub fn settle<R: Wait + Clock>(&self, rt: &R) -> io::Result<Promised> {
+        let kept = self.commits.settle(rt, &Files::new(rt, self))?;
+        let confirmed = match self.copying.wait(rt, kept.number()) {
+            Waited::Confirmed(confirmed) => confirmed,
+            Waited::Alone(confirmed) => {
+                warn!(ServerLog(&self.files); "the standby does not answer: this server goes on alone");
+                confirmed
+            }
+            Waited::Lost { first } => {
+                if first {
+                    error!(ServerLog(&self.files); "the standby does not answer");
+                }
+                self.commits.fail(rt);
+                return Err(io::Error::from(ErrorKind::TimedOut));
+            }
+        };
+        Ok(Promised::new(kept, confirmed))
+    }
+
+    /// Waits until the standby has what was there at the start, where no reply may go out before. Returns whether it has: if
+    /// not, the server has to end.
+    pub fn wait_for_copy<R: Wait + Clock>(&self, rt: &R) -> bool {
+        for _ in rt.forever() {
+            match self.copying.wait_at_start(rt, Duration::from_secs(A_WHILE)) {
+                Some(false) if !self.has_failed() => {}
+                Some(true) => return true,
+                _ => return false,
             }
         }
+        false
     }
 
-    // Yields to other threads, whose notes can join a sync that is about to begin.
-    fn gather(&self) {
-        for _look in 0..LOOKS {
-            if self.progress.is_crowded() {
-                return;
-            }
-            yield_now();
-        }
+    /// Whether the server ends because the standby did not answer.
+    pub fn has_lost_standby(&self) -> bool {
+        self.copying.is_lost()
     }
 
-    // Syncs the files to which something was appended.
-    fn sync<R: Wait>(&self, rt: &R) -> io::Result<()> {
-        let synced = self.syncs.sync(rt, self.handles.as_slice());
-        if let Err(cause) = &synced {
-            error!(ServerLog(&self.files); "the store {} cannot be synced: {cause}", self.folder);
-        }
-        synced
-    }
-
-    /// Helps other threads to sync the files of many pads, until `end_help` is called. A server calls it in threads that do
-    /// nothing else.
+    /// Helps other threads to append to the files of many pads, until `end_help` is called. A server calls it in threads
+    /// that do nothing else.
     pub fn help<R: Wait>(&self, rt: &R) {
-        self.syncs.help(rt, self.handles.as_slice());
+        self.commits.help(rt, &Files::new(rt, self));
     }
 
     /// Ends the threads that help.
-    pub fn end_help(&self) {
-        self.syncs.end();
+    pub fn end_help<R: Wait>(&self, rt: &R) {
+        self.commits.end_help(rt);
     }
 }

@@ -5,23 +5,32 @@
 //! through `Settled`.
 #![tactic(auto)]
 
-mod handle;
+mod appending;
+mod copying;
 mod keeper;
+mod kept_files;
 mod owner;
 mod pad_device;
 mod pad_file;
 mod pieces;
 mod reading;
 mod reserve;
+mod round_log;
 mod settled;
-mod shared_sync;
+mod settlement;
 mod spares;
+mod standby_store;
 mod store_error;
 mod stored;
-mod sync_progress;
+mod sums;
+mod waiting;
 
 pub use keeper::Keeper;
+pub use kept_files::{KeptFiles, SyncedFile};
 pub use owner::Owner;
+pub use round_log::FileStretch;
 pub use settled::Settled;
+pub use settlement::{Promised, Settlement};
+pub use standby_store::{CopiedFile, StandbyStore, Unkept};
 pub use store_error::StoreError;
 pub use stored::{Size, Stored, restore};

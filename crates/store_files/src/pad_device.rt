@@ -2,6 +2,7 @@
 ghost use Rattle.std.specs.Prelude.{None};
 
 use crate::reserve::{Reserve, is_full};
+use group_commit::Device;
 use log::warn;
 use server_log::ServerLog;
 use std::fs::File;
@@ -48,5 +49,13 @@ impl<R: Wait> Write for PadDevice<'_, '_, '_, R> {
 
     fn flush(&mut self) -> io::Result<()> {
         self.file.flush()
+    }
+}
+
+impl<R: Wait> Device for PadDevice<'_, '_, '_, R> {
+    ghost synced = { λ _. None };
+
+    fn sync(&mut self) -> io::Result<()> {
+        self.file.sync_data()
     }
 }

@@ -15,13 +15,14 @@ use store_format::{Damage, Loaded, PadWriter};
 /// How many files of one pad's name may be moved aside.
 const MOST_ASIDE: u32 = 1_000;
 
-/// A pad that was loaded, with its file open for appending, twice.
+/// A pad that was loaded, with its file open for appending.
 #[derive(Drop)]
 pub struct PadFile<S: Sequence> {
     pub pad: Pad<S>,
     pub writer: PadWriter,
     pub file: File,
-    pub handle: File,
+    /// The number of bytes of the file, all of which are synced.
+    pub length: u64,
 }
 
 /// Why a file of a store is refused.
@@ -124,28 +125,56 @@ fn open_loaded<S: Sequence>(
     if cut > 0 {
         warn!(ServerLog(files); "{path}: dropped the last {cut} bytes, which an interrupted write left; nothing that was synced is lost");
     }
-    let (mut file, handle) = open_file(files, path, loaded.whole)?;
-    let mut writer = PadWriter::new(files.alloc(), loaded.sum);
-    if loaded.header.replica != u64::from(replica) {
-        writer.begin(files.alloc(), &loaded.header.pad, replica)?;
-        writer.write(files.alloc(), &mut file)?;
-        file.sync_all()?;
-    }
+    let OpenEnd {
+        file,
+        writer,
+        length,
+    } = open_end(files, path, replica, &loaded)?;
     Ok(PadFile {
         pad: loaded.pad,
         writer,
         file,
-        handle,
+        length,
     })
 }
 
-// Opens a file for appending after its whole lines, twice.
-fn open_file(files: &HostRuntime, path: &str, whole: u64) -> io::Result<(File, File)> {
+// The end of a pad's file, where lines are appended.
+#[derive(Drop)]
+struct OpenEnd {
+    file: File,
+    writer: PadWriter,
+    length: u64,
+}
+
+// Opens the end of the file from which a pad was loaded. A server with a new number begins with a header.
+fn open_end<S: Sequence>(
+    files: &HostRuntime,
+    path: &str,
+    replica: u16,
+    loaded: &Loaded<S>,
+) -> io::Result<OpenEnd> {
+    let alloc = files.alloc();
+    let mut file = open_file(files, path, loaded.whole)?;
+    let mut writer = PadWriter::new(alloc, loaded.sum.to_string(alloc)?);
+    if loaded.header.replica != u64::from(replica) {
+        writer.begin(alloc, &loaded.header.pad, replica)?;
+        writer.write(alloc, &mut file)?;
+        file.sync_all()?;
+    }
+    let length = file.metadata()?.len();
+    Ok(OpenEnd {
+        file,
+        writer,
+        length,
+    })
+}
+
+// Opens a file for appending after its whole lines.
+fn open_file(files: &HostRuntime, path: &str, whole: u64) -> io::Result<File> {
     let mut options = OpenOptions::new();
-    options.append(true);
+    options.read(true).append(true);
     let file = options.open(files, path)?;
     file.set_len(whole)?;
     file.sync_all()?;
-    let handle = file.try_clone()?;
-    Ok((file, handle))
+    Ok(file)
 }

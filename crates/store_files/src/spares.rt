@@ -9,11 +9,10 @@ use std::{fs, io};
 /// The permissions of the files of a store: for the server's user alone.
 pub const PRIVATE: u32 = 0o600;
 
-/// A file without a pad, open for appending, twice.
+/// A file without a pad, open for appending.
 #[derive(Drop)]
 pub struct Spare {
     pub file: File,
-    pub handle: File,
     path: String,
 }
 
@@ -83,8 +82,7 @@ impl Spares {
 fn open(files: &HostRuntime, folder: &str, number: u64) -> io::Result<Spare> {
     let path = format!(in files.alloc(); "{folder}/spare-{number}")?;
     let mut options = OpenOptions::new();
-    options.append(true).create(true).mode(PRIVATE);
+    options.read(true).append(true).create(true).mode(PRIVATE);
     let file = options.open(files, path.as_str())?;
-    let handle = file.try_clone()?;
-    Ok(Spare { file, handle, path })
+    Ok(Spare { file, path })
 }

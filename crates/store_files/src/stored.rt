@@ -1,13 +1,15 @@
 //! The pads of a store at the start of the server.
-use crate::handle::Handle;
-use crate::keeper::{Keeper, OpenFolder, OpenPadFile, OpenPadFiles};
+use crate::copying::Copying;
+use crate::keeper::{Keeper, OpenFolder, OpenPadFile};
 use crate::owner::Owner;
 use crate::pad_file::PadFile;
 use crate::reading::{Read, read_all};
 use crate::reserve::Reserve;
+use crate::round_log::put_back;
 use crate::spares::PRIVATE;
 use crate::store_error::StoreError;
 use block_seq::BlockSeq;
+use group_commit::Confirm;
 use log::warn;
 use pad_core::Pad;
 use server_log::ServerLog;
@@ -46,25 +48,28 @@ pub struct Size {
 
 /// Loads the pads of a folder, each from its file, in the order of the files' names. The other cells are free. A server
 /// calls it once, before it serves anyone. The folder is made if it is not there, and its lock is taken; each file is
-/// cut off after its last whole line, and 16 MiB of the disk are taken as a reserve.
+/// cut off after its last whole line, and 16 MiB of the disk are taken as a reserve. `confirm` says what replies wait for
+/// where a standby has a copy of the store.
 pub fn restore<'f, R>(
     rt: &R,
     files: HostRuntime,
     folder: &'f str,
     owner: &Owner,
     size: Size,
+    confirm: Option<Confirm>,
 ) -> Result<Stored, StoreError<'f>>
 where
     R: Runtime<A = Global, File = File> + Threads + Wait + Sync,
 {
     let kept_in = String::from_str(rt.alloc(), folder)?;
-    let (held, names) = open_folder(rt, folder)?;
+    let (held, names) = open_folder(rt, &files, folder)?;
     let LoadingPads {
         cells,
         revisions,
-        books,
+        files: opened,
         ..
     } = load_row(rt, &files, folder, names, owner, size)?;
+    let copying = Copying::new(rt.alloc(), opened.len(), confirm)?;
     let path = format!(in rt.alloc(); "{folder}/reserve")?;
     let reserve = match Reserve::open(&files, path.as_str()) {
         Ok(reserve) => reserve,
@@ -76,12 +81,24 @@ where
     Ok(Stored {
         cells,
         revisions,
-        keeper: Keeper::new(files, kept_in, owner.replica(), books, reserve, held),
+        keeper: Keeper::new(
+            files,
+            kept_in,
+            owner.replica(),
+            opened,
+            copying,
+            reserve,
+            held,
+        )?,
     })
 }
 
-// The folder and its lock, and the names of its files.
-fn open_folder<'f, R>(rt: &R, folder: &'f str) -> Result<(OpenFolder, Vec<String>), StoreError<'f>>
+// The folder and its lock, and the names of its files. If the folder is that of a standby, its files are completed first.
+fn open_folder<'f, R>(
+    rt: &R,
+    files: &HostRuntime,
+    folder: &'f str,
+) -> Result<(OpenFolder, Vec<String>), StoreError<'f>>
 where
     R: Runtime<A = Global, File = File>,
 {
@@ -90,7 +107,11 @@ where
         Ok(None) => return Err(StoreError::InUse { folder }),
         Err(cause) => return Err(StoreError::Unopened { folder, cause }),
     };
-    match names_of(rt, folder) {
+    let names = match put_back(files, folder, &held.folder) {
+        Ok(()) => names_of(rt, folder),
+        Err(cause) => Err(cause),
+    };
+    match names {
         Ok(names) => Ok((held, names)),
         Err(cause) => Err(StoreError::Unopened { folder, cause }),
     }
@@ -113,10 +134,7 @@ where
         seats: size.seats,
         cells: Vec::new(alloc),
         revisions: Vec::new(alloc),
-        books: OpenPadFiles {
-            all: Vec::new(alloc),
-            handles: Vec::new(alloc),
-        },
+        files: Vec::new(alloc),
     };
     let reads: Vec<Read<BlockSeq>> = read_all(rt, files, folder, names, owner)?;
     for read in reads {
@@ -136,7 +154,7 @@ struct LoadingPads {
     seats: u32,
     cells: Vec<SharedPad<BlockSeq>>,
     revisions: Vec<u64>,
-    books: OpenPadFiles,
+    files: Vec<Mutex<OpenPadFile>>,
 }
 
 impl LoadingPads {
@@ -160,26 +178,41 @@ impl LoadingPads {
 
     // Adds a pad.
     fn add(&mut self, alloc: Global, opened: PadFile<BlockSeq>) -> Result<(), AllocError> {
+        let name = name_of(alloc, &opened.pad)?;
         let PadFile {
             pad,
             writer,
             file,
-            handle,
+            length,
         } = opened;
-        let booked = self.books.add(Some(file), writer, Some(handle));
-        let added = self.add_pad(alloc, pad);
-        booked.and(added)
+        self.add_file(OpenPadFile {
+            file: Some(file),
+            writer,
+            name,
+            synced: length,
+        })?;
+        self.add_pad(alloc, pad)
     }
 
     // Adds a cell without a pad.
     fn add_free(&mut self, alloc: Global, owner: &Owner, cell: u32) -> Result<(), AllocError> {
         let writer = PadWriter::new(alloc, String::new(alloc));
-        let booked = self.books.add(None, writer, None);
+        self.add_file(OpenPadFile {
+            file: None,
+            writer,
+            name: None,
+            synced: 0,
+        })?;
         let Ok(pad) = Pad::new(alloc, owner.replica(), owner.present()) else {
             return Err(AllocError);
         };
-        let added = self.add_pad(alloc, pad);
-        booked.and(added)
+        self.add_pad(alloc, pad)
+    }
+
+    // Adds the file of the next cell. Where memory runs out, the start fails.
+    fn add_file(&mut self, open: OpenPadFile) -> Result<(), AllocError> {
+        self.files.push(Mutex::new(open))?;
+        Ok(())
     }
 
     // Adds the pad of the next cell.
@@ -195,8 +228,16 @@ impl LoadingPads {
     }
 }
 
+// The name of a pad, if it has one.
+fn name_of(alloc: Global, pad: &Pad<BlockSeq>) -> Result<Option<String>, AllocError> {
+    match pad.name() {
+        Some(name) => Ok(Some(String::from_str(alloc, name)?)),
+        None => Ok(None),
+    }
+}
+
 // Makes the folder if it is not there, and takes its lock. None: another process has it.
-fn lock_folder<R: Runtime<A = Global, File = File>>(
+pub(crate) fn lock_folder<R: Runtime<A = Global, File = File>>(
     rt: &R,
     folder: &str,
 ) -> io::Result<Option<OpenFolder>> {
@@ -216,7 +257,10 @@ fn lock_folder<R: Runtime<A = Global, File = File>>(
 }
 
 // The names of the files of pads, in order.
-fn names_of<R: Runtime<A = Global, File = File>>(rt: &R, folder: &str) -> io::Result<Vec<String>> {
+pub(crate) fn names_of<R: Runtime<A = Global, File = File>>(
+    rt: &R,
+    folder: &str,
+) -> io::Result<Vec<String>> {
     let alloc = rt.alloc();
     let mut names = Vec::new(alloc);
     for entry in fs::read_dir(rt, folder)? {

@@ -19,6 +19,31 @@ last_goes_on : (sum : List ℕ) (texts more : List (List ℕ)) → last_sum sum 
 last_goes_on sum [] more = refl
 last_goes_on sum (text ∷ texts) more = last_goes_on (sum_after sum text) texts more
 
+-- what is added by nothing is nothing
+pub adds_nothing : (writer : PadWriter) → Adds [] writer writer
+adds_nothing writer = record { waiting = sym (append-nil (string_bytes writer.waiting)); sum = refl }
+
+-- what is added behind what was added is both, one behind the other
+pub adds_go_on : (texts more : List (List ℕ)) (old mid new : PadWriter) → Adds texts old mid → Adds more mid new →
+    Adds (texts ++ more) old new
+adds_go_on texts more old mid new first then_ = record { waiting = waiting; sum = sum }
+  where
+    behind : List ℕ → List ℕ
+    behind s = bytes_of (lines_behind s more)
+
+    waiting : string_bytes new.waiting
+        ≡ string_bytes old.waiting ++ bytes_of (lines_behind (string_bytes old.sum) (texts ++ more))
+    waiting =
+        then_.waiting
+        ∙ ap (λ w. w ++ behind (string_bytes mid.sum)) first.waiting
+        ∙ ap (λ s. (string_bytes old.waiting ++ bytes_of (lines_behind (string_bytes old.sum) texts)) ++ behind s) first.sum
+        ∙ append_assoc (string_bytes old.waiting) (bytes_of (lines_behind (string_bytes old.sum) texts))
+        (behind (last_sum (string_bytes old.sum) texts))
+        ∙ ap (λ rest. string_bytes old.waiting ++ rest) (sym (lines_go_on (string_bytes old.sum) texts more))
+
+    sum : string_bytes new.sum ≡ last_sum (string_bytes old.sum) (texts ++ more)
+    sum = then_.sum ∙ ap (λ s. last_sum s more) first.sum ∙ sym (last_goes_on (string_bytes old.sum) texts more)
+
 begun : (writer : PadWriter) → string_bytes writer.waiting ≡ [] → string_bytes writer.sum ≡ [] → AreLinesOf [] [] writer
 begun writer waiting sum = record { lines = waiting; sum = sum }
 

@@ -12,10 +12,12 @@ mod room;
 mod serving_error;
 mod settings;
 mod settling;
+mod standby_server;
 mod threads;
 mod watch;
 
 pub use listen::serve_clients;
 pub use serving_error::ServingError;
-pub use settings::Settings;
+pub use settings::{Settings, StandbyPeer};
+pub use standby_server::{StandbySettings, serve_copies};
 pub use threads::MAX_WORKERS;

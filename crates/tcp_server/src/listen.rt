@@ -6,14 +6,19 @@ use crate::listeners::listen_at;
 use crate::opened::{Opened, open_pads};
 use crate::pad_gate::PadGate;
 use crate::serving_error::ServingError;
-use crate::settings::Settings;
+use crate::settings::{Settings, StandbyPeer};
 use crate::settling::Settling;
 use crate::threads::{make_groups, make_threads};
 use crate::watch::{Watch, watch_accounts};
 use block_seq::BlockSeq;
 use conversation::PadTable;
 use event_loop::{Acceptor, Hub, Limits, Service, SetUp, Worker, accept_all, serve_all};
+use group_commit::Confirm;
+use log::info;
 use peering::{Bell, Exchange, Group, Guard, exchange_all};
+use server_log::ServerLog;
+use sessions::Peer;
+use standby::{SendingEnd, send_copies};
 use std::alloc::{AllocError, Global};
 use std::fs::File;
 use std::net::{Net, TcpListener, TcpStream};
@@ -22,6 +27,7 @@ use std::sync::Wait;
 use std::thread;
 use std::thread::Threads;
 use std::time::Clock;
+use store_files::{Keeper, KeptFiles};
 use web_wire::{Page, Site};
 
 /// Threads that help to sync the files of many pads. They wait for the disk, so there are more of them than processors.
@@ -52,6 +58,12 @@ where
     let (opened, bytes) = open_pads(rt, files, asked, path)?;
     let watch = Watch::new(watching, path, bytes);
     let has_stopped = serve_opened(rt, &opened, asked, address, pages, watch)?;
+    match asked.standby {
+        Some(StandbyPeer { number, .. }) if opened.has_lost_standby() => {
+            return Err(ServingError::StandbyLost { number });
+        }
+        _ => {}
+    }
     match asked.store {
         Some(folder) if opened.has_failed() => Err(ServingError::StoreFailed { folder }),
         _ if has_stopped => Err(ServingError::WorkerFailed),
@@ -116,7 +128,7 @@ where
         keeper,
         stop: &opened.stop,
     };
-    let groups = make_groups(rt, opened, asked.replica, guard)?;
+    let groups = make_groups(rt, opened, asked, guard)?;
     let gate = PadGate::new(rt, &opened.exchange, keeper, hub);
     let row = PadTable {
         rt,
@@ -145,6 +157,7 @@ where
         guard,
         watch,
         end: &opened.end,
+        sender: sender_of(opened, asked),
     };
     serve(&service, acceptor, workers, others)
 }
@@ -172,6 +185,59 @@ struct Others<'a, R> {
     watch: Watch<'a>,
     /// Rung when the server ends.
     end: &'a Bell,
+    /// What is sent to the standby, if there is one.
+    sender: Option<Sender<'a>>,
+}
+
+/// What is sent to the standby, and to whom.
+#[derive(Drop)]
+struct Sender<'a> {
+    keeper: &'a Keeper,
+    peer: &'a Peer,
+    own: u16,
+    /// Whether nothing may be answered before the standby has it.
+    is_strict: bool,
+    end: SendingEnd,
+}
+
+/// What is sent to the standby of the settings; None: there is none, or no store.
+fn sender_of<'a>(opened: &'a Opened, asked: Settings<'_>) -> Option<Sender<'a>> {
+    let standby = asked.standby?;
+    Some(Sender {
+        keeper: opened.keeper.as_ref()?,
+        peer: opened.peer(standby.number)?,
+        own: asked.replica,
+        is_strict: standby.confirm == Confirm::Strict,
+        end: SendingEnd::new(),
+    })
+}
+
+impl Sender<'_> {
+    // Waits until the standby has everything, where nobody is to be served before. Returns whether the server may serve.
+    fn wait<R: Wait + Clock + Eprint>(&self, rt: &R) -> bool {
+        if self.is_strict {
+            let number = self.peer.number;
+            info!(ServerLog(rt); "nobody is served before the standby {number} has everything that is stored here");
+        }
+        self.keeper.wait_for_copy(rt)
+    }
+
+    // Sends to the standby until it is ended. If the standby is lost meanwhile, the whole server is stopped.
+    fn send<R>(&self, rt: &R, hub: &Hub)
+    where
+        R: AllocGlobal + Net<Listener = TcpListener, Stream = TcpStream> + Clock + Wait + Eprint,
+    {
+        send_copies(
+            rt,
+            KeptFiles::new(self.keeper),
+            self.peer,
+            self.own,
+            &self.end,
+        );
+        if self.keeper.has_failed() {
+            hub.stop();
+        }
+    }
 }
 
 /// Exchanges with peers until the server ends. If the store fails meanwhile, the whole server is stopped.
@@ -191,10 +257,19 @@ where
     }
 }
 
+/// Ends the thread that sends to the standby: after one more round, or at once.
+fn end_sending<R: Wait>(rt: &R, sender: Option<&Sender<'_>>, at_once: bool) {
+    match sender {
+        Some(sender) if at_once => sender.end.break_off(rt),
+        Some(sender) => sender.end.end(rt),
+        None => {}
+    }
+}
+
 /// Ends the threads that help to sync files.
-fn end_help(guard: Guard<'_>) {
+fn end_help<R: Wait>(rt: &R, guard: Guard<'_>) {
     if let Some(keeper) = guard.keeper {
-        keeper.end_help();
+        keeper.end_help(rt);
     }
 }
 
@@ -223,13 +298,23 @@ where
         guard,
         watch,
         end,
+        sender,
     } = others;
+    let sender = sender.as_ref();
     thread::scope(thread::scope_env(), rt, |scope| {
         let mut threads = 0u64;
         let mut is_whole = true;
         if let Some(keeper) = guard.keeper {
             for _ in 0..SYNCERS {
                 let _helps = scope.spawn(move || keeper.help(rt));
+            }
+        }
+        // With a standby that is never to lack anything, nobody is served before it has everything, peers neither.
+        if let Some(sender) = sender {
+            if scope.spawn(move || sender.send(rt, hub)).is_err() {
+                is_whole = false;
+            } else if !sender.wait(rt) {
+                hub.stop();
             }
         }
         for group in groups {
@@ -245,7 +330,8 @@ where
             hub.stop();
             guard.end(rt);
             exchange.ring(rt);
-            end_help(guard);
+            end_sending(rt, sender, true);
+            end_help(rt, guard);
             return Err(ServingError::NoThread);
         }
         serve_all(service, workers.as_mut_slice());
@@ -254,7 +340,8 @@ where
             guard.end(rt);
         }
         exchange.finish(rt, threads, guard);
-        end_help(guard);
+        end_sending(rt, sender, hub.has_stopped());
+        end_help(rt, guard);
         Ok(())
     })
 }

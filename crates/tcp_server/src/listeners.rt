@@ -33,6 +33,21 @@ where
     }
 }
 
+/// Binds an address for lines alone, and prints it with its real port.
+pub fn listen_alone<'a, R>(rt: &R, address: &'a str) -> Result<TcpListener, ServingError<'a>>
+where
+    R: Net<Listener = TcpListener, Stream = TcpStream> + Print,
+{
+    let listeners = Listeners {
+        lines: bind(rt, address)?,
+        web: None,
+    };
+    match announce(rt, &listeners) {
+        Ok(()) => Ok(listeners.lines),
+        Err(cause) => Err(ServingError::OutputFailed(cause)),
+    }
+}
+
 fn bind<'a, R>(rt: &R, address: &'a str) -> Result<TcpListener, ServingError<'a>>
 where
     R: Net<Listener = TcpListener, Stream = TcpStream>,

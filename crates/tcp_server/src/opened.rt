@@ -3,14 +3,14 @@ ghost use Rattle.std.specs.Prelude.{◌≤◌};
 ghost use Rattle.server_core.specs.declared.limits.TheConstants.{MAX_CELLS};
 
 use crate::serving_error::ServingError;
-use crate::settings::Settings;
+use crate::settings::{Settings, StandbyPeer};
 use crate::threads::seats_for;
 use accounts_file::{read_accounts, warn_of_tokens};
 use block_seq::BlockSeq;
 use conversation::{Names, open_row};
 use pad_model::Refusal;
 use peering::{Bell, Exchange, Stop};
-use sessions::Accounts;
+use sessions::{Accounts, Peer};
 use shared_pads::SharedPad;
 use std::alloc::Global;
 use std::fs::File;
@@ -35,6 +35,22 @@ pub struct Opened {
 }
 
 impl Opened {
+    /// The standby's line in the accounts file.
+    pub fn peer(&self, number: u16) -> Option<&Peer> {
+        self.accounts
+            .peers()
+            .iter()
+            .find(|peer| peer.number == number)
+    }
+
+    /// Whether the server ends because the standby did not answer.
+    pub fn has_lost_standby(&self) -> bool {
+        match &self.keeper {
+            Some(keeper) => keeper.has_lost_standby(),
+            None => false,
+        }
+    }
+
     /// Whether the store has failed, if there is one.
     pub fn has_failed(&self) -> bool {
         match &self.keeper {
@@ -57,6 +73,11 @@ where
 {
     let (accounts, bytes) = read_accounts(rt, path)?;
     warn_of_tokens(rt, path, bytes.as_slice());
+    if let Some(StandbyPeer { number, .. }) = asked.standby {
+        if !accounts.peers().iter().any(|peer| peer.number == number) {
+            return Err(ServingError::NoPeer { number });
+        }
+    }
     let size = Size {
         cells: asked.cells,
         seats: seats_for(rt, asked, accounts.peers().len()),
@@ -79,7 +100,14 @@ where
         cells,
         revisions,
         keeper,
-    } = restore(rt, files, folder, &owner, size)?;
+    } = restore(
+        rt,
+        files,
+        folder,
+        &owner,
+        size,
+        asked.standby.map(|standby| standby.confirm),
+    )?;
     let opened = open_row_of(rt, cells, revisions, Some(keeper), accounts)?;
     Ok((opened, bytes))
 }

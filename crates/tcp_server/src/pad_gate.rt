@@ -1,6 +1,7 @@
 //! The gate of the pads: what else the server does with each answer.
-ghost use Rattle.std.specs.Prelude.{◌≡◌, ◌⊎◌, ⊤, is_some, Ok, None, IfErr, OnOk};
+ghost use Rattle.std.specs.Prelude.{◌≡◌, ◌≢◌, ◌⊎◌, ⊤, is_some, Ok, None, IfErr, OnOk};
 ghost use Rattle.shared_pads.specs.Gates.{IsLet};
+ghost use Rattle.store_files.specs.Noting.{IsKept};
 
 use conversation::Gate;
 use event_loop::Hub;
@@ -46,7 +47,9 @@ impl<R: Wait> Gate for PadGate<'_, R> {
 
     ghost announced = { λ _ _ _. ⊤ };
 
-    fn answered<S: Sequence>(&self, alloc: Global, answered: &Answered<'_>, _pad: &LockedPad<S>) {
+    fn answered<S: Sequence>(&self, alloc: Global, answered: &Answered<'_>, _pad: &LockedPad<S>)
+        ensures kept { self.now.keeper ≢ None → IsKept answered.now }
+    {
         if let Some(keeper) = self.keeper {
             keeper.note(self.rt, alloc, answered);
         }

@@ -14,7 +14,7 @@ const OTHERS: u64 = 24;
 const HANDLES: u64 = 3;
 
 /// Warns if the limit of open files leaves room for fewer clients than may be connected. Each thread has two files, and
-/// so does each pad of a store; each peer has a socket.
+/// each pad of a store has one; each peer has a socket.
 pub fn warn_of_room<R: Clock + Eprint>(rt: &R, asked: Settings<'_>, threads: usize, peers: usize) {
     let Some(limit) = most_files() else {
         return;
@@ -25,8 +25,8 @@ pub fn warn_of_room<R: Clock + Eprint>(rt: &R, asked: Settings<'_>, threads: usi
         0
     };
     let taken = (threads as u64)
-        .saturating_add(u64::from(pads))
         .saturating_mul(2)
+        .saturating_add(u64::from(pads))
         .saturating_add((peers as u64).saturating_mul(HANDLES))
         .saturating_add(OTHERS);
     let room = limit.saturating_sub(taken);

@@ -33,6 +33,12 @@ pub enum ServingError<'a> {
     /// The store failed while the server ran.
     #[error("the store {folder} failed")]
     StoreFailed { folder: &'a str },
+    /// The accounts file has no line for the main server or the standby.
+    #[error("the accounts file has no line for peer {number}")]
+    NoPeer { number: u16 },
+    /// The standby did not answer a server that promised never to go on without it.
+    #[error("the standby {number} does not answer")]
+    StandbyLost { number: u16 },
     /// A worker or the acceptor failed while the server ran.
     #[error("a thread that serves connections failed")]
     WorkerFailed,

@@ -1,4 +1,14 @@
 //! The settings of a server over TCP.
+use group_commit::Confirm;
+
+/// The peer that has a copy of the store.
+#[derive(Clone, Copy, Debug, PartialEq, Eq)]
+pub struct StandbyPeer {
+    /// Its number in the accounts file.
+    pub number: u16,
+    /// What replies wait for.
+    pub confirm: Confirm,
+}
 
 /// The settings of a server over TCP.
 #[derive(Clone, Copy)]
@@ -21,6 +31,8 @@ pub struct Settings<'a> {
     pub idle: Option<u32>,
     /// The directory where pads are kept. None: they are lost when the server ends.
     pub store: Option<&'a str>,
+    /// The number of the peer that has a copy of the store, and what replies wait for. None: no peer has one.
+    pub standby: Option<StandbyPeer>,
     /// Whether no server has used the replica number before, so that the store may be one of another number.
     pub new_replica: bool,
     /// The address where the page for browsers is served.

@@ -1,8 +1,11 @@
 //! What the workers' replies wait for.
+ghost use Rattle.std.specs.Prelude.{◌≡◌, is_some, IfOk};
+
 use event_loop::Settle;
 use std::io;
 use std::sync::Wait;
-use store_files::Keeper;
+use std::time::Clock;
+use store_files::{Keeper, Settlement};
 
 /// What the workers' replies wait for: the sync of the store, if there is one.
 #[derive(Drop)]
@@ -18,21 +21,13 @@ impl<'a, R> Settling<'a, R> {
     }
 }
 
-/// What was answered is synced, or there is no store.
-#[derive(Debug, Drop)]
-pub struct Synced {
-    // Only this file can make one.
-    _private: (),
-}
+impl<R: Wait + Clock> Settle for Settling<'_, R> {
+    type Settled = Settlement;
 
-impl<R: Wait> Settle for Settling<'_, R> {
-    type Settled = Synced;
-
-    fn settle(&self) -> io::Result<Synced> {
-        if let Some(keeper) = self.keeper {
-            keeper.settle(self.rt)?;
-        }
-        Ok(Synced { _private: () })
+    fn settle(&self) -> io::Result<Settlement>
+        ensures { IfOk result (λ settlement. is_some settlement.kept ≡ is_some self.now.keeper) }
+    {
+        Settlement::reach(self.rt, self.keeper)
     }
 
     fn has_failed(&self) -> bool {

@@ -10,7 +10,7 @@ use crate::settings::Settings;
 use conversation::{take_all_seats, take_seats};
 use event_loop::{SetUp, set_up};
 use pad_model::Refusal;
-use peering::{Group, Guard, MAX_THREADS};
+use peering::{Group, Guard, MAX_THREADS, Skipped};
 use std::net::{Net, TcpListener, TcpStream};
 use std::sync::Wait;
 use std::thread;
@@ -50,11 +50,12 @@ where
     }
 }
 
-/// The threads of a server with this number that exchange with its peers, with a seat for each at each pad.
+/// The threads of a server that exchange with its peers, with a seat for each at each pad. The standby is no peer of this
+/// kind: it has the store's lines.
 pub fn make_groups<'a, R>(
     rt: &R,
     opened: &'a Opened,
-    own: u16,
+    asked: Settings<'_>,
     guard: Guard<'a>,
 ) -> Result<Vec<Group<'a, R>>, Refusal>
 where
@@ -66,9 +67,17 @@ where
     for place in 0..opened.exchange.threads() {
         let mut seats = Vec::new(alloc);
         take_seats(rt, opened.cells.as_slice(), &mut seats)?;
-        groups.push(Group::new(alloc, place, peers, own, guard, seats)?)?;
+        groups.push(Group::new(alloc, place, peers, others_than(asked), guard, seats)?)?;
     }
     Ok(groups)
+}
+
+// The numbers of the peers with which no operations are exchanged: the server's own, and that of its standby.
+fn others_than(asked: Settings<'_>) -> Skipped {
+    Skipped {
+        own: asked.replica,
+        standby: asked.standby.map(|standby| standby.number),
+    }
 }
 
 /// The number of threads with a seat at each pad, on a server with this many peers: those that serve connections, and

@@ -5,6 +5,8 @@
 #[cfg(test)]
 mod audits;
 #[cfg(test)]
+mod commits;
+#[cfg(test)]
 mod conversations;
 #[cfg(test)]
 mod held;

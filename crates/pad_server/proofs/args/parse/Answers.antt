@@ -53,13 +53,18 @@ returns-clause-asked c =
         set = λ e. c.get_flag-2.ensures.value (renewed ∙ e);
         unset = λ e. c.get_flag-2.ensures.other (renewed ∙ e);
       };
+      standby = λ other. gives_number line words m (codes "standby") 0 65535 other _ rows
+          (c.standby_number_of.ensures other);
+      standby_of = λ other. gives_number line words m (codes "standby-of") 0 65535 other _ rows
+          (c.main_number_of.ensures other);
+      confirm = c.get_str-4.ensures ∙ gives_text line words m (codes "confirm") rows;
       unproved = record {
         absent = λ e. c.get_flag-3.ensures.none (unproved ∙ e);
         set = λ e. c.get_flag-3.ensures.value (unproved ∙ e);
         unset = λ e. c.get_flag-3.ensures.other (unproved ∙ e);
       };
-      web = c.get_str-4.ensures ∙ gives_text line words m (codes "web") rows;
-      web_origins = c.get_str-5.ensures ∙ gives_text line words m (codes "web-origin") rows;
+      web = c.get_str-5.ensures ∙ gives_text line words m (codes "web") rows;
+      web_origins = c.get_str-6.ensures ∙ gives_text line words m (codes "web-origin") rows;
     }
 
 pub returns-clause-refused : goal.returns-clause-refused

@@ -1,0 +1,3 @@
+-- The lemmas, by topic.
+pub mod Copies
+pub mod Stretches

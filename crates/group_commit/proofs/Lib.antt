@@ -1,0 +1,3 @@
+-- The lemmas, by topic.
+pub mod Appends
+pub mod Listed

@@ -1,0 +1,46 @@
+-- When a reply may go out on a server with a standby.
+use Rattle.std.specs.Prelude.{◌≡◌, ◌⊎◌, ◌≤◌, ℕ, Bool, true, false, max, Option, Some, None}
+use Rattle.group_commit.specs.declared.confirming.Confirm.{Confirm}
+use Rattle.group_commit.specs.declared.confirming.Confirm.TheVariants as policy
+use Rattle.group_commit.specs.declared.confirming.Confirmation.{Confirmation}
+use Rattle.group_commit.specs.declared.confirming.Confirmation.TheVariants.{Given, Waits, Lost}
+
+-- the standby has the first so many notes
+abbrev pub AreCopied : ℕ → Option ℕ → Type 0
+AreCopied number None = ⊥
+AreCopied number (Some copied) = number ≤ copied
+
+-- whether replies never wait for a standby
+abbrev pub is_unasked : Confirm → Bool
+is_unasked policy.Never = true
+is_unasked other = false
+
+-- a server that is to end rather than go on alone never goes on alone
+abbrev pub IsPolicy : Confirm → Bool → Type 0
+IsPolicy asked alone = asked ≡ policy.Strict → alone ≡ false
+
+-- why a reply that reveals the first so many notes need not wait any longer: no server promised that the standby has
+-- them, or the server goes on alone, or the standby has them
+abbrev pub MayGoOn : ℕ → Confirm → Option ℕ → Bool → Type 0
+MayGoOn number asked copied alone = (asked ≡ policy.Never) ⊎ ((alone ≡ true) ⊎ AreCopied number copied)
+
+-- what one does who waits until the standby has the first so many notes
+abbrev pub IsConfirmation : ℕ → Confirm → Option ℕ → Bool → Bool → Confirmation → Type 0
+IsConfirmation number asked copied alone lost (Given confirmed) = (lost ≡ false) × MayGoOn number asked copied alone
+IsConfirmation number asked copied alone lost Waits = (lost ≡ false) × (MayGoOn number asked copied alone → ⊥)
+IsConfirmation number asked copied alone lost Lost = lost ≡ true
+
+-- the number of notes that a standby has, once it has said so of as many as this
+abbrev pub heard : ℕ → Option ℕ → ℕ
+heard mark None = mark
+heard mark (Some copied) = max copied mark
+
+-- whether a server goes on alone after one who waited has waited long enough
+abbrev pub alone_after : Confirm → Bool → Bool
+alone_after (policy.Within seconds) alone = true
+alone_after other alone = alone
+
+-- whether it ends then
+abbrev pub lost_after : Confirm → Bool → Bool
+lost_after policy.Strict lost = true
+lost_after other lost = lost

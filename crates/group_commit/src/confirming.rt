@@ -1,0 +1,132 @@
+//! How much of what is noted a standby has, and what replies wait for.
+ghost use Rattle.std.specs.Prelude.{◌≡◌, None, Some, false, is_some};
+ghost use Rattle.group_commit.specs.Confirmations.{IsConfirmation, IsPolicy, alone_after, heard, is_unasked, lost_after};
+
+/// What replies do while the standby does not have what they reveal.
+#[derive(Clone, Copy, Debug, PartialEq, Eq)]
+pub enum Confirm {
+    /// They do not wait for a standby.
+    Never,
+    /// They wait for so many seconds. Then the server goes on alone, until the standby has caught up.
+    Within { seconds: u32 },
+    /// They wait. If the standby does not answer, the server ends.
+    Strict,
+}
+
+/// The standby has what a reply reveals, or the reply need not wait for it. Only `Confirming::next_step` and
+/// `Confirm::unasked` say so.
+#[derive(Debug, Drop)]
+pub struct Confirmed {
+    _private: (),
+}
+
+impl Confirm {
+    /// Where replies never wait for a standby, nobody has to ask how much it has.
+    pub fn unasked(self) -> Option<Confirmed>
+        ensures { is_some result ≡ is_unasked self }
+    {
+        match self {
+            Confirm::Never => Some(Confirmed { _private: () }),
+            Confirm::Within { .. } | Confirm::Strict => None,
+        }
+    }
+}
+
+/// What one who waits for the standby does next.
+#[derive(Debug, Drop)]
+pub enum Confirmation {
+    /// Go on.
+    Given(Confirmed),
+    /// Wait until the standby has more, or for as long as `Confirm` says. Then give up.
+    Waits,
+    /// Give up: the server ends.
+    Lost,
+}
+
+/// The state that all threads share: how many notes the standby has.
+#[derive(Drop)]
+pub struct Confirming {
+    policy: Confirm,
+    // The first so many notes are in the copy, and so is what was there at the start. None: it may lack some of that.
+    copied: Option<u64>,
+    // The server goes on without the standby.
+    is_alone: bool,
+    // The standby did not answer, and nothing is confirmed any more.
+    is_lost: bool,
+    ghost policy_kept: { IsPolicy policy is_alone },
+}
+
+impl Confirming {
+    /// The standby is not known to have anything.
+    pub fn new(policy: Confirm) -> Confirming
+        ensures { (result.policy ≡ policy) × (result.copied ≡ None) × (result.is_alone ≡ false)
+            × (result.is_lost ≡ false) }
+    {
+        Confirming {
+            policy,
+            copied: None,
+            is_alone: false,
+            is_lost: false,
+        }
+    }
+
+    /// What one does next who waits until the standby has the first `number` notes.
+    pub fn next_step(&self, number: u64) -> Confirmation
+        ensures { IsConfirmation number self.now.policy self.now.copied self.now.is_alone self.now.is_lost result }
+    {
+        if self.is_lost {
+            return Confirmation::Lost;
+        }
+        let has_all = match self.copied {
+            Some(copied) => number <= copied,
+            None => false,
+        };
+        if has_all || self.is_alone || self.policy == Confirm::Never {
+            Confirmation::Given(Confirmed { _private: () })
+        } else {
+            Confirmation::Waits
+        }
+    }
+
+    /// The standby has said that it has synced the first `mark` notes.
+    pub fn hear(&mut self, mark: u64)
+        ensures { (self.new.copied ≡ Some (heard mark self.old.copied)) × (self.new.policy ≡ self.old.policy)
+            × (self.new.is_alone ≡ self.old.is_alone) × (self.new.is_lost ≡ self.old.is_lost) }
+    {
+        self.copied = match self.copied {
+            Some(copied) => Some(copied.max(mark)),
+            None => Some(mark),
+        };
+    }
+
+    /// The standby has caught up: replies wait for it again. Returns whether the server was alone.
+    pub fn catch_up(&mut self) -> bool
+        ensures { (result ≡ self.old.is_alone) × (self.new.is_alone ≡ false) × (self.new.copied ≡ self.old.copied)
+            × (self.new.policy ≡ self.old.policy) × (self.new.is_lost ≡ self.old.is_lost) }
+    {
+        let was_alone = self.is_alone;
+        self.is_alone = false;
+        was_alone
+    }
+
+    /// One who waited has waited long enough: the server goes on alone, or ends. Returns whether this changes anything.
+    pub fn give_up(&mut self) -> bool
+        ensures copied { (self.new.copied ≡ self.old.copied) × (self.new.policy ≡ self.old.policy) }
+        ensures alone { self.new.is_alone ≡ alone_after self.old.policy self.old.is_alone }
+        ensures lost { self.new.is_lost ≡ lost_after self.old.policy self.old.is_lost }
+    {
+        match self.policy {
+            Confirm::Never => false,
+            Confirm::Within { .. } => {
+                let was_alone = self.is_alone;
+                self.is_alone = true;
+                !was_alone
+            }
+            Confirm::Strict => {
+                let was_lost = self.is_lost;
+                self.is_lost = true;
+                !was_lost
+            }
+        }
+    }
+}

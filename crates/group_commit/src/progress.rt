@@ -1,0 +1,289 @@
+//! How many notes there are, how many of them are on the disk, and the round of cells that is under way.
+ghost use Rattle.std.specs.Prelude.{◌≡◌, ◌+◌, ◌⊎◌, [], true, false, IfNone, IfOk, IfSome, OnErr, OnOk};
+ghost use Rattle.group_commit.specs.Notes.{NothingSettles};
+ghost use Rattle.group_commit.specs.Rounds.{AreListed, Begins, Counts, IsOrderly, IsNextStep, Reports, Stays, Takes, is_due};
+
+use crate::appending::Committed;
+use crate::queue::{QueuedNote, Unnoted};
+use crate::round_state::RoundState;
+use std::alloc::{AllocError, Global};
+use std::io;
+use std::mem::swap;
+
+/// A round of at most this many cells is done by one thread: to wake others would take longer.
+const FEW: usize = 3;
+
+/// The cell of a pad whose notes are to be appended. It has to be reported by `Progress::report`.
+pub struct Job {
+    pub(crate) cell: u32,
+}
+
+impl Job {
+    /// The cell.
+    pub fn cell(&self) -> u32
+        ensures { result ≡ self.now.cell }
+    {
+        self.cell
+    }
+}
+
+/// How many notes there were when somebody asked.
+#[derive(Clone, Copy, Drop)]
+pub struct Asked {
+    number: u64,
+}
+
+/// All notes that were counted when somebody asked are on the disk. Only `Progress::next_step` says so.
+#[derive(Debug, Drop)]
+pub struct Kept {
+    number: u64,
+}
+
+impl Kept {
+    /// How many notes these are: the first so many of the server.
+    pub fn number(&self) -> u64
+        ensures { result ≡ self.now.number }
+    {
+        self.number
+    }
+}
+
+/// What one who waits for notes does next.
+pub enum NextStep {
+    /// Go on: the notes are on the disk.
+    Kept(Kept),
+    /// Give up: they will never be known to be.
+    Failed,
+    /// Take cells of the round, and append their notes.
+    Works,
+    /// Wait until the round ends.
+    Waits,
+}
+
+/// The state that all threads share. A round takes the cells that were noted since the last one began. Once each is
+/// reported, all notes that were counted when the round began are on the disk.
+///
+/// After a failure no round ends any more.
+#[derive(Drop)]
+pub struct Progress {
+    state: RoundState,
+    // How many notes the last round had.
+    last: u64,
+    // For each cell, the number of the note that last made it due.
+    listed: Vec<u64>,
+    // Those that help are to end.
+    is_over: bool,
+    ghost orderly: { IsOrderly state },
+    ghost all_due: { AreListed listed.items state.noted state.upto state.due.items },
+}
+
+impl Progress {
+    /// Nothing is noted yet at any of these cells.
+    pub fn new(alloc: Global, cells: u32) -> Result<Progress, AllocError>
+        ensures { IfOk result (λ progress. (progress.state.noted ≡ 0) × (progress.state.due.items ≡ [])
+            × (progress.state.left.items ≡ []) × (progress.state.has_failed ≡ false)) }
+    {
+        let mut listed = Vec::new(alloc);
+        listed.resize(cells as usize, 0)?;
+        let state = RoundState {
+            noted: 0,
+            kept: 0,
+            upto: 0,
+            due: Vec::with_capacity(alloc, cells as usize)?,
+            left: Vec::with_capacity(alloc, cells as usize)?,
+            unreported: 0,
+            is_round: false,
+            has_failed: false,
+        };
+        Ok(Progress {
+            state,
+            last: 0,
+            listed,
+            is_over: false,
+        })
+    }
+
+    /// Counts a note that is in its queue. Its cell is due from now on. Out of memory, nothing is settled any more.
+    pub fn count(&mut self, noted: QueuedNote) -> Result<(), Unnoted>
+        ensures counted { OnOk result (Counts noted.cell self.old.state self.new.state) }
+        ensures failed { OnErr result ((self.new.state.has_failed ≡ true) × NothingSettles) }
+    {
+        let QueuedNote { cell } = noted;
+        let counted = self.add(cell);
+        if counted.is_err() {
+            self.fail();
+        }
+        counted
+    }
+
+    #[tactic(auto, using(crate::proofs::Listed::listed_later))]
+    fn add(&mut self, cell: u32) -> Result<(), Unnoted>
+        ensures { OnOk result (Counts cell self.old.state self.new.state) }
+    {
+        let Some(noted) = self.state.noted.checked_add(1) else {
+            return Err(Unnoted::TooMany);
+        };
+        if self.is_due(cell) {
+            self.state.noted = noted;
+            return Ok(());
+        }
+        self.make_due(cell, noted)
+    }
+
+    // Whether a cell is known to be among those that are due: a note made it due after the round began.
+    #[tactic(auto, using(crate::proofs::Listed::due_by_number))]
+    fn is_due(&self, cell: u32) -> bool
+        ensures { result ≡ true → is_due cell self.now.state.due.items ≡ true }
+    {
+        let place = cell as usize;
+        place < self.listed.len() && self.listed[place] > self.state.upto
+    }
+
+    // Counts a note, which makes its cell due.
+    #[tactic(auto, using(crate::proofs::Listed::listed_now, crate::proofs::Listed::due_behind, crate::proofs::Listed::listed_same))]
+    fn make_due(&mut self, cell: u32, noted: u64) -> Result<(), Unnoted>
+        requires { noted ≡ self.old.state.noted + 1 }
+        ensures { OnOk result (Counts cell self.old.state self.new.state) }
+    {
+        if self.state.due.push(cell).is_err() {
+            return Err(Unnoted::Memory);
+        }
+        self.state.noted = noted;
+        let place = cell as usize;
+        if place < self.listed.len() {
+            self.listed[place] = noted;
+        }
+        Ok(())
+    }
+
+    /// From now on nothing is settled.
+    #[tactic(auto, using(crate::specs::Notes::it_failed))]
+    pub fn fail(&mut self)
+        ensures { (self.new.state.has_failed ≡ true) × NothingSettles }
+    {
+        self.state.has_failed = true;
+    }
+
+    /// How many notes there are. Whoever waits for what was noted before asks this first.
+    pub fn ask(&self) -> Asked
+        ensures { result.number ≡ self.now.state.noted }
+    {
+        Asked {
+            number: self.state.noted,
+        }
+    }
+
+    /// What one who has asked does next. Where no round is under way and notes are due, one begins.
+    pub fn next_step(&mut self, asked: Asked) -> NextStep
+        ensures { IsNextStep asked.number self.old.state self.new.state result }
+    {
+        if self.state.has_failed {
+            return NextStep::Failed;
+        }
+        let number = asked.number.min(self.state.noted);
+        if number <= self.state.kept {
+            return NextStep::Kept(Kept { number });
+        }
+        if !self.state.is_round {
+            self.begin();
+        }
+        if self.state.left.is_empty() {
+            NextStep::Waits
+        } else {
+            NextStep::Works
+        }
+    }
+
+    // Begins a round of the cells that are due.
+    fn begin(&mut self)
+        requires { self.old.state.is_round ≡ false }
+        ensures { Begins self.old.state self.new.state }
+    {
+        self.last = self.state.noted - self.state.kept;
+        self.state.upto = self.state.noted;
+        self.state.unreported = self.state.due.len() as u64;
+        self.state.left.clear();
+        swap(&mut self.state.left, &mut self.state.due);
+        self.state.is_round = true;
+    }
+
+    /// Whether it is worth to wait for others' notes before a round begins: none is under way, and fewer notes are due than
+    /// the last one had. A single author is never kept waiting by it.
+    pub fn is_sparse(&self, asked: Asked) -> bool {
+        !self.state.has_failed
+            && !self.state.is_round
+            && asked.number > self.state.kept
+            && self.state.noted - self.state.kept < self.last
+    }
+
+    /// Whether so many cells of the round are left that other threads should help.
+    pub fn is_large(&self) -> bool {
+        self.state.left.len() > FEW
+    }
+
+    /// How many notes are on the disk: the first so many of the server.
+    pub fn kept(&self) -> u64
+        ensures { result ≡ self.now.state.kept }
+    {
+        self.state.kept
+    }
+
+    /// Whether nothing is settled any more.
+    pub fn has_failed(&self) -> bool
+        ensures { result ≡ self.now.state.has_failed }
+    {
+        self.state.has_failed
+    }
+
+    /// Takes a cell of the round, if any is left.
+    pub fn take(&mut self) -> Option<Job>
+        ensures some { IfSome result (λ job. Takes job.cell self.old.state self.new.state) }
+        ensures none { IfNone result (((self.old.state.left.items ≡ []) ⊎ (self.old.state.has_failed ≡ true))
+            × Stays self.old.state self.new.state) }
+    {
+        if self.state.has_failed {
+            return None;
+        }
+        let cell = self.state.left.pop()?;
+        Some(Job { cell })
+    }
+
+    /// Reports that a cell's notes are on the disk, and returns whether the round has ended with it. After a failure no
+    /// round ends, and true is returned.
+    pub fn report(&mut self, job: Job, done: io::Result<Committed>) -> bool
+        requires cell { IfOk done (λ committed. committed.cell ≡ job.cell) }
+        ensures reported { OnOk done (Reports result self.old.state self.new.state) }
+        ensures failed { OnErr done ((self.new.state.has_failed ≡ true) × (result ≡ true)) }
+    {
+        let Job { cell: _ } = job;
+        match done {
+            Ok(Committed { cell: _ }) => {}
+            Err(_) => {
+                self.fail();
+                return true;
+            }
+        }
+        self.state.unreported = self.state.unreported.saturating_sub(1);
+        let ends = self.state.unreported == 0;
+        if ends && !self.state.has_failed {
+            self.state.kept = self.state.upto;
+            self.state.is_round = false;
+        }
+        ends
+    }
+
+    /// Those that help end from now on.
+    pub fn end_help(&mut self) {
+        self.is_over = true;
+    }
+
+    /// Whether those that help are to end.
+    pub fn is_over(&self) -> bool {
+        self.is_over
+    }
+
+    /// Whether one that helps has nothing to do, and is not to end either.
+    pub fn is_idle(&self) -> bool {
+        !self.is_over && (self.state.has_failed || self.state.left.is_empty())
+    }
+}

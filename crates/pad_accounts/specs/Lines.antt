@@ -1,0 +1,76 @@
+-- The lines of an accounts file as they stand, and which of them is an author's.
+use Rattle.std.specs.Prelude.{ℕ, ◌-◌, ◌==◌, ◌||◌, if◌then◌else◌, List, [], ◌∷◌, ◌++◌, length, take, drop}
+use Rattle.std.specs.Prelude.{Option, None, Some, option_map, option_and_then, is_some, unwrap_or, codes, bytes_eq}
+use Rattle.std.specs.List.{onto_first, position}
+use Rattle.std.specs.Option.{option_or}
+use Rattle.pad_accounts.specs.declared.new_author.NewAuthor.{NewAuthor}
+
+-- the lines of a text, each with its line feed; the last one may have none
+abbrev pub raw_lines : List ℕ → List (List ℕ)
+raw_lines [] = []
+raw_lines (b ∷ bs) = if b == 10 then (b ∷ []) ∷ raw_lines bs else onto_first b (raw_lines bs)
+
+-- what stands in front of an end, if a text has this end
+abbrev pub before_end : List ℕ → List ℕ → Option (List ℕ)
+before_end end text =
+    if bytes_eq (drop (length text - length end) text) end then Some (take (length text - length end) text) else None
+
+-- what stands in front of a line feed, without a carriage return at its end; or the line, if it has no line feed
+abbrev pub without_return : Option (List ℕ) → List ℕ → List ℕ
+without_return None line = line
+without_return (Some rest) line = unwrap_or (before_end (13 ∷ []) rest) rest
+
+-- a line without its line feed, and without a carriage return in front of that
+abbrev pub without_end : List ℕ → List ℕ
+without_end line = without_return (before_end (10 ∷ []) line) line
+
+-- what follows a prefix
+abbrev pub stripped : List ℕ → List ℕ → Option (List ℕ)
+stripped prefix text =
+    if bytes_eq (take (length prefix) text) prefix then Some (drop (length prefix) text) else None
+
+-- what stands in front of a place, or the whole text without one
+abbrev pub up_to : Option ℕ → List ℕ → List ℕ
+up_to None text = text
+up_to (Some place) text = take place text
+
+-- what stands in front of the first space
+abbrev pub first_word : List ℕ → List ℕ
+first_word text = up_to (position (λ b. b == 32) text) text
+
+-- what follows `author NAME ` on a line: the token, and the end of the line
+abbrev pub token_on : List ℕ → List ℕ → Option (List ℕ)
+token_on name line = option_and_then (stripped (codes " ")) (option_and_then (stripped name)
+    (stripped (codes "author ") line))
+
+-- the token on the first line that is an author's
+abbrev pub token_in : List ℕ → List (List ℕ) → Option (List ℕ)
+token_in name [] = None
+token_in name (line ∷ rest) = option_or (option_map without_end (token_on name line)) (token_in name rest)
+
+-- a line, or nothing if it is an author's
+abbrev pub unless_of : List ℕ → List ℕ → List ℕ
+unless_of name line = if is_some (token_on name line) then [] else line
+
+-- the lines without those of an author, byte for byte
+abbrev pub without_author : List ℕ → List (List ℕ) → List ℕ
+without_author name [] = []
+without_author name (line ∷ rest) = unless_of name line ++ without_author name rest
+
+-- a text with the line of an author behind it
+abbrev pub with_author : List ℕ → NewAuthor → List ℕ
+with_author text author =
+    text ++ codes "author " ++ author.name.now ++ codes " " ++ author.token.items ++ (10 ∷ [])
+
+-- a text with the lines of authors behind it, in their order
+abbrev pub with_each : List ℕ → List NewAuthor → List ℕ
+with_each text [] = text
+with_each text (author ∷ rest) = with_each (with_author text author) rest
+
+-- the line feed that a text lacks, if its last line has none
+abbrev pub line_end : List ℕ → List ℕ
+line_end text = if length text == 0 || is_some (before_end (10 ∷ []) text) then [] else 10 ∷ []
+
+-- a text with a line for each author behind it, and before them the line feed that it lacks
+abbrev pub with_authors : List ℕ → List NewAuthor → List ℕ
+with_authors text new = with_each (text ++ line_end text) new

@@ -1,0 +1,37 @@
+//! The origins that `--at` takes.
+ghost use Rattle.std.specs.Prelude.{◌≡◌, false, option_map};
+ghost use Rattle.std.specs.List.{list_all};
+ghost use Rattle.pad_accounts.specs.Origins.{host_of, is_host_byte, is_origin};
+
+/// Whether a text is an origin as a browser sends it: a scheme, a host, and perhaps a port.
+pub fn is_origin(text: &str) -> bool
+    ensures { result ≡ is_origin text.now }
+{
+    match host_of(text.as_bytes()) {
+        Some(host) => !host.is_empty() && are_host_bytes(host),
+        None => false,
+    }
+}
+
+fn are_host_bytes(host: &[u8]) -> bool
+    ensures { result ≡ list_all is_host_byte host.now }
+{
+    host.iter().all(|byte| is_host_byte(*byte))
+}
+
+// What follows the scheme.
+fn host_of(text: &[u8]) -> Option<&[u8]>
+    ensures { option_map (λ host. host.now) result ≡ host_of text.now }
+{
+    match text.strip_prefix(b"https://") {
+        Some(host) => Some(host),
+        None => text.strip_prefix(b"http://"),
+    }
+}
+
+// Whether a byte may stand in a host or a port.
+fn is_host_byte(byte: u8) -> bool
+    ensures { result ≡ is_host_byte byte }
+{
+    byte.is_ascii_alphanumeric() || matches!(byte, b'-' | b'.' | b'_' | b':' | b'[' | b']')
+}

@@ -1,0 +1,3 @@
+-- The definitions that the contracts cite, by topic.
+pub mod Refusals
+pub mod Rounds

@@ -1,0 +1,56 @@
+//! Whoever keeps copies of the files of pads.
+ghost use Rattle.std.specs.Prelude.{◌≡◌, ◌++◌, [], ℕ, List, OnOk, Option};
+ghost use Rattle.std.specs.Io.KnownBytes.{Appends};
+ghost use Rattle.file_copies.specs.Requests.{line_of, sync_data};
+ghost use Rattle.standby.specs.Rounds.{stretch_bytes};
+
+use pad_model::Name;
+use sessions::Word;
+use std::alloc::Global;
+use wire_lines::Fault;
+
+/// How far the copy of a pad's file is.
+#[derive(Debug, Drop)]
+pub struct CopyPlace {
+    pub pad: Name,
+    /// The number of its bytes.
+    pub bytes: u64,
+    /// The sum of its last line.
+    pub sum: Word,
+}
+
+/// What is heard from whoever keeps copies.
+#[derive(Clone, Copy, Debug, PartialEq, Eq)]
+pub enum CopiesAnswer {
+    /// Everything up to this mark is kept.
+    Kept { mark: u64 },
+    /// Nothing is kept any more, for the reason with this number: the copy has another past, there is no room or no memory
+    /// for more, or it is no copy any more, since a server runs on it.
+    Refused { code: u64 },
+}
+
+/// Whoever keeps copies of the files of pads: a standby over the network, or a list in memory in tests. A round is some calls
+/// of `put`, at most one for each pad, then `flush` and `hear`.
+pub trait Copies {
+    /// The bytes of the round so far.
+    ghost round: { Self → List ℕ };
+
+    /// What was written to whoever keeps the copies, where it is known.
+    ghost written: { Self → Option (List ℕ) };
+
+    /// How far each copy is, for those that have anything. None: whoever is asked keeps no copies.
+    fn begin(&mut self, alloc: Global) -> Result<Option<Vec<CopyPlace>>, Fault>;
+
+    /// Adds bytes of a pad's file to the round. They stand there from byte `from` on, and are whole lines.
+    fn put(&mut self, alloc: Global, pad: &Name, from: u64, lines: &[u8]) -> Result<(), Fault>
+        ensures put { OnOk result (Self.round self.new ≡ Self.round self.old ++ stretch_bytes pad.now from lines.now) };
+
+    /// Ends the round, which belongs to this mark.
+    fn flush(&mut self, alloc: Global, mark: u64) -> Result<(), Fault>
+        ensures written { OnOk result (Appends (Self.written self.old) (Self.written self.new)
+            (Self.round self.old ++ line_of (sync_data mark))) }
+        ensures empty { OnOk result (Self.round self.new ≡ []) };
+
+    /// Waits until the round is kept or refused.
+    fn hear(&mut self, alloc: Global) -> Result<CopiesAnswer, Fault>;
+}

@@ -1,0 +1,43 @@
+//! Whether everything that was answered is on the disk.
+ghost use Rattle.std.specs.Prelude.{◌≡◌, is_some, IfOk};
+
+use crate::keeper::Keeper;
+use group_commit::{Confirmed, Kept};
+use std::io;
+use std::sync::Wait;
+use std::time::Clock;
+
+/// What was answered is kept wherever this server promised to keep it: on its own disk, and on that of the standby.
+#[derive(Debug, Drop)]
+pub struct Promised {
+    kept: Kept,
+    confirmed: Confirmed,
+}
+
+impl Promised {
+    // It is on the disk, and the standby has it or nobody waits for that.
+    pub(crate) fn new(kept: Kept, confirmed: Confirmed) -> Promised {
+        Promised { kept, confirmed }
+    }
+}
+
+/// What was answered is kept wherever it was promised to be, or there is no store.
+#[derive(Debug, Drop)]
+pub struct Settlement {
+    // What the store gives once it is synced and confirmed.
+    kept: Option<Promised>,
+}
+
+impl Settlement {
+    /// Waits until everything that was noted before is synced, and confirmed where that was promised; None: there is nothing to
+    /// wait for. After a failed write or sync it fails.
+    pub fn reach<R: Wait + Clock>(rt: &R, keeper: Option<&Keeper>) -> io::Result<Settlement>
+        ensures { IfOk result (λ settlement. is_some settlement.kept ≡ is_some keeper.entry) }
+    {
+        let kept = match keeper {
+            Some(keeper) => Some(keeper.settle(rt)?),
+            None => None,
+        };
+        Ok(Settlement { kept })
+    }
+}

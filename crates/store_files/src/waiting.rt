@@ -1,0 +1,51 @@
+//! A writer to which nothing is written before the store is synced.
+ghost use Rattle.std.specs.Prelude.{◌≡◌, is_some};
+ghost use Rattle.std.specs.Io.KnownBytes.{Keeps, WriteAppends};
+ghost use Rattle.std.specs.Io.{WritesAtMost};
+
+use crate::keeper::Keeper;
+use crate::settlement::Settlement;
+use std::io;
+use std::io::Write;
+
+/// A writer whose bytes wait for the sync of a store, if there is one.
+#[derive(Drop)]
+pub struct Waiting<'a, W> {
+    keeper: Option<&'a Keeper>,
+    inner: W,
+}
+
+impl<'a, W> Waiting<'a, W> {
+    /// A writer that waits for this keeper; None: it waits for nothing.
+    pub fn new(inner: W, keeper: Option<&'a Keeper>) -> Waiting<'a, W>
+        ensures { (result.keeper ≡ keeper.entry) × (result.inner ≡ inner) }
+    {
+        Waiting { keeper, inner }
+    }
+
+    /// The keeper for which it waits.
+    pub fn keeper(&self) -> Option<&'a Keeper>
+        ensures { result ≡ self.now.keeper }
+    {
+        self.keeper
+    }
+}
+
+impl<W: Write> Waiting<'_, W> {
+    /// Writes some of these bytes. The settlement is that of the store for which it waits.
+    pub fn write(&mut self, settlement: &Settlement, bytes: &[u8]) -> io::Result<usize>
+        requires { is_some settlement.now.kept ≡ is_some self.old.keeper }
+        ensures bound { WritesAtMost result bytes.now }
+        ensures bytes { WriteAppends (W.contents self.old.inner) (W.contents self.new.inner) result bytes.now }
+    {
+        let _settled = settlement;
+        self.inner.write(bytes)
+    }
+
+    /// Passes on what is buffered.
+    pub fn flush(&mut self) -> io::Result<()>
+        ensures { Keeps (W.contents self.old.inner) (W.contents self.new.inner) }
+    {
+        self.inner.flush()
+    }
+}

@@ -1,0 +1,131 @@
+#!/usr/bin/env python3
+"""Two windows of headless Chromium behind HAProxy, in which two authors type while the main server is killed, its store deleted, and its
+standby promoted: each character that was typed is there once.
+
+    tests/web/failover_test.py
+
+It needs crates/pad_server/out/pad_server and Debian's haproxy. The last line is `N passed, M failed`.
+"""
+import os
+import re
+import shutil
+import subprocess
+import sys
+
+HERE = os.path.dirname(os.path.realpath(__file__))
+sys.dont_write_bytecode = True
+sys.path[:0] = [os.path.dirname(HERE), HERE]
+
+from handover_test import Typist, judge
+from harness import ROOT, Failed
+from peers import free_ports, wait_for
+from standbys import Machines
+from windows import BROKEN, Window, until
+
+HAPROXY = "/usr/sbin/haproxy"
+FEWEST = 30  # characters that each author types before the loss, and after it
+# HAProxy's own surroundings, before the lines of docs/STANDBY.md.
+AROUND = """
+defaults
+    mode http
+    timeout connect 1s
+    timeout client 2m
+    timeout server 2m
+frontend page
+    bind 127.0.0.1:%d
+    default_backend pads
+"""
+
+
+def shown_configuration():
+    """The `backend` of docs/STANDBY.md."""
+    with open(f"{ROOT}/docs/STANDBY.md", encoding="utf-8") as page:
+        found = re.search(r"^    backend pads\n(?:        .*\n)+", page.read(), re.M)
+    if not found:
+        raise Failed("docs/STANDBY.md shows no configuration of HAProxy")
+    return re.sub("^    ", "", found[0], flags=re.M)
+
+
+class Proxy:
+    """HAProxy before the web addresses of both machines, with the lines that docs/STANDBY.md shows."""
+
+    def __init__(self, webs):
+        self.port = free_ports(1)[0]
+        lines = shown_configuration()
+        for address, port in zip(("10.0.0.1:8080", "10.0.0.2:8080"), webs):
+            if address not in lines:
+                raise Failed(f"the configuration in docs/STANDBY.md has no {address}")
+            lines = lines.replace(address, f"127.0.0.1:{port}")
+        with open("haproxy.cfg", "w", encoding="utf-8") as file:
+            file.write(AROUND % self.port + lines)
+        self.process = subprocess.Popen([HAPROXY, "-db", "-f", "haproxy.cfg"], stderr=subprocess.DEVNULL, stdout=subprocess.DEVNULL)
+
+    def stop(self):
+        self.process.kill()
+        self.process.wait()
+
+
+def open_windows(machines, proxy):
+    owner = machines.author("ann")
+    owner.does(do="create", pad="p")
+    owner.does(do="grant", pad="p", author="bob", right="write")
+    owner.does(do="insert", pad="p", rev=0, at=0, text="\n")
+    owner.close()
+    windows = [Window(f"http://127.0.0.1:{proxy.port}/") for _ in range(2)]
+    for window, name, place in zip(windows, ["ann", "bob"], [0, 1]):
+        window.log_in(name, f"t{name}")
+        window.open("p")
+        until(lambda window=window: window.text == "\n")
+        window.select(place)
+    return windows
+
+
+def lose_the_main_server(machines, web, typists):
+    """While both type, the main machine is lost and the standby promoted; then both type on."""
+    wait_for("both have typed", lambda: all(len(it.typed) >= FEWEST for it in typists))
+    machines.kill(1)
+    shutil.rmtree("main")
+    machines.kill(2)
+    machines.promoted(f"--web 127.0.0.1:{web}")
+    typed = [len(it.typed) for it in typists]
+    wait_for("both have typed on", lambda: all(len(it.typed) >= was + FEWEST for it, was in zip(typists, typed)))
+
+
+def play(check):
+    machines, windows, proxy = Machines(), [], None
+    webs = free_ports(2)
+    try:
+        machines.standby()
+        machines.main("strict", f"--web 127.0.0.1:{webs[0]}")
+        proxy = Proxy(webs)
+        windows = open_windows(machines, proxy)
+        typists = [Typist(window, letters) for window, letters in zip(windows, ["0123456789", "abcdefghijklmnopqrstuvwxyz"])]
+        try:
+            lose_the_main_server(machines, webs[1], typists)
+        finally:
+            for typist in typists:
+                typist.end()
+        due = "\n".join(typist.typed for typist in typists)
+        for window, name in zip(windows, ["ann", "bob"]):
+            check(f"{name}'s window is saved", until(window.is_saved, 60), window.state)
+            check(f"each character is there once in {name}'s window", until(lambda: window.text == due), (window.text, due))
+        reader = machines.author("ann", "p", 2)
+        text = reader.does(do="text", pad="p")["text"]
+        check("each character is there once at the promoted server", text == due, (text, due))
+        runs = reader.does(do="runs", pad="p")["runs"]
+        check("authors of both numbers", {name for name, _ in runs} == {"ann@1", "bob@1", "ann@2", "bob@2"}, runs)
+    finally:
+        for window in windows:
+            try:
+                window.quit()
+            except BROKEN:  # it is gone already
+                pass
+        if proxy:
+            proxy.stop()
+        for number, process in machines.processes.items():
+            if process.poll() is None:
+                machines.kill(number)
+
+
+if __name__ == "__main__":
+    sys.exit(judge(play, "failover-"))

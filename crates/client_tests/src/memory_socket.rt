@@ -1,7 +1,7 @@
 //! A socket in memory.
 ghost use Rattle.std.specs.Prelude.{Some};
 
-use event_loop::{ByteSocket, Settle};
+use event_loop::{ByteSocket, Reach, Settle};
 use std::alloc::Global;
 use std::io;
 use std::io::{Read, Write};
@@ -53,8 +53,15 @@ pub struct Unstored;
 impl Settle for Unstored {
     type Settled = Unstored;
 
-    fn settle(&self) -> io::Result<Unstored> {
-        Ok(Unstored)
+    fn settle(&self) -> io::Result<u64> {
+        Ok(0)
+    }
+
+    fn reach(&self, number: u64) -> io::Result<Option<Reach<Unstored>>> {
+        Ok(Some(Reach {
+            number,
+            settled: Unstored,
+        }))
     }
 
     fn has_failed(&self) -> bool {

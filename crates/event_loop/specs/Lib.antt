@@ -6,3 +6,4 @@ pub mod Newcomers
 pub mod Party
 pub mod Transfers
 pub mod Turns
+pub mod Waits

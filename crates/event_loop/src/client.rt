@@ -54,6 +54,10 @@ pub struct Client {
     pub(crate) newcomer: Newcomer,
     pub(crate) times: Times,
     pub(crate) cause: Option<io::Error>,
+    /// What its replies wait for. None: they were made since the worker last settled.
+    pub(crate) due: Option<u64>,
+    /// Whether the client is in the list of those whose replies wait.
+    is_awaiting: bool,
 }
 
 impl Client {
@@ -82,6 +86,8 @@ impl Client {
             newcomer: Newcomer::new(is_counted),
             times: Times::new(),
             cause: None,
+            due: None,
+            is_awaiting: false,
         }
     }
 
@@ -133,6 +139,21 @@ impl Client {
     /// Marks the client as not listed.
     pub fn unlist(&mut self) {
         self.is_listed = false;
+    }
+
+    /// Marks the client as one whose replies wait, and returns whether it was not one before.
+    pub fn await_reach(&mut self) -> bool {
+        !mem::replace(&mut self.is_awaiting, true)
+    }
+
+    /// Its replies may go further: it is no longer in the list of those that wait.
+    pub fn end_await(&mut self) {
+        self.is_awaiting = false;
+    }
+
+    /// Whether the client is one whose replies wait.
+    pub fn is_awaiting(&self) -> bool {
+        self.is_awaiting
     }
 
     /// Whether replies wait to be written, including replies held back.
@@ -291,6 +312,11 @@ impl Client {
         self.party.rest();
         if let Delay::Change { .. } = self.delay {
             self.times.note_line();
+        }
+        // It is neither silent nor slow while the server keeps its replies.
+        if self.is_awaiting {
+            self.times.note_line();
+            self.times.note_taken();
         }
         let (owes, patience) = (self.owes(), self.patience());
         self.times.check(now, owes, patience, idle)

@@ -2,7 +2,7 @@
 use crate::buffers::Buffers;
 use crate::client::Client;
 use crate::hub::Hub;
-use crate::settle::Settle;
+use crate::settle::{Reach, Settle};
 use mio::{Events, Interest, Registry, Token};
 use sessions::Accounts;
 use slab::Slab;
@@ -26,6 +26,11 @@ pub struct Clients {
     /// The clients that are held back, and the time at which the first is released, in milliseconds of a `Ticker`.
     pub held: Vec<usize>,
     pub deadline: Option<u64>,
+    /// The clients whose replies wait for more than is settled, and the least number that one of them waits for.
+    pub awaiting: Vec<usize>,
+    least: u64,
+    /// The number that the replies of the last turn wait for.
+    due: u64,
     pub buffers: Buffers,
     /// The accounts that may log in from now on, if they have changed.
     pub accounts: Option<Accounts>,
@@ -49,6 +54,9 @@ impl Clients {
             owes: false,
             held: Vec::new(alloc),
             deadline: None,
+            awaiting: Vec::new(alloc),
+            least: 0,
+            due: 0,
             buffers: Buffers::new(alloc)?,
             accounts: None,
         })
@@ -85,7 +93,8 @@ impl Clients {
         let most = self.all.len().saturating_add(1).min(1 << 32);
         self.queue.reserve(2 * most)?;
         self.later.reserve(2 * most)?;
-        self.owed.reserve(4 * most)?;
+        self.owed.reserve(5 * most)?;
+        self.awaiting.reserve(2 * most)?;
         self.held.reserve(2 * most)
     }
 
@@ -163,18 +172,93 @@ impl Clients {
         Ok(())
     }
 
-    /// Waits until everything that the replies to be written can reveal is stored. None: there are no such replies.
-    pub fn settle<T: Settle>(&mut self, settle: &T) -> io::Result<Option<T::Settled>> {
+    /// Waits until everything that the replies to be written can reveal is stored by this server, and returns how far replies
+    /// may go. None: there are no replies that may be written.
+    pub fn settle<T: Settle>(
+        &mut self,
+        settle: &T,
+        hub: &Hub,
+        place: usize,
+    ) -> io::Result<Option<Reach<T::Settled>>> {
         if mem::replace(&mut self.owes, false) {
-            Ok(Some(settle.settle()?))
-        } else {
-            Ok(None)
+            self.due = settle.settle()?;
+        } else if self.awaiting.is_empty() {
+            return Ok(None);
         }
+        let mut reach = settle.reach(self.due)?;
+        if !reaches(&reach, self.due) {
+            // Whoever lets replies go further wakes the workers that wait. This one waits before it looks again, so that it
+            // cannot miss that.
+            hub.await_reach(place);
+            reach = settle.reach(self.due)?;
+        }
+        if let Some(reach) = &reach {
+            self.resume(reach.number)?;
+        }
+        Ok(reach)
+    }
+
+    // Has the replies that wait looked at again, if some of them may be written now.
+    fn resume(&mut self, reached: u64) -> Result<(), AllocError> {
+        if self.awaiting.is_empty() || reached < self.least {
+            return Ok(());
+        }
+        for index in 0..self.awaiting.len() {
+            let Some(key) = self.awaiting.get(index).copied() else {
+                break;
+            };
+            if let Some(client) = self.all.get_mut(key) {
+                client.end_await();
+                self.owed.push(key)?;
+            }
+        }
+        self.awaiting.clear();
+        Ok(())
+    }
+
+    /// Writes a client's replies, if they may go so far. If not, the client is listed as one whose replies wait.
+    pub fn write<T: Settle>(
+        &mut self,
+        key: usize,
+        reach: &Option<Reach<T::Settled>>,
+    ) -> Result<(), AllocError> {
+        let Some(client) = self.all.get_mut(key) else {
+            return Ok(());
+        };
+        client.wait_for(self.due);
+        let mut reached = None;
+        if let Some(reach) = reach {
+            client.write::<T>(reach);
+            reached = Some(reach.number);
+        }
+        if client.waits_beyond(reached) && client.await_reach() {
+            let due = client.due().unwrap_or(self.due);
+            self.least = if self.awaiting.is_empty() {
+                due
+            } else {
+                self.least.min(due)
+            };
+            self.awaiting.push(key)?;
+        }
+        Ok(())
+    }
+
+    /// A client is taken out whose replies waited.
+    pub fn forget_awaiting(&mut self, key: usize) {
+        self.awaiting.retain(|other| *other != key);
     }
 
     /// Begins the next turn.
     pub fn turn_over(&mut self) {
         self.owed.clear();
         mem::swap(&mut self.queue, &mut self.later);
+    }
+}
+
+// Whether replies that wait for this number may be written.
+fn reaches<P>(reach: &Option<Reach<P>>, number: u64) -> bool {
+    match reach {
+        Some(reach) => number <= reach.number,
+        None => false,
     }
 }

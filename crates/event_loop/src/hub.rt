@@ -27,6 +27,8 @@ pub struct Door {
     moved: CellSet,
     /// Whether it was told that a pad has changed, and has not yet looked.
     is_told: AtomicBool,
+    /// Whether replies of its clients wait, so that it is to be woken when they may go further.
+    awaits: AtomicBool,
 }
 
 impl Door {
@@ -45,6 +47,7 @@ impl Door {
             wanted: CellSet::new(alloc, cells)?,
             moved: CellSet::new(alloc, cells)?,
             is_told: AtomicBool::new(false),
+            awaits: AtomicBool::new(false),
         })
     }
 }
@@ -300,6 +303,22 @@ impl Hub {
         match self.revisions.get(wanted.cell as usize) {
             Some(revision) => revision.load(Ordering::SeqCst) == wanted.rev,
             None => false,
+        }
+    }
+
+    /// Replies of a worker wait: it is to be woken when they may go further.
+    pub fn await_reach(&self, place: usize) {
+        if let Some(door) = self.doors.get(place) {
+            door.awaits.store(true, Ordering::SeqCst);
+        }
+    }
+
+    /// Replies may go further: wakes the workers whose replies wait.
+    pub fn tell_reach(&self) {
+        for door in &self.doors {
+            if door.awaits.swap(false, Ordering::SeqCst) {
+                let _woken = door.waker.wake();
+            }
         }
     }
 

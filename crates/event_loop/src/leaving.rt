@@ -79,6 +79,9 @@ where
     T: Settle,
 {
     if let Some(client) = clients.all.try_remove(key) {
+        if client.is_awaiting() {
+            clients.forget_awaiting(key);
+        }
         see_off(service, pads, client);
     }
 }

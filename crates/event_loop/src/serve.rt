@@ -50,6 +50,7 @@ impl Client {
         if self.owes() {
             return ClientStep::Rests;
         }
+        self.due = None;
         for _line in 0..LINES {
             if self.owed() >= MOST_OWED {
                 break;

@@ -8,7 +8,7 @@ use crate::leaving::{end, move_away, turn_away};
 use crate::limits::CHECK;
 use crate::lobby::{Noted, PATIENT};
 use crate::serve::ClientStep;
-use crate::settle::Settle;
+use crate::settle::{Reach, Settle};
 use crate::ticker::Ticker;
 use crate::times::Late;
 use crate::work::{Service, Worker};
@@ -60,11 +60,11 @@ where
         }
     }
     serve(service, worker.place, clients, pads, ticker)?;
-    let Ok(settled) = clients.settle(service.settle) else {
+    let Ok(reach) = clients.settle(service.settle, service.hub, worker.place) else {
         service.hub.stop();
         return Ok(());
     };
-    write(service, worker, clients, pads, settled)
+    write(service, worker, clients, pads, &reach)
 }
 
 // How long to wait for events. None: without limit, since there are no clients with time limits.
@@ -207,13 +207,13 @@ fn log_failure<R: Clock + Eprint>(rt: &R, client: &mut Client, claim: Option<Log
     }
 }
 
-// Writes the replies once they are settled, and ends the clients that have nothing left to do.
+// Writes the replies that are settled, and ends the clients that have nothing left to do.
 fn write<S, R, G, T>(
     service: &Service<'_, S, R, G, T>,
     worker: &Worker,
     clients: &mut Clients,
     pads: &mut Shared<'_, S, R, G>,
-    settled: Option<T::Settled>,
+    reach: &Option<Reach<T::Settled>>,
 ) -> io::Result<()>
 where
     S: Sequence,
@@ -225,12 +225,10 @@ where
         let Some(key) = clients.owed.get(index).copied() else {
             break;
         };
+        clients.write::<T>(key, reach)?;
         let Some(client) = clients.all.get_mut(key) else {
             continue;
         };
-        if let Some(settled) = &settled {
-            client.write::<T>(settled);
-        }
         if client.is_gone() {
             end(service, clients, pads, key);
         } else if client.moves() {

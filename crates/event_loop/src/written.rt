@@ -1,10 +1,12 @@
 //! What is written to a client.
-ghost use Rattle.std.specs.Prelude.{◌≤◌, length, min};
+ghost use Rattle.std.specs.Prelude.{◌≡◌, ◌≤◌, false, length, min};
 ghost use Rattle.event_loop.specs.Delays.{held_by};
+ghost use Rattle.event_loop.specs.Waits as waits;
 
 use crate::client::{Client, Phase};
+use crate::due::may_go;
 use crate::party::Party;
-use crate::settle::Settle;
+use crate::settle::{Reach, Settle};
 use crate::transfer::{BrokenSocket, Transfer};
 use mio::net::TcpStream;
 use std::alloc::AllocError;
@@ -14,9 +16,20 @@ use wire_lines::Fault;
 const WRITES: u32 = 16;
 
 impl Client {
-    /// Writes as many replies as the socket takes, since they are settled. The reply to a wrong token stays, as long as it
-    /// is held back.
-    pub fn write<T: Settle>(&mut self, settled: &T::Settled)
+    /// Writes as many replies as the socket takes, unless they wait for more than what is settled. The reply to a wrong
+    /// token stays, as long as it is held back.
+    pub fn write<T: Settle>(&mut self, reach: &Reach<T::Settled>)
+        ensures held { min (held_by self.old.delay) (length self.old.party.talk.replies)
+            ≤ length self.new.party.talk.replies }
+        ensures waits { waits.may_go self.old.due reach.now.number ≡ false → self.new.party ≡ self.old.party }
+    {
+        if may_go(self.due, reach.number) {
+            self.write_settled::<T>(&reach.settled);
+        }
+    }
+
+    // Writes as many replies as the socket takes.
+    fn write_settled<T: Settle>(&mut self, settled: &T::Settled)
         ensures { min (held_by self.old.delay) (length self.old.party.talk.replies)
             ≤ length self.new.party.talk.replies }
     {

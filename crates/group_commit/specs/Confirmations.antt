@@ -1,5 +1,5 @@
 -- When a reply may go out on a server with a standby.
-use Rattle.std.specs.Prelude.{◌≡◌, ◌⊎◌, ◌≤◌, ℕ, Bool, true, false, max, Option, Some, None}
+use Rattle.std.specs.Prelude.{◌≡◌, ◌⊎◌, ◌≤◌, ℕ, Bool, true, false, max, min, Option, Some, None}
 use Rattle.group_commit.specs.declared.confirming.Confirm.{Confirm}
 use Rattle.group_commit.specs.declared.confirming.Confirm.TheVariants as policy
 use Rattle.group_commit.specs.declared.confirming.Confirmation.{Confirmation}
@@ -26,9 +26,24 @@ MayGoOn number asked copied alone = (asked ≡ policy.Never) ⊎ ((alone ≡ tru
 
 -- what one does who waits until the standby has the first so many notes
 abbrev pub IsConfirmation : ℕ → Confirm → Option ℕ → Bool → Bool → Confirmation → Type 0
-IsConfirmation number asked copied alone lost (Given confirmed) = (lost ≡ false) × MayGoOn number asked copied alone
+IsConfirmation number asked copied alone lost (Given confirmed) =
+    (lost ≡ false) × (confirmed.number ≡ number) × MayGoOn number asked copied alone
 IsConfirmation number asked copied alone lost Waits = (lost ≡ false) × (MayGoOn number asked copied alone → ⊥)
 IsConfirmation number asked copied alone lost Lost = lost ≡ true
+
+-- how many of the first so many notes may be revealed: all of them on a server that waits for no standby, and otherwise
+-- those that the standby has
+abbrev pub AreRevealed : ℕ → ℕ → Confirm → Option ℕ → Bool → Type 0
+AreRevealed number most asked copied alone =
+    (((asked ≡ policy.Never) ⊎ (alone ≡ true)) × (number ≡ most))
+    ⊎ ((has : ℕ) × (copied ≡ Some has) × (number ≡ min most has))
+
+-- how far one may go who wants to reveal the first so many notes
+abbrev pub IsReached : ℕ → Confirm → Option ℕ → Bool → Bool → Confirmation → Type 0
+IsReached most asked copied alone lost (Given confirmed) =
+    (lost ≡ false) × AreRevealed confirmed.number most asked copied alone
+IsReached most asked copied alone lost Waits = (lost ≡ false) × (MayGoOn 0 asked copied alone → ⊥)
+IsReached most asked copied alone lost Lost = lost ≡ true
 
 -- the number of notes that a standby has, once it has said so of as many as this
 abbrev pub heard : ℕ → Option ℕ → ℕ

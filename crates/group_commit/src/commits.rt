@@ -1,5 +1,5 @@
 //! The notes of all pads of a server, which threads make and wait for.
-ghost use Rattle.std.specs.Prelude.{◌≡◌, IfOk, OnErr, OnOk};
+ghost use Rattle.std.specs.Prelude.{◌≡◌, IfOk, IfSome, OnErr, OnOk};
 ghost use Rattle.group_commit.specs.Notes.{NothingSettles, WasQueued};
 
 use crate::appending::Committed;
@@ -123,6 +123,13 @@ impl Commits {
             }
         }
         Err(io::Error::from(ErrorKind::Other))
+    }
+
+    /// The first `number` notes, if they are on the disk. Nobody waits for it.
+    pub fn look<R: Wait>(&self, rt: &R, number: u64) -> Option<Kept>
+        ensures { IfSome result (λ kept. kept.number ≡ number) }
+    {
+        self.progress.lock(rt).look(number)
     }
 
     /// Waits until more than the first `seen` notes are on the disk, at most so long, and returns how many are. None: nothing

@@ -1,6 +1,6 @@
 //! How much of what is noted a standby has, and what replies wait for.
-ghost use Rattle.std.specs.Prelude.{◌≡◌, None, Some, false, is_some};
-ghost use Rattle.group_commit.specs.Confirmations.{IsConfirmation, IsPolicy, alone_after, heard, is_unasked, lost_after};
+ghost use Rattle.std.specs.Prelude.{◌≡◌, None, Some, false, is_some, IfSome};
+ghost use Rattle.group_commit.specs.Confirmations.{IsConfirmation, IsPolicy, IsReached, alone_after, heard, is_unasked, lost_after};
 
 /// What replies do while the standby does not have what they reveal.
 #[derive(Clone, Copy, Debug, PartialEq, Eq)]
@@ -13,20 +13,30 @@ pub enum Confirm {
     Strict,
 }
 
-/// The standby has what a reply reveals, or the reply need not wait for it. Only `Confirming::next_step` and
+/// The standby has the first so many notes, or what reveals them need not wait for it. Only `Confirming` and
 /// `Confirm::unasked` say so.
 #[derive(Debug, Drop)]
 pub struct Confirmed {
-    _private: (),
+    number: u64,
+}
+
+impl Confirmed {
+    /// How many notes these are: the first so many of the server.
+    pub fn number(&self) -> u64
+        ensures { result ≡ self.now.number }
+    {
+        self.number
+    }
 }
 
 impl Confirm {
-    /// Where replies never wait for a standby, nobody has to ask how much it has.
-    pub fn unasked(self) -> Option<Confirmed>
-        ensures { is_some result ≡ is_unasked self }
+    /// Where replies never wait for a standby, nobody has to ask how much it has: the first `number` notes may be revealed.
+    pub fn unasked(self, number: u64) -> Option<Confirmed>
+        ensures asked { is_some result ≡ is_unasked self }
+        ensures number { IfSome result (λ confirmed. confirmed.number ≡ number) }
     {
         match self {
-            Confirm::Never => Some(Confirmed { _private: () }),
+            Confirm::Never => Some(Confirmed { number }),
             Confirm::Within { .. } | Confirm::Strict => None,
         }
     }
@@ -82,9 +92,27 @@ impl Confirming {
             None => false,
         };
         if has_all || self.is_alone || self.policy == Confirm::Never {
-            Confirmation::Given(Confirmed { _private: () })
+            Confirmation::Given(Confirmed { number })
         } else {
             Confirmation::Waits
+        }
+    }
+
+    /// How many of the first `most` notes may be revealed. Nobody waits for it.
+    pub fn reach(&self, most: u64) -> Confirmation
+        ensures { IsReached most self.now.policy self.now.copied self.now.is_alone self.now.is_lost result }
+    {
+        if self.is_lost {
+            return Confirmation::Lost;
+        }
+        if self.is_alone || self.policy == Confirm::Never {
+            return Confirmation::Given(Confirmed { number: most });
+        }
+        match self.copied {
+            Some(copied) => Confirmation::Given(Confirmed {
+                number: most.min(copied),
+            }),
+            None => Confirmation::Waits,
         }
     }
 

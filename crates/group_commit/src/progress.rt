@@ -1,5 +1,5 @@
 //! How many notes there are, how many of them are on the disk, and the round of cells that is under way.
-ghost use Rattle.std.specs.Prelude.{◌≡◌, ◌+◌, ◌⊎◌, [], true, false, IfNone, IfOk, IfSome, OnErr, OnOk};
+ghost use Rattle.std.specs.Prelude.{◌≡◌, ◌+◌, ◌⊎◌, ◌<◌, ◌≤◌, [], true, false, IfNone, IfOk, IfSome, OnErr, OnOk};
 ghost use Rattle.group_commit.specs.Notes.{NothingSettles};
 ghost use Rattle.group_commit.specs.Rounds.{AreListed, Begins, Counts, IsOrderly, IsNextStep, Reports, Stays, Takes, is_due};
 
@@ -33,7 +33,7 @@ pub struct Asked {
     number: u64,
 }
 
-/// All notes that were counted when somebody asked are on the disk. Only `Progress::next_step` says so.
+/// The first so many notes are on the disk. Only `Progress` says so.
 #[derive(Debug, Drop)]
 pub struct Kept {
     number: u64,
@@ -171,6 +171,18 @@ impl Progress {
         Asked {
             number: self.state.noted,
         }
+    }
+
+    /// The first `number` notes, if they are on the disk. Nobody waits for it.
+    pub fn look(&self, number: u64) -> Option<Kept>
+        ensures some { IfSome result (λ kept. (kept.number ≡ number) × (number ≤ self.now.state.kept)
+            × (self.now.state.has_failed ≡ false)) }
+        ensures none { IfNone result ((self.now.state.has_failed ≡ true) ⊎ (self.now.state.kept < number)) }
+    {
+        if self.state.has_failed || self.state.kept < number {
+            return None;
+        }
+        Some(Kept { number })
     }
 
     /// What one who has asked does next. Where no round is under way and notes are due, one begins.

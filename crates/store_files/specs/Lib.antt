@@ -1,3 +1,4 @@
 -- The definitions that the contracts cite, by topic.
 pub mod Ownership
 pub mod Noting
+pub mod Settling

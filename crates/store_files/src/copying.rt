@@ -9,6 +9,49 @@ use std::time::{Clock, Duration};
 /// The seconds without an answer after which a server that promised the standby's confirmation ends.
 const STRICT_PATIENCE: u64 = 10;
 
+/// What one finds out who follows how far replies may go.
+#[derive(Clone, Copy, Debug, PartialEq, Eq)]
+pub enum Followed {
+    /// They may go further than at the change with this number. `alone`: from now on without the standby, which is said once.
+    Further { change: u64, alone: bool },
+    /// The standby did not answer in time, and the server ends. `first` is true for the first thread that finds out.
+    Lost { first: bool },
+    /// The server has ended.
+    Over,
+}
+
+// What threads wait for: how much the standby has, and how much of it a reply waits for.
+#[derive(Drop)]
+struct Awaited {
+    confirming: Confirming,
+    // A reply waits until the standby has so many notes. None: no reply has waited yet.
+    most: Option<u64>,
+    // How often replies could go further than before.
+    changes: u64,
+    // Nobody follows any more.
+    is_over: bool,
+}
+
+impl Awaited {
+    // Whether a reply waits for the standby.
+    fn is_short(&self) -> bool {
+        match self.most {
+            Some(most) => matches!(self.confirming.next_step(most), Confirmation::Waits),
+            None => false,
+        }
+    }
+
+    // Notes that a reply waits for so many notes.
+    fn wait_for(&mut self, number: u64) {
+        self.most = Some(self.most.map_or(number, |most| most.max(number)));
+    }
+
+    // Replies can go further than before.
+    fn note_change(&mut self) {
+        self.changes = self.changes.saturating_add(1);
+    }
+}
+
 /// What came of waiting for the standby.
 #[derive(Debug, Drop)]
 pub enum Waited {
@@ -26,8 +69,8 @@ pub struct Copying {
     is_copied: bool,
     asked: Confirm,
     grown: CellSet,
-    confirming: Mutex<Confirming>,
-    // Waited on until the standby has more.
+    awaited: Mutex<Awaited>,
+    // Waited on until the standby has more, or until a reply waits for it.
     heard: Condvar,
     // The standby did not answer a server that promised never to go on without it.
     is_lost: AtomicBool,
@@ -42,7 +85,12 @@ impl Copying {
             is_copied,
             asked,
             grown: CellSet::new(alloc, cells)?,
-            confirming: Mutex::new(Confirming::new(asked)),
+            awaited: Mutex::new(Awaited {
+                confirming: Confirming::new(asked),
+                most: None,
+                changes: 0,
+                is_over: false,
+            }),
             heard: Condvar::new(),
             is_lost: AtomicBool::new(false),
         })
@@ -67,27 +115,28 @@ impl Copying {
 
     /// Waits until the standby has the first `number` notes, or as long as the server promised to wait.
     pub fn wait<R: Wait + Clock>(&self, rt: &R, number: u64) -> Waited {
-        if let Some(confirmed) = self.asked.unasked() {
+        if let Some(confirmed) = self.asked.unasked(number) {
             return Waited::Confirmed(confirmed);
         }
-        let state = self.confirming.lock(rt);
-        match state.next_step(number) {
+        let state = self.awaited.lock(rt);
+        match state.confirming.next_step(number) {
             Confirmation::Given(confirmed) => return Waited::Confirmed(confirmed),
             Confirmation::Lost => return Waited::Lost { first: false },
             Confirmation::Waits => {}
         }
         let most = patience_of(self.asked);
         let (mut state, _late) = self.heard.wait_timeout_while(rt, state, most, |state| {
-            matches!(state.next_step(number), Confirmation::Waits)
+            matches!(state.confirming.next_step(number), Confirmation::Waits)
         });
-        match state.next_step(number) {
+        match state.confirming.next_step(number) {
             Confirmation::Given(confirmed) => return Waited::Confirmed(confirmed),
             Confirmation::Lost => return Waited::Lost { first: false },
             Confirmation::Waits => {}
         }
-        let first = state.give_up();
+        let first = state.confirming.give_up();
+        state.note_change();
         self.heard.notify_all();
-        match state.next_step(number) {
+        match state.confirming.next_step(number) {
             Confirmation::Given(confirmed) if first => Waited::Alone(confirmed),
             Confirmation::Given(confirmed) => Waited::Confirmed(confirmed),
             Confirmation::Waits | Confirmation::Lost => {
@@ -97,17 +146,69 @@ impl Copying {
         }
     }
 
+    /// How many of the first `most` notes may be revealed. Nobody waits for it, but whoever follows is told that a reply
+    /// waits if these are not all.
+    pub fn reach<R: Wait>(&self, rt: &R, most: u64) -> Confirmation {
+        if let Some(confirmed) = self.asked.unasked(most) {
+            return Confirmation::Given(confirmed);
+        }
+        let mut state = self.awaited.lock(rt);
+        if let Confirmation::Waits = state.confirming.next_step(most) {
+            if !state.is_short() {
+                self.heard.notify_all();
+            }
+            state.wait_for(most);
+        }
+        state.confirming.reach(most)
+    }
+
+    /// Waits until replies can go further than at the change `seen`. If a reply waits, and the standby has not answered for
+    /// as long as the server promised to wait, the server goes on alone, or ends.
+    pub fn follow<R: Wait + Clock>(&self, rt: &R, seen: u64) -> Followed {
+        let state = self.awaited.lock(rt);
+        let state = self.heard.wait_while(rt, state, |state| {
+            state.changes == seen && !state.is_over && !state.is_short()
+        });
+        let most = patience_of(self.asked);
+        let (mut state, _late) = self.heard.wait_timeout_while(rt, state, most, |state| {
+            state.changes == seen && !state.is_over && state.is_short()
+        });
+        if state.is_over {
+            return Followed::Over;
+        }
+        let mut first = false;
+        if state.changes == seen && state.is_short() {
+            first = state.confirming.give_up();
+            state.note_change();
+            self.heard.notify_all();
+        }
+        if let Confirmation::Lost = state.confirming.reach(0) {
+            self.is_lost.store(true, Ordering::SeqCst);
+            return Followed::Lost { first };
+        }
+        Followed::Further {
+            change: state.changes,
+            alone: first,
+        }
+    }
+
+    /// Nobody needs to follow any more: the server has ended.
+    pub fn end<R: Wait>(&self, rt: &R) {
+        self.awaited.lock(rt).is_over = true;
+        self.heard.notify_all();
+    }
+
     /// Waits, at most so long, until the standby has everything that was there at the start, where no reply may go out
     /// before. Returns whether it has, or None if it will not.
     pub fn wait_at_start<R: Wait + Clock>(&self, rt: &R, most: Duration) -> Option<bool> {
         if self.asked != Confirm::Strict {
             return Some(true);
         }
-        let state = self.confirming.lock(rt);
+        let state = self.awaited.lock(rt);
         let (state, _late) = self.heard.wait_timeout_while(rt, state, most, |state| {
-            matches!(state.next_step(0), Confirmation::Waits)
+            matches!(state.confirming.next_step(0), Confirmation::Waits)
         });
-        match state.next_step(0) {
+        match state.confirming.next_step(0) {
             Confirmation::Given(_) => Some(true),
             Confirmation::Waits => Some(false),
             Confirmation::Lost => None,
@@ -117,9 +218,12 @@ impl Copying {
     /// The standby has synced the first `mark` notes. `is_all` tells that it had all that there was when it said so. Returns
     /// whether the server was alone until then.
     pub fn hear<R: Wait>(&self, rt: &R, mark: u64, is_all: bool) -> bool {
-        let mut state = self.confirming.lock(rt);
-        state.hear(mark);
-        let was_alone = is_all && state.catch_up();
+        let mut state = self.awaited.lock(rt);
+        if let Confirmation::Waits = state.confirming.next_step(mark) {
+            state.note_change();
+        }
+        state.confirming.hear(mark);
+        let was_alone = is_all && state.confirming.catch_up();
         drop(state);
         self.heard.notify_all();
         was_alone
@@ -128,8 +232,9 @@ impl Copying {
     /// Nothing is confirmed any more where the server promised never to go on without the standby: another server has taken
     /// its place. Otherwise the server goes on alone.
     pub fn give_up<R: Wait>(&self, rt: &R) {
-        let mut state = self.confirming.lock(rt);
-        let _first = state.give_up();
+        let mut state = self.awaited.lock(rt);
+        let _first = state.confirming.give_up();
+        state.note_change();
         if self.asked == Confirm::Strict {
             self.is_lost.store(true, Ordering::SeqCst);
         }

@@ -5,12 +5,12 @@ ghost use Rattle.group_commit.specs.Notes.{NothingSettles};
 ghost use Rattle.store_files.specs.Noting.{IsKept};
 
 use crate::appending::Files;
-use crate::copying::{Copying, Waited};
+use crate::copying::{Copying, Followed, Waited};
 use crate::pad_device::make_room;
 use crate::reserve::{Reserve, is_full};
 use crate::settlement::Promised;
 use crate::spares::{Spare, Spares};
-use group_commit::{Commits, Note, Unnoted};
+use group_commit::{Commits, Confirmation, Note, Unnoted};
 use log::{error, warn};
 use pad_core::Request;
 use pad_model::{Name, Refusal};
@@ -235,6 +235,62 @@ impl Keeper {
         self.commits.has_failed()
     }
 
+    /// Waits until everything noted before is synced, or fails, and returns how many notes these are. After it, `look` says
+    /// how much of them may be revealed.
+    pub fn sync<R: Wait>(&self, rt: &R) -> io::Result<u64> {
+        let kept = self.commits.settle(rt, &Files::new(rt, self))?;
+        Ok(kept.number())
+    }
+
+    /// How much of what the first `most` notes leave may be revealed: what is synced, and what the standby has where that was
+    /// promised. None: nothing yet. Nobody waits for it. It fails if the store or the standby is lost.
+    pub fn look<R: Wait>(&self, rt: &R, most: u64) -> io::Result<Option<Promised>> {
+        let Some(kept) = self.commits.look(rt, most) else {
+            return if self.has_failed() {
+                Err(io::Error::from(ErrorKind::Other))
+            } else {
+                Ok(None)
+            };
+        };
+        match self.copying.reach(rt, most) {
+            Confirmation::Given(confirmed) => Ok(Some(Promised::new(kept, confirmed))),
+            Confirmation::Waits => Ok(None),
+            Confirmation::Lost => Err(io::Error::from(ErrorKind::TimedOut)),
+        }
+    }
+
+    /// Waits until more may be revealed than at the change `seen`, and returns the number of the last change. One thread calls
+    /// it, which then tells those whose replies wait. If the standby does not answer in time, the server goes on alone, or
+    /// nothing is settled any more, and this is logged. None: the server has ended, or is to end.
+    pub fn follow<R: Wait + Clock>(&self, rt: &R, seen: u64) -> Option<u64> {
+        match self.copying.follow(rt, seen) {
+            Followed::Further { change, alone } => {
+                if alone {
+                    self.tell_alone();
+                }
+                Some(change)
+            }
+            Followed::Lost { first } => {
+                self.lose(rt, first);
+                None
+            }
+            Followed::Over => None,
+        }
+    }
+
+    // Logs that the server goes on without the standby.
+    fn tell_alone(&self) {
+        warn!(ServerLog(&self.files); "the standby does not answer: this server goes on alone");
+    }
+
+    // The standby is lost, without which nothing may be settled. `first`: this is to be logged.
+    fn lose<R: Wait>(&self, rt: &R, first: bool) {
+        if first {
+            error!(ServerLog(&self.files); "the standby does not answer");
+        }
+        self.commits.fail(rt);
+    }
+
     /// Waits until everything noted before is synced, and the standby has it where that was promised, or fails. It is called
     /// before a reply is written, under no pad's lock. Threads that wait append and sync together; after a failure each call
     /// fails.
@@ -243,14 +299,11 @@ impl Keeper {
         let confirmed = match self.copying.wait(rt, kept.number()) {
             Waited::Confirmed(confirmed) => confirmed,
             Waited::Alone(confirmed) => {
-                warn!(ServerLog(&self.files); "the standby does not answer: this server goes on alone");
+                self.tell_alone();
                 confirmed
             }
             Waited::Lost { first } => {
-                if first {
-                    error!(ServerLog(&self.files); "the standby does not answer");
-                }
-                self.commits.fail(rt);
+                self.lose(rt, first);
                 return Err(io::Error::from(ErrorKind::TimedOut));
             }
         };
@@ -281,8 +334,9 @@ impl Keeper {
         self.commits.help(rt, &Files::new(rt, self));
     }
 
-    /// Ends the threads that help.
+    /// Ends the threads that help, and the one that follows.
     pub fn end_help<R: Wait>(&self, rt: &R) {
+        self.copying.end(rt);
         self.commits.end_help(rt);
     }
 }

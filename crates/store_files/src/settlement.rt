@@ -1,5 +1,6 @@
 //! Whether everything that was answered is on the disk.
-ghost use Rattle.std.specs.Prelude.{◌≡◌, is_some, IfOk};
+ghost use Rattle.std.specs.Prelude.{◌≡◌, is_some, min, IfOk, IfSome};
+ghost use Rattle.store_files.specs.Settling.{IsSaidOf};
 
 use crate::keeper::Keeper;
 use group_commit::{Confirmed, Kept};
@@ -16,8 +17,17 @@ pub struct Promised {
 
 impl Promised {
     // It is on the disk, and the standby has it or nobody waits for that.
-    pub(crate) fn new(kept: Kept, confirmed: Confirmed) -> Promised {
+    pub(crate) fn new(kept: Kept, confirmed: Confirmed) -> Promised
+        ensures { (result.kept ≡ kept) × (result.confirmed ≡ confirmed) }
+    {
         Promised { kept, confirmed }
+    }
+
+    /// How many notes this is said of: the first so many of the server.
+    pub fn number(&self) -> u64
+        ensures { result ≡ min self.now.kept.number self.now.confirmed.number }
+    {
+        self.kept.number().min(self.confirmed.number())
     }
 }
 
@@ -39,5 +49,31 @@ impl Settlement {
             None => None,
         };
         Ok(Settlement { kept })
+    }
+
+    /// How much of what the first `most` notes leave may be revealed, and how many notes these are; None: nothing yet. Nobody
+    /// waits for it. After a failed write or sync, or where the standby is lost, it fails.
+    pub fn look<R: Wait>(
+        rt: &R,
+        keeper: Option<&Keeper>,
+        most: u64,
+    ) -> io::Result<Option<(Settlement, u64)>>
+        ensures { IfOk result (λ looked. IfSome looked (λ found. IsSaidOf keeper.entry found.0.kept found.1)) }
+    {
+        let Some(keeper) = keeper else {
+            return Ok(Some((Settlement { kept: None }, most)));
+        };
+        match keeper.look(rt, most)? {
+            Some(promised) => {
+                let number = promised.number();
+                Ok(Some((
+                    Settlement {
+                        kept: Some(promised),
+                    },
+                    number,
+                )))
+            }
+            None => Ok(None),
+        }
     }
 }

@@ -7,7 +7,7 @@ use crate::opened::{Opened, open_pads};
 use crate::pad_gate::PadGate;
 use crate::serving_error::ServingError;
 use crate::settings::{Settings, StandbyPeer};
-use crate::settling::Settling;
+use crate::settling::{Settling, tell_workers};
 use crate::threads::{make_groups, make_threads};
 use crate::watch::{Watch, watch_accounts};
 use block_seq::BlockSeq;
@@ -195,8 +195,8 @@ struct Sender<'a> {
     keeper: &'a Keeper,
     peer: &'a Peer,
     own: u16,
-    /// Whether nothing may be answered before the standby has it.
-    is_strict: bool,
+    /// What replies wait for.
+    confirm: Confirm,
     end: SendingEnd,
 }
 
@@ -207,7 +207,7 @@ fn sender_of<'a>(opened: &'a Opened, asked: Settings<'_>) -> Option<Sender<'a>> 
         keeper: opened.keeper.as_ref()?,
         peer: opened.peer(standby.number)?,
         own: asked.replica,
-        is_strict: standby.confirm == Confirm::Strict,
+        confirm: standby.confirm,
         end: SendingEnd::new(),
     })
 }
@@ -215,7 +215,7 @@ fn sender_of<'a>(opened: &'a Opened, asked: Settings<'_>) -> Option<Sender<'a>> 
 impl Sender<'_> {
     // Waits until the standby has everything, where nobody is to be served before. Returns whether the server may serve.
     fn wait<R: Wait + Clock + Eprint>(&self, rt: &R) -> bool {
-        if self.is_strict {
+        if self.confirm == Confirm::Strict {
             let number = self.peer.number;
             info!(ServerLog(rt); "nobody is served before the standby {number} has everything that is stored here");
         }
@@ -311,7 +311,10 @@ where
         }
         // With a standby that is never to lack anything, nobody is served before it has everything, peers neither.
         if let Some(sender) = sender {
-            if scope.spawn(move || sender.send(rt, hub)).is_err() {
+            let keeper = sender.keeper;
+            if scope.spawn(move || sender.send(rt, hub)).is_err()
+                || scope.spawn(move || tell_workers(rt, keeper, hub)).is_err()
+            {
                 is_whole = false;
             } else if !sender.wait(rt) {
                 hub.stop();

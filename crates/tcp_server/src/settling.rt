@@ -1,13 +1,15 @@
 //! What the workers' replies wait for.
-ghost use Rattle.std.specs.Prelude.{◌≡◌, is_some, IfOk};
+ghost use Rattle.std.specs.Prelude.{◌≡◌, IfOk, IfSome};
+ghost use Rattle.store_files.specs.Settling.{IsSaidOf};
 
-use event_loop::Settle;
+use event_loop::{Hub, Reach, Settle};
 use std::io;
 use std::sync::Wait;
 use std::time::Clock;
 use store_files::{Keeper, Settlement};
 
-/// What the workers' replies wait for: the sync of the store, if there is one.
+/// What the workers' replies wait for, if there is a store: its sync, and the standby's confirmation where that was
+/// promised.
 #[derive(Drop)]
 pub struct Settling<'a, R> {
     rt: &'a R,
@@ -24,10 +26,20 @@ impl<'a, R> Settling<'a, R> {
 impl<R: Wait + Clock> Settle for Settling<'_, R> {
     type Settled = Settlement;
 
-    fn settle(&self) -> io::Result<Settlement>
-        ensures { IfOk result (λ settlement. is_some settlement.kept ≡ is_some self.now.keeper) }
+    fn settle(&self) -> io::Result<u64> {
+        match self.keeper {
+            Some(keeper) => keeper.sync(self.rt),
+            None => Ok(0),
+        }
+    }
+
+    fn reach(&self, number: u64) -> io::Result<Option<Reach<Settlement>>>
+        ensures { IfOk result (λ found. IfSome found (λ reach. IsSaidOf self.now.keeper reach.settled.kept reach.number)) }
     {
-        Settlement::reach(self.rt, self.keeper)
+        match Settlement::look(self.rt, self.keeper, number)? {
+            Some((settled, number)) => Ok(Some(Reach { number, settled })),
+            None => Ok(None),
+        }
     }
 
     fn has_failed(&self) -> bool {
@@ -35,5 +47,21 @@ impl<R: Wait + Clock> Settle for Settling<'_, R> {
             Some(keeper) => keeper.has_failed(),
             None => false,
         }
+    }
+}
+
+/// Has workers look at the replies that wait whenever these may go further, until the server ends. If the standby is lost, it
+/// stops the whole server.
+pub fn tell_workers<R: Wait + Clock>(rt: &R, keeper: &Keeper, hub: &Hub) {
+    let mut seen = 0;
+    for _ in rt.forever() {
+        match keeper.follow(rt, seen) {
+            Some(change) => seen = change,
+            None => break,
+        }
+        hub.tell_reach();
+    }
+    if keeper.has_failed() {
+        hub.stop();
     }
 }

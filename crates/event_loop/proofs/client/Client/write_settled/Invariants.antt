@@ -1,5 +1,5 @@
 use Rattle.std.proofs.Common.{◌≤◌, length, min}
-use Rattle.event_loop.proofs.client.Client.write.Given as goal
+use Rattle.event_loop.proofs.client.Client.write_settled.Given as goal
 
 -- what is held back stays
 abbrev pub invariant-loop-write : goal.invariant-loop-write

@@ -1,3 +1,4 @@
 -- The lemmas, by topic.
 pub mod Copies
+pub mod Logs
 pub mod Stretches

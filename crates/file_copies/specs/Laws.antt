@@ -1,5 +1,5 @@
 -- What a copy of a pad's file has of the file, and what a crash of either machine leaves of it.
-use Rattle.std.specs.Prelude.{◌≡◌, ℕ, ◌≤◌, List, [], ◌++◌, length, take, true, Some}
+use Rattle.std.specs.Prelude.{◌≡◌, ℕ, ◌≤◌, List, [], ◌∷◌, ◌++◌, length, take, true, Some}
 use Rattle.std.specs.List.{AllByRecursion}
 use Rattle.store_format.specs.Laws.{Disk, IsLine, MayLeave, file_of, last_sum}
 use Rattle.store_format.specs.Lines.{bytes_of, lines_behind}
@@ -41,3 +41,31 @@ CopyCrashLaw =
     → disk.synced ≤ length disk.written →
     MayLeave disk (take count texts) bytes →
     MayLeave (record { written = file_of texts; synced = disk.synced }) texts bytes
+
+-- a stretch of a file: the place where it begins, and its bytes
+pub record Stretch : Type 0 where
+  pub from : ℕ
+  pub lines : List ℕ
+
+-- a file after a stretch was put back: what it had before the place of the stretch, and the stretch
+abbrev pub put_back : List ℕ → Stretch → List ℕ
+put_back left stretch = take stretch.from left ++ stretch.lines
+
+-- a file after stretches were put back, one after the other
+abbrev pub completed : List ℕ → List Stretch → List ℕ
+completed left [] = left
+completed left (stretch ∷ log) = completed (put_back left stretch) log
+
+-- what a copy has once it took the stretches of a log, each of which begins where it then ended
+abbrev pub HasTaken : List ℕ → List Stretch → List ℕ → Type 0
+HasTaken copy [] after = after ≡ copy
+HasTaken copy (stretch ∷ log) after = (stretch.from ≡ length copy) × HasTaken (copy ++ stretch.lines) log after
+
+-- whatever a crash left behind what was synced of a copy: once the stretches of its log are put back, it is what it was when
+-- it had taken the last of them. And whatever stretches were put back before, what was synced is still there: so the same
+-- holds if the next crash comes in between
+pub record LogLaw : Type 0 where
+  pub whole : (synced left after : List ℕ) (first : Stretch) (log : List Stretch) → HasTaken synced (first ∷ log) after
+      → completed (synced ++ left) (first ∷ log) ≡ after
+  pub again : (synced left after : List ℕ) (log : List Stretch) → HasTaken synced log after
+      → (rest : List ℕ) × (completed (synced ++ left) log ≡ synced ++ rest)

@@ -6,6 +6,7 @@
 #![tactic(auto)]
 
 mod accept;
+mod access;
 mod arrivals;
 mod browser;
 mod buffers;

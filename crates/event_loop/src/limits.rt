@@ -1,4 +1,4 @@
-//! The limits of a server: how many clients it serves, and for how long each may be silent.
+//! The limits of a server: how many clients it serves, for how long each may be silent, and what is logged of them.
 
 /// The limits that the command line sets.
 #[derive(Clone, Copy, Debug)]
@@ -11,6 +11,8 @@ pub struct Limits {
     pub per_address: Option<u32>,
     /// The most seconds from one line of a client to the next. None: no limit.
     pub idle: Option<u32>,
+    /// Whether each log-in is logged.
+    pub logs_access: bool,
 }
 
 impl Limits {

@@ -1,4 +1,5 @@
 //! One turn of a worker.
+use crate::access::log_access;
 use crate::arrivals::Arrival;
 use crate::client::Client;
 use crate::clients::Clients;
@@ -142,12 +143,16 @@ where
         let Some(client) = clients.all.get_mut(key) else {
             continue;
         };
+        let was_nobody = client.is_nobody();
         let until = match client.serve(service, place, pads, &mut clients.buffers) {
             ClientStep::Goes | ClientStep::Rests | ClientStep::Moves => None,
             ClientStep::Fails(claim) => note_failure(service, client, claim, ticker.look(rt)),
             ClientStep::Knocks => client.knock(rt, service.hub.lobby(), ticker.look(rt)),
             ClientStep::Waits(wanted) => Some(client.wait(ticker.look(rt), wanted)),
         };
+        if service.limits.logs_access && was_nobody {
+            log_access(rt, client);
+        }
         clients.owes = clients.owes || client.owes();
         clients.owed.push(key)?;
         if let Some(until) = until {

@@ -1,4 +1,5 @@
 -- The lemmas, by topic.
 pub mod Copies
 pub mod Logs
+pub mod Rounds
 pub mod Stretches

@@ -2,4 +2,5 @@
 pub mod Copies
 pub mod Laws
 pub mod Requests
+pub mod Rounds
 pub mod Stretches

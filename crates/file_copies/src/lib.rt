@@ -10,9 +10,11 @@ pub mod laws;
 mod line;
 mod pad_copy;
 mod request;
+mod round;
 mod stretch;
 
 pub use answer::{StandbyAnswer, copy_line, kept_line, refused_line, told_line};
 pub use pad_copy::{NoStretch, PadCopy};
 pub use request::StandbyRequest;
+pub use round::{FileStretch, put_stretch, round_text};
 pub use stretch::stretch_sum;

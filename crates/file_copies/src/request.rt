@@ -56,7 +56,13 @@ fn copies_value(alloc: Global) -> Result<Value, AllocError>
     json!(in alloc; {"do": "copies"})
 }
 
-fn keep_line(alloc: Global, pad: &Name, from: u64, bytes: u64) -> Result<String, AllocError>
+// The line that announces bytes of a pad's file.
+pub(crate) fn keep_line(
+    alloc: Global,
+    pad: &Name,
+    from: u64,
+    bytes: u64,
+) -> Result<String, AllocError>
     ensures { IfOk result (λ line. string_bytes line ≡ line_of (keep_data pad.now from bytes)) }
 {
     let value = keep_value(alloc, pad, from, bytes)?;

@@ -1,6 +1,7 @@
 -- What a stretch that is put into a round makes of the round and of the copies.
 use Rattle.std.proofs.Common.{◌≡◌, ℕ, ◌+◌, ◌++◌, List, get_or, inr, length, set, sym, ap, ◌∙◌}
-use Rattle.standby.specs.Rounds.{Puts, stretch_bytes}
+use Rattle.file_copies.specs.Rounds.{stretch_bytes}
+use Rattle.standby.specs.Rounds.{Puts}
 
 -- a stretch that begins where a copy ends was put, and the copy counts for as much more
 pub is_put : (cell : ℕ) (copied copied_then round round_then pad lines : List ℕ) (from upto : ℕ) →

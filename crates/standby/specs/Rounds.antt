@@ -1,10 +1,6 @@
 -- What a round is made of, and what it says of each copy.
 use Rattle.std.specs.Prelude.{◌≡◌, ◌⊎◌, ◌+◌, ℕ, List, ◌++◌, get_or, length, set}
-use Rattle.file_copies.specs.Requests.{keep_data, line_of}
-
--- a stretch of a pad's file in a round: the line that announces it, and its bytes
-abbrev pub stretch_bytes : List ℕ → ℕ → List ℕ → List ℕ
-stretch_bytes pad from lines = line_of (keep_data pad from (length lines)) ++ lines
+use Rattle.file_copies.specs.Rounds.{stretch_bytes}
 
 -- nothing was put into a round for the file at a cell; or a stretch that begins where the copy ends, which then is so
 -- much longer. All other copies stay as they were

@@ -2,7 +2,7 @@
 ghost use Rattle.std.specs.Prelude.{◌≡◌, ◌++◌, [], ℕ, List, OnOk, Option};
 ghost use Rattle.std.specs.Io.KnownBytes.{Appends};
 ghost use Rattle.file_copies.specs.Requests.{line_of, sync_data};
-ghost use Rattle.standby.specs.Rounds.{stretch_bytes};
+ghost use Rattle.file_copies.specs.Rounds.{stretch_bytes};
 
 use pad_model::Name;
 use sessions::Word;

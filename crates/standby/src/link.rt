@@ -1,6 +1,6 @@
 //! The connection of a main server to its standby.
 use crate::copies::{Copies, CopiesAnswer, CopyPlace};
-use file_copies::{StandbyAnswer, StandbyRequest};
+use file_copies::{StandbyAnswer, StandbyRequest, put_stretch};
 use pad_model::{Name, Refusal};
 use std::alloc::Global;
 use wire_lines::{Fault, FoundLine, LineBuffer, Sink, Source, write_all};
@@ -75,15 +75,7 @@ impl<R: Source, W: Sink> Copies for StandbyLink<R, W> {
     }
 
     fn put(&mut self, alloc: Global, pad: &Name, from: u64, lines: &[u8]) -> Result<(), Fault> {
-        let request = StandbyRequest::Keep {
-            pad: pad.clone()?,
-            from,
-            bytes: lines.len() as u64,
-        };
-        let line = request.line(alloc)?;
-        self.round.extend_from_slice(line.as_bytes())?;
-        self.round.extend_from_slice(lines)?;
-        Ok(())
+        Ok(put_stretch(alloc, &mut self.round, pad, from, lines)?)
     }
 
     fn flush(&mut self, alloc: Global, mark: u64) -> Result<(), Fault> {

@@ -2,7 +2,9 @@
 ghost use Rattle.std.specs.Prelude.{◌≡◌};
 ghost use Rattle.standby.specs.Refusals.{code_of, name_of};
 
-use file_copies::{NoStretch, StandbyRequest, copy_line, kept_line, refused_line, told_line};
+use file_copies::{
+    FileStretch, NoStretch, StandbyRequest, copy_line, kept_line, refused_line, told_line,
+};
 use log::warn;
 use pad_core::{Reply, Request};
 use pad_model::{Name, Refusal};
@@ -12,7 +14,7 @@ use std::alloc::{AllocError, AllocFailed, Global};
 use std::io;
 use std::io::{BufRead, BufReader, ErrorKind, Read, Write};
 use std::time::Clock;
-use store_files::{FileStretch, StandbyStore, Unkept};
+use store_files::{KeptRound, StandbyStore, Unkept};
 use wire_json::{read_request, reply_line};
 
 /// The most bytes of a line to a standby, beside those of files.
@@ -227,10 +229,7 @@ impl<S: Read, W: Write> StandbyConversation<S, W> {
         self.round.clear();
         self.bytes = 0;
         match kept {
-            Ok(()) => {
-                let line = kept_line(alloc, mark)?;
-                Ok(self.writer.write_all(line.as_bytes())?)
-            }
+            Ok(kept) => self.confirm(alloc, &kept, mark),
             Err(Unkept::NoStretch { pad, why }) => {
                 let pad = pad.as_str();
                 warn!(ServerLog(rt); "the copy of the pad {pad}: {why}; nothing was changed");
@@ -243,6 +242,13 @@ impl<S: Read, W: Write> StandbyConversation<S, W> {
             Err(Unkept::Memory) => self.refuse(alloc, StandbyRefusal::Pads(Refusal::Memory)),
             Err(Unkept::Failed(cause)) => Err(Left::StoreFailed(cause)),
         }
+    }
+
+    // Answers with the mark of a round that is kept.
+    fn confirm(&mut self, alloc: Global, kept: &KeptRound, mark: u64) -> Result<(), Left> {
+        let _kept = kept;
+        let line = kept_line(alloc, mark)?;
+        Ok(self.writer.write_all(line.as_bytes())?)
     }
 
     // Answers that a request is refused. The conversation is over.

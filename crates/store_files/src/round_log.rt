@@ -1,13 +1,18 @@
 //! The log of a standby: the stretches of files that it was sent since the files were last synced. One sync of the log keeps
 //! a whole round, whatever number of pads it is of; the files themselves are written behind it, and synced from time to
 //! time.
+ghost use Rattle.std.specs.Prelude.{◌≡◌, None, OnOk};
+ghost use Rattle.std.specs.Io.KnownBytes.{Appends};
+ghost use Rattle.file_copies.specs.Rounds.{round_bytes};
+
 use crate::spares::PRIVATE;
 use crate::sums::sum_before;
-use file_copies::{NoStretch, PadCopy, StandbyRequest};
+use file_copies::{FileStretch, NoStretch, PadCopy, StandbyRequest, round_text};
+use group_commit::Device;
 use log::info;
 use pad_model::{Name, Refusal};
 use server_log::ServerLog;
-use std::alloc::{AllocError, Global};
+use std::alloc::Global;
 use std::fs::{File, OpenOptions};
 use std::io::{ErrorKind, Write};
 use std::os::unix::fs::OpenOptionsExt;
@@ -19,12 +24,50 @@ const ROUNDS: &str = "rounds";
 /// The number of bytes of the log from which on the files are synced and the log is emptied.
 const LONGEST: u64 = 16_777_216;
 
-/// Bytes of a pad's file, which stand there from byte `from` on.
+/// A round is in the log of a standby, and the log is synced. Only `log_round` says so.
 #[derive(Debug, Drop)]
-pub struct FileStretch {
-    pub pad: Name,
-    pub from: u64,
-    pub lines: Vec<u8>,
+pub struct Logged {
+    // The number of its bytes.
+    bytes: u64,
+}
+
+/// Appends a round to a log, and syncs it.
+pub fn log_round<D: Device>(alloc: Global, log: &mut D, round: &[FileStretch]) -> io::Result<Logged>
+    ensures bytes { OnOk result (Appends (D.contents log.old) (D.contents log.new) (round_bytes round.now)) }
+    ensures synced { OnOk result (D.synced log.new ≡ D.contents log.new) }
+{
+    let bytes = round_text(alloc, round)?;
+    log.write_all(bytes.as_slice())?;
+    log.sync()?;
+    Ok(Logged {
+        bytes: bytes.len() as u64,
+    })
+}
+
+// The file of a log.
+#[derive(Drop)]
+struct LogDevice<'f> {
+    file: &'f mut File,
+}
+
+impl Write for LogDevice<'_> {
+    ghost contents = { λ _. None };
+
+    fn write(&mut self, bytes: &[u8]) -> io::Result<usize> {
+        self.file.write(bytes)
+    }
+
+    fn flush(&mut self) -> io::Result<()> {
+        self.file.flush()
+    }
+}
+
+impl Device for LogDevice<'_> {
+    ghost synced = { λ _. None };
+
+    fn sync(&mut self) -> io::Result<()> {
+        self.file.sync_data()
+    }
 }
 
 /// The log, open for appending.
@@ -47,27 +90,20 @@ impl RoundLog {
     }
 
     /// Appends a round, and syncs it. If that fails, the log is as it was, as far as the system lets it be.
-    pub fn append(&mut self, alloc: Global, round: &[FileStretch]) -> io::Result<()> {
-        let mut bytes = Vec::new(alloc);
-        for stretch in round {
-            put_stretch(alloc, &mut bytes, stretch)?;
-        }
-        match self.write(bytes.as_slice()) {
-            Ok(()) => {
-                self.length = self.length.saturating_add(bytes.len() as u64);
-                Ok(())
+    pub fn append(&mut self, alloc: Global, round: &[FileStretch]) -> io::Result<Logged> {
+        let mut log = LogDevice {
+            file: &mut self.file,
+        };
+        match log_round(alloc, &mut log, round) {
+            Ok(logged) => {
+                self.length = self.length.saturating_add(logged.bytes);
+                Ok(logged)
             }
             Err(cause) => {
                 self.file.set_len(self.length)?;
                 Err(cause)
             }
         }
-    }
-
-    // Writes bytes behind the log, and syncs them.
-    fn write(&mut self, bytes: &[u8]) -> io::Result<()> {
-        self.file.write_all(bytes)?;
-        self.file.sync_data()
     }
 
     /// Whether the files should be synced and the log be emptied.
@@ -81,22 +117,6 @@ impl RoundLog {
         self.length = 0;
         self.file.sync_all()
     }
-}
-
-// Adds a stretch to the bytes of a round: the line that announces it, and the bytes of the file.
-fn put_stretch(
-    alloc: Global,
-    bytes: &mut Vec<u8>,
-    stretch: &FileStretch,
-) -> Result<(), AllocError> {
-    let request = StandbyRequest::Keep {
-        pad: stretch.pad.clone()?,
-        from: stretch.from,
-        bytes: stretch.lines.len() as u64,
-    };
-    let line = request.line(alloc)?;
-    bytes.extend_from_slice(line.as_bytes())?;
-    bytes.extend_from_slice(stretch.lines.as_slice())
 }
 
 /// Puts the stretches of a log into the files of pads, syncs them, and removes the log: a crash may have left any part of

@@ -1,14 +1,16 @@
 //! The store of a standby: copies of another server's files.
+ghost use Rattle.std.specs.Prelude.{◌≡◌, ◌≢◌, [], true, is_some, IfOk};
+
 use crate::keeper::OpenFolder;
 use crate::owner::Owner;
 use crate::pieces::load_pieces;
 use crate::reserve::is_full;
-use crate::round_log::{FileStretch, RoundLog, put_back};
+use crate::round_log::{Logged, RoundLog, put_back};
 use crate::spares::PRIVATE;
 use crate::store_error::StoreError;
 use crate::stored::{lock_folder, names_of};
 use block_seq::BlockSeq;
-use file_copies::{NoStretch, PadCopy};
+use file_copies::{FileStretch, NoStretch, PadCopy};
 use pad_model::Name;
 use std::alloc::{AllocError, AllocFailed, Global};
 use std::fs::{File, OpenOptions};
@@ -25,6 +27,14 @@ pub struct CopiedFile {
     pub copy: PadCopy,
     /// Whether all its bytes are synced in the file itself, and not in the log alone.
     is_synced: bool,
+}
+
+/// A crash takes nothing of a round any more. Only `StandbyStore::keep` says so: the round is in the log, which is synced, or
+/// it has nothing.
+#[derive(Debug, Drop)]
+pub struct KeptRound {
+    // What the log says, unless the round has nothing.
+    logged: Option<Logged>,
 }
 
 /// Why a round is not kept.
@@ -116,28 +126,32 @@ impl StandbyStore {
     }
 
     /// Keeps a round: once this returns, a crash takes nothing of it. It has at most one stretch of each pad.
-    pub fn keep(&mut self, alloc: Global, round: &[FileStretch]) -> Result<(), Unkept> {
+    pub fn keep(&mut self, alloc: Global, round: &[FileStretch]) -> Result<KeptRound, Unkept>
+        ensures { IfOk result (λ kept. round.now ≢ [] → is_some kept.logged ≡ true) }
+    {
         if round.is_empty() {
-            return Ok(());
+            return Ok(KeptRound { logged: None });
         }
         let mut next = Vec::new(alloc);
         for stretch in round {
             let place = self.place_of(alloc, &stretch.pad)?;
             next.push(self.followed_by(alloc, place, stretch)?)?;
         }
-        match self.log.append(alloc, round) {
-            Ok(()) => {}
+        let logged = match self.log.append(alloc, round) {
+            Ok(logged) => logged,
             Err(cause) if is_full(&cause) => return Err(Unkept::Full),
             Err(cause) if cause.kind() == ErrorKind::OutOfMemory => return Err(Unkept::Memory),
             Err(cause) => return Err(Unkept::Failed(cause)),
-        }
+        };
         for (stretch, copy) in round.iter().zip(next) {
             self.append(alloc, stretch, copy).map_err(Unkept::Failed)?;
         }
         if self.log.is_long() {
             self.sync().map_err(Unkept::Failed)?;
         }
-        Ok(())
+        Ok(KeptRound {
+            logged: Some(logged),
+        })
     }
 
     /// Syncs all files, and empties the log.

@@ -147,6 +147,7 @@ where
             clients: asked.clients,
             per_address: asked.clients_per_address,
             idle: asked.idle,
+            logs_access: asked.logs_access,
         },
         settle: &settle,
         site,

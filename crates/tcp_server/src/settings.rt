@@ -29,6 +29,8 @@ pub struct Settings<'a> {
     pub clients_per_address: Option<u32>,
     /// The seconds of silence after which a connection is closed. None: never.
     pub idle: Option<u32>,
+    /// Whether each log-in is logged.
+    pub logs_access: bool,
     /// The directory where pads are kept. None: they are lost when the server ends.
     pub store: Option<&'a str>,
     /// The number of the peer that has a copy of the store, and what replies wait for. None: no peer has one.

@@ -31,11 +31,16 @@ keep_data pad from bytes = fields_data ((codes "bytes", number_data bytes) ∷ (
 abbrev pub sync_data : ℕ → Data
 sync_data mark = fields_data ((codes "do", string (codes "sync")) ∷ (codes "mark", number_data mark) ∷ [])
 
+-- serve the pads yourself, and take no copy any more
+abbrev pub promote_data : Data
+promote_data = fields_data ((codes "do", string (codes "promote")) ∷ [])
+
 -- the written form of a request
 abbrev pub request_data : StandbyRequest → Data
 request_data request.Copies = copies_data
 request_data (request.Keep pad from bytes) = keep_data pad from bytes
 request_data (request.Sync mark) = sync_data mark
+request_data request.Promote = promote_data
 
 -- the request with a word, from its fields
 abbrev pub request_of : List ℕ → Data → Option StandbyRequest
@@ -44,6 +49,7 @@ request_of word d =
     else if bytes_eq word (codes "keep") then of_three request.Keep (field name_in (codes "pad") d)
     (field number_in (codes "from") d) (field number_in (codes "bytes") d)
     else if bytes_eq word (codes "sync") then option_map request.Sync (field number_in (codes "mark") d)
+    else if bytes_eq word (codes "promote") then Some request.Promote
     else None
 
 -- the meaning of a value as a request
@@ -55,7 +61,7 @@ abbrev pub copy_data : List ℕ → ℕ → List ℕ → Data
 copy_data pad bytes sum = fields_data ((codes "bytes", number_data bytes) ∷ (codes "pad", string pad)
     ∷ (codes "sum", string sum) ∷ [])
 
--- all copies have been told
+-- all copies have been told; or the standby is promoted
 abbrev pub told_data : Data
 told_data = fields_data ((codes "ok", boolean true) ∷ [])
 

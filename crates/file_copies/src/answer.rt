@@ -16,7 +16,7 @@ use wire_json::{name_field, number_field, str_field};
 pub enum StandbyAnswer {
     /// The copy of a pad's file has `bytes` bytes, and its last line has this sum.
     Copy { pad: Name, bytes: u64, sum: Word },
-    /// All copies have been told.
+    /// All copies have been told; or the standby is promoted.
     Told,
     /// Everything up to this mark is on the disk.
     Kept { mark: u64 },
@@ -38,7 +38,7 @@ fn copy_value(alloc: Global, pad: &Name, bytes: u64, sum: &str) -> Result<Value,
     json!(in alloc; {"bytes": bytes, "pad": pad.as_str(), "sum": sum})
 }
 
-/// The line behind those of all copies.
+/// The line behind those of all copies. It also answers a promotion.
 pub fn told_line(alloc: Global) -> Result<String, AllocError>
     ensures { IfOk result (λ line. string_bytes line ≡ line_of told_data) }
 {

@@ -1,9 +1,9 @@
-//! What a main server asks of its standby: lines of JSON, each answered by one or more lines, and the bytes of files
+//! What is asked of a standby: lines of JSON, each answered by one or more lines, and the bytes of files
 //! between them.
 ghost use Rattle.std.specs.Prelude.{◌≡◌, IfOk, codes, string_bytes};
 ghost use Rattle.serde_json.specs.View.{view};
 ghost use Rattle.wire_json.specs.Reading.{IsLine, IsRead};
-ghost use Rattle.file_copies.specs.Requests.{copies_data, keep_data, line_of, request_data, request_in, request_of, request_said, sync_data};
+ghost use Rattle.file_copies.specs.Requests.{copies_data, keep_data, line_of, promote_data, request_data, request_in, request_of, request_said, sync_data};
 
 use crate::line::{line_text, read_value};
 use pad_model::{Name, Refusal};
@@ -11,7 +11,7 @@ use serde_json::{Value, json};
 use std::alloc::{AllocError, Global};
 use wire_json::{name_field, number_field, str_field};
 
-/// What a main server asks of its standby.
+/// What is asked of a standby: by its main server, or by whoever promotes it.
 #[derive(Debug, Drop)]
 pub enum StandbyRequest {
     /// How far each copy is. Answered by a line for each, and one behind them.
@@ -20,6 +20,8 @@ pub enum StandbyRequest {
     Keep { pad: Name, from: u64, bytes: u64 },
     /// Everything so far is to be on the disk before this is answered. It belongs to `mark`.
     Sync { mark: u64 },
+    /// The standby is to serve the pads itself. Answered once it takes no copy any more.
+    Promote,
 }
 
 impl StandbyRequest {
@@ -31,10 +33,11 @@ impl StandbyRequest {
             StandbyRequest::Copies => copies_line(alloc),
             StandbyRequest::Keep { pad, from, bytes } => keep_line(alloc, pad, *from, *bytes),
             StandbyRequest::Sync { mark } => sync_line(alloc, *mark),
+            StandbyRequest::Promote => promote_line(alloc),
         }
     }
 
-    /// Reads a line as a request; 101 if it is not JSON, 102 if it is no request of a main server.
+    /// Reads a line as a request; 101 if it is not JSON, 102 if it is no request to a standby.
     pub fn read(alloc: Global, line: &[u8]) -> Result<StandbyRequest, Refusal>
         ensures { IsLine (request_said line.now) result }
     {
@@ -88,6 +91,19 @@ fn sync_value(alloc: Global, mark: u64) -> Result<Value, AllocError>
     json!(in alloc; {"do": "sync", "mark": mark})
 }
 
+fn promote_line(alloc: Global) -> Result<String, AllocError>
+    ensures { IfOk result (λ line. string_bytes line ≡ line_of promote_data) }
+{
+    let value = promote_value(alloc)?;
+    line_text(alloc, &value)
+}
+
+fn promote_value(alloc: Global) -> Result<Value, AllocError>
+    ensures { IfOk result (λ value. view value ≡ promote_data) }
+{
+    json!(in alloc; {"do": "promote"})
+}
+
 fn read_request(alloc: Global, value: &Value) -> Result<StandbyRequest, Refusal>
     ensures { IsRead (request_in (view value.now)) result }
 {
@@ -97,6 +113,7 @@ fn read_request(alloc: Global, value: &Value) -> Result<StandbyRequest, Refusal>
         "sync" => Ok(StandbyRequest::Sync {
             mark: number_field(value, "mark")?,
         }),
+        "promote" => Ok(StandbyRequest::Promote),
         _ => Err(Refusal::NotRequest),
     }
 }

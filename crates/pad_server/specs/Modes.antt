@@ -18,8 +18,8 @@ is_own replica (Some number) = number == replica
 abbrev pub names_itself : ServerArguments → Bool
 names_itself asked = is_own asked.replica asked.standby || is_own asked.replica asked.standby_of
 
--- a server of pads, whose standby needs a store; or a standby, which needs one too, has no standby, no page and no new
--- number
+-- a server of pads, whose standby needs a store; or a standby, which needs one too, has no standby, and has its number as
+-- a new one by itself
 abbrev pub serving_by : Bor (List ℕ) → Bor (List ℕ) → ServerArguments → Option ℕ → Option (Bor (List ℕ))
     → Result ServerMode Misuse
 serving_by address accounts asked None None = if is_some asked.standby then Err NoCopies
@@ -27,7 +27,7 @@ serving_by address accounts asked None None = if is_some asked.standby then Err 
 serving_by address accounts asked None (Some store) = Ok (Listen address accounts)
 serving_by address accounts asked (Some main) None = Err NoCopies
 serving_by address accounts asked (Some main) (Some store) =
-    if is_some asked.standby || (is_some asked.web || asked.new_replica) then Err ServingStandby
+    if is_some asked.standby || asked.new_replica then Err ServingStandby
     else Ok (Standby address accounts store main)
 
 -- the same, of another server than the main server or the standby

@@ -49,7 +49,7 @@ pub struct ServerArguments<'a> {
     pub new_replica: bool,
     /// The number of the peer that has a copy of the store. None: no peer has one.
     pub standby: Option<u16>,
-    /// The number of the peer of whose store this server keeps a copy. None: it serves pads.
+    /// The number of the peer of whose store this server keeps a copy until it is promoted. None: it serves pads.
     pub standby_of: Option<u16>,
     /// What replies wait for: so many seconds, or `strict`. None: they do not wait for the standby.
     pub confirm: Option<&'a str>,

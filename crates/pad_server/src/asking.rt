@@ -1,6 +1,6 @@
 //! The settings of a server over TCP, from the command line.
 ghost use Rattle.std.specs.Prelude.{◌≡◌};
-ghost use Rattle.pad_server.specs.Asking.{settings_of};
+ghost use Rattle.pad_server.specs.Asking.{promoted_settings_of, settings_of};
 
 use crate::args::ServerArguments;
 use group_commit::Confirm;
@@ -29,6 +29,16 @@ impl<'a> ServerArguments<'a> {
             new_replica: self.new_replica,
             web: self.web,
             web_origins: self.web_origins,
+        }
+    }
+
+    /// The settings of a standby that was promoted: the number is new in its store.
+    pub fn promoted_settings(self, confirm: Confirm) -> Settings<'a>
+        ensures { result ≡ promoted_settings_of confirm self.entry }
+    {
+        Settings {
+            new_replica: true,
+            ..self.settings(confirm)
         }
     }
 }

@@ -17,9 +17,9 @@ pub enum ServerMode<'a> {
         /// The path of the accounts file.
         accounts: &'a str,
     },
-    /// The main server, whose store is copied.
+    /// The main server, whose store is copied until the standby is promoted. Then it serves pads like any server.
     Standby {
-        /// The address at which the main server connects, such as `10.0.0.2:7878`.
+        /// The address at which the main server connects, and clients after the promotion, such as `10.0.0.2:7878`.
         address: &'a str,
         /// The path of the accounts file.
         accounts: &'a str,
@@ -57,7 +57,7 @@ pub enum Misuse {
     NoConfirm,
     #[error("--standby <N> and --standby-of <N> name another server than --replica <N>")]
     OwnStandby,
-    #[error("--standby-of <N> goes with none of --standby, --web and --new-replica: a standby serves no pads")]
+    #[error("--standby-of <N> goes with neither --standby nor --new-replica: a standby serves no pads before it is promoted")]
     ServingStandby,
 }
 
@@ -105,8 +105,7 @@ impl<'a> ServerArguments<'a> {
             (None, None) if self.standby.is_some() => Err(Misuse::NoCopies),
             (None, _) => Ok(ServerMode::Listen { address, accounts }),
             (Some(_), None) => Err(Misuse::NoCopies),
-            (Some(_), Some(_))
-                if self.standby.is_some() || self.web.is_some() || self.new_replica => {
+            (Some(_), Some(_)) if self.standby.is_some() || self.new_replica => {
                 Err(Misuse::ServingStandby)
             }
             (Some(main), Some(store)) => Ok(ServerMode::Standby {

@@ -127,7 +127,7 @@ pub fn standby_of_option<'a>(alloc: Global) -> Arg<'a>
         .long("standby-of")
         .value_name("N")
         .value_parser(value_parser!(u16).range(1..))
-        .help("Keeps a copy of the store of peer N, and serves nobody else")
+        .help("Keeps a copy of the store of peer N, and serves nobody else until it is promoted")
 }
 
 /// `--confirm WHEN`.

@@ -8,11 +8,13 @@ mod connect;
 mod copies;
 mod link;
 mod rounds;
+mod seat;
 mod sending;
 mod taking;
 
 pub use copies::{Copies, CopiesAnswer, CopyPlace};
 pub use link::StandbyLink;
 pub use rounds::{Broken, Rounds};
+pub use seat::{CopyingSeat, SocketConversation};
 pub use sending::{SendingEnd, send_copies};
 pub use taking::{Left, StandbyConversation, StandbyDoor, StandbyRefusal};

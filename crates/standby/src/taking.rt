@@ -1,5 +1,6 @@
-//! What a standby answers its main server.
+//! What a standby answers its main server, and whoever promotes it.
 ghost use Rattle.std.specs.Prelude.{◌≡◌};
+ghost use Rattle.standby.specs.Entrance.{is_taken, kept_out};
 ghost use Rattle.standby.specs.Refusals.{code_of, name_of};
 
 use file_copies::{
@@ -20,8 +21,8 @@ use wire_json::{read_request, reply_line};
 /// The most bytes of a line to a standby, beside those of files.
 const LONGEST_LINE: u64 = 4_096;
 
-/// The most reads in which the greeting has to come: a main server writes it in one piece.
-const GREETING_READS: u32 = 5;
+/// The most reads in which the greeting has to come, and the first request behind it: each is written in one piece.
+const FIRST_READS: u32 = 5;
 
 /// The most bytes of files that a round may have.
 const LARGEST_ROUND: u64 = 268_435_456;
@@ -107,11 +108,36 @@ pub struct StandbyDoor<'a> {
     pub own: u16,
 }
 
+// Why somebody with this number is kept out, if anything: nobody is let in but the main server, with its token.
+fn kept_out(main: u16, number: u64, has_token: bool) -> Option<StandbyRefusal>
+    ensures { result ≡ kept_out main number has_token }
+{
+    if number != u64::from(main) {
+        return Some(StandbyRefusal::IsStandby);
+    }
+    if !has_token {
+        return Some(StandbyRefusal::Pads(Refusal::BadToken));
+    }
+    None
+}
+
+// Whether a request of a main server is carried out. None is, once the standby is promoted.
+fn is_taken(request: &StandbyRequest, is_promoted: bool) -> bool
+    ensures { result ≡ is_taken is_promoted request.now }
+{
+    match request {
+        StandbyRequest::Promote => false,
+        _ => !is_promoted,
+    }
+}
+
 /// A conversation with whoever has connected.
 #[derive(Drop)]
 pub struct StandbyConversation<S, W> {
     reader: BufReader<S>,
     writer: W,
+    // The first request, until it is answered.
+    first: Option<StandbyRequest>,
     // The stretches of the round so far.
     round: Vec<FileStretch>,
     // How many bytes they have.
@@ -128,6 +154,7 @@ impl<S: Read, W: Write> StandbyConversation<S, W> {
         Ok(StandbyConversation {
             reader: BufReader::with_capacity(alloc, 65_536, reader)?,
             writer,
+            first: None,
             round: Vec::new(alloc),
             bytes: 0,
         })
@@ -146,11 +173,9 @@ impl<S: Read, W: Write> StandbyConversation<S, W> {
                     version,
                 },
             ) => {
-                if number != u64::from(door.main) {
-                    return self.refuse(alloc, StandbyRefusal::IsStandby);
-                }
-                if !door.accounts.peer(number, token.as_str()) {
-                    return self.refuse(alloc, StandbyRefusal::Pads(Refusal::BadToken));
+                let has_token = door.accounts.peer(number, token.as_str());
+                if let Some(refusal) = kept_out(door.main, number, has_token) {
+                    return self.refuse(alloc, refusal);
                 }
                 let reply = Reply::Peer {
                     replica: door.own,
@@ -167,20 +192,61 @@ impl<S: Read, W: Write> StandbyConversation<S, W> {
         }
     }
 
-    /// Answers the main server's next request.
+    /// Reads the first request behind the greeting, and returns whether it is `promote`. Any other is left to `answer`.
+    pub fn asks_for_promotion(&mut self, alloc: Global) -> Result<bool, Left> {
+        let Some(line) = self.first_line(alloc)? else {
+            return Err(Left::Gone(None));
+        };
+        match self.request_in(alloc, line.as_slice())? {
+            StandbyRequest::Promote => Ok(true),
+            request => {
+                self.first = Some(request);
+                Ok(false)
+            }
+        }
+    }
+
+    // Says that the standby is promoted.
+    pub(crate) fn say(&mut self, line: &str) -> io::Result<()> {
+        self.writer.write_all(line.as_bytes())
+    }
+
+    /// Answers a request of the main server. Once the standby is promoted, each is refused.
     pub fn answer<R: Clock + Eprint>(
         &mut self,
         rt: &R,
         alloc: Global,
         store: &mut StandbyStore,
+        request: StandbyRequest,
+        is_promoted: bool,
     ) -> Result<(), Left> {
+        if !is_taken(&request, is_promoted) {
+            return self.refuse(alloc, StandbyRefusal::Pads(Refusal::NotRequest));
+        }
+        match request {
+            StandbyRequest::Copies => self.tell(alloc, store),
+            StandbyRequest::Keep { pad, from, bytes } => self.take(alloc, pad, from, bytes),
+            StandbyRequest::Sync { mark } => self.keep(rt, alloc, store, mark),
+            StandbyRequest::Promote => Ok(()),
+        }
+    }
+
+    /// The main server's next request: the first one, if it is not answered yet. It is to be answered before the next one is
+    /// read.
+    pub fn next_request(&mut self, alloc: Global) -> Result<StandbyRequest, Left> {
+        if let Some(request) = self.first.take() {
+            return Ok(request);
+        }
         let line = self.line(alloc)?;
-        match StandbyRequest::read(alloc, line.as_slice()) {
-            Ok(StandbyRequest::Copies) => self.tell(alloc, store),
-            Ok(StandbyRequest::Keep { pad, from, bytes }) => self.take(alloc, pad, from, bytes),
-            Ok(StandbyRequest::Sync { mark }) => self.keep(rt, alloc, store, mark),
+        self.request_in(alloc, line.as_slice())
+    }
+
+    // The request of a line. What is none is refused.
+    fn request_in(&mut self, alloc: Global, line: &[u8]) -> Result<StandbyRequest, Left> {
+        match StandbyRequest::read(alloc, line) {
+            Ok(request) => Ok(request),
             Err(Refusal::Memory) => Err(Left::Memory),
-            Err(refusal) => self.refuse(alloc, StandbyRefusal::Pads(refusal)),
+            Err(refusal) => Err(self.refused(alloc, StandbyRefusal::Pads(refusal))?),
         }
     }
 
@@ -253,15 +319,20 @@ impl<S: Read, W: Write> StandbyConversation<S, W> {
 
     // Answers that a request is refused. The conversation is over.
     fn refuse(&mut self, alloc: Global, refusal: StandbyRefusal) -> Result<(), Left> {
+        Err(self.refused(alloc, refusal)?)
+    }
+
+    // Answers that a request is refused, and returns that the conversation is over.
+    fn refused(&mut self, alloc: Global, refusal: StandbyRefusal) -> Result<Left, Left> {
         let line = refused_line(alloc, refusal.code(), refusal.name())?;
         self.writer.write_all(line.as_bytes())?;
-        Err(Left::Refused(refusal))
+        Ok(Left::Refused(refusal))
     }
 
     // The first line, without its line feed. None: it did not come in a few reads.
     fn first_line(&mut self, alloc: Global) -> Result<Option<Vec<u8>>, Left> {
         let mut line = Vec::new(alloc);
-        for _ in 0..GREETING_READS {
+        for _ in 0..FIRST_READS {
             let Ok(bytes) = self.reader.fill_buf() else {
                 return Ok(None);
             };

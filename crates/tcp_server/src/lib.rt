@@ -4,6 +4,7 @@
 //! `accounts_file` for who may log in. It knows no command line: `Settings` says what is asked for.
 #![tactic(auto)]
 
+mod entrance;
 mod listen;
 mod listeners;
 mod opened;

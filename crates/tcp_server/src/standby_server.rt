@@ -1,22 +1,28 @@
-//! The server of a standby: it keeps copies of another server's files, and answers that server alone.
+//! The server of a standby: it keeps copies of another server's files, and answers that server alone, until it is promoted.
 ghost use Rattle.std.specs.Prelude.{◌≤◌};
 
+use crate::entrance::Entrance;
 use crate::listeners::listen_alone;
 use crate::serving_error::ServingError;
 use accounts_file::read_accounts;
 use log::{error, info, warn};
 use server_log::ServerLog;
-use standby::{Left, StandbyConversation, StandbyDoor};
+use standby::{CopyingSeat, Left, SocketConversation, StandbyConversation, StandbyDoor};
 use std::alloc::Global;
 use std::fs::File;
 use std::net::{Net, TcpListener, TcpStream};
 use std::rt::Runtime;
 use std::sync::Wait;
+use std::thread::Threads;
 use std::time::{Clock, Duration};
+use std::{io, thread};
 use store_files::{Owner, StandbyStore};
 
 /// The seconds that a read of the greeting takes at most. There are five of them.
 const GREETING: u64 = 1;
+
+/// The seconds that a read of the first request behind it takes at most. There are five of them, too.
+const FIRST_REQUEST: u64 = 5;
 
 /// The seconds of silence after which a main server counts as gone. It sends something each second.
 const SILENCE: u64 = 10;
@@ -34,7 +40,8 @@ pub struct StandbySettings<'a> {
     pub store: &'a str,
 }
 
-/// Keeps copies of the files of the main server, which connects at an address, until the store fails. It answers nobody else.
+/// Keeps copies of the files of the main server, which connects at an address, until the standby is promoted: then it returns,
+/// and has closed the store and the address. It answers nobody else.
 pub fn serve_copies<'a, R>(
     rt: &R,
     files: HostRuntime,
@@ -45,7 +52,9 @@ pub fn serve_copies<'a, R>(
 where
     R: Runtime<A = Global, File = File>
         + Net<Listener = TcpListener, Stream = TcpStream>
+        + Threads
         + Wait
+        + Sync
         + Eprint,
     requires { 1 ≤ asked.replica }
 {
@@ -62,32 +71,146 @@ where
         main: number,
         own: asked.replica,
     };
+    match copy_until_promoted(rt, &mut store, door, listener)? {
+        CopyingEnd::Promoted => {
+            info!(ServerLog(rt); "this standby is promoted: it takes no more copies, and serves the pads itself");
+            Ok(())
+        }
+        CopyingEnd::StoreFailed(cause) => {
+            let folder = asked.store;
+            error!(ServerLog(rt); "the store {folder} cannot be written: {cause}");
+            Err(ServingError::StoreFailed { folder })
+        }
+        CopyingEnd::Closed => Err(ServingError::WorkerFailed),
+    }
+}
+
+// Why no more copies are taken.
+#[derive(Debug, Drop)]
+enum CopyingEnd {
+    Promoted,
+    StoreFailed(io::Error),
+    // The system refuses to wait for connections.
+    Closed,
+}
+
+// Lets in whoever connects in one thread, and takes copies in the other.
+fn copy_until_promoted<R>(
+    rt: &R,
+    store: &mut StandbyStore,
+    door: StandbyDoor<'_>,
+    listener: TcpListener,
+) -> Result<CopyingEnd, ServingError<'static>>
+where
+    R: Runtime<A = Global, File = File>
+        + Net<Listener = TcpListener, Stream = TcpStream>
+        + Threads
+        + Wait
+        + Sync
+        + Eprint,
+{
+    let (entrance, waker) = match Entrance::new(rt, rt.alloc(), listener) {
+        Ok(made) => made,
+        Err(cause) => return Err(ServingError::NotSetUp(cause)),
+    };
+    let made = CopyingSeat::new();
+    let seat = &made;
+    thread::scope(thread::scope_env(), rt, |scope| {
+        if scope
+            .spawn(move || let_all_in(rt, entrance, seat, door))
+            .is_err()
+        {
+            return Err(ServingError::NoThread);
+        }
+        let failed = take_copies(rt, store, seat, door.main);
+        seat.end(rt, failed.is_some());
+        let _woken = waker.wake();
+        Ok(match failed {
+            Some(cause) => CopyingEnd::StoreFailed(cause),
+            None if seat.is_promoted(rt) => CopyingEnd::Promoted,
+            None => CopyingEnd::Closed,
+        })
+    })
+}
+
+// Lets in whoever connects, until the standby is promoted or its store has failed.
+fn let_all_in<R>(rt: &R, mut entrance: Entrance, seat: &CopyingSeat, door: StandbyDoor<'_>)
+where
+    R: AllocGlobal + Clock + Wait + Eprint,
+{
     for _ in rt.forever() {
-        let stream = match listener.accept() {
-            Ok((stream, _from)) => stream,
-            Err(cause) => {
-                warn!(ServerLog(rt); "cannot accept connections: {cause}");
-                continue;
-            }
+        let Some(stream) = entrance.accept(rt, seat) else {
+            break;
         };
-        match converse(rt, &mut store, door, stream) {
-            Left::StoreFailed(cause) => {
-                let folder = asked.store;
-                error!(ServerLog(rt); "the store {folder} cannot be written: {cause}");
-                return Err(ServingError::StoreFailed { folder });
-            }
+        match let_in(rt, seat, door, stream) {
+            Ok(true) => break,
+            Ok(false) => {}
+            Err(left) => tell(rt, door.main, left),
+        }
+    }
+    seat.close(rt);
+}
+
+// Greets whoever has connected. A main server is offered the seat. Returns whether the standby was promoted instead.
+fn let_in<R>(
+    rt: &R,
+    seat: &CopyingSeat,
+    door: StandbyDoor<'_>,
+    stream: TcpStream,
+) -> Result<bool, Left>
+where
+    R: AllocGlobal + Wait,
+{
+    let alloc = rt.alloc();
+    stream.set_nonblocking(false)?;
+    stream.set_nodelay(true)?;
+    stream.set_read_timeout(Some(Duration::from_secs(GREETING)))?;
+    stream.set_write_timeout(Some(Duration::from_secs(SILENCE)))?;
+    let timed = stream.try_clone()?;
+    let writer = stream.try_clone()?;
+    let mut visitor = StandbyConversation::new(alloc, stream, writer)?;
+    visitor.greet(alloc, door)?;
+    timed.set_read_timeout(Some(Duration::from_secs(FIRST_REQUEST)))?;
+    if visitor.asks_for_promotion(alloc)? {
+        return seat.promote(rt, alloc, &mut visitor);
+    }
+    timed.set_read_timeout(Some(Duration::from_secs(SILENCE)))?;
+    seat.offer(rt, visitor, timed);
+    Ok(false)
+}
+
+// Takes copies over one connection after the other, until nobody is let in any more. Returns why the store has failed, if it has.
+fn take_copies<R>(
+    rt: &R,
+    store: &mut StandbyStore,
+    seat: &CopyingSeat,
+    number: u16,
+) -> Option<io::Error>
+where
+    R: AllocGlobal + Clock + Wait + Eprint,
+{
+    for _ in rt.forever() {
+        let visitor = seat.next(rt)?;
+        info!(ServerLog(rt); "the main server {number} is connected");
+        match converse(rt, store, seat, visitor) {
+            Left::StoreFailed(cause) => return Some(cause),
             left => tell(rt, number, left),
         }
     }
-    Ok(())
+    None
 }
 
-// Answers whoever has connected, until the conversation is over.
-fn converse<R>(rt: &R, store: &mut StandbyStore, door: StandbyDoor<'_>, stream: TcpStream) -> Left
+// Answers a main server, until the conversation is over.
+fn converse<R>(
+    rt: &R,
+    store: &mut StandbyStore,
+    seat: &CopyingSeat,
+    visitor: SocketConversation,
+) -> Left
 where
-    R: Runtime<A = Global, File = File> + Wait + Eprint,
+    R: AllocGlobal + Clock + Wait + Eprint,
 {
-    match try_converse(rt, store, door, stream) {
+    match try_converse(rt, store, seat, visitor) {
         Ok(()) => Left::Gone(None),
         Err(left) => left,
     }
@@ -96,25 +219,16 @@ where
 fn try_converse<R>(
     rt: &R,
     store: &mut StandbyStore,
-    door: StandbyDoor<'_>,
-    stream: TcpStream,
+    seat: &CopyingSeat,
+    mut visitor: SocketConversation,
 ) -> Result<(), Left>
 where
-    R: Runtime<A = Global, File = File> + Wait + Eprint,
+    R: AllocGlobal + Clock + Wait + Eprint,
 {
     let alloc = rt.alloc();
-    stream.set_nodelay(true)?;
-    stream.set_read_timeout(Some(Duration::from_secs(GREETING)))?;
-    stream.set_write_timeout(Some(Duration::from_secs(SILENCE)))?;
-    let timed = stream.try_clone()?;
-    let writer = stream.try_clone()?;
-    let mut visitor = StandbyConversation::new(alloc, stream, writer)?;
-    visitor.greet(alloc, door)?;
-    timed.set_read_timeout(Some(Duration::from_secs(SILENCE)))?;
-    let number = door.main;
-    info!(ServerLog(rt); "the main server {number} is connected");
     for _ in rt.forever() {
-        visitor.answer(rt, alloc, store)?;
+        let request = visitor.next_request(alloc)?;
+        visitor.answer(rt, alloc, store, request, seat.is_promoted(rt))?;
     }
     Ok(())
 }

@@ -524,12 +524,12 @@ WRONG_WORDS = [
     misused(
         "with one of its own",
         f"{LISTENING} --store kept --standby-of 2 --standby 3",
-        "--standby-of <N> goes with none of --standby, --web and --new-replica: a standby serves no pads",
+        "--standby-of <N> goes with neither --standby nor --new-replica: a standby serves no pads before it is promoted",
     ),
     misused(
-        "with a page",
-        f"{LISTENING} --store kept --standby-of 2 --web 127.0.0.1:0",
-        "--standby-of <N> goes with none of --standby, --web and --new-replica: a standby serves no pads",
+        "under a new number",
+        f"{LISTENING} --store kept --standby-of 2 --new-replica",
+        "--standby-of <N> goes with neither --standby nor --new-replica: a standby serves no pads before it is promoted",
     ),
     misused("a confirmation without one", f"{LISTENING} --store kept --confirm 5", "--confirm <WHEN> needs --standby <N>"),
     misused(

@@ -1,4 +1,4 @@
-"""Three nodes of etcd, and the script `failover` beside a main server and its standby: a machine that is lost is replaced by itself."""
+"""Three nodes of etcd, and the script `failover` beside a main server and its standby: who is lost is replaced by itself."""
 import os
 import random
 import shutil
@@ -70,12 +70,14 @@ class Guarded(Machines):
     def guard(self, number, command, store, more):
         """Starts the script with a server, in a process group of their own."""
         address = f"127.0.0.1:{self.ports[number]}"
-        server = [path_of("pad_server"), "--listen", address, "--replica", str(number), "--accounts", "accounts", "--store", store]
+        server = [path_of("pad_server"), "--listen", address, "--replica", str(number), "--accounts", "accounts"]
+        server += ["--store", store, *more.split()]
         words = [command, "--etcd", self.etcd.urls(), "--name", f"machine {number}", "--ttl", str(TTL)]
-        words += ["--serves", address] if command == "hold" else ["--at", address, "--accounts", "accounts", "--main", "1"]
+        standby = ["--at", address, "--accounts", "accounts", "--main", "1"]
+        words += ["--serves", address] if command == "hold" else standby
         with open(f"said{number}", "ab") as said:
             self.scripts[number] = subprocess.Popen(
-                [sys.executable, f"{ROOT}/failover", *words, "--", *server, *more.split()],
+                [sys.executable, f"{ROOT}/failover", *words, "--", *server],
                 stdin=subprocess.DEVNULL, stdout=said, stderr=said, start_new_session=True,
             )
 
@@ -87,7 +89,8 @@ class Guarded(Machines):
 
     def server_of(self, number):
         """The process that the script of a machine has started."""
-        with open(f"/proc/{self.scripts[number].pid}/task/{self.scripts[number].pid}/children", encoding="ascii") as file:
+        script = self.scripts[number].pid
+        with open(f"/proc/{script}/task/{script}/children", encoding="ascii") as file:
             return int(file.read().split()[0])
 
     def lose(self, number):
@@ -104,7 +107,8 @@ class Guarded(Machines):
                 return time.monotonic() - began
             except (OSError, ValueError, Failed):
                 time.sleep(0.1)
-        raise Failed(f"machine 2 serves nobody after {WITHIN} s: it said {self.said(2)!r}, and machine 1 {self.said(1)!r}")
+        said = f"it said {self.said(2)!r}, and machine 1 {self.said(1)!r}"
+        raise Failed(f"machine 2 serves nobody after {WITHIN} s: {said}")
 
     def end(self, number):
         """Ends the script by TERM, as systemd does, and so its server."""
@@ -125,7 +129,8 @@ def lose(seed, loss):
     if loss == "node and server":
         # The main server goes on without one node, and only its own process is killed later.
         time.sleep(TTL + 1)
-        want(machines.scripts[1].poll(), None, f"the status of the script beside the main server, which said {machines.said(1)!r}")
+        said = machines.said(1)
+        want(machines.scripts[1].poll(), None, f"the status of the script beside the main server, which said {said!r}")
         os.kill(machines.server_of(1), signal.SIGKILL)
     elif loss == "hung server":
         os.kill(machines.server_of(1), signal.SIGSTOP)
@@ -170,6 +175,10 @@ def losses(kinds):
         raise Failed(f"only {answered} answers came before {len(kinds)} losses")
 
 
+def many_losses():
+    return [LOSSES[seed % len(LOSSES)] for seed in range(MANY_LOSSES)]
+
+
 def without_a_majority():
     """Two nodes are lost: the main server is killed before its lease can lapse, and nobody is promoted."""
     machines = Guarded()
@@ -179,8 +188,9 @@ def without_a_majority():
     for name in NODES[:2]:
         machines.etcd.kill(name)
     want(machines.scripts[1].wait(), 1, "the status of the script beside the main server")
-    if time.monotonic() - began > TTL:
-        raise Failed(f"the server was killed {time.monotonic() - began} s after the last answer of etcd, and the lease has {TTL} s")
+    seconds = time.monotonic() - began
+    if seconds > TTL:
+        raise Failed(f"the server was killed {seconds} s after the last answer of etcd, and the lease has {TTL} s")
     want(os.path.exists(f"/proc/{server}"), False, "that the server is there")
     want("could not be kept" in machines.said(1), True, f"that the script says why, and not {machines.said(1)!r}")
     time.sleep(2)
@@ -202,12 +212,10 @@ def a_key_that_is_not_free():
     client.wants({"do": "hello", "name": "ann", "token": "tann"}, {"code": 341, "error": "IsStandby", "ok": False})
     machines.guard(1, "hold", "main", "--standby 2 --confirm strict")
     machines.wait_until_said(1, f"failover: the server at 127.0.0.1:{machines.ports[1]} serves")
-    run = subprocess.run(
-        [sys.executable, f"{ROOT}/failover", "hold", "--etcd", machines.etcd.urls(), "--serves", "127.0.0.1:1", "--", "/bin/false"],
-        capture_output=True, text=True, timeout=30,
-    )
+    words = ["hold", "--etcd", machines.etcd.urls(), "--serves", "127.0.0.1:1", "--", "/bin/false"]
+    run = subprocess.run([sys.executable, f"{ROOT}/failover", *words], capture_output=True, text=True, timeout=30)
     said = "failover: the key /vindrughe/main is not free, machine 1 has it: the server is not started\n"
-    want((run.stdout + run.stderr, run.returncode), (said, 1), "what a second main server's script says, and its status")
+    want((run.stdout + run.stderr, run.returncode), (said, 1), "what the script of a second main server says, and its status")
     # TERM ends the main server, and the standby takes over at once.
     want(machines.end(1), 0, "the status after TERM")
     if machines.serves_again() > TTL:
@@ -220,6 +228,4 @@ TESTS = [
     Test("etcd failover: a key that is not free", a_key_that_is_not_free, 60),
 ]
 
-LONG_TESTS = [
-    Test("etcd failover: thirty losses", lambda: losses([LOSSES[seed % len(LOSSES)] for seed in range(MANY_LOSSES)]), 1_200),
-]
+LONG_TESTS = [Test("etcd failover: thirty losses", lambda: losses(many_losses()), 1_200)]

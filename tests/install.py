@@ -61,7 +61,7 @@ def everything_is_installed():
     due = {f"root{PREFIX}/bin/{name}": "0o755" for name in PROGRAMS}
     due |= {f"root{PREFIX}/share/man/man1/{name}.1": "0o644" for name in PROGRAMS}
     due |= {f"root{PREFIX}/share/doc/vindrughe/{name}": "0o644" for name in PAGES + linked_pages()}
-    due |= {UNIT: "0o644", EXAMPLE: "0o644", **of_pads()}
+    due |= {UNIT: "0o644", EXAMPLE: "0o644", f"root{PREFIX}/share/vindrughe/failover": "0o755", **of_pads()}
     want(found, due, "the files that are installed, with their modes")
     for name in [*PROGRAMS, "pads"]:
         version = run([f"root{PREFIX}/bin/{name}", "--version"], PYTHONDONTWRITEBYTECODE="1")

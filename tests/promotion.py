@@ -1,4 +1,4 @@
-"""A standby that is promoted while it runs: it takes no copy any more, and then serves the pads with the same process."""
+"""A standby that is promoted while it runs: it takes no more copies, and the same process then serves the pads."""
 import http.client
 import itertools
 import os
@@ -37,7 +37,8 @@ def promote(machines):
 
 def wants_listening(machines):
     line = machines.processes[2].stdout.readline().decode()
-    want(line, f"listening on 127.0.0.1:{machines.ports[2]}\n", f"the line after the promotion, where it said {machines.said(2)}")
+    said = machines.said(2)
+    want(line, f"listening on 127.0.0.1:{machines.ports[2]}\n", f"the line after the promotion, where it said {said!r}")
 
 
 def failover(*words):
@@ -127,7 +128,8 @@ def nobody_is_connected():
         raise Failed("a standby opens its web address before it is promoted")
     except ConnectionRefusedError:
         pass
-    want(promotes(machines), (f"failover: the standby at 127.0.0.1:{machines.ports[2]} is promoted\n", 0), "what was said")
+    said = f"failover: the standby at 127.0.0.1:{machines.ports[2]} is promoted\n"
+    want(promotes(machines), (said, 0), "what was said of the promotion, and its status")
     wants_listening(machines)
     want(standby.stdout.readline().decode(), f"web on http://127.0.0.1:{web}/\n", "the second line")
     page = http.client.HTTPConnection("127.0.0.1", web, timeout=5)
@@ -147,7 +149,10 @@ def strangers_do_not_promote():
     machines, ann = begun()
     for lines, answer in [
         (['{"do":"promote"}'], ['{"code":102,"error":"NotRequest","ok":false}']),
-        (['{"do":"hello","name":"ann","token":"tann"}', '{"do":"promote"}'], ['{"code":341,"error":"IsStandby","ok":false}']),
+        (
+            ['{"do":"hello","name":"ann","token":"tann"}', '{"do":"promote"}'],
+            ['{"code":341,"error":"IsStandby","ok":false}'],
+        ),
         (
             ['{"do":"peer","number":1,"token":"wrong","version":2}', '{"do":"promote"}'],
             ['{"code":201,"error":"BadToken","ok":false}'],
@@ -168,17 +173,12 @@ def strangers_do_not_promote():
         client.close()
     put_files((("wrong", "peer 1 other 127.0.0.1:1\n"),))
     address = f"127.0.0.1:{machines.ports[2]}"
-    want(
-        failover("promote", "--at", address, "--accounts", "wrong", "--main", "1"),
-        (f"failover: the standby at {address} is not promoted: the token of the line `peer 1` is not the one that it knows"
-         " (201 BadToken)\n", 1),
-        "what was said of a wrong token",
-    )
-    want(
-        promotes(machines, main="2"),
-        (f"failover: the standby at {address} is not promoted: it is a standby of another server than 2 (341 IsStandby)\n", 1),
-        "what was said of another number",
-    )
+    refused = f"failover: the standby at {address} is not promoted:"
+    said = f"{refused} the token of the line `peer 1` is not the one that it knows (201 BadToken)\n"
+    told = failover("promote", "--at", address, "--accounts", "wrong", "--main", "1")
+    want(told, (said, 1), "what was said of a wrong token, and the status")
+    said = f"{refused} it is a standby of another server than 2 (341 IsStandby)\n"
+    want(promotes(machines, main="2"), (said, 1), "what was said of another number, and the status")
     # It is a standby all the while.
     ann.does(do="insert", pad="p", rev=1, at=0, text="still ")
     want(files_of("copy"), files_of("main"), "the copies")
@@ -260,7 +260,8 @@ def a_server_is_not_promoted():
     )
     machines.kill(2)
     said, status = promotes(machines)
-    want((said.startswith(f"failover: the standby at {address} is not promoted: "), status), (True, 1), f"where nobody listens: {said}")
+    is_told = said.startswith(f"failover: the standby at {address} is not promoted: ")
+    want((is_told, status), (True, 1), f"that this was said where nobody listens, and the status: {said!r}")
 
 
 def started_again_as_a_standby():
@@ -287,7 +288,7 @@ def started_again_as_a_standby():
 
 def the_script_says_what_is_wrong():
     machines = Machines()
-    address = f"127.0.0.1:{machines.ports[2]}"
+    address, nowhere = f"127.0.0.1:{machines.ports[2]}", "http://127.0.0.1:1"
     for words, said, status in [
         (["promote", "--at", address, "--accounts", "none", "--main", "1"],
          "failover: cannot read the accounts file none: [Errno 2] No such file or directory: 'none'\n", 1),
@@ -295,9 +296,9 @@ def the_script_says_what_is_wrong():
          "failover: the accounts file accounts has no line `peer 7`\n", 1),
         (["promote", "--at", "here", "--accounts", "accounts", "--main", "1"],
          "failover: here is no address: HOST:PORT is needed, such as 127.0.0.1:7878\n", 2),
-        (["hold", "--etcd", "http://127.0.0.1:1", "--serves", address, "--ttl", "4"], "failover: --ttl needs at least 5 seconds\n", 2),
-        (["hold", "--etcd", "http://127.0.0.1:1", "--serves", address],
-         "failover: no node of etcd answers at http://127.0.0.1:1: <urlopen error [Errno 111] Connection refused>\n", 1),
+        (["hold", "--etcd", nowhere, "--serves", address, "--ttl", "4"], "failover: --ttl needs at least 5 seconds\n", 2),
+        (["hold", "--etcd", nowhere, "--serves", address],
+         f"failover: no node of etcd answers at {nowhere}: <urlopen error [Errno 111] Connection refused>\n", 1),
     ]:
         want(failover(*words), (said, status), f"what failover {' '.join(words)} says, and its status")
 
@@ -342,7 +343,8 @@ def memory_that_is_refused():
             machines.faults.set("allocations", 0)
             want(standby.poll(), None, "the status of a standby that was not promoted")
             promote(machines)
-        want(machines.author("ann", "p", 2).does(do="text", pad="p")["text"], "before", "the text of the promoted server")
+        text = machines.author("ann", "p", 2).does(do="text", pad="p")["text"]
+        want(text, "before", f"the text of the promoted server, with allocation {allocation} refused")
         machines.kill(2)
         for store in ("main", "copy"):
             shutil.rmtree(store)

@@ -16,6 +16,7 @@ from sockets import Client
 
 NAMES = ["ann", "bob", "cid", "dan", "eve", "fay", "gus", "hal", "ida", "jon", "kim", "leo", "mia", "ned", "oda"]
 LOSSES = 4  # how often the main machine is lost under load
+MANY_LOSSES = 100
 KILLS = 6  # how often the standby is killed under load
 PADS = 20
 
@@ -271,13 +272,21 @@ def lose_the_machine(seed, confirm, seconds):
     return answered
 
 
-def the_machine_is_lost_under_load():
+def the_machine_is_lost(rounds):
     dice = random.Random(2026)
     answered = 0
-    for round_number in range(LOSSES):
+    for round_number in range(rounds):
         answered += lose_the_machine(round_number, "strict", dice.uniform(0.3, 2.5))
-    if answered < 50 * LOSSES:
+    if answered < 50 * rounds:
         raise Failed(f"only {answered} answers came before the losses")
+
+
+def the_machine_is_lost_under_load():
+    the_machine_is_lost(LOSSES)
+
+
+def the_machine_is_lost_many_times():
+    the_machine_is_lost(MANY_LOSSES)
 
 
 def a_killed_standby_goes_on():
@@ -568,3 +577,5 @@ TESTS = [
     *WRONG_WORDS,
     *NO_PEER,
 ]
+
+LONG_TESTS = [Test("standby: the machine is lost under load, 100 times", the_machine_is_lost_many_times, 3000)]

@@ -1,5 +1,5 @@
 -- When a reply may go out on a server with a standby.
-use Rattle.std.specs.Prelude.{◌≡◌, ◌⊎◌, ◌≤◌, ℕ, Bool, true, false, max, min, Option, Some, None}
+use Rattle.std.specs.Prelude.{◌≡◌, ◌⊎◌, ◌≤◌, ◌||◌, if◌then◌else◌, ℕ, Bool, true, false, max, min, Option, Some, None}
 use Rattle.group_commit.specs.declared.confirming.Confirm.{Confirm}
 use Rattle.group_commit.specs.declared.confirming.Confirm.TheVariants as policy
 use Rattle.group_commit.specs.declared.confirming.Confirmation.{Confirmation}
@@ -59,3 +59,8 @@ alone_after other alone = alone
 abbrev pub lost_after : Confirm → Bool → Bool
 lost_after policy.Strict lost = true
 lost_after other lost = lost
+
+-- on how many machines what is answered now is kept: on the standby's too, where replies wait until it has what they reveal
+abbrev pub machines_of : Confirm → Option ℕ → Bool → Bool → ℕ
+machines_of asked None alone lost = 1
+machines_of asked (Some copied) alone lost = if is_unasked asked || (alone || lost) then 1 else 2

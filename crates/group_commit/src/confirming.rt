@@ -1,6 +1,6 @@
 //! How much of what is noted a standby has, and what replies wait for.
-ghost use Rattle.std.specs.Prelude.{◌≡◌, None, Some, false, is_some, IfSome};
-ghost use Rattle.group_commit.specs.Confirmations.{IsConfirmation, IsPolicy, IsReached, alone_after, heard, is_unasked, lost_after};
+ghost use Rattle.std.specs.Prelude.{◌≡◌, ℕ, None, Some, false, is_some, IfSome};
+ghost use Rattle.group_commit.specs.Confirmations.{AreCopied, IsConfirmation, IsPolicy, IsReached, MayGoOn, alone_after, heard, is_unasked, lost_after, machines_of};
 
 /// What replies do while the standby does not have what they reveal.
 #[derive(Clone, Copy, Debug, PartialEq, Eq)]
@@ -114,6 +114,24 @@ impl Confirming {
             }),
             None => Confirmation::Waits,
         }
+    }
+
+    /// On how many machines what is answered now is kept: 2 while a reply waits until the standby has what it reveals, and
+    /// otherwise 1, this one. It is 1 too before the standby has everything that was there at the start.
+    pub fn machines(&self) -> u32
+        ensures counted { result ≡ machines_of self.now.policy self.now.copied self.now.is_alone self.now.is_lost }
+        ensures two { result ≡ 2 → (number : ℕ) → MayGoOn number self.now.policy self.now.copied self.now.is_alone
+            → AreCopied number self.now.copied }
+    {
+        let waits = self.policy != Confirm::Never && !self.is_alone && !self.is_lost;
+        if waits && self.copied.is_some() { 2 } else { 1 }
+    }
+
+    /// How many notes the standby has: the first so many of the server. None: it may lack some of what was there at the start.
+    pub fn copied(&self) -> Option<u64>
+        ensures { result ≡ self.now.copied }
+    {
+        self.copied
     }
 
     /// The standby has said that it has synced the first `mark` notes.

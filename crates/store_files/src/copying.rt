@@ -1,4 +1,7 @@
 //! What the threads of a server share about the standby: which files have grown, and how much of them it has.
+ghost use Rattle.std.specs.Prelude.{◌≡◌, ◌≤◌, true};
+ghost use Rattle.group_commit.specs.Confirmations.{is_unasked};
+
 use cell_set::CellSet;
 use group_commit::{Confirm, Confirmation, Confirmed, Confirming};
 use std::alloc::{AllocError, Global};
@@ -240,6 +243,18 @@ impl Copying {
         }
         drop(state);
         self.heard.notify_all();
+    }
+
+    /// On how many machines what is answered now is kept: 2 while replies wait until the standby has what they reveal, otherwise
+    /// 1. Where no reply ever waits for a standby, it is always 1.
+    pub fn machines<R: Wait>(&self, rt: &R) -> u32
+        ensures counted { (1 ≤ result) × (result ≤ 2) }
+        ensures unasked { is_unasked self.now.asked ≡ true → result ≡ 1 }
+    {
+        if self.asked == Confirm::Never {
+            return 1;
+        }
+        self.confirming.lock(rt).machines()
     }
 
     /// Whether the standby did not answer a server that promised never to go on without it.

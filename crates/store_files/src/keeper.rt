@@ -1,6 +1,7 @@
 //! The files of a server's pads while it runs: each answer is noted under its pad's lock, and synced before its reply
 //! is written.
-ghost use Rattle.std.specs.Prelude.{◌≡◌, ◌⊎◌, IfErr, OnErr, OnOk};
+ghost use Rattle.std.specs.Prelude.{◌≡◌, ◌≤◌, ◌⊎◌, true, IfErr, OnErr, OnOk};
+ghost use Rattle.group_commit.specs.Confirmations.{is_unasked};
 ghost use Rattle.group_commit.specs.Notes.{NothingSettles};
 ghost use Rattle.store_files.specs.Noting.{IsKept};
 
@@ -321,6 +322,15 @@ impl Keeper {
             }
         }
         false
+    }
+
+    /// On how many machines what is answered now is kept: 2 while replies wait until the standby has what they reveal, otherwise
+    /// 1, this one. A server without a store has no keeper, and keeps nothing.
+    pub fn machines<R: Wait>(&self, rt: &R) -> u32
+        ensures counted { (1 ≤ result) × (result ≤ 2) }
+        ensures unasked { is_unasked self.now.copying.asked ≡ true → result ≡ 1 }
+    {
+        self.copying.machines(rt)
     }
 
     /// Whether the server ends because the standby did not answer.

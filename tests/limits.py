@@ -40,6 +40,8 @@ ROWS = [
     ("reads in which a greeting comes", "standby/src/taking.rt", "GREETING_READS"),
     ("seconds before a connection that broke", "standby/src/sending.rt", "PAUSE"),
     ("seconds before one that was refused", "standby/src/sending.rt", "LONG_PAUSE"),
+    ("bytes of a request for the status", "tcp_server/src/status.rt", "LONGEST_HEAD"),
+    ("milliseconds for a request for the status", "tcp_server/src/status.rt", "PATIENCE"),
 ]
 
 

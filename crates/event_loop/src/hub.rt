@@ -7,6 +7,7 @@ use crate::lobby::Lobby;
 use cell_set::CellSet;
 use crossbeam_channel::Sender;
 use mio::Waker;
+use server_counts::ClientCounts;
 use sessions::Accounts;
 use std::alloc::{AllocError, Global};
 use std::sync::Wait;
@@ -82,6 +83,7 @@ pub struct Hub {
     revisions: Vec<AtomicU64>,
     /// The time from which wrong tokens may be reported again, in milliseconds of a `Ticker`.
     report_from: AtomicU64,
+    counts: ClientCounts,
 }
 
 /// The shortest time between two reports of wrong tokens, in milliseconds.
@@ -95,6 +97,7 @@ impl Hub {
         began: Option<Instant>,
         revisions: Vec<AtomicU64>,
         lobby: Lobby,
+        counts: ClientCounts,
     ) -> Hub {
         Hub {
             doors,
@@ -107,7 +110,23 @@ impl Hub {
             lobby,
             revisions,
             report_from: AtomicU64::new(0),
+            counts,
         }
+    }
+
+    /// What is counted of the clients, for those who watch the server.
+    pub fn counts(&self) -> &ClientCounts {
+        &self.counts
+    }
+
+    /// How many clients are connected.
+    pub fn clients(&self) -> u64 {
+        self.clients.load(Ordering::SeqCst)
+    }
+
+    /// How many requests of browsers are read or answered.
+    pub fn page_requests(&self) -> u64 {
+        self.page_requests.load(Ordering::SeqCst)
     }
 
     /// When the server started.
@@ -173,6 +192,9 @@ impl Hub {
     /// Counts one more connection, of this worker.
     pub fn enter(&self, home: usize, connected: Connected) {
         self.count_of(connected).fetch_add(1, Ordering::SeqCst);
+        if connected == Connected::PageRequest {
+            self.counts.page_connections.add_one();
+        }
         if let Some(door) = self.doors.get(home) {
             door.clients.fetch_add(1, Ordering::SeqCst);
         }

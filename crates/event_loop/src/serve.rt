@@ -6,7 +6,6 @@ use crate::client::{Client, Phase};
 use crate::delay::{BAD_TOKEN, Delay, LogIn, Wanted, claim_in, wanted_by};
 use crate::hub::{Connected, Hub};
 use crate::limits::{LINES, LONG_LINE, MOST_OWED, UNFINISHED};
-use crate::lobby::Lobby;
 use crate::settle::Settle;
 use crate::work::Service;
 use conversation::{Gate, LineOutcome, Shared};
@@ -98,7 +97,7 @@ impl Client {
         }
         match self.hold_line(alloc, service.hub, place, buffers) {
             Some(held) => held,
-            None => self.answer_or_read(alloc, service.hub.lobby(), pads, buffers),
+            None => self.answer_or_read(alloc, service.hub, pads, buffers),
         }
     }
 
@@ -107,21 +106,24 @@ impl Client {
     fn answer_or_read<S: Sequence, R: Wait, G: Gate>(
         &mut self,
         alloc: Global,
-        lobby: &Lobby,
+        hub: &Hub,
         pads: &mut Shared<'_, S, R, G>,
         buffers: &mut Buffers,
     ) -> ClientStep {
         if self.phase == Phase::Open && !self.party.has_line() {
-            return self.read_more(lobby, buffers);
+            return self.read_more(hub.lobby(), buffers);
         }
         let before = self.party.replies().len();
         let claim = self.claim(alloc);
         match self.party.answer(alloc, pads, self.number) {
-            Ok(LineOutcome::Answered) => self.answered(before, claim),
-            Ok(LineOutcome::Waits) if self.phase == Phase::Ended => self.answer_last(alloc, pads),
-            Ok(LineOutcome::Waits) => self.read_more(lobby, buffers),
+            Ok(LineOutcome::Answered) => self.answered(hub, before, claim),
+            Ok(LineOutcome::Waits) if self.phase == Phase::Ended => {
+                self.answer_last(alloc, hub, pads)
+            }
+            Ok(LineOutcome::Waits) => self.read_more(hub.lobby(), buffers),
             Ok(LineOutcome::Full) => ClientStep::Rests,
             Ok(LineOutcome::Cut) => {
+                self.count_reply(hub, before);
                 self.phase = Phase::Over;
                 ClientStep::Rests
             }
@@ -195,8 +197,16 @@ impl Client {
         claim_in(alloc, line)
     }
 
+    // Counts a reply, which begins at this byte of those that wait.
+    fn count_reply(&self, hub: &Hub, before: usize) {
+        if let Some(reply) = self.party.replies().get(before..) {
+            hub.counts().note_reply(reply);
+        }
+    }
+
     // Handles the answer to a line.
-    fn answered(&mut self, before: usize, claim: Option<LogIn>) -> ClientStep {
+    fn answered(&mut self, hub: &Hub, before: usize, claim: Option<LogIn>) -> ClientStep {
+        self.count_reply(hub, before);
         self.delay = Delay::Free;
         self.times.note_line();
         self.note_answered();
@@ -211,6 +221,7 @@ impl Client {
     fn answer_last<S: Sequence, R: Wait, G: Gate>(
         &mut self,
         alloc: Global,
+        hub: &Hub,
         pads: &mut Shared<'_, S, R, G>,
     ) -> ClientStep
         requires { IsPart self.old.party.talk.waiting }
@@ -222,6 +233,7 @@ impl Client {
         if let Err(fault) = self.party.answer_last(alloc, pads, self.number) {
             return self.fail(fault);
         }
+        self.count_reply(hub, 0);
         self.delay = Delay::Free;
         if self.party.replies() != BAD_TOKEN {
             return ClientStep::Rests;

@@ -5,6 +5,7 @@ use crate::hub::{Door, Hub};
 use crate::lobby::Lobby;
 use crate::work::Worker;
 use mio::Waker;
+use server_counts::ClientCounts;
 use shared_pads::Seat;
 use std::io;
 use std::net::{Net, TcpListener};
@@ -45,8 +46,9 @@ pub fn set_up<R: AllocGlobal + Net + Clock>(
     }
     let lobby = Lobby::new(alloc)?;
     let began = Instant::now(rt).ok();
+    let watched = ClientCounts::new(alloc)?;
     Ok(SetUp {
-        hub: Hub::new(doors, waker, began, counts, lobby),
+        hub: Hub::new(doors, waker, began, counts, lobby, watched),
         acceptor,
         workers,
     })

@@ -1,5 +1,5 @@
 -- When a reply may go out on a server with a standby.
-use Rattle.std.specs.Prelude.{◌≡◌, ◌⊎◌, ◌≤◌, ◌||◌, if◌then◌else◌, ℕ, Bool, true, false, max, min, Option, Some, None}
+use Rattle.std.specs.Prelude.{◌≡◌, ◌⊎◌, ◌≤◌, ◌||◌, if◌then◌else◌, ℕ, Bool, true, false, max, min, List, codes, decimal, Option, Some, None}
 use Rattle.group_commit.specs.declared.confirming.Confirm.{Confirm}
 use Rattle.group_commit.specs.declared.confirming.Confirm.TheVariants as policy
 use Rattle.group_commit.specs.declared.confirming.Confirmation.{Confirmation}
@@ -9,6 +9,12 @@ use Rattle.group_commit.specs.declared.confirming.Confirmation.TheVariants.{Give
 abbrev pub AreCopied : ℕ → Option ℕ → Type 0
 AreCopied number None = ⊥
 AreCopied number (Some copied) = number ≤ copied
+
+-- the word that asks for a policy on the command line, and `never` where none does
+abbrev pub word_of : Confirm → List ℕ
+word_of policy.Never = codes "never"
+word_of (policy.Within seconds) = decimal seconds
+word_of policy.Strict = codes "strict"
 
 -- whether replies never wait for a standby
 abbrev pub is_unasked : Confirm → Bool

@@ -24,6 +24,15 @@ pub trait Commit {
         ensures { IfOk result (λ done. done.cell ≡ notes.cell) };
 }
 
+/// How many notes there are.
+#[derive(Clone, Copy, Debug)]
+pub struct NoteCounts {
+    /// All of them since the start.
+    pub noted: u64,
+    /// Those that are on the disk.
+    pub kept: u64,
+}
+
 /// The notes of all pads, which all threads share.
 #[derive(Drop)]
 pub struct Commits {
@@ -92,6 +101,15 @@ impl Commits {
     /// Whether something could not be kept, after which nothing is settled.
     pub fn has_failed(&self) -> bool {
         self.has_failed.load(Ordering::SeqCst)
+    }
+
+    /// How many notes there are, and how many of them are on the disk.
+    pub fn counts<R: Wait>(&self, rt: &R) -> NoteCounts {
+        let progress = self.progress.lock(rt);
+        NoteCounts {
+            noted: progress.noted(),
+            kept: progress.kept(),
+        }
     }
 
     /// Waits until everything noted before is on the disk. This thread appends with others meanwhile. After a failure each

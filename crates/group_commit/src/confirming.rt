@@ -1,6 +1,9 @@
 //! How much of what is noted a standby has, and what replies wait for.
 ghost use Rattle.std.specs.Prelude.{◌≡◌, ℕ, None, Some, false, is_some, IfSome};
-ghost use Rattle.group_commit.specs.Confirmations.{AreCopied, IsConfirmation, IsPolicy, IsReached, MayGoOn, alone_after, heard, is_unasked, lost_after, machines_of};
+ghost use Rattle.group_commit.specs.Confirmations.{AreCopied, IsConfirmation, IsPolicy, IsReached, MayGoOn, alone_after, heard, is_unasked, lost_after, machines_of, word_of};
+
+use std::fmt;
+use std::fmt::{Display, Formatter};
 
 /// What replies do while the standby does not have what they reveal.
 #[derive(Clone, Copy, Debug, PartialEq, Eq)]
@@ -26,6 +29,18 @@ impl Confirmed {
         ensures { result ≡ self.now.number }
     {
         self.number
+    }
+}
+
+impl Display for Confirm {
+    ghost output = { λ asked. Some (word_of asked) };
+
+    fn fmt<W: fmt::Write>(&self, f: &mut Formatter<W>) -> fmt::Result {
+        match *self {
+            Confirm::Never => f.write_str("never"),
+            Confirm::Within { seconds } => write!(f, "{seconds}"),
+            Confirm::Strict => f.write_str("strict"),
+        }
     }
 }
 

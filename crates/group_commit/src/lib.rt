@@ -16,7 +16,7 @@ mod queue;
 mod round_state;
 
 pub use appending::{Committed, Device, Uncommitted, append};
-pub use commits::{Commit, Commits};
+pub use commits::{Commit, Commits, NoteCounts};
 pub use confirming::{Confirm, Confirmation, Confirmed, Confirming};
 pub use progress::{Job, Kept};
 pub use queue::{Note, Notes, Unnoted};

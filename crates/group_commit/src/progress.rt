@@ -240,6 +240,13 @@ impl Progress {
         self.state.kept
     }
 
+    /// How many notes there are.
+    pub fn noted(&self) -> u64
+        ensures { result ≡ self.now.state.noted }
+    {
+        self.state.noted
+    }
+
     /// Whether nothing is settled any more.
     pub fn has_failed(&self) -> bool
         ensures { result ≡ self.now.state.has_failed }

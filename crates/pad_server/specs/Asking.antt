@@ -21,6 +21,7 @@ settings_as is_new confirm asked = record {
   new_replica = is_new;
   web = asked.web;
   web_origins = asked.web_origins;
+  status = asked.status;
 }
 
 -- the settings of a server that is started

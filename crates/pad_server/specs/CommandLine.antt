@@ -69,6 +69,10 @@ web_rule = option_rule (codes "web")
 abbrev pub web_origins_rule : Rule
 web_origins_rule = option_rule (codes "web-origin")
 
+-- `--status ADDR`
+abbrev pub status_rule : Rule
+status_rule = option_rule (codes "status")
+
 -- the command line with the options that say what is served, by which server, and for whom
 abbrev pub line_with_service : App
 line_with_service = with_rule (with_rule (with_rule (with_rule (versioned (new_app (codes "pad_server"))) stdin_rule)
@@ -93,7 +97,7 @@ line_with_page = with_rule (with_rule (with_rule (with_rule line_with_clients_an
 
 -- the whole command line, in the terms of clap, which define the words that it accepts and what they give under a name
 abbrev pub line : App
-line = with_rule (with_rule (with_rule line_with_page standby_rule) standby_of_rule) confirm_rule
+line = with_rule (with_rule (with_rule (with_rule line_with_page standby_rule) standby_of_rule) confirm_rule) status_rule
 
 -- what the words give: the numbers, the flags and the texts under the names of the options
 pub record AsksFor (words : List (List ℕ)) (asked : ServerArguments) : Type 0 where
@@ -118,3 +122,4 @@ pub record AsksFor (words : List (List ℕ)) (asked : ServerArguments) : Type 0 
   pub unproved : IsFlag (one_of (codes "unproved") (matches_of line words)) asked.unproved
   pub web : option_map (λ address. address.now) asked.web ≡ text_given line words (codes "web")
   pub web_origins : option_map (λ origins. origins.now) asked.web_origins ≡ text_given line words (codes "web-origin")
+  pub status : option_map (λ address. address.now) asked.status ≡ text_given line words (codes "status")

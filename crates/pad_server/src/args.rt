@@ -8,8 +8,9 @@ ghost use Rattle.pad_server.specs.CommandLine.{AsksFor, line_with_service, line,
 use crate::options::{
     clients_of, clients_option, clients_per_address_of, clients_per_address_option, confirm_option,
     connections_of, connections_option, idle_of, idle_option, listen_option, main_number_of,
-    new_replica_flag, standby_number_of, standby_of_option, standby_option, stdin_flag,
-    store_option, unproved_flag, web_option, web_origins_option, workers_of, workers_option,
+    new_replica_flag, standby_number_of, standby_of_option, standby_option, status_option,
+    stdin_flag, store_option, unproved_flag, web_option, web_origins_option, workers_of,
+    workers_option,
 };
 use clap::{Command, Error};
 use command_line::{
@@ -59,6 +60,8 @@ pub struct ServerArguments<'a> {
     pub web: Option<&'a str>,
     /// The origins whose pages may connect beside the server's own, separated by commas.
     pub web_origins: Option<&'a str>,
+    /// The address at which operators ask for the status.
+    pub status: Option<&'a str>,
 }
 
 const USAGE: &str =
@@ -124,7 +127,8 @@ fn command<'a>(alloc: Global) -> Result<Command<'a>, AllocError>
     with_page_options(alloc)?
         .arg(standby_option(alloc))?
         .arg(standby_of_option(alloc))?
-        .arg(confirm_option(alloc))
+        .arg(confirm_option(alloc))?
+        .arg(status_option(alloc))
 }
 
 /// What the words of the command line give, or what is wrong with them.
@@ -157,5 +161,6 @@ pub fn parse<'a>(alloc: Global, words: &'a [String]) -> Result<ServerArguments<'
         unproved: matches.get_flag("unproved"),
         web: matches.get_str("web"),
         web_origins: matches.get_str("web-origin"),
+        status: matches.get_str("status"),
     })
 }

@@ -29,6 +29,7 @@ impl<'a> ServerArguments<'a> {
             new_replica: self.new_replica,
             web: self.web,
             web_origins: self.web_origins,
+            status: self.status,
         }
     }
 

@@ -59,11 +59,15 @@ pub enum Misuse {
     OwnStandby,
     #[error("--standby-of <N> goes with neither --standby nor --new-replica: a standby serves no pads before it is promoted")]
     ServingStandby,
+    #[error("--status <ADDR> needs --listen <ADDR>")]
+    NoStatus,
+    #[error("--status <ADDR> does not go with --standby-of <N>")]
+    StandbyStatus,
 }
 
 impl<'a> ServerArguments<'a> {
     /// Returns what is served. Exactly one of `--stdin` and `--listen` has to be given: the first without `--store`,
-    /// `--idle`, `--new-replica`, `--web`, `--clients-per-address` and a standby, the second with `--accounts`.
+    /// `--idle`, `--new-replica`, `--web`, `--clients-per-address`, a standby and `--status`, the second with `--accounts`.
     /// `--web-origin` is for `--web`, and `--confirm` for `--standby`.
     pub fn mode(self) -> Result<ServerMode<'a>, Misuse>
         ensures { result ≡ mode_of self.entry }
@@ -79,6 +83,7 @@ impl<'a> ServerArguments<'a> {
                 Err(Misuse::NoStandby)
             }
             (true, None) if self.confirm.is_some() => Err(Misuse::NoConfirm),
+            (true, None) if self.status.is_some() => Err(Misuse::NoStatus),
             (true, None) => Ok(ServerMode::Stdin),
             (true, Some(_)) | (false, None) => Err(Misuse::NotOne),
             (false, Some(address)) => match self.accounts {
@@ -87,6 +92,9 @@ impl<'a> ServerArguments<'a> {
                 }
                 Some(_) if self.standby.is_none() && self.confirm.is_some() => {
                     Err(Misuse::NoConfirm)
+                }
+                Some(_) if self.standby_of.is_some() && self.status.is_some() => {
+                    Err(Misuse::StandbyStatus)
                 }
                 Some(accounts) => self.serving(address, accounts),
                 None => Err(Misuse::NoAccounts),

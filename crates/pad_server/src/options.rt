@@ -2,7 +2,7 @@
 ghost use Rattle.std.specs.Prelude.{◌≡◌, ◌≤◌, ℕ, codes, false, unwrap_or};
 ghost use Rattle.clap.specs.Words.{rule_of};
 ghost use Rattle.command_line.specs.Options.{Holds};
-ghost use Rattle.pad_server.specs.CommandLine.{clients_per_address_rule, clients_rule, confirm_rule, connections_rule, idle_rule, listen_rule, new_replica_rule, standby_of_rule, standby_rule, stdin_rule, store_rule, unproved_rule, web_origins_rule, web_rule, workers_rule};
+ghost use Rattle.pad_server.specs.CommandLine.{clients_per_address_rule, clients_rule, confirm_rule, connections_rule, idle_rule, listen_rule, new_replica_rule, standby_of_rule, standby_rule, status_rule, stdin_rule, store_rule, unproved_rule, web_origins_rule, web_rule, workers_rule};
 
 use clap::{Arg, ArgAction, ArgMatches, value_parser};
 use std::alloc::Global;
@@ -170,6 +170,18 @@ pub fn web_origins_option<'a>(alloc: Global) -> Arg<'a>
         .value_name("ORIGINS")
         .help(
             "Also accepts pages from these origins, separated by commas, such as https://pads.example",
+        )
+}
+
+/// `--status ADDR`.
+pub fn status_option<'a>(alloc: Global) -> Arg<'a>
+    ensures { (rule_of result ≡ status_rule) × (result.global ≡ false) }
+{
+    Arg::new(alloc, "status")
+        .long("status")
+        .value_name("ADDR")
+        .help(
+            "Answers /healthz, /kept and /metrics at HOST:PORT, such as 127.0.0.1:9100; port 0 is any free port",
         )
 }
 

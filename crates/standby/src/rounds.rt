@@ -177,6 +177,7 @@ impl<'k> Rounds<'k> {
             CopiesAnswer::Kept { .. } => return Err(Broken::Off(Fault::PeerReply)),
             CopiesAnswer::Refused { code } => return Err(Broken::Refused { code }),
         }
+        self.files.note_round(self.copied_bytes());
         self.is_first &= !is_all;
         if !is_all {
             return Ok(false);
@@ -255,6 +256,15 @@ impl<'k> Rounds<'k> {
         copies.put(alloc, &file.pad, from, lines.as_slice())?;
         self.set_copied(cell, upto);
         Ok(count)
+    }
+
+    // How many bytes all copies have.
+    fn copied_bytes(&self) -> u64 {
+        let mut bytes = 0u64;
+        for copied in &self.copied {
+            bytes = bytes.saturating_add(*copied);
+        }
+        bytes
     }
 
     // How far the copy of the file at a cell is.

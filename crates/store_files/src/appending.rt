@@ -54,7 +54,10 @@ impl<'r, 'k, R: Wait> Files<'r, 'k, R> {
         };
         let done = append(alloc, writer, begins, notes, &mut self.device(file))?;
         if self.keeper.copying.is_copied() {
-            *synced = self.length_of(file)?;
+            let length = self.length_of(file)?;
+            let more = length.saturating_sub(*synced);
+            self.keeper.copying.progress.synced_bytes.add(more);
+            *synced = length;
         }
         Ok(done)
     }
@@ -78,6 +81,7 @@ impl<'r, 'k, R: Wait> Files<'r, 'k, R> {
             files: &self.keeper.files,
             folder: self.keeper.folder.as_str(),
             reserve: &self.keeper.reserve,
+            syncs: &self.keeper.syncs,
             file,
         }
     }

@@ -4,6 +4,7 @@ ghost use Rattle.group_commit.specs.Confirmations.{is_unasked};
 
 use cell_set::CellSet;
 use group_commit::{Confirm, Confirmation, Confirmed, Confirming};
+use server_counts::Counter;
 use std::alloc::{AllocError, Global};
 use std::sync::atomic::{AtomicBool, Ordering};
 use std::sync::{Condvar, Mutex, Wait};
@@ -77,6 +78,20 @@ pub struct Copying {
     heard: Condvar,
     // The standby did not answer a server that promised never to go on without it.
     is_lost: AtomicBool,
+    pub(crate) progress: CopyProgress,
+}
+
+/// How far the standby is, for those who watch the server. The times are in seconds since 1970.
+#[derive(Drop)]
+pub struct CopyProgress {
+    /// Bytes of files that are synced here.
+    pub synced_bytes: Counter,
+    /// Those of them that the standby has.
+    pub copied_bytes: Counter,
+    /// When it last answered, or the server began.
+    pub heard_at: Counter,
+    /// When it last had everything, or the server began.
+    pub whole_at: Counter,
 }
 
 impl Copying {
@@ -96,6 +111,12 @@ impl Copying {
             }),
             heard: Condvar::new(),
             is_lost: AtomicBool::new(false),
+            progress: CopyProgress {
+                synced_bytes: Counter::new(),
+                copied_bytes: Counter::new(),
+                heard_at: Counter::new(),
+                whole_at: Counter::new(),
+            },
         })
     }
 
@@ -243,6 +264,20 @@ impl Copying {
         }
         drop(state);
         self.heard.notify_all();
+    }
+
+    /// What replies wait for. None: no standby has a copy.
+    pub fn asked(&self) -> Option<Confirm> {
+        if self.is_copied {
+            Some(self.asked)
+        } else {
+            None
+        }
+    }
+
+    /// How many notes the standby has. None: it may lack some of what was there at the start.
+    pub fn copied<R: Wait>(&self, rt: &R) -> Option<u64> {
+        self.confirming.lock(rt).copied()
     }
 
     /// On how many machines what is answered now is kept: 2 while replies wait until the standby has what they reveal, otherwise

@@ -15,6 +15,7 @@ use group_commit::{Commits, Confirmation, Note, Unnoted};
 use log::{error, warn};
 use pad_core::Request;
 use pad_model::{Name, Refusal};
+use server_counts::Histogram;
 use server_log::ServerLog;
 use shared_pads::Answered;
 use std::alloc::{AllocError, Global};
@@ -53,6 +54,7 @@ pub struct Keeper {
     pub(crate) copying: Copying,
     pub(crate) reserve: Reserve,
     spares: Spares,
+    pub(crate) syncs: Histogram,
     // Whether it was logged that no file can be made for a pad.
     is_short: AtomicBool,
     held: OpenFolder,
@@ -81,7 +83,8 @@ impl Keeper {
         let cells = u32::try_from(pads.len()).unwrap_or(u32::MAX);
         let commits = Commits::new(files.alloc(), cells)?;
         let spares = Spares::new(files.alloc());
-        Ok(Keeper {
+        let syncs = Histogram::new(files.alloc())?;
+        let keeper = Keeper {
             files,
             folder,
             replica,
@@ -90,9 +93,14 @@ impl Keeper {
             copying,
             reserve,
             spares,
+            syncs,
             is_short: AtomicBool::new(false),
             held,
-        })
+        };
+        let now = keeper.seconds();
+        keeper.copying.progress.heard_at.set(now);
+        keeper.copying.progress.whole_at.set(now);
+        Ok(keeper)
     }
 
     /// Notes what a request leaves to be kept: a line for each record, which whoever settles appends to the pad's file. It
@@ -221,7 +229,7 @@ impl Keeper {
     }
 
     // The time of day in seconds since 1970, or 0 if the clock fails.
-    fn seconds(&self) -> u64 {
+    pub(crate) fn seconds(&self) -> u64 {
         match SystemTime::now(&self.files) {
             Ok(now) => match now.duration_since(UNIX_EPOCH) {
                 Ok(passed) => passed.as_secs(),

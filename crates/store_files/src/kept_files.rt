@@ -113,9 +113,20 @@ impl<'k> KeptFiles<'k> {
         }
     }
 
+    /// The standby has synced a round, after which it has so many bytes of the files. For those who watch the server.
+    pub fn note_round(&self, bytes: u64) {
+        let progress = &self.keeper.copying.progress;
+        progress.copied_bytes.set(bytes);
+        progress.heard_at.set(self.keeper.seconds());
+    }
+
     /// The standby has synced what is behind the first `mark` notes. `is_all` tells that it had everything. Returns whether the
     /// server was alone until then.
     pub fn hear<R: Wait>(&self, rt: &R, mark: u64, is_all: bool) -> bool {
+        if is_all {
+            let now = self.keeper.seconds();
+            self.keeper.copying.progress.whole_at.set(now);
+        }
         self.keeper.copying.hear(rt, mark, is_all)
     }
 

@@ -9,6 +9,7 @@ mod appending;
 mod copying;
 mod keeper;
 mod kept_files;
+mod numbers;
 mod owner;
 mod pad_device;
 mod pad_file;

@@ -4,11 +4,13 @@ ghost use Rattle.std.specs.Prelude.{None};
 use crate::reserve::{Reserve, is_full};
 use group_commit::Device;
 use log::warn;
+use server_counts::Histogram;
 use server_log::ServerLog;
 use std::fs::File;
 use std::io;
 use std::io::Write;
 use std::sync::Wait;
+use std::time::{Duration, Instant};
 
 /// A pad's file, and the reserve of its store.
 #[derive(Drop)]
@@ -18,6 +20,8 @@ pub struct PadDevice<'r, 's, 'f, R> {
     pub files: &'s HostRuntime,
     pub folder: &'s str,
     pub reserve: &'s Reserve,
+    /// Counts how long the syncs take.
+    pub syncs: &'s Histogram,
     pub file: &'f mut File,
 }
 
@@ -56,6 +60,19 @@ impl<R: Wait> Device for PadDevice<'_, '_, '_, R> {
     ghost synced = { λ _. None };
 
     fn sync(&mut self) -> io::Result<()> {
-        self.file.sync_data()
+        let began = Instant::now(self.files);
+        let done = self.file.sync_data();
+        if let (Ok(began), Ok(now)) = (began, Instant::now(self.files)) {
+            self.syncs
+                .note(micros(now.saturating_duration_since(began)));
+        }
+        done
     }
+}
+
+// The microseconds of a duration.
+fn micros(time: Duration) -> u64 {
+    time.as_secs()
+        .saturating_mul(1_000_000)
+        .saturating_add(u64::from(time.subsec_micros()))
 }

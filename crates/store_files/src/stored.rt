@@ -70,6 +70,9 @@ where
         ..
     } = load_row(rt, &files, folder, names, owner, size)?;
     let copying = Copying::new(rt.alloc(), opened.len(), confirm)?;
+    for file in &opened {
+        copying.progress.synced_bytes.add(file.lock(rt).synced);
+    }
     let path = format!(in rt.alloc(); "{folder}/reserve")?;
     let reserve = match Reserve::open(&files, path.as_str()) {
         Ok(reserve) => reserve,

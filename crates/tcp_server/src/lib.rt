@@ -14,6 +14,10 @@ mod serving_error;
 mod settings;
 mod settling;
 mod standby_server;
+mod status;
+mod status_answer;
+mod status_board;
+mod status_thread;
 mod threads;
 mod watch;
 

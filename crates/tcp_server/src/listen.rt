@@ -8,6 +8,9 @@ use crate::pad_gate::PadGate;
 use crate::serving_error::ServingError;
 use crate::settings::{Settings, StandbyPeer};
 use crate::settling::{Settling, tell_workers};
+use crate::status::answer_status;
+use crate::status_board::StatusBoard;
+use crate::status_thread::{StatusThread, end_status, open_door};
 use crate::threads::{make_groups, make_threads};
 use crate::watch::{Watch, watch_accounts};
 use block_seq::BlockSeq;
@@ -16,6 +19,7 @@ use event_loop::{Acceptor, Hub, Limits, Service, SetUp, Worker, accept_all, serv
 use group_commit::Confirm;
 use log::info;
 use peering::{Bell, Exchange, Group, Guard, exchange_all};
+use server_counts::Build;
 use server_log::ServerLog;
 use sessions::Peer;
 use standby::{SendingEnd, send_copies};
@@ -44,6 +48,7 @@ pub fn serve_clients<'a, R>(
     address: &'a str,
     path: &'a str,
     pages: &[Page],
+    build: Build<'a>,
 ) -> Result<(), ServingError<'a>>
 where
     R: Runtime<A = Global, File = File>
@@ -54,10 +59,11 @@ where
         + Eprint,
     requires { (1 ≤ asked.replica) × (asked.cells ≤ MAX_CELLS) }
 {
-    let watching = files.clone()?;
+    let (watching, reading) = (files.clone()?, files.clone()?);
     let (opened, bytes) = open_pads(rt, files, asked, path)?;
     let watch = Watch::new(watching, path, bytes);
-    let has_stopped = serve_opened(rt, &opened, asked, address, pages, watch)?;
+    let board = StatusBoard::new(reading, build, opened.keeper.as_ref());
+    let has_stopped = serve_opened(rt, &opened, asked, address, pages, watch, &board)?;
     match asked.standby {
         Some(StandbyPeer { number, .. }) if opened.has_lost_standby() => {
             return Err(ServingError::StandbyLost { number });
@@ -79,6 +85,7 @@ fn serve_opened<'a, R>(
     address: &'a str,
     pages: &[Page],
     watch: Watch<'_>,
+    board: &StatusBoard<'_>,
 ) -> Result<bool, ServingError<'a>>
 where
     R: Runtime<A = Global, File = File>
@@ -88,7 +95,8 @@ where
         + Sync
         + Eprint,
 {
-    let listeners = listen_at(rt, asked, address)?;
+    let mut listeners = listen_at(rt, asked, address)?;
+    let (door, status_end) = open_door(rt, listeners.status.take())?;
     let made = make_threads(rt, opened, asked, listeners)?;
     let origins = origins_of(rt.alloc(), asked)?;
     let site = Site {
@@ -100,7 +108,15 @@ where
         acceptor,
         workers,
     } = made;
-    serve_row(rt, opened, &hub, asked, site, acceptor, workers, watch)?;
+    hub.counts().pads.set(opened.named_pads(rt)?);
+    let status = StatusThread {
+        board,
+        door,
+        end: status_end.as_ref(),
+    };
+    serve_row(
+        rt, opened, &hub, asked, site, acceptor, workers, watch, status,
+    )?;
     Ok(hub.has_stopped())
 }
 
@@ -114,6 +130,7 @@ fn serve_row<'s, R>(
     acceptor: Acceptor,
     workers: Vec<Worker>,
     watch: Watch<'s>,
+    status: StatusThread<'s>,
 ) -> Result<(), ServingError<'static>>
 where
     R: Runtime<A = Global, File = File>
@@ -159,6 +176,7 @@ where
         watch,
         end: &opened.end,
         sender: sender_of(opened, asked),
+        status,
     };
     serve(&service, acceptor, workers, others)
 }
@@ -188,6 +206,7 @@ struct Others<'a, R> {
     end: &'a Bell,
     /// What is sent to the standby, if there is one.
     sender: Option<Sender<'a>>,
+    status: StatusThread<'a>,
 }
 
 /// What is sent to the standby, and to whom.
@@ -300,8 +319,14 @@ where
         watch,
         end,
         sender,
+        status,
     } = others;
     let sender = sender.as_ref();
+    let StatusThread {
+        board,
+        door,
+        end: status_end,
+    } = status;
     thread::scope(thread::scope_env(), rt, |scope| {
         let mut threads = 0u64;
         let mut is_whole = true;
@@ -309,6 +334,11 @@ where
             for _ in 0..SYNCERS {
                 let _helps = scope.spawn(move || keeper.help(rt));
             }
+        }
+        board.set_waiting(sender.is_some_and(|sender| sender.confirm == Confirm::Strict));
+        if let (Some(door), Some(status_end)) = (door, status_end) {
+            let answering = scope.spawn(move || answer_status(rt, door, status_end, hub, board));
+            is_whole &= answering.is_ok();
         }
         // With a standby that is never to lack anything, nobody is served before it has everything, peers neither.
         if let Some(sender) = sender {
@@ -321,6 +351,7 @@ where
                 hub.stop();
             }
         }
+        board.set_waiting(false);
         for group in groups {
             match scope.spawn(move || exchange_or_stop(row, exchange, group, guard, hub)) {
                 Ok(_) => threads = threads.saturating_add(1),
@@ -336,9 +367,11 @@ where
             exchange.ring(rt);
             end_sending(rt, sender, true);
             end_help(rt, guard);
+            end_status(status_end);
             return Err(ServingError::NoThread);
         }
         serve_all(service, workers.as_mut_slice());
+        board.set_ending();
         end.ring_last(rt);
         if hub.has_stopped() {
             guard.end(rt);
@@ -346,6 +379,7 @@ where
         exchange.finish(rt, threads, guard);
         end_sending(rt, sender, hub.has_stopped());
         end_help(rt, guard);
+        end_status(status_end);
         Ok(())
     })
 }

@@ -1,15 +1,17 @@
-//! Where clients connect.
+//! Where clients and operators connect.
 use crate::serving_error::ServingError;
 use crate::settings::Settings;
 use accounts_file::has_port;
 use std::io;
 use std::net::{Net, TcpListener, TcpStream};
 
-/// Where clients connect: those that speak lines, and browsers.
+/// Where clients connect, those that speak lines and browsers, and operators.
 #[derive(Drop)]
 pub struct Listeners {
     pub lines: TcpListener,
     pub web: Option<TcpListener>,
+    /// Where operators ask for the status.
+    pub status: Option<TcpListener>,
 }
 
 /// Binds the addresses, and prints them with their real ports.
@@ -26,7 +28,11 @@ where
         Some(address) => Some(bind(rt, address)?),
         None => None,
     };
-    let listeners = Listeners { lines, web };
+    let status = match asked.status {
+        Some(address) => Some(bind(rt, address)?),
+        None => None,
+    };
+    let listeners = Listeners { lines, web, status };
     match announce(rt, &listeners) {
         Ok(()) => Ok(listeners),
         Err(cause) => Err(ServingError::OutputFailed(cause)),
@@ -41,6 +47,7 @@ where
     let listeners = Listeners {
         lines: bind(rt, address)?,
         web: None,
+        status: None,
     };
     match announce(rt, &listeners) {
         Ok(()) => Ok(listeners.lines),
@@ -62,10 +69,14 @@ where
 fn announce<R: Print>(rt: &R, listeners: &Listeners) -> io::Result<()> {
     let local = listeners.lines.local_addr()?;
     println!(rt; "listening on {local}")?;
-    match &listeners.web {
-        Some(web) => {
-            let local = web.local_addr()?;
-            println!(rt; "web on http://{local}/")
+    if let Some(web) = &listeners.web {
+        let local = web.local_addr()?;
+        println!(rt; "web on http://{local}/")?;
+    }
+    match &listeners.status {
+        Some(status) => {
+            let local = status.local_addr()?;
+            println!(rt; "status on {local}")
         }
         None => Ok(()),
     }

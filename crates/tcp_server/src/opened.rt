@@ -43,6 +43,17 @@ impl Opened {
             .find(|peer| peer.number == number)
     }
 
+    /// How many pads there are.
+    pub fn named_pads<R: AllocGlobal + Wait>(&self, rt: &R) -> Result<u64, Refusal> {
+        let mut pads = 0u64;
+        for cell in &self.cells {
+            if cell.name(rt, rt.alloc())?.is_some() {
+                pads = pads.saturating_add(1);
+            }
+        }
+        Ok(pads)
+    }
+
     /// Whether the server ends because the standby did not answer.
     pub fn has_lost_standby(&self) -> bool {
         match &self.keeper {

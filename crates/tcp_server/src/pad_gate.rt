@@ -54,11 +54,13 @@ impl<R: Wait> Gate for PadGate<'_, R> {
             keeper.note(self.rt, alloc, answered);
         }
         if answered.made > 0 {
+            self.hub.counts().operations.add(answered.made);
             self.hub.publish(answered.cell, answered.made);
             self.exchange.note(answered.cell);
         }
         // A peer may have the pad already.
         if let (Request::Create { .. }, Ok(Some(_))) = (answered.request, answered.answer) {
+            self.hub.counts().pads.add_one();
             self.exchange.note(answered.cell);
             self.exchange.ring(self.rt);
         }

@@ -10,6 +10,9 @@ use std::time::Clock;
 /// lock, folder, reserve and spare files, and the acceptor's poll and waker.
 const OTHERS: u64 = 24;
 
+/// The files of the address of the status: its listener, its poll and waker, and a connection.
+const STATUS: u64 = 4;
+
 /// The handles of the socket to a peer: to read, to write, and to break the exchange off.
 const HANDLES: u64 = 3;
 
@@ -28,6 +31,7 @@ pub fn warn_of_room<R: Clock + Eprint>(rt: &R, asked: Settings<'_>, threads: usi
         .saturating_mul(2)
         .saturating_add(u64::from(pads))
         .saturating_add((peers as u64).saturating_mul(HANDLES))
+        .saturating_add(if asked.status.is_some() { STATUS } else { 0 })
         .saturating_add(OTHERS);
     let room = limit.saturating_sub(taken);
     let clients = asked.clients;

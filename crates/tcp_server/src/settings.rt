@@ -41,4 +41,6 @@ pub struct Settings<'a> {
     pub web: Option<&'a str>,
     /// The origins whose pages may connect besides the server's own, separated by commas.
     pub web_origins: Option<&'a str>,
+    /// The address where operators ask for the status.
+    pub status: Option<&'a str>,
 }

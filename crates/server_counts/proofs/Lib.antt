@@ -1,0 +1,1 @@
+-- The lemmas that proofs cite, by topic.

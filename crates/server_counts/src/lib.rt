@@ -1,0 +1,25 @@
+//! What a running server counts, and how it is told to operators: the text of `/metrics` and `/kept`, and the requests and
+//! responses of the address at which these are asked.
+//!
+//! It depends only on std. Threads count in atomics; whoever tells of them takes a snapshot first.
+#![tactic(auto)]
+
+mod client_counts;
+mod counter;
+mod family;
+mod histogram;
+mod kept;
+mod metrics;
+mod refusals;
+mod request;
+mod responses;
+mod samples;
+
+pub use client_counts::ClientCounts;
+pub use counter::Counter;
+pub use histogram::{Bucket, Histogram, TimeCounts};
+pub use kept::{KeptStandby, kept_text};
+pub use metrics::{Build, ClientNumbers, Numbers, StandbyNumbers, StoreNumbers, metrics_text};
+pub use refusals::{CodeCount, RefusalCounts, code_of_reply};
+pub use request::{StatusPage, StatusRequest, asked_by, first_line, has_whole_head};
+pub use responses::{Status, response};

@@ -342,11 +342,6 @@ TESTS = [
     Test("status: a strict server waits, and ends", a_strict_server_waits_and_stops, 60),
     Test("status: an address in use", an_address_in_use),
     misused("with standard input", "--stdin --replica 1 --status 127.0.0.1:0", "--status <ADDR> needs --listen <ADDR>").test(),
-    misused(
-        "of a standby",
-        f"{LISTEN} --store s --standby-of 2 --status 127.0.0.1:0",
-        "--status <ADDR> does not go with --standby-of <N>",
-    ).test(),
     Case(
         "status: without a port", f"{LISTEN} --status nowhere", status=1,
         stderr=Has("cannot listen at nowhere: HOST:PORT is needed"), files=ACCOUNTS,

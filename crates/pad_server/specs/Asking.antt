@@ -22,6 +22,7 @@ settings_as is_new confirm asked = record {
   web = asked.web;
   web_origins = asked.web_origins;
   status = asked.status;
+  logs_access = asked.log_access;
 }
 
 -- the settings of a server that is started

@@ -49,6 +49,10 @@ new_replica_rule = flag_rule (codes "new-replica")
 abbrev pub unproved_rule : Rule
 unproved_rule = flag_rule (codes "unproved")
 
+-- `--log-access`
+abbrev pub log_access_rule : Rule
+log_access_rule = flag_rule (codes "log-access")
+
 -- `--standby N`
 abbrev pub standby_rule : Rule
 standby_rule = number_rule (codes "standby") 1 65535
@@ -97,7 +101,8 @@ line_with_page = with_rule (with_rule (with_rule (with_rule line_with_clients_an
 
 -- the whole command line, in the terms of clap, which define the words that it accepts and what they give under a name
 abbrev pub line : App
-line = with_rule (with_rule (with_rule (with_rule line_with_page standby_rule) standby_of_rule) confirm_rule) status_rule
+line = with_rule (with_rule (with_rule (with_rule (with_rule line_with_page standby_rule) standby_of_rule) confirm_rule)
+    status_rule) log_access_rule
 
 -- what the words give: the numbers, the flags and the texts under the names of the options
 pub record AsksFor (words : List (List ℕ)) (asked : ServerArguments) : Type 0 where
@@ -119,6 +124,7 @@ pub record AsksFor (words : List (List ℕ)) (asked : ServerArguments) : Type 0 
   pub standby : (other : ℕ) → Gives line words (codes "standby") 0 65535 other (unwrap_or asked.standby other)
   pub standby_of : (other : ℕ) → Gives line words (codes "standby-of") 0 65535 other (unwrap_or asked.standby_of other)
   pub confirm : option_map (λ word. word.now) asked.confirm ≡ text_given line words (codes "confirm")
+  pub log_access : IsFlag (one_of (codes "log-access") (matches_of line words)) asked.log_access
   pub unproved : IsFlag (one_of (codes "unproved") (matches_of line words)) asked.unproved
   pub web : option_map (λ address. address.now) asked.web ≡ text_given line words (codes "web")
   pub web_origins : option_map (λ origins. origins.now) asked.web_origins ≡ text_given line words (codes "web-origin")

@@ -5,7 +5,7 @@ use Rattle.std.specs.Borrow.{Bor}
 use Rattle.pad_server.specs.declared.args.ServerArguments.{ServerArguments}
 use Rattle.pad_server.specs.declared.mode.Misuse.{Misuse}
 use Rattle.pad_server.specs.declared.mode.Misuse.TheVariants.{NotOne, NoAccounts, NoStore, NoIdle, NoNewReplica, NoWeb, NoWebOrigins, NoClientsPerAddress}
-use Rattle.pad_server.specs.declared.mode.Misuse.TheVariants.{NoStandby, NoCopies, NoConfirm, OwnStandby, ServingStandby, NoStatus, StandbyStatus}
+use Rattle.pad_server.specs.declared.mode.Misuse.TheVariants.{NoStandby, NoCopies, NoConfirm, OwnStandby, ServingStandby, NoStatus}
 use Rattle.pad_server.specs.declared.mode.ServerMode.{ServerMode}
 use Rattle.pad_server.specs.declared.mode.ServerMode.TheVariants.{Stdin, Listen, Standby}
 
@@ -35,14 +35,12 @@ abbrev pub serving : Bor (List ℕ) → Bor (List ℕ) → ServerArguments → R
 serving address accounts asked = if names_itself asked then Err OwnStandby
     else serving_by address accounts asked asked.standby_of asked.store
 
--- connections over TCP, which need accounts; origins are only for a page, a confirmation is that of a standby, and a standby
--- has no status
+-- connections over TCP, which need accounts; origins are only for a page, and a confirmation is that of a standby
 abbrev pub listening : Bor (List ℕ) → Option (Bor (List ℕ)) → ServerArguments → Result ServerMode Misuse
 listening address None asked = Err NoAccounts
 listening address (Some accounts) asked =
     if not (is_some asked.web) && is_some asked.web_origins then Err NoWebOrigins
     else if not (is_some asked.standby) && is_some asked.confirm then Err NoConfirm
-    else if is_some asked.standby_of && is_some asked.status then Err StandbyStatus
     else serving address accounts asked
 
 -- standard input, without the options that only connections have: a store, a limit of silence, a new replica number, a

@@ -7,10 +7,10 @@ ghost use Rattle.pad_server.specs.CommandLine.{AsksFor, line_with_service, line,
 
 use crate::options::{
     clients_of, clients_option, clients_per_address_of, clients_per_address_option, confirm_option,
-    connections_of, connections_option, idle_of, idle_option, listen_option, main_number_of,
-    new_replica_flag, standby_number_of, standby_of_option, standby_option, status_option,
-    stdin_flag, store_option, unproved_flag, web_option, web_origins_option, workers_of,
-    workers_option,
+    connections_of, connections_option, idle_of, idle_option, listen_option, log_access_flag,
+    main_number_of, new_replica_flag, standby_number_of, standby_of_option, standby_option,
+    status_option, stdin_flag, store_option, unproved_flag, web_option, web_origins_option,
+    workers_of, workers_option,
 };
 use clap::{Command, Error};
 use command_line::{
@@ -56,6 +56,8 @@ pub struct ServerArguments<'a> {
     pub confirm: Option<&'a str>,
     /// Whether the page says that this program was built without proofs.
     pub unproved: bool,
+    /// Whether each log-in is logged.
+    pub log_access: bool,
     /// The address at which to serve the page for browsers.
     pub web: Option<&'a str>,
     /// The origins whose pages may connect beside the server's own, separated by commas.
@@ -128,7 +130,8 @@ fn command<'a>(alloc: Global) -> Result<Command<'a>, AllocError>
         .arg(standby_option(alloc))?
         .arg(standby_of_option(alloc))?
         .arg(confirm_option(alloc))?
-        .arg(status_option(alloc))
+        .arg(status_option(alloc))?
+        .arg(log_access_flag(alloc))
 }
 
 /// What the words of the command line give, or what is wrong with them.
@@ -158,6 +161,7 @@ pub fn parse<'a>(alloc: Global, words: &'a [String]) -> Result<ServerArguments<'
         standby: standby_number_of(&matches),
         standby_of: main_number_of(&matches),
         confirm: matches.get_str("confirm"),
+        log_access: matches.get_flag("log-access"),
         unproved: matches.get_flag("unproved"),
         web: matches.get_str("web"),
         web_origins: matches.get_str("web-origin"),

@@ -30,6 +30,7 @@ impl<'a> ServerArguments<'a> {
             web: self.web,
             web_origins: self.web_origins,
             status: self.status,
+            logs_access: self.log_access,
         }
     }
 

@@ -61,8 +61,6 @@ pub enum Misuse {
     ServingStandby,
     #[error("--status <ADDR> needs --listen <ADDR>")]
     NoStatus,
-    #[error("--status <ADDR> does not go with --standby-of <N>")]
-    StandbyStatus,
 }
 
 impl<'a> ServerArguments<'a> {
@@ -92,9 +90,6 @@ impl<'a> ServerArguments<'a> {
                 }
                 Some(_) if self.standby.is_none() && self.confirm.is_some() => {
                     Err(Misuse::NoConfirm)
-                }
-                Some(_) if self.standby_of.is_some() && self.status.is_some() => {
-                    Err(Misuse::StandbyStatus)
                 }
                 Some(accounts) => self.serving(address, accounts),
                 None => Err(Misuse::NoAccounts),

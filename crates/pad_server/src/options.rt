@@ -2,7 +2,7 @@
 ghost use Rattle.std.specs.Prelude.{◌≡◌, ◌≤◌, ℕ, codes, false, unwrap_or};
 ghost use Rattle.clap.specs.Words.{rule_of};
 ghost use Rattle.command_line.specs.Options.{Holds};
-ghost use Rattle.pad_server.specs.CommandLine.{clients_per_address_rule, clients_rule, confirm_rule, connections_rule, idle_rule, listen_rule, new_replica_rule, standby_of_rule, standby_rule, status_rule, stdin_rule, store_rule, unproved_rule, web_origins_rule, web_rule, workers_rule};
+ghost use Rattle.pad_server.specs.CommandLine.{clients_per_address_rule, clients_rule, confirm_rule, connections_rule, idle_rule, listen_rule, log_access_rule, new_replica_rule, standby_of_rule, standby_rule, status_rule, stdin_rule, store_rule, unproved_rule, web_origins_rule, web_rule, workers_rule};
 
 use clap::{Arg, ArgAction, ArgMatches, value_parser};
 use std::alloc::Global;
@@ -171,6 +171,16 @@ pub fn web_origins_option<'a>(alloc: Global) -> Arg<'a>
         .help(
             "Also accepts pages from these origins, separated by commas, such as https://pads.example",
         )
+}
+
+/// `--log-access`.
+pub fn log_access_flag<'a>(alloc: Global) -> Arg<'a>
+    ensures { (rule_of result ≡ log_access_rule) × (result.global ≡ false) }
+{
+    Arg::new(alloc, "log-access")
+        .long("log-access")
+        .action(ArgAction::SetTrue)
+        .help("Logs who has logged in, and from where")
 }
 
 /// `--status ADDR`.

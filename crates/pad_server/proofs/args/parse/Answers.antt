@@ -23,6 +23,7 @@ returns-clause-asked c =
     c.in-Ok.ensures.matches in
     let flag = one_text-rows (found_of m) (codes "stdin") ∙ ap (one_of (codes "stdin")) rows in
     let unproved = one_text-rows (found_of m) (codes "unproved") ∙ ap (one_of (codes "unproved")) rows in
+    let logged = one_text-rows (found_of m) (codes "log-access") ∙ ap (one_of (codes "log-access")) rows in
     let renewed = one_text-rows (found_of m) (codes "new-replica") ∙ ap (one_of (codes "new-replica")) rows in
     record {
       replica = gives_number line words m (codes "replica") 1 65535 1 c.replica_of.result rows
@@ -58,13 +59,19 @@ returns-clause-asked c =
       standby_of = λ other. gives_number line words m (codes "standby-of") 0 65535 other _ rows
           (c.main_number_of.ensures other);
       confirm = c.get_str-4.ensures ∙ gives_text line words m (codes "confirm") rows;
+      log_access = record {
+        absent = λ e. c.get_flag-3.ensures.none (logged ∙ e);
+        set = λ e. c.get_flag-3.ensures.value (logged ∙ e);
+        unset = λ e. c.get_flag-3.ensures.other (logged ∙ e);
+      };
       unproved = record {
-        absent = λ e. c.get_flag-3.ensures.none (unproved ∙ e);
-        set = λ e. c.get_flag-3.ensures.value (unproved ∙ e);
-        unset = λ e. c.get_flag-3.ensures.other (unproved ∙ e);
+        absent = λ e. c.get_flag-4.ensures.none (unproved ∙ e);
+        set = λ e. c.get_flag-4.ensures.value (unproved ∙ e);
+        unset = λ e. c.get_flag-4.ensures.other (unproved ∙ e);
       };
       web = c.get_str-5.ensures ∙ gives_text line words m (codes "web") rows;
       web_origins = c.get_str-6.ensures ∙ gives_text line words m (codes "web-origin") rows;
+      status = c.get_str-7.ensures ∙ gives_text line words m (codes "status") rows;
     }
 
 pub returns-clause-refused : goal.returns-clause-refused

@@ -3,6 +3,7 @@ ghost use Rattle.std.specs.Prelude.{◌≤◌};
 ghost use Rattle.server_core.specs.declared.limits.TheConstants.{MAX_CELLS};
 
 use crate::failure::ServerFailure;
+use server_counts::Build;
 use std::alloc::Global;
 use std::fs::File;
 use std::net::{Net, TcpListener, TcpStream};
@@ -21,6 +22,7 @@ pub fn serve_standby<'a, R>(
     address: &'a str,
     accounts: &'a str,
     pages: &[Page],
+    build: Build<'a>,
 ) -> Result<(), ServerFailure<'a>>
 where
     R: Runtime<A = Global, File = File>
@@ -35,5 +37,7 @@ where
     if let Err(error) = serve_copies(rt, copies, standby, address, accounts) {
         return Err(ServerFailure::Serving(error));
     }
-    serve_clients(rt, files, promoted, address, accounts, pages).map_err(ServerFailure::Serving)
+    serve_clients(rt, files, promoted, address, accounts, pages, build).map_err(
+        ServerFailure::Serving,
+    )
 }

@@ -277,7 +277,7 @@ impl Copying {
 
     /// How many notes the standby has. None: it may lack some of what was there at the start.
     pub fn copied<R: Wait>(&self, rt: &R) -> Option<u64> {
-        self.confirming.lock(rt).copied()
+        self.awaited.lock(rt).confirming.copied()
     }
 
     /// On how many machines what is answered now is kept: 2 while replies wait until the standby has what they reveal, otherwise
@@ -289,7 +289,7 @@ impl Copying {
         if self.asked == Confirm::Never {
             return 1;
         }
-        self.confirming.lock(rt).machines()
+        self.awaited.lock(rt).confirming.machines()
     }
 
     /// Whether the standby did not answer a server that promised never to go on without it.

@@ -1,7 +1,7 @@
 -- A copy whose log is put back is what it was.
 use Rattle.std.proofs.Common.{◌≡◌, ℕ, List, [], ◌∷◌, ◌++◌, length, take, refl, sym, ap, ◌∙◌, append-nil, append_assoc}
 use Rattle.std.proofs.Math.Seq.{take-append_seam}
-use Rattle.file_copies.specs.Laws.{HasTaken, Stretch, completed, put_back}
+use Rattle.file_copies.specs.Laws.{HasTaken, Stretch, completed}
 
 -- what is in front of the place of a stretch stays
 kept : (copy left : List ℕ) (at : ℕ) → at ≡ length copy → take at (copy ++ left) ≡ copy

@@ -5,7 +5,7 @@ use Rattle.serde_json.specs.Data.{Data, boolean, string}
 use Rattle.serde_json.specs.Find.{as_bool, as_str, get}
 use Rattle.serde_json.specs.Written.{compact_text}
 use Rattle.pad_model.specs.declared.refusal.Refusal.{Refusal}
-use Rattle.pad_model.specs.declared.refusal.Refusal.TheVariants.{NotJson, NotRequest}
+use Rattle.pad_model.specs.declared.refusal.Refusal.TheVariants.{NotJson}
 use Rattle.wire_json.specs.Forms.{fields_data, number_data}
 use Rattle.wire_json.specs.Lines.{or_no_request, value_of}
 use Rattle.wire_json.specs.Reading.{field, name_in, number_in, of_three}

@@ -1,5 +1,5 @@
 -- The loop of `stretch_sum`: the lines that are left have, behind the sum so far, the sum that all have.
-use Rattle.std.proofs.Common.{◌≡◌, ◌≤◌, length, string_bytes}
+use Rattle.std.proofs.Common.{◌≡◌, length, string_bytes}
 use Rattle.file_copies.specs.Stretches.{stretch_sum}
 use Rattle.file_copies.proofs.stretch.stretch_sum.Given as goal
 

@@ -143,6 +143,7 @@ def each_path_and_method():
             want((status, fields.get("Allow")), (405, "GET, HEAD"), f"the answer to {method} {path}")
     for path in ("/", "/healthz/", "/healthz?x", "/metrics2", "*", "http://x/healthz", "/" + "a" * 3000):
         want(get(server.status, path)[0], 404, f"the answer to {path[:30]}")
+        want(get(server.status, path, "HEAD")[0::2], (404, ""), f"the answer to HEAD {path[:30]}")
 
 
 def wrong_requests():

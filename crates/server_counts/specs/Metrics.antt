@@ -25,11 +25,19 @@ connected_text numbers = one_text family.Clients numbers.clients ++ (one_text fa
 -- what was answered
 abbrev pub answered_text : ClientNumbers → List ℕ
 answered_text numbers = one_text family.Pads numbers.pads ++ (one_text family.Requests numbers.requests
-    ++ (one_text family.Operations numbers.operations ++ codes_text family.Refusals numbers.refusals.items))
+    ++ one_text family.Operations numbers.operations)
+
+-- what was refused
+abbrev pub refused_text : ClientNumbers → List ℕ
+refused_text numbers = codes_text family.Refusals numbers.refusals.items
+
+-- what was answered, and what was refused
+abbrev pub done_text : ClientNumbers → List ℕ
+done_text numbers = answered_text numbers ++ refused_text numbers
 
 -- what concerns clients
 abbrev pub clients_text : ClientNumbers → List ℕ
-clients_text numbers = connected_text numbers ++ answered_text numbers
+clients_text numbers = connected_text numbers ++ done_text numbers
 
 -- what the standby confirms
 abbrev pub confirms_text : StandbyNumbers → List ℕ

@@ -17,7 +17,7 @@ page_of target is_head =
     if bytes_eq target (codes "/healthz") then asked.Page Health is_head
     else if bytes_eq target (codes "/kept") then asked.Page Kept is_head
     else if bytes_eq target (codes "/metrics") then asked.Page Metrics is_head
-    else asked.NoPage
+    else asked.NoPage is_head
 
 -- what the words before a version ask for: a page by `GET` or `HEAD`
 abbrev pub asked_by_words : Option (List ℕ) → StatusRequest

@@ -1,6 +1,6 @@
 //! The text of `/kept`.
 ghost use Rattle.std.specs.Prelude.{◌≡◌, IfOk, string_bytes};
-ghost use Rattle.server_counts.specs.Kept.{kept_text};
+ghost use Rattle.server_counts.specs.Kept.{kept_text, whole_text, word_of};
 
 use std::alloc::{AllocError, Global};
 
@@ -23,17 +23,30 @@ pub fn kept_text(
 ) -> Result<String, AllocError>
     ensures { IfOk result (λ text. string_bytes text ≡ kept_text machines standby.entry) }
 {
-    let Some(
-        KeptStandby {
-            confirm,
-            has_all,
-            lag,
-        },
-    ) = standby
-    else {
-        return format!(in alloc; "{{\"machines\":{machines}}}\n");
-    };
+    match standby {
+        None => format!(in alloc; "{{\"machines\":{machines}}}\n"),
+        Some(standby) => with_standby(alloc, machines, standby),
+    }
+}
+
+// The same with a standby.
+fn with_standby(
+    alloc: Global,
+    machines: u32,
+    standby: KeptStandby<'_>,
+) -> Result<String, AllocError>
+    ensures { IfOk result (λ text. string_bytes text ≡ whole_text machines standby.entry) }
+{
+    let (confirm, lag) = (standby.confirm, standby.lag);
+    let word = word_of(standby.has_all);
     format!(in alloc;
-        "{{\"caught_up\":{has_all},\"confirm\":\"{confirm}\",\"lag\":{lag},\"machines\":{machines}}}\n"
+        "{{\"caught_up\":{word},\"confirm\":\"{confirm}\",\"lag\":{lag},\"machines\":{machines}}}\n"
     )
+}
+
+// A truth value in JSON.
+fn word_of(value: bool) -> &'static str
+    ensures { result.now ≡ word_of value }
+{
+    if value { "true" } else { "false" }
 }

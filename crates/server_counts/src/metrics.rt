@@ -1,6 +1,6 @@
 //! The text of `/metrics`.
 ghost use Rattle.std.specs.Prelude.{◌≡◌, ◌++◌, OnOk, IfOk, string_bytes};
-ghost use Rattle.server_counts.specs.Metrics.{answered_text, clients_text, confirms_text, connected_text, lag_text, notes_text, metrics_text, process_text, standby_text, standbys_text, store_text, stores_text, resident_text};
+ghost use Rattle.server_counts.specs.Metrics.{answered_text, clients_text, confirms_text, connected_text, done_text, lag_text, notes_text, metrics_text, process_text, refused_text, standby_text, standbys_text, store_text, stores_text, resident_text};
 
 use crate::family::Family;
 use crate::histogram::TimeCounts;
@@ -114,7 +114,22 @@ fn put_clients(text: &mut String, numbers: &ClientNumbers) -> Result<(), AllocEr
     ensures { OnOk result (string_bytes text.new ≡ string_bytes text.old ++ clients_text numbers.now) }
 {
     put_connected(text, numbers)?;
-    put_answered(text, numbers)
+    put_done(text, numbers)
+}
+
+// Appends what was answered, and what was refused.
+fn put_done(text: &mut String, numbers: &ClientNumbers) -> Result<(), AllocError>
+    ensures { OnOk result (string_bytes text.new ≡ string_bytes text.old ++ done_text numbers.now) }
+{
+    put_answered(text, numbers)?;
+    put_refused(text, numbers)
+}
+
+// Appends what was refused.
+fn put_refused(text: &mut String, numbers: &ClientNumbers) -> Result<(), AllocError>
+    ensures { OnOk result (string_bytes text.new ≡ string_bytes text.old ++ refused_text numbers.now) }
+{
+    put_codes(text, Family::Refusals, numbers.refusals.as_slice())
 }
 
 // Appends who is connected.
@@ -132,8 +147,7 @@ fn put_answered(text: &mut String, numbers: &ClientNumbers) -> Result<(), AllocE
 {
     put_one(text, Family::Pads, numbers.pads)?;
     put_one(text, Family::Requests, numbers.requests)?;
-    put_one(text, Family::Operations, numbers.operations)?;
-    put_codes(text, Family::Refusals, numbers.refusals.as_slice())
+    put_one(text, Family::Operations, numbers.operations)
 }
 
 // Appends what concerns the store, if there is one.

@@ -18,8 +18,8 @@ pub enum StatusPage {
 pub enum StatusRequest {
     /// `GET` or `HEAD` of a page.
     Page { page: StatusPage, is_head: bool },
-    /// Another path.
-    NoPage,
+    /// `GET` or `HEAD` of another path.
+    NoPage { is_head: bool },
     /// Another method.
     NoMethod,
     /// It is no request of HTTP/1.0 or HTTP/1.1.
@@ -63,7 +63,7 @@ fn page_of(target: &[u8], is_head: bool) -> StatusRequest
     } else if target == b"/metrics".as_slice() {
         StatusPage::Metrics
     } else {
-        return StatusRequest::NoPage;
+        return StatusRequest::NoPage { is_head };
     };
     StatusRequest::Page { page, is_head }
 }

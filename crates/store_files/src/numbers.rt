@@ -24,13 +24,14 @@ impl Keeper {
         );
         let confirmed = copied.unwrap_or(0);
         let lag_notes = self.commits.counts(rt).kept.saturating_sub(confirmed);
-        let has_all = copied.is_some() && lag_notes == 0;
+        let lag_bytes = progress.synced_bytes.read().saturating_sub(copied_bytes);
+        let has_all = copied.is_some() && lag_notes == 0 && lag_bytes == 0;
         let now = self.seconds();
         let numbers = StandbyNumbers {
             confirms: if self.machines(rt) == 2 { 1 } else { 0 },
             confirmed,
             lag_notes,
-            lag_bytes: progress.synced_bytes.read().saturating_sub(copied_bytes),
+            lag_bytes,
             lag_seconds: if has_all {
                 0
             } else {

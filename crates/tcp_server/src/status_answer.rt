@@ -30,12 +30,12 @@ pub fn answer_to<R: AllocGlobal + Clock + Wait>(
     };
     match asked {
         StatusRequest::Page { page, is_head } => page_response(rt, hub, board, page, is_head),
-        StatusRequest::NoPage => response(
+        StatusRequest::NoPage { is_head } => response(
             alloc,
             Status::NotFound,
             TEXT,
             "there is /healthz, /kept and /metrics\n",
-            false,
+            is_head,
         ),
         StatusRequest::NoMethod => response(
             alloc,

@@ -32,6 +32,7 @@ pub struct StatusBoard<'a> {
 pub enum Health {
     Serves,
     StoreFailed,
+    StandbyLost,
     Waits,
     Ends,
 }
@@ -42,6 +43,7 @@ impl Health {
         match self {
             Health::Serves => "ok\n",
             Health::StoreFailed => "the store has failed\n",
+            Health::StandbyLost => "the standby does not answer\n",
             Health::Waits => "the server waits for its standby\n",
             Health::Ends => "the server is stopping\n",
         }
@@ -81,7 +83,9 @@ impl<'a> StatusBoard<'a> {
 
     /// Whether the server serves now.
     pub fn health(&self, hub: &Hub) -> Health {
-        if self.keeper.is_some_and(Keeper::has_failed) {
+        if self.keeper.is_some_and(Keeper::has_lost_standby) {
+            Health::StandbyLost
+        } else if self.keeper.is_some_and(Keeper::has_failed) {
             Health::StoreFailed
         } else if hub.has_stopped() || self.is_ending.load(Ordering::SeqCst) {
             Health::Ends

@@ -5,6 +5,7 @@ use event_loop::{ByteSocket, Reach, Settle};
 use std::alloc::Global;
 use std::io;
 use std::io::{Read, Write};
+use web_wire::Machines;
 
 /// A socket that gives these bytes, and then no more, and keeps what was written.
 #[derive(Drop)]
@@ -66,5 +67,9 @@ impl Settle for Unstored {
 
     fn has_failed(&self) -> bool {
         false
+    }
+
+    fn machines(&self) -> Machines {
+        Machines::Zero
     }
 }

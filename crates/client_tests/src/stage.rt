@@ -10,11 +10,12 @@ use shared_pads::{Open, Seat, SharedPad};
 use std::alloc::{AllocError, Global};
 use std::sync::Wait;
 use std::test::Fail;
-use web_wire::{Next, NextMessage, Page, Site};
+use web_wire::{Machines, Next, NextMessage, Page, Site, kept_page};
 
 const PAGES: &[Page] = &[Page {
     path: "/",
     kind: "text/html; charset=utf-8",
+    cache: "no-cache",
     tag: "\"one\"",
     text: "<!doctype html><title>Pads</title>\n",
 }];
@@ -126,8 +127,9 @@ pub fn serve_browser<R: Wait>(
         pages: PAGES,
         origins: &[],
     };
+    let kept = kept_page(Machines::Zero);
     for _turn in 0..TURNS {
-        if party.answer_request(site, true)? == Next::Socket {
+        if party.answer_request(site, &kept, true)? == Next::Socket {
             party.open(alloc);
         }
         let heard = party.hear(&mut line)?;

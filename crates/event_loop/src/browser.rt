@@ -6,18 +6,20 @@ use crate::limits::Limits;
 use crate::lobby::Lobby;
 use crate::newcomer::Newcomer;
 use crate::serve::ClientStep;
+use crate::settle::Settle;
 use crate::transfer::Transfer;
 use crate::written::say_all;
 use std::alloc::Global;
-use web_wire::{Next, NextMessage, Site};
+use web_wire::{Next, NextMessage, Site, kept_page};
 use wire_lines::Fault;
 
 impl Client {
     /// Reads a request, and answers it once it is complete.
-    pub(crate) fn serve_page_request(
+    pub(crate) fn serve_page_request<T: Settle>(
         &mut self,
         alloc: Global,
         site: Site<'_>,
+        settle: &T,
         hub: &Hub,
         limits: Limits,
         buffers: &mut Buffers,
@@ -30,17 +32,18 @@ impl Client {
         }
         let chunk = buffers.chunk.as_mut_slice();
         match self.party.read(chunk) {
-            Ok(Transfer::Passed) => self.answer_request(alloc, site, hub, limits),
+            Ok(Transfer::Passed) => self.answer_request(alloc, site, settle, hub, limits),
             read => self.has_read(read),
         }
     }
 
     // Answers a request if it is complete. While there is no room for one more client, everything is refused; while as
     // many clients as may be have not logged in, only the socket is.
-    fn answer_request(
+    fn answer_request<T: Settle>(
         &mut self,
         alloc: Global,
         site: Site<'_>,
+        settle: &T,
         hub: &Hub,
         limits: Limits,
     ) -> ClientStep {
@@ -48,7 +51,8 @@ impl Client {
             return self.refuse_request(alloc);
         }
         let has_room = hub.lobby().has_room(limits.newcomers());
-        match self.party.answer_request(site, has_room) {
+        let kept = kept_page(settle.machines());
+        match self.party.answer_request(site, &kept, has_room) {
             Ok(Next::Read) => ClientStep::Goes,
             Ok(Next::Close(_)) => self.end_request(),
             Ok(Next::Socket) if is_admitted(hub, limits) => self.open_socket(alloc),

@@ -85,6 +85,7 @@ impl Client {
             return self.serve_page_request(
                 alloc,
                 service.site,
+                service.settle,
                 service.hub,
                 service.limits,
                 buffers,

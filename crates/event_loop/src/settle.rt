@@ -1,5 +1,6 @@
 //! What replies wait for.
 use std::io;
+use web_wire::Machines;
 
 /// How far replies may go: those that wait for at most this number may be written.
 #[derive(Debug, Drop)]
@@ -27,4 +28,7 @@ pub trait Settle {
 
     /// Whether `settle` can no longer succeed.
     fn has_failed(&self) -> bool;
+
+    /// On how many machines an edit is kept once it is answered, as a browser is told at `/kept`.
+    fn machines(&self) -> Machines;
 }

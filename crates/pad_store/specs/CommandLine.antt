@@ -9,6 +9,10 @@ use Rattle.pad_store.specs.declared.args.StoreArguments.{StoreArguments}
 abbrev pub needed_word : List ℕ → Rule
 needed_word name = record (new_rule name) { value_names = 1; required = true }
 
+-- a revision or a path as a positional argument, which is any text
+abbrev pub other_word : List ℕ → Rule
+other_word name = record (new_rule name) { value_names = 1 }
+
 -- a revision as a positional argument, which is a number of 32 bits
 abbrev pub revision_word : List ℕ → Rule
 revision_word name = record (new_rule name)
@@ -18,10 +22,10 @@ revision_word name = record (new_rule name)
 abbrev pub revision_option : List ℕ → Rule
 revision_option name = number_rule name 0 4294967295
 
--- the command line with its positional arguments: the command, the path, and two revisions
+-- the command line with its positional arguments: the command, the path, and two revisions or another path
 abbrev pub line_with_arguments : App
 line_with_arguments = with_rule (with_rule (with_rule (with_rule (versioned (new_app (codes "pad_store")))
-    (needed_word (codes "command"))) (needed_word (codes "path"))) (revision_word (codes "first")))
+    (needed_word (codes "command"))) (needed_word (codes "path"))) (other_word (codes "first")))
     (revision_word (codes "second"))
 
 -- the same, with the options that take a value
@@ -38,6 +42,7 @@ line = with_rule (with_rule (with_rule line_with_values (flag_rule (codes "autho
 pub record AsksFor (words : List (List ℕ)) (asked : StoreArguments) : Type 0 where
   pub command : option_map (λ word. word.now) asked.command ≡ text_given line words (codes "command")
   pub path : option_map (λ path. path.now) asked.path ≡ text_given line words (codes "path")
+  pub other : option_map (λ other. other.now) asked.other ≡ text_given line words (codes "first")
   pub first : (other : ℕ) → Gives line words (codes "first") 0 4294967295 other (unwrap_or asked.first other)
   pub second : (other : ℕ) → Gives line words (codes "second") 0 4294967295 other (unwrap_or asked.second other)
   pub rev : (other : ℕ) → Gives line words (codes "rev") 0 4294967295 other (unwrap_or asked.rev other)

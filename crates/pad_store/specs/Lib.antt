@@ -2,4 +2,5 @@
 pub mod CommandLine
 pub mod Marks
 pub mod Modes
+pub mod Partings
 pub mod Reading

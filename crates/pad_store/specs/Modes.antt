@@ -18,6 +18,7 @@ deed_of command =
     else if bytes_eq command (codes "log") then Some deed.Log
     else if bytes_eq command (codes "diff") then Some deed.Diff
     else if bytes_eq command (codes "export") then Some deed.Export
+    else if bytes_eq command (codes "beyond") then Some deed.Beyond
     else None
 
 -- the first option that is given although the command has none
@@ -27,7 +28,7 @@ needless no_rev no_from no_sum no_view no_words asked =
     else if no_from && is_some asked.from then Some misuse.From
     else if no_sum && is_some asked.sum then Some misuse.Sum
     else if no_view && (asked.authors || asked.comments || asked.markdown) then Some misuse.View
-    else if no_words && (is_some asked.first || is_some asked.second) then Some misuse.Revisions
+    else if no_words && (is_some asked.other || is_some asked.second) then Some misuse.Words
     else None
 
 -- what is wrong with the options of a command, if anything: each has to belong to the command
@@ -37,6 +38,7 @@ misuse_of deed.Show asked = needless false true true false true asked
 misuse_of deed.Log asked = needless true false true true true asked
 misuse_of deed.Diff asked = needless true true true true false asked
 misuse_of deed.Export asked = needless false true (is_some asked.rev) true true asked
+misuse_of deed.Beyond asked = needless true true true true (is_some asked.second) asked
 
 -- a comparison, which needs two revisions
 abbrev pub compare : Bor (List ℕ) → Option ℕ → Option ℕ → Result StoreMode StoreMisuse
@@ -49,6 +51,11 @@ abbrev pub export_or_find : Bor (List ℕ) → Option ℕ → Option (Bor (List 
 export_or_find path rev (Some sum) = mode.Find path sum
 export_or_find path rev None = mode.Export path rev
 
+-- a comparison of two stores, which needs both
+abbrev pub compare_stores : Bor (List ℕ) → Option (Bor (List ℕ)) → Result StoreMode StoreMisuse
+compare_stores old (Some new) = Ok (mode.Beyond old new)
+compare_stores old None = Err misuse.NoStores
+
 -- a command with its arguments
 abbrev pub done_with : StoreArguments → Bor (List ℕ) → Deed → Result StoreMode StoreMisuse
 done_with asked path deed.Check = Ok (mode.Check path)
@@ -57,6 +64,7 @@ done_with asked path deed.Show = Ok (mode.Show path asked.rev
 done_with asked path deed.Log = Ok (mode.Log path asked.from)
 done_with asked path deed.Diff = compare path asked.first asked.second
 done_with asked path deed.Export = Ok (export_or_find path asked.rev asked.sum)
+done_with asked path deed.Beyond = compare_stores path asked.other
 
 -- the mode, unless something is wrong with the options
 abbrev pub unless_misused : Option StoreMisuse → Result StoreMode StoreMisuse → Result StoreMode StoreMisuse

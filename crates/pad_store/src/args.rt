@@ -5,7 +5,9 @@ ghost use Rattle.clap.specs.Words.{FailsBy, app_of, new_app};
 ghost use Rattle.command_line.specs.Options.{versioned};
 ghost use Rattle.pad_store.specs.CommandLine.{AsksFor, line_with_arguments, line, line_with_values};
 
-use crate::options::{flag, revision_of, revision_option, revision_word, sum_option, word};
+use crate::options::{
+    flag, other_word, revision_of, revision_option, revision_word, sum_option, word,
+};
 use clap::{Command, Error};
 use command_line::VERSION;
 use std::alloc::{AllocError, Global};
@@ -17,6 +19,8 @@ pub struct StoreArguments<'a> {
     pub command: Option<&'a str>,
     /// The file or the folder.
     pub path: Option<&'a str>,
+    /// The newer store of `beyond`, or the word for the older revision of `diff`.
+    pub other: Option<&'a str>,
     /// The older revision of `diff`.
     pub first: Option<u32>,
     /// The newer revision of `diff`.
@@ -36,7 +40,8 @@ const USAGE: &str = "pad_store check <DIR|FILE>
        pad_store show <FILE> [--rev <N>] [--authors] [--comments] [--markdown]
        pad_store log <FILE> [--from <N>]
        pad_store diff <FILE> <REV> <REV>
-       pad_store export <FILE> [--rev <N>] [--sum <SUM>]";
+       pad_store export <FILE> [--rev <N>] [--sum <SUM>]
+       pad_store beyond <OLD> <NEW>";
 
 // The program's name and its help.
 fn start<'a>(alloc: Global) -> Command<'a>
@@ -48,20 +53,21 @@ fn start<'a>(alloc: Global) -> Command<'a>
         .override_usage(USAGE)
 }
 
-// Adds the positional arguments: the command, the path, and two revisions.
+// Adds the positional arguments: the command, the path, and two revisions or another path.
 fn with_positional_arguments<'a>(alloc: Global) -> Result<Command<'a>, AllocError>
     ensures { IfOk result (λ command. app_of command ≡ line_with_arguments) }
 {
-    let path_help = "A file NAME.pad, or with check a folder of such files";
+    let path_help = "A file NAME.pad, or with check and beyond a folder of such files";
+    let other_help = "With diff: the older revision; with beyond: the newer store or file";
     start(alloc)
         .arg(word(
             alloc,
             "command",
             "COMMAND",
-            "check, show, log, diff or export",
+            "check, show, log, diff, export or beyond",
         ))?
         .arg(word(alloc, "path", "PATH", path_help))?
-        .arg(revision_word(alloc, "first", "With diff: the older revision"))?
+        .arg(other_word(alloc, "first", other_help))?
         .arg(revision_word(alloc, "second", "With diff: the newer revision"))
 }
 
@@ -98,6 +104,7 @@ pub fn parse<'a>(alloc: Global, words: &'a [String]) -> Result<StoreArguments<'a
     Ok(StoreArguments {
         command: matches.get_str("command"),
         path: matches.get_str("path"),
+        other: matches.get_str("first"),
         first: revision_of(&matches, "first"),
         second: revision_of(&matches, "second"),
         rev: revision_of(&matches, "rev"),

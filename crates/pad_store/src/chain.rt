@@ -1,4 +1,6 @@
 //! The two parts of a line: its text and its sum.
+ghost use Rattle.std.specs.Prelude.{◌≡◌, option_map};
+ghost use Rattle.pad_store.specs.Partings as partings;
 
 /// The number of bytes of a line beside its text: the brackets, the comma, the quotes and the 64 digits of the sum.
 const AROUND: usize = 69;
@@ -15,11 +17,23 @@ pub fn text_on(line: &[u8]) -> Option<&[u8]> {
 }
 
 /// The sum at the end of a line; None if the line is too short to have one.
-pub fn sum_on(line: &[u8]) -> Option<&[u8]> {
+pub fn sum_on(line: &[u8]) -> Option<&[u8]>
+    ensures { option_map (λ sum. sum.now) result ≡ partings.sum_on line.now }
+{
     if line.len() < AROUND {
         return None;
     }
     Some(&line[line.len() - SUM_AND_END..line.len() - 2])
+}
+
+/// Whether two lines have the same sum.
+pub fn have_one_sum(line: &[u8], other: &[u8]) -> bool
+    ensures { result ≡ partings.have_one_sum line.now other.now }
+{
+    match (sum_on(line), sum_on(other)) {
+        (Some(sum), Some(same)) => sum == same,
+        _ => false,
+    }
 }
 
 /// The number of the line that has this sum, counted from 1.

@@ -19,6 +19,8 @@ pub enum StoreFailure<'a> {
     NoSum { path: &'a str },
     /// The first revision of a comparison is the newer one.
     Backwards,
+    /// Of two stores that are compared, one is a folder and the other a file.
+    Unlike,
     /// Standard output failed.
     Unwritten(io::Error),
 }
@@ -59,7 +61,7 @@ impl<'a> StoreFailure<'a> {
     /// 2 if the command line is wrong, otherwise 1.
     pub fn status(self) -> ExitCode {
         match self {
-            StoreFailure::Backwards => ExitCode::from(2),
+            StoreFailure::Backwards | StoreFailure::Unlike => ExitCode::from(2),
             _ => ExitCode::FAILURE,
         }
     }
@@ -74,6 +76,7 @@ impl fmt::Display for StoreFailure<'_> {
             StoreFailure::Troubled { path, trouble } => write!(f, "{path}: {trouble}"),
             StoreFailure::NoSum { path } => write!(f, "{path}: no line has this sum"),
             StoreFailure::Backwards => write!(f, "diff needs the older revision first"),
+            StoreFailure::Unlike => write!(f, "beyond needs two folders or two files"),
             StoreFailure::Unwritten(cause) => write!(f, "standard output: {cause}"),
         }
     }

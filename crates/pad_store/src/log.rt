@@ -2,6 +2,7 @@
 use crate::failure::StoreFailure;
 use crate::inspected_pad::InspectedPad;
 use crate::operation::{Operation, kind_of, operation_on};
+use crate::other_line::other_line;
 use crate::pieces::{put_words, words};
 use crate::progress_report::ProgressReport;
 use crate::trouble::Trouble;
@@ -50,6 +51,43 @@ fn put_lines<'a, R: Runtime<A = Global>, W: Write>(
     Ok(())
 }
 
+/// Prints a line for each of these lines of a file: for an operation as `log` does, and for any other line what it was.
+/// `before` are the lines before them.
+pub fn put_lines_behind<'a, R: Runtime<A = Global>, W: Write>(
+    rt: &R,
+    path: &'a str,
+    book: &mut InspectedPad,
+    before: &[&[u8]],
+    lines: &[&[u8]],
+    out: &mut W,
+) -> Result<(), StoreFailure<'a>> {
+    let mut progress = ProgressReport::start(rt);
+    let all = book.revision();
+    let mut rev = revisions_in(rt.alloc(), before)?;
+    for line in lines {
+        match operation_on(rt.alloc(), line)? {
+            Some(done) => {
+                rev = rev.saturating_add(1);
+                put_line(rt.alloc(), path, book, rev, &done, out)?;
+            }
+            None => out.write_all(other_line(rt.alloc(), line)?.as_bytes())?,
+        }
+        progress.report(rt, "revision", rev, all);
+    }
+    Ok(())
+}
+
+// The number of revisions that these lines make.
+fn revisions_in(alloc: Global, lines: &[&[u8]]) -> Result<u64, AllocError> {
+    let mut revisions: u64 = 0;
+    for line in lines {
+        if operation_on(alloc, line)?.is_some() {
+            revisions = revisions.saturating_add(1);
+        }
+    }
+    Ok(revisions)
+}
+
 // Prints the line of a revision.
 fn put_line<'a, W: Write>(
     alloc: Global,
@@ -81,8 +119,8 @@ fn line_of(
     Ok(format!(in alloc; "{rev} {time} {name}@{origin} {kind}{words}\n")?)
 }
 
-// A time in UTC, or `-` if there is none.
-fn time_of(alloc: Global, at: Option<u64>) -> Result<String, AllocError> {
+/// A time in UTC, or `-` if there is none.
+pub fn time_of(alloc: Global, at: Option<u64>) -> Result<String, AllocError> {
     let second = match at {
         Some(at) => i64::try_from(at).unwrap_or(i64::MAX),
         None => return String::from_str(alloc, "-"),

@@ -2,6 +2,7 @@
 #![tactic(auto)]
 
 mod args;
+mod beyond;
 mod chain;
 mod check;
 mod diff;
@@ -14,6 +15,8 @@ mod log;
 mod mode;
 mod operation;
 mod options;
+mod other_line;
+mod parting;
 mod pieces;
 mod progress_report;
 mod show;
@@ -21,6 +24,7 @@ mod trouble;
 mod view;
 
 use args::parse;
+use beyond::beyond;
 use check::check;
 use command_line::report;
 use diff::diff;
@@ -98,6 +102,13 @@ fn perform<'a, W: Write>(
                 Ok(ExitCode::FAILURE)
             }
         }
+        StoreMode::Beyond { old, new } => {
+            if beyond(rt, old, new, out)? {
+                Ok(ExitCode::SUCCESS)
+            } else {
+                Ok(ExitCode::FAILURE)
+            }
+        }
         StoreMode::Show { path, .. }
         | StoreMode::Log { path, .. }
         | StoreMode::Diff { path, .. }
@@ -135,7 +146,7 @@ fn tell<'a, W: Write>(
             return export(rt, path, bytes, rev.map(u64::from), out);
         }
         StoreMode::Find { sum, .. } => return find(alloc, path, bytes, sum, out),
-        StoreMode::Check { .. } => return Ok(()),
+        StoreMode::Check { .. } | StoreMode::Beyond { .. } => return Ok(()),
     };
     match text {
         Ok(text) => Ok(out.write_all(text.as_bytes())?),

@@ -1,6 +1,6 @@
 //! What the program does, by its command line.
 ghost use Rattle.std.specs.Prelude.{◌≡◌};
-ghost use Rattle.pad_store.specs.Modes.{compare, done_with, export_or_find, misuse_of, mode_of, needless, with_deed};
+ghost use Rattle.pad_store.specs.Modes.{compare, compare_stores, done_with, export_or_find, misuse_of, mode_of, needless, with_deed};
 ghost use Rattle.pad_store.specs.Modes as modes;
 
 use crate::args::StoreArguments;
@@ -15,6 +15,7 @@ pub enum Deed {
     Log,
     Diff,
     Export,
+    Beyond,
 }
 
 /// A command with its arguments.
@@ -51,17 +52,24 @@ pub enum StoreMode<'a> {
         path: &'a str,
         sum: &'a str,
     },
+    /// Prints what an older store, or a file of one, has beyond a newer one.
+    Beyond {
+        old: &'a str,
+        new: &'a str,
+    },
 }
 
 /// What is wrong with a command line that clap accepts.
 #[derive(Clone, Copy, Debug, PartialEq, Eq, Error)]
 pub enum StoreMisuse {
-    #[error("the command is check, show, log, diff or export")]
+    #[error("the command is check, show, log, diff, export or beyond")]
     NoCommand,
     #[error("diff needs two revisions")]
     NoRevisions,
-    #[error("only diff takes revisions as words")]
-    Revisions,
+    #[error("only diff takes two more words, and only beyond takes one")]
+    Words,
+    #[error("beyond needs two stores, or two files")]
+    NoStores,
     #[error("--rev <N> is for show and export")]
     Rev,
     #[error("--from <N> is for log")]
@@ -117,6 +125,7 @@ impl<'a> StoreArguments<'a> {
             }),
             Deed::Diff => compared(path, self.first, self.second),
             Deed::Export => Ok(exported(path, self.rev, self.sum)),
+            Deed::Beyond => both_stores(path, self.other),
         }
     }
 
@@ -130,6 +139,7 @@ impl<'a> StoreArguments<'a> {
             Deed::Log => self.needless(true, false, true, true, true),
             Deed::Diff => self.needless(true, true, true, true, false),
             Deed::Export => self.needless(false, true, self.rev.is_some(), true, true),
+            Deed::Beyond => self.needless(true, true, true, true, self.second.is_some()),
         }
     }
 
@@ -152,8 +162,8 @@ impl<'a> StoreArguments<'a> {
             Some(StoreMisuse::Sum)
         } else if no_view && (self.authors || self.comments || self.markdown) {
             Some(StoreMisuse::View)
-        } else if no_words && (self.first.is_some() || self.second.is_some()) {
-            Some(StoreMisuse::Revisions)
+        } else if no_words && (self.other.is_some() || self.second.is_some()) {
+            Some(StoreMisuse::Words)
         } else {
             None
         }
@@ -171,6 +181,16 @@ fn compared<'a>(
     match (first, second) {
         (Some(rev), Some(to)) => Ok(StoreMode::Diff { path, rev, to }),
         _ => Err(StoreMisuse::NoRevisions),
+    }
+}
+
+// A comparison of two stores, which needs both.
+fn both_stores<'a>(old: &'a str, new: Option<&'a str>) -> Result<StoreMode<'a>, StoreMisuse>
+    ensures { result ≡ compare_stores old.entry new.entry }
+{
+    match new {
+        Some(new) => Ok(StoreMode::Beyond { old, new }),
+        None => Err(StoreMisuse::NoStores),
     }
 }
 
@@ -194,6 +214,7 @@ fn deed_of(command: &str) -> Option<Deed>
         "log" => Some(Deed::Log),
         "diff" => Some(Deed::Diff),
         "export" => Some(Deed::Export),
+        "beyond" => Some(Deed::Beyond),
         _ => None,
     }
 }

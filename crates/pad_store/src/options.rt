@@ -18,6 +18,13 @@ pub fn word<'a>(alloc: Global, name: &'a str, shown: &'a str, help: &'a str) -> 
         .help(help)
 }
 
+/// A revision or a path as a positional argument.
+pub fn other_word<'a>(alloc: Global, name: &'a str, help: &'a str) -> Arg<'a>
+    ensures { (rule_of result ≡ command_line.other_word name.now) × (result.global ≡ false) }
+{
+    Arg::new(alloc, name).value_name("OTHER").help(help)
+}
+
 /// A revision as a positional argument.
 pub fn revision_word<'a>(alloc: Global, name: &'a str, help: &'a str) -> Arg<'a>
     ensures { (rule_of result ≡ command_line.revision_word name.now) × (result.global ≡ false) }

@@ -1,5 +1,6 @@
 //! What the workers' replies wait for.
-ghost use Rattle.std.specs.Prelude.{◌≡◌, IfOk, IfSome};
+ghost use Rattle.std.specs.Prelude.{◌≡◌, ◌≢◌, true, IfOk, IfSome, MatchOption};
+ghost use Rattle.group_commit.specs.Confirmations.{is_unasked};
 ghost use Rattle.store_files.specs.Settling.{IsSaidOf};
 
 use event_loop::{Hub, Reach, Settle};
@@ -7,6 +8,7 @@ use std::io;
 use std::sync::Wait;
 use std::time::Clock;
 use store_files::{Keeper, Settlement};
+use web_wire::Machines;
 
 /// What the workers' replies wait for, if there is a store: its sync, and the standby's confirmation where that was
 /// promised.
@@ -46,6 +48,18 @@ impl<R: Wait + Clock> Settle for Settling<'_, R> {
         match self.keeper {
             Some(keeper) => keeper.has_failed(),
             None => false,
+        }
+    }
+
+    fn machines(&self) -> Machines
+        ensures { MatchOption self.now.keeper (result ≡ Machines.Zero)
+            (λ keeper. (result ≢ Machines.Zero)
+            × (is_unasked keeper.now.copying.asked ≡ true → result ≡ Machines.One)) }
+    {
+        match self.keeper {
+            None => Machines::Zero,
+            Some(keeper) if keeper.machines(self.rt) < 2 => Machines::One,
+            Some(_) => Machines::Two,
         }
     }
 }

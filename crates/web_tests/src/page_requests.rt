@@ -2,18 +2,20 @@
 use std::alloc::{AllocError, Global};
 use std::process::Abort;
 use std::test::Fail;
-use web_wire::{LONGEST_HEAD, Next, Page, PageRequest, Site};
+use web_wire::{LONGEST_HEAD, Machines, Next, Page, PageRequest, Site, kept_page};
 
 const PAGES: &[Page] = &[
     Page {
         path: "/",
         kind: "text/html; charset=utf-8",
+        cache: "no-cache",
         tag: "\"one\"",
         text: "<!doctype html><title>Pads</title>\n",
     },
     Page {
         path: "/style.css",
         kind: "text/css; charset=utf-8",
+        cache: "no-cache",
         tag: "\"two\"",
         text: "body { color: black }\n",
     },
@@ -35,7 +37,7 @@ fn ask(
     let mut next = Next::Read;
     for part in bytes.chunks(piece.max(1)) {
         request.feed(part)?;
-        next = request.answer(site, has_room)?;
+        next = request.answer(site, &kept_page(Machines::One), has_room)?;
         if next != Next::Read {
             break;
         }
@@ -352,7 +354,7 @@ fn frames_behind_a_handshake(rt: HostRuntime) -> Result<(), Fail> {
     let mut request = PageRequest::new(rt.alloc());
     request.feed(HANDSHAKE.as_bytes())?;
     request.feed(b"\r\n\x81\x82\0\0\0\0hi")?;
-    assert!(rt; request.answer(site, true)? == Next::Socket);
+    assert!(rt; request.answer(site, &kept_page(Machines::One), true)? == Next::Socket);
     assert!(rt; request.into_parts().input.as_slice() == b"\x81\x82\0\0\0\0hi".as_slice());
     Ok(())
 }

@@ -1,5 +1,5 @@
 -- The response of a page request: a socket or a page answers the request that was read.
-use Rattle.std.proofs.Common.{◌≡◌, ◌≤◌, refl, inl, inr, ℕ, Bool, true, false, List, [], ◌++◌, length, take, drop, Result, Ok, Err, ap, sym, ◌∙◌, append_assoc, arith, subst}
+use Rattle.std.proofs.Common.{◌≡◌, ◌≤◌, ◌∷◌, suc, Option, Some, None, IfSome, refl, inl, inr, ℕ, Bool, true, false, List, [], ◌++◌, length, take, drop, Result, Ok, Err, ap, sym, ◌∙◌, append_assoc, arith, subst}
 use Rattle.std.proofs.lemmas.List.{append-nil, take-append-le, take_all}
 use Rattle.std.specs.Prelude.{◌⊎◌, IfOk, OnOk, OnErr, Contains, bytes_eq, codes, if◌then◌else◌}
 use Rattle.std.specs.Borrow.{Bor}
@@ -366,3 +366,10 @@ page_kept plan result old between new pages origins room next spans len request 
     ]
     found (Planned.Socket key) planned responds = absurd (omega (arith, responds.1))
     found (Planned.Refused code whole) planned responds = absurd (omega (arith, responds.1))
+
+-- a page that is found among some pages is found among these and one more
+pub found_behind : (first : Page) (pages : List Page) (path : List ℕ) (found : Option (Bor Page))
+    → IfSome found (λ page. Contains pages page.now × (page.now.path.now ≡ path))
+    → IfSome found (λ page. Contains (first ∷ pages) page.now × (page.now.path.now ≡ path))
+found_behind first pages path None is = tt
+found_behind first pages path (Some page) ((place, low, there), is) = ((suc place, omega (arith, low), there), is)

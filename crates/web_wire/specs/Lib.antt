@@ -1,6 +1,7 @@
 -- The definitions that the contracts cite, by topic.
 pub mod Course
 pub mod Front
+pub mod Kept
 pub mod Laws
 pub mod Messages
 pub mod Socket

@@ -166,7 +166,7 @@ Grows old new = (more : List ℕ) × (new ≡ old ++ more)
 -- the fields of a response to a request for a page
 unfoldable pub page_fields : Page → List Header
 page_fields page =
-    (codes "content-type", page.kind.now) ∷ (codes "cache-control", codes "no-cache")
+    (codes "content-type", page.kind.now) ∷ (codes "cache-control", page.cache.now)
     ∷ (codes "etag", page.tag.now) ∷ (codes "content-security-policy", POLICY.now)
     ∷ (codes "x-content-type-options", codes "nosniff") ∷ (codes "referrer-policy", codes "no-referrer")
     ∷ (codes "cross-origin-opener-policy", codes "same-origin")

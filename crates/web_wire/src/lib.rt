@@ -11,6 +11,7 @@ mod frames;
 mod front;
 mod heard;
 mod held;
+mod kept;
 pub mod laws;
 mod message;
 mod origin;
@@ -20,6 +21,7 @@ mod plan;
 mod reply;
 
 pub use frames::{Frames, LONGEST_MESSAGE, NextMessage};
+pub use kept::{Machines, kept_page};
 pub use message::put_message;
 pub use page::{Page, Site};
 pub use page_request::{LONGEST_HEAD, Next, PageRequest, Parts};

@@ -7,6 +7,8 @@ pub struct Page {
     pub path: &'static str,
     /// The content type.
     pub kind: &'static str,
+    /// What a browser may do with a copy, as `cache-control` says it: `no-cache` or `no-store`.
+    pub cache: &'static str,
     /// The entity tag, which changes with the text, in quotation marks.
     pub tag: &'static str,
     pub text: &'static str,

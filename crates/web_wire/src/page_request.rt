@@ -1,5 +1,5 @@
 //! One request over HTTP: for a page, or for the socket.
-ghost use Rattle.std.specs.Prelude.{◌≡◌, ◌⊎◌, ◌≤◌, [], ◌++◌, true, drop, length, map, string_bytes, take, Contains, Ok, OnOk, OnErr, IfOk};
+ghost use Rattle.std.specs.Prelude.{◌≡◌, ◌⊎◌, ◌≤◌, [], ◌∷◌, ◌++◌, true, drop, length, map, string_bytes, take, Contains, Ok, OnOk, OnErr, IfOk};
 ghost use Rattle.http1.specs.Conn.{unread_size};
 ghost use Rattle.http1.specs.Server.{reading};
 ghost use Rattle.httparse.specs.Grammar.{HasNoRequest};
@@ -8,7 +8,7 @@ ghost use Rattle.websocket.specs.Headers.{fields_of};
 ghost use Rattle.web_wire.specs.PageRequests.{Grows, HasReason, IfRefused, IsKnown, IsPlanned, IsRefused, KeepsPage, TellsStatus, has_bytes, request_limits, OpensSocket, Responds, ServesPage};
 
 use crate::held::drop_front;
-use crate::page::Site;
+use crate::page::{Page, Site};
 use crate::plan::{Plan, plan_of};
 use crate::reply::{put_page, put_refusal, put_unchanged, put_unread, put_upgrade};
 use http1::{BodySize, Event, Limits, Server, WriteError};
@@ -104,22 +104,28 @@ impl PageRequest {
         self.refuse_unread(503)
     }
 
-    /// Answers the request once its head has arrived. A handshake becomes a socket only if `has_room` is true.
+    /// Answers the request once its head has arrived. A handshake becomes a socket only if `has_room` is true. `kept` is
+    /// served beside the pages of the site, before any of them that has its path.
     ///
     /// If memory runs out, nothing changes, and it may be called again.
-    pub fn answer(&mut self, site: Site<'_>, has_room: bool) -> Result<Next, AllocError>
+    pub fn answer(
+        &mut self,
+        site: Site<'_>,
+        kept: &Page,
+        has_room: bool,
+    ) -> Result<Next, AllocError>
         ensures waits { result ≡ Ok Next.Read
             → (self.new ≡ self.old) × HasNoRequest self.old.input }
         ensures socket { result ≡ Ok Next.Socket → (has_room ≡ true)
             × OpensSocket (map string_bytes site.entry.origins.now) self.old self.new }
         ensures page { result ≡ Ok (Next.Close 200)
-            → ServesPage site.entry.pages.now self.old self.new }
+            → ServesPage (kept.now ∷ site.entry.pages.now) self.old self.new }
         ensures unchanged { result ≡ Ok (Next.Close 304)
-            → KeepsPage site.entry.pages.now self.old self.new }
+            → KeepsPage (kept.now ∷ site.entry.pages.now) self.old self.new }
         ensures known { IfOk result IsKnown }
         ensures refused { IfRefused result
-            (HasReason site.entry.pages.now (map string_bytes site.entry.origins.now) has_room
-            self.old self.new) }
+            (HasReason (kept.now ∷ site.entry.pages.now) (map string_bytes site.entry.origins.now)
+            has_room self.old self.new) }
         ensures told { IfRefused result (TellsStatus self.old.output self.new.output) }
         ensures err { OnErr result (self.new ≡ self.old) }
     {
@@ -131,7 +137,7 @@ impl PageRequest {
         };
         match read.event {
             Event::Head(head) => {
-                let found = self.plan(&server, &head, &spans, site, has_room);
+                let found = self.plan(&server, &head, &spans, site, kept, has_room);
                 match self.respond(&mut server, found) {
                     Ok(next) => {
                         self.drop_head(read.consumed);
@@ -152,17 +158,26 @@ impl PageRequest {
         head: &RequestSpans,
         spans: &[HeaderSpan],
         site: Site<'a>,
+        kept: &'a Page,
         has_room: bool,
     ) -> Plan<'a>
         requires { IsRequestWithin self.now.input spans.now head.now }
-        ensures { IsPlanned site.entry.pages.now (map string_bytes site.entry.origins.now) has_room
+        ensures { IsPlanned (kept.now ∷ site.entry.pages.now) (map string_bytes site.entry.origins.now) has_room
             (has_bytes (unread_size (reading server.now)))
             (span_bytes self.now.input head.now.method)
             (span_bytes self.now.input head.now.path) head.now.version
             (fields_of self.now.input (take head.now.headers spans.now)) result }
     {
         let has_body = has_bytes(server.unread_size());
-        plan_of(self.input.as_slice(), head, spans, site, has_body, has_room)
+        plan_of(
+            self.input.as_slice(),
+            head,
+            spans,
+            site,
+            kept,
+            has_body,
+            has_room,
+        )
     }
 
     // Appends the response.

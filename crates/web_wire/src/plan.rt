@@ -1,5 +1,5 @@
 //! How a request is answered.
-ghost use Rattle.std.specs.Prelude.{◌≡◌, ◌≤◌, All, Contains, IfNone, IfSome, true, false, length, take, map, string_bytes};
+ghost use Rattle.std.specs.Prelude.{◌≡◌, ◌≤◌, ◌∷◌, All, Contains, IfNone, IfSome, true, false, length, take, map, string_bytes};
 ghost use Rattle.std.specs.List.{position};
 ghost use Rattle.httparse.specs.Spans.{IsHeaderWithin, IsRequestWithin, span_bytes};
 ghost use Rattle.websocket.specs.Headers.{fields_of};
@@ -35,11 +35,12 @@ pub(crate) fn plan_of<'a>(
     head: &RequestSpans,
     spans: &[HeaderSpan],
     site: Site<'a>,
+    kept: &'a Page,
     has_body: bool,
     has_room: bool,
 ) -> Plan<'a>
     requires { IsRequestWithin input.now spans.now head.now }
-    ensures { IsPlanned site.entry.pages.now (map string_bytes site.entry.origins.now) has_room
+    ensures { IsPlanned (kept.now ∷ site.entry.pages.now) (map string_bytes site.entry.origins.now) has_room
         has_body
         (span_bytes input.now head.now.method)
         (span_bytes input.now head.now.path) head.now.version
@@ -60,7 +61,7 @@ pub(crate) fn plan_of<'a>(
     if path == SOCKET {
         return socket_plan(input, head, spans, site.origins, has_room);
     }
-    let Some(page) = find_page(site.pages, path) else {
+    let Some(page) = find_served(kept, site.pages, path) else {
         return Plan::Refused(404, whole);
     };
     if has_copy(input, &spans[..head.headers], page) {
@@ -126,6 +127,19 @@ fn find_query(target: &[u8]) -> Option<usize>
     ensures { result ≡ position is_query target.now }
 {
     target.iter().position(|byte| *byte == b'?')
+}
+
+// The page with a path: `kept`, or else the first of the others.
+fn find_served<'a>(kept: &'a Page, pages: &'a [Page], path: &[u8]) -> Option<&'a Page>
+    ensures none { IfNone result (has_page (kept.now ∷ pages.now) path.now ≡ false) }
+    ensures some { IfSome result (λ page. Contains (kept.now ∷ pages.now) page.now
+        × (page.now.path.now ≡ path.now)) }
+{
+    if kept.path.as_bytes() == path {
+        Some(kept)
+    } else {
+        find_page(pages, path)
+    }
 }
 
 // The first page with a path.

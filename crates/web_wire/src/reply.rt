@@ -48,7 +48,7 @@ fn fields(page: &Page) -> [Header<'_>; 9]
         },
         Header {
             name: b"cache-control",
-            value: b"no-cache",
+            value: page.cache.as_bytes(),
         },
         Header {
             name: b"etag",

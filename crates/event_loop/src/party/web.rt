@@ -16,14 +16,19 @@ use crate::party::{Party, Stage};
 use crate::protocol::Protocol;
 use std::alloc::{AllocError, Global};
 use std::mem;
-use web_wire::{Frames, Next, NextMessage, PageRequest, Parts, Site, put_message};
+use web_wire::{Frames, Next, NextMessage, Page, PageRequest, Parts, Site, put_message};
 use wire_json::memory_line;
 use wire_lines::Fault;
 
 impl<K: ByteSocket> Party<K> {
-    /// Answers a request over HTTP once it is complete. After `Next::Socket`, `open` or `refuse` goes on. If memory runs
+    /// Answers a request over HTTP once it is complete; `kept` is served beside the site's pages. After `Next::Socket`, `open` or `refuse` goes on. If memory runs
     /// out, nothing changes.
-    pub fn answer_request(&mut self, site: Site<'_>, has_room: bool) -> Result<Next, AllocError>
+    pub fn answer_request(
+        &mut self,
+        site: Site<'_>,
+        kept: &Page,
+        has_room: bool,
+    ) -> Result<Next, AllocError>
         ensures { Goes self.old self.new }
     {
         if self.stage != Stage::Talks {
@@ -32,7 +37,7 @@ impl<K: ByteSocket> Party<K> {
         let Protocol::PageRequest(request) = &mut self.protocol else {
             return Ok(Next::Read);
         };
-        let answered = request.answer(site, has_room);
+        let answered = request.answer(site, kept, has_room);
         match answered {
             Ok(Next::Close(_)) => self.close_request(),
             Ok(Next::Socket) => self.upgrade(),

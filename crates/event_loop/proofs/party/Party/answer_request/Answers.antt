@@ -1,4 +1,4 @@
-use Rattle.std.proofs.Common.{rules, ◌≡◌, not, false, true≢false, Ok, refl, sym, ap, ◌∙◌}
+use Rattle.std.proofs.Common.{rules, ◌≡◌, ◌∷◌, not, false, true≢false, Ok, refl, sym, ap, ◌∙◌}
 use denote.Enum.Bare.{sameb}
 use Rattle.event_loop.specs.contracts.party.Stage.{the_type}
 use Rattle.event_loop.specs.declared.party.Stage.{Stage}
@@ -17,7 +17,7 @@ returns-in-Ok-Close g c =
     let talks : c.self.inside.stage ≡ Talks = talking c.self.inside.stage (sym c.ne.ensures ∙ c.if-ne.false) in
     let is : c.answer-answered.result ≡ Ok (Close c.in-Ok-Close.field-0-0) = search rules in
     rw (← c.self.view_is)
-    (closed_with _ _ c.close_request.new.self c.args.site.pages.now c.in-Ok-Close.field-0-0 c.in-PageRequest.request
+    (closed_with _ _ c.close_request.new.self (c.args.kept.now ∷ c.args.site.pages.now) c.in-Ok-Close.field-0-0 c.in-PageRequest.request
     c.answer-answered.new.self talks c.in-PageRequest.is
     (λ found. c.answer-answered.ensures.page (is ∙ ap (λ status. Ok (Close status)) found)) refl
     c.close_request.ensures)

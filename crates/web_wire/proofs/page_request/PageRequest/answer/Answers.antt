@@ -1,11 +1,12 @@
-use Rattle.std.proofs.Common.{Ok, sym, ap, ◌∙◌}
+use Rattle.std.proofs.Common.{◌∷◌, Ok, sym, ap, ◌∙◌}
 use Rattle.web_wire.proofs.PageRequests.{known_status, page_kept, page_served, refusal_reason, socket_opens, status_told, unread_reason}
 use Rattle.web_wire.proofs.page_request.PageRequest.answer.Goals as goal
 
 pub returns-in-Ok-respond-clause-socket : goal.returns-in-Ok-respond-clause-socket
 returns-in-Ok-respond-clause-socket c is =
     let input = ap (λ d. d.input) (sym c.self.view_is) in
-    socket_opens c.plan-found.result c.respond.result c.args.self.now c.respond.new.self c.drop_head.new.self _ _ _ _ _ _
+    socket_opens c.plan-found.result c.respond.result c.args.self.now c.respond.new.self c.drop_head.new.self
+    (c.args.kept.now ∷ c.args.site.pages.now) _ _ _ _ _
     c.in-Head.head (c.in-Ok-respond.is ∙ is)
     (rw (c.in-Head.is, c.new-server.ensures, c.limits.ensures, c.as_slice.ensures.value, sym input) at c.in-Ok.ensures.ok)
     c.plan-found.ensures c.respond.ensures c.drop_head.ensures

@@ -1,0 +1,68 @@
+//! The lines of a file that make no revision.
+use crate::chain::text_on;
+use crate::file_names::value_of;
+use crate::log::time_of;
+use pad_model::Refusal;
+use serde_json::Value;
+use std::alloc::{AllocError, Global};
+use store_format::{StoreLine, read_entry};
+use store_records::Record;
+
+/// The output line for a line that makes no revision: `-`, the time, who, and what it was. Without a time or an author,
+/// `-` stands there.
+pub fn other_line(alloc: Global, line: &[u8]) -> Result<String, AllocError> {
+    let Some(text) = text_on(line) else {
+        return unknown(alloc);
+    };
+    let Some(value) = value_of(alloc, text)? else {
+        return unknown(alloc);
+    };
+    let time = time_of(alloc, number_at(&value, "at"))?;
+    match read_entry(alloc, &value) {
+        Ok(entry) => line_with(alloc, &value, time.as_str(), &entry),
+        Err(Refusal::Memory) => Err(AllocError),
+        Err(_) => unknown(alloc),
+    }
+}
+
+// The output line for a line whose meaning is known.
+fn line_with(
+    alloc: Global,
+    value: &Value,
+    time: &str,
+    entry: &StoreLine,
+) -> Result<String, AllocError> {
+    match entry {
+        StoreLine::Header(header) => format!(in alloc; "- {time} - server {}\n", header.replica),
+        StoreLine::Record(Record::Named { owner, .. }) => {
+            format!(in alloc; "- {time} {} create\n", owner.as_str())
+        }
+        StoreLine::Record(Record::Granted { author, .. }) => {
+            let right = text_at(value, "right");
+            format!(in alloc; "- {time} - right {} {right}\n", author.as_str())
+        }
+        StoreLine::Record(Record::Visited) => format!(in alloc; "- {time} - visit\n"),
+        StoreLine::Record(Record::Delivered { .. }) => unknown(alloc),
+    }
+}
+
+// The output line for a line whose meaning is not known. A file whose pad can be read has none.
+fn unknown(alloc: Global) -> Result<String, AllocError> {
+    String::from_str(alloc, "- - - unknown\n")
+}
+
+// The number in a field of an object.
+fn number_at(value: &Value, key: &str) -> Option<u64> {
+    match value.get(key) {
+        Some(number) => number.as_u64(),
+        None => None,
+    }
+}
+
+// The text in a field of an object; empty if it has none.
+fn text_at<'a>(value: &'a Value, key: &str) -> &'a str {
+    match value.get(key) {
+        Some(text) => text.as_str().unwrap_or(""),
+        None => "",
+    }
+}

@@ -9,9 +9,10 @@ const WRONG_TOKEN = { code: 201 };
 
 export class LogIn {
   // `enter` is the list of pads, and `kept` what the browser keeps of them. `onAgain` gets the token of a link for the author whose
-  // pad was opened without a log-in, and resolves to whether it is right. `onStay` and `onUnsent` say what keeps the author here.
-  constructor(session, { kept, enter, onAgain, onStay, onUnsent }) {
-    Object.assign(this, { session, kept, enter, onAgain, onStay, onUnsent });
+  // pad was opened without a log-in, and resolves to whether it is right. `onStay` and `onUnsent` say what keeps the author here,
+  // and `onIn` is called after a log-in.
+  constructor(session, { kept, enter, onAgain, onStay, onUnsent, onIn }) {
+    Object.assign(this, { session, kept, enter, onAgain, onStay, onUnsent, onIn });
     Object.assign(this, { loggingIn: null, lastLink: Promise.resolve(), isLeaving: false });
     $("log-in").addEventListener("submit", (event) => { event.preventDefault(); this.logIn(); });
     for (const id of ["log-out", "menu-log-out"]) $(id).addEventListener("click", () => this.logOut());
@@ -59,6 +60,7 @@ export class LogIn {
       this.refuse(reason(error));
       return;
     } finally { say($("state"), ""); }
+    this.onIn();
     if ($("stay").checked) stay(name, token); else forgetLogIn();
     // Browsers that keep passwords take a form for sent once it is gone and the history has moved.
     $("log-in").hidden = true;

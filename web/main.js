@@ -6,6 +6,7 @@ import { KeptPads, LogInAgain } from "./kept_pads.js";
 import { KeysBox } from "./keys_box.js";
 import { offerLanguages } from "./language.js";
 import { LogIn } from "./log_in.js";
+import { Machines } from "./machines.js";
 import { $, label } from "./page.js";
 import { LostRevisions, Taken } from "../clients/js/src/errors.js";
 import { Session } from "../clients/js/src/session.js";
@@ -22,15 +23,17 @@ const enter = new Enter(session, kept, {
   onPad: (found) => { desk.open(); if (found) desk.find.show(found); }, onLeave: () => desk.close(), onRefused: (name) => desk.notOpened(name),
 });
 const desk = new Desk(session, { onClose: () => (logIn.isLeaving ? null : enter.show()), onLogOut: () => logIn.logOut(true) });
+const machines = new Machines(session);
 const again = new LogInAgain(session, reason);
 const logIn = new LogIn(session, {
-  kept, enter, onAgain: (token) => { again.open(token); return again.logIn(); },
+  kept, enter, onIn: () => machines.logIn(), onAgain: (token) => { again.open(token); return again.logIn(); },
   onStay: () => desk.notice.show(""), onUnsent: (text) => desk.notice.show(text, { canLogOut: true }),
 });
 new KeysBox();
 offerLanguages(() => {
   if (session.login && !logIn.loggingIn) enter.show(); else if (!logIn.loggingIn) kept.show();
   tellIfUnproved();
+  machines.draw();
 });
 
 const whenOpen = (event, act) => session.on(event, (...given) => { if (desk.isShowing) act(...given); });
@@ -45,12 +48,14 @@ whenOpen("rights", () => desk.showRights());
 whenOpen("refused", (reply, words) => desk.refused(reply, words));
 whenOpen("returned", () => desk.returned());
 whenOpen("reread", () => desk.reread());
+session.on("over", () => machines.follow());
 whenOpen("over", (error) => desk.over(error instanceof LostRevisions ? WORDS.gone : error instanceof Taken ? WORDS.taken : reason(error)));
 
 let wasLost = false;
 session.on("state", () => {
   if (wasLost && !session.isLost) tellIfUnproved();
   wasLost = session.isLost;
+  machines.follow();
   enter.showState();
   if (desk.isOpen) desk.showState();
 });

@@ -55,6 +55,12 @@ const KEYS = { Ctrl: "Strg", Shift: "Umschalt", Enter: "Eingabe" };
 export const WORDS = {
   unnamed: "Vindrughe",
   unproved: "Dieser Server wurde zum Ausprobieren ohne Beweise gebaut. Der bewiesene übernimmt von selbst, wenn er hier bewiesen wird.",
+  machines: (n) => ["Nicht aufbewahrt: Dieser Server hat keine Ablage", "Nur auf einer Maschine aufbewahrt", "Auf zwei Maschinen aufbewahrt"][n],
+  machinesHint: (n) => [
+    "Was hier geschrieben wird, ist verloren, wenn der Server endet: Er hat Pads nur im Arbeitsspeicher.",
+    "Was gespeichert ist, liegt auf der Platte des Servers; keine zweite Maschine bestätigt, dass sie es hat.",
+    "Was gespeichert ist, liegt auf der Platte des Servers und auf der seines Ersatzservers, der übernehmen kann.",
+  ][n],
   title: (pad) => `${pad} – Vindrughe`,
   loggedIn: (me) => `Angemeldet als ${me}`,
   padLine: (right, revisions, last, time, isUnsent) => (

@@ -57,6 +57,12 @@ const KINDS = { insert: "typed", delete: "erased", edit: "edited", comment: "com
 export const WORDS = {
   unnamed: "Vindrughe",
   unproved: "This server was built without proofs, for a try. The proved one takes over by itself, if it is being proved here.",
+  machines: (n) => ["Not kept: this server has no store", "Kept on one machine only", "Kept on two machines"][n],
+  machinesHint: (n) => [
+    "What is written here is lost when the server ends: it has pads in memory alone.",
+    "What is saved is on the server's disk; no second machine confirms that it has it.",
+    "What is saved is on the server's disk and on that of its standby, which can take over.",
+  ][n],
   title: (pad) => `${pad} – Vindrughe`,
   loggedIn: (me) => `Logged in as ${me}`,
   padLine: (right, revisions, last, time, isUnsent) => (

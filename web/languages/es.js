@@ -55,6 +55,12 @@ const KEYS = { Shift: "Mayús", Enter: "Intro" };
 export const WORDS = {
   unnamed: "Vindrughe",
   unproved: "Este servidor se construyó sin demostraciones, para probarlo. El demostrado lo releva por sí solo, si se está demostrando aquí.",
+  machines: (n) => ["No se conserva: este servidor no tiene almacén", "Conservado en una sola máquina", "Conservado en dos máquinas"][n],
+  machinesHint: (n) => [
+    "Lo que se escribe aquí se pierde cuando el servidor termina: solo tiene los pads en memoria.",
+    "Lo guardado está en el disco del servidor; ninguna segunda máquina confirma que lo tiene.",
+    "Lo guardado está en el disco del servidor y en el de su servidor de reserva, que puede relevarlo.",
+  ][n],
   title: (pad) => `${pad} – Vindrughe`,
   loggedIn: (me) => `Ha entrado como ${me}`,
   padLine: (right, revisions, last, time, isUnsent) => (

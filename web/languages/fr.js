@@ -55,6 +55,12 @@ const KEYS = { Shift: "Maj", Enter: "Entrée", Esc: "Échap" };
 export const WORDS = {
   unnamed: "Vindrughe",
   unproved: "Ce serveur a été construit sans preuves, pour un essai. Celui qui est prouvé prend le relais de lui-même, si sa preuve est en cours ici.",
+  machines: (n) => ["Non conservé : ce serveur n'a pas de stockage", "Conservé sur une seule machine", "Conservé sur deux machines"][n],
+  machinesHint: (n) => [
+    "Ce qui est écrit ici est perdu quand le serveur s'arrête : il n'a les pads qu'en mémoire.",
+    "Ce qui est enregistré est sur le disque du serveur ; aucune seconde machine ne confirme qu'elle l'a.",
+    "Ce qui est enregistré est sur le disque du serveur et sur celui de son serveur de secours, qui peut prendre le relais.",
+  ][n],
   title: (pad) => `${pad} – Vindrughe`,
   loggedIn: (me) => `Connecté en tant que ${me}`,
   padLine: (right, revisions, last, time, isUnsent) => (

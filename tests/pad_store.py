@@ -15,6 +15,7 @@ USAGE = """Usage: pad_store check <DIR|FILE>
        pad_store log <FILE> [--from <N>]
        pad_store diff <FILE> <REV> <REV>
        pad_store export <FILE> [--rev <N>] [--sum <SUM>]
+       pad_store beyond <OLD> <NEW>
 """
 
 AT = 1795471200
@@ -128,13 +129,13 @@ CASES = [
     program("version", "--version", stdout="pad_store 0.1.0\n", files=()),
     refused("no words", "", "required"),
     refused("no path", "check", "required"),
-    refused("another command", "repair p.pad", "the command is check, show, log, diff or export\n"),
+    refused("another command", "repair p.pad", "the command is check, show, log, diff, export or beyond\n"),
     refused("--rev with log", "log p.pad --rev 1", "--rev <N> is for show and export\n"),
     refused("--from with show", "show p.pad --from 1", "--from <N> is for log\n"),
     refused("--sum with show", "show p.pad --sum a", "--sum <SUM> is for export, without --rev <N>\n"),
     refused("--sum with --rev", "export p.pad --sum a --rev 1", "--sum <SUM> is for export, without --rev <N>\n"),
     refused("--authors with log", "log p.pad --authors", "--authors, --comments and --markdown are for show\n"),
-    refused("revisions with show", "show p.pad 1", "only diff takes revisions as words\n"),
+    refused("revisions with show", "show p.pad 1", "only diff takes two more words, and only beyond takes one\n"),
     refused("diff with one revision", "diff p.pad 1", "diff needs two revisions\n"),
     refused("diff backwards", "diff p.pad 3 1", "diff needs the older revision first\n"),
     refused("a revision that is no number", "show p.pad --rev x", "--rev <N>"),
@@ -277,7 +278,7 @@ def an_export_rebuilds_the_pad():
 def nothing_is_changed():
     put_files([("p.pad", WHOLE + b"[{"), ("q.pad", DAMAGED[0][1])])
     before = {name: (os.stat(name).st_mtime_ns, open(name, "rb").read()) for name in os.listdir(".")}
-    for args in ["check .", "show p.pad", "log p.pad", "diff p.pad 1 2", "export p.pad", "show q.pad"]:
+    for args in ["check .", "show p.pad", "log p.pad", "diff p.pad 1 2", "export p.pad", "show q.pad", "beyond . .", "beyond p.pad q.pad"]:
         start("pad_store", args, stdout=subprocess.DEVNULL, stderr=subprocess.DEVNULL).wait()
     after = {name: (os.stat(name).st_mtime_ns, open(name, "rb").read()) for name in os.listdir(".")}
     want(after, before, "the files")

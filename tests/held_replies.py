@@ -1,4 +1,5 @@
 """Replies that wait for the standby are held, and no worker is: with one worker, all other clients are served meanwhile."""
+import http.client
 import signal
 import time
 
@@ -6,6 +7,7 @@ from harness import Failed, Test, want
 from peers import wait_for
 from sockets import Client
 from standbys import NAMES, Machines, files_of, wait_until_copied
+from web_server import read_web
 
 
 def begin(confirm, more=""):
@@ -48,9 +50,20 @@ def wait_until_stored(count):
     wait_for("all edits are stored", lambda: all(text in files_of("main")["p.pad"] for text in texts))
 
 
+def machines_told(port):
+    """What the page is told about on how many machines its words are kept."""
+    connection = http.client.HTTPConnection("127.0.0.1", port, timeout=20)
+    connection.request("GET", "/kept")
+    told = connection.getresponse().read()
+    connection.close()
+    return told
+
+
 def one_worker_serves_all_while_replies_wait():
-    machines, standby, main, authors = begin("60")
+    machines, standby, main, authors = begin("60", "--web 127.0.0.1:0")
+    web = read_web(main)
     threads = threads_of(main)
+    want(machines_told(web), b'{"machines":2}', "what the page is told before")
     standby.send_signal(signal.SIGSTOP)
     for number, author in enumerate(authors):
         types(author, number)
@@ -62,6 +75,7 @@ def one_worker_serves_all_while_replies_wait():
     time.sleep(0.3)
     wants_silence([late])
     want(threads_of(main), threads, "the threads of the server while replies wait")
+    want(machines_told(web), b'{"machines":2}', "what the page is told while replies wait")
     standby.send_signal(signal.SIGCONT)
     for author in authors:
         want(author.replies.readline().endswith(b'"ok":true}\n'), True, "that an edit is answered once it is confirmed")

@@ -1,7 +1,7 @@
 //! The clients of a worker, and the work of a turn.
 use crate::buffers::Buffers;
 use crate::client::Client;
-use crate::hub::Hub;
+use crate::hub::{Connected, Hub};
 use crate::settle::{Reach, Settle};
 use mio::{Events, Interest, Registry, Token};
 use sessions::Accounts;
@@ -225,7 +225,11 @@ impl Clients {
         let Some(client) = self.all.get_mut(key) else {
             return Ok(());
         };
-        client.wait_for(self.due);
+        client.wait_for(match client.connected() {
+            Connected::Client => self.due,
+            // A file of the page reveals nothing that was noted.
+            Connected::PageRequest => 0,
+        });
         let mut reached = None;
         if let Some(reach) = reach {
             client.write::<T>(reach);

@@ -12,7 +12,7 @@ use std::rt::Runtime;
 
 /// How many pads of the older store were found to be what.
 #[derive(Clone, Copy, Debug)]
-struct Counts {
+struct BeyondCounts {
     pads: u64,
     /// Pads with lines that the newer store lacks.
     beyond: u64,
@@ -26,9 +26,9 @@ struct Counts {
     lines: u64,
 }
 
-impl Counts {
-    fn new() -> Counts {
-        Counts {
+impl BeyondCounts {
+    fn new() -> BeyondCounts {
+        BeyondCounts {
             pads: 0,
             beyond: 0,
             missing: 0,
@@ -53,7 +53,7 @@ impl Counts {
 
     // The last line that is printed.
     fn line(&self, alloc: Global) -> Result<String, AllocError> {
-        let Counts {
+        let BeyondCounts {
             pads,
             beyond,
             missing,
@@ -74,7 +74,7 @@ pub fn beyond<'a, R: Runtime<A = Global>, W: Write>(
     new: &'a str,
     out: &mut W,
 ) -> Result<bool, StoreFailure<'a>> {
-    let mut counts = Counts::new();
+    let mut counts = BeyondCounts::new();
     match (kind_of(rt, old)?, kind_of(rt, new)?) {
         (true, true) => compare_folders(rt, old, new, &mut counts, out)?,
         (false, false) => compare(rt, old, new, &mut counts, out)?,
@@ -108,7 +108,7 @@ fn compare_folders<'a, R: Runtime<A = Global>, W: Write>(
     rt: &R,
     old: &'a str,
     new: &'a str,
-    counts: &mut Counts,
+    counts: &mut BeyondCounts,
     out: &mut W,
 ) -> Result<(), StoreFailure<'a>> {
     let mut progress = ProgressReport::start(rt);
@@ -150,7 +150,7 @@ fn compare_named<R: Runtime<A = Global>, W: Write>(
     old: &str,
     new: &str,
     name: &str,
-    counts: &mut Counts,
+    counts: &mut BeyondCounts,
     out: &mut W,
 ) -> Result<(), StoreFailure<'static>> {
     let old = format!(in rt.alloc(); "{old}/{name}")?;
@@ -167,7 +167,7 @@ fn compare<'a, R: Runtime<A = Global>, W: Write>(
     rt: &R,
     old: &'a str,
     new: &'a str,
-    counts: &mut Counts,
+    counts: &mut BeyondCounts,
     out: &mut W,
 ) -> Result<(), StoreFailure<'a>> {
     counts.pads = counts.pads.saturating_add(1);
@@ -189,7 +189,7 @@ fn compare_files<'a, R: Runtime<A = Global>, W: Write>(
     rt: &R,
     old: &'a str,
     new: &'a str,
-    counts: &mut Counts,
+    counts: &mut BeyondCounts,
     out: &mut W,
 ) -> Result<(), StoreFailure<'a>> {
     let others = read_file(rt, new)?;
@@ -232,7 +232,7 @@ fn put_beyond<'a, R: Runtime<A = Global>, W: Write>(
     book: &mut InspectedPad,
     olds: &[&[u8]],
     news: &[&[u8]],
-    counts: &mut Counts,
+    counts: &mut BeyondCounts,
     out: &mut W,
 ) -> Result<(), StoreFailure<'a>> {
     let (shared, more) = part(olds, news);

@@ -24,26 +24,26 @@ const PAUSE: u64 = 1;
 
 /// The listener of a standby.
 #[derive(Drop)]
-pub struct Entrance {
+pub struct StandbyEntrance {
     poll: Poll,
     events: Events,
     listener: TcpListener,
 }
 
-impl Entrance {
+impl StandbyEntrance {
     /// An entrance with a listener that is bound, and the waker that wakes who waits for a connection.
     pub fn new<R: Net>(
         rt: &R,
         alloc: Global,
         bound: net::TcpListener,
-    ) -> io::Result<(Entrance, Waker)> {
+    ) -> io::Result<(StandbyEntrance, Waker)> {
         let poll = Poll::new(rt)?;
         let waker = Waker::new(poll.registry(), WAKING)?;
         bound.set_nonblocking(true)?;
         let mut listener = TcpListener::from_std(bound);
         poll.registry()
             .register(&mut listener, LISTENER, Interest::READABLE)?;
-        let entrance = Entrance {
+        let entrance = StandbyEntrance {
             poll,
             events: Events::with_capacity(alloc, EVENTS)?,
             listener,

@@ -159,13 +159,7 @@ where
     let service = Service {
         row: &row,
         hub,
-        limits: Limits {
-            connections: asked.connections,
-            clients: asked.clients,
-            per_address: asked.clients_per_address,
-            idle: asked.idle,
-            logs_access: asked.logs_access,
-        },
+        limits: limits_of(asked),
         settle: &settle,
         site,
     };
@@ -179,6 +173,17 @@ where
         status,
     };
     serve(&service, acceptor, workers, others)
+}
+
+/// The limits of the settings.
+fn limits_of(asked: Settings<'_>) -> Limits {
+    Limits {
+        connections: asked.connections,
+        clients: asked.clients,
+        per_address: asked.clients_per_address,
+        idle: asked.idle,
+        logs_access: asked.logs_access,
+    }
 }
 
 /// The origins of the settings, which are separated by commas; without the option, none.

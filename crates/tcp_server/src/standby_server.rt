@@ -1,7 +1,7 @@
 //! The server of a standby: it keeps copies of another server's files, and answers that server alone, until it is promoted.
 ghost use Rattle.std.specs.Prelude.{◌≤◌};
 
-use crate::entrance::Entrance;
+use crate::entrance::StandbyEntrance;
 use crate::listeners::listen_alone;
 use crate::serving_error::ServingError;
 use accounts_file::read_accounts;
@@ -109,7 +109,7 @@ where
         + Sync
         + Eprint,
 {
-    let (entrance, waker) = match Entrance::new(rt, rt.alloc(), listener) {
+    let (entrance, waker) = match StandbyEntrance::new(rt, rt.alloc(), listener) {
         Ok(made) => made,
         Err(cause) => return Err(ServingError::NotSetUp(cause)),
     };
@@ -134,7 +134,7 @@ where
 }
 
 // Lets in whoever connects, until the standby is promoted or its store has failed.
-fn let_all_in<R>(rt: &R, mut entrance: Entrance, seat: &CopyingSeat, door: StandbyDoor<'_>)
+fn let_all_in<R>(rt: &R, mut entrance: StandbyEntrance, seat: &CopyingSeat, door: StandbyDoor<'_>)
 where
     R: AllocGlobal + Clock + Wait + Eprint,
 {

@@ -1,4 +1,4 @@
-"""The address where operators ask for the status: /healthz, /kept and /metrics, and what is counted against what was done."""
+"""The address where operators ask for the status: what it answers, and what is counted against what was done."""
 import json
 import re
 import signal
@@ -8,7 +8,7 @@ import time
 
 from harness import Case, Failed, Has, Test, put_files, start, want
 from peers import free_ports, wait_for
-from sockets import ACCOUNTS, LISTEN, Client, Server
+from sockets import ACCOUNTS, LISTEN, Server
 from standbys import Machines
 
 SLOW = 5  # seconds: what is to take a moment takes no longer
@@ -23,20 +23,21 @@ class Watched(Server):
 
     def __init__(self, more="", **streams):
         super().__init__(f"--status 127.0.0.1:0 {more}", **streams)
-        self.status = status_port(self.process)
+        self.web, self.status = ports_of(self.process)
 
     def counts(self):
         return counts_at(self.status)
 
 
-def status_port(process):
-    """The port that the server prints for its status."""
-    line = process.stdout.readline().decode()
+def ports_of(process):
+    """The ports that the server prints for the page, if it serves one, and for its status."""
+    web, line = None, process.stdout.readline().decode()
     if line.startswith("web on "):
+        web = int(line.rsplit(":", 1)[1].strip("/\n"))
         line = process.stdout.readline().decode()
     if not re.fullmatch(r"status on 127\.0\.0\.1:\d+\n", line):
         raise Failed(f"the line with the address of the status: {line!r}")
-    return int(line.rsplit(":", 1)[1])
+    return web, int(line.rsplit(":", 1)[1])
 
 
 def exchange(port, sent):
@@ -116,6 +117,9 @@ class Counts(dict):
     def of(self, name, **labels):
         return self.get((f"vindrughe_{name}", tuple(sorted(labels.items()))))
 
+    def some(self, *names):
+        return [self.of(name) for name in names]
+
 
 def counts_at(port):
     status, fields, text = get(port, "/metrics")
@@ -160,7 +164,8 @@ def wrong_requests():
         answered = exchange(server.status, sent)
         if not answered.startswith(b"HTTP/1.1 400 Bad Request\r\n"):
             raise Failed(f"{sent[:40]!r} is answered {answered[:80]!r}")
-    want(exchange(server.status, b"GET /healthz HTTP/1.0\n\n")[-4:], b"\nok\n", "the answer to lines that end with LF alone")
+    answered = exchange(server.status, b"GET /healthz HTTP/1.0\n\n")
+    want(answered[-4:], b"\nok\n", "the answer to lines that end with LF alone")
     # A request may come in pieces.
     with socket.create_connection(("127.0.0.1", server.status), timeout=SLOW) as connection:
         for piece in (b"GET /hea", b"lthz HTTP/1.1\r", b"\n\r\n"):
@@ -192,12 +197,14 @@ def a_slow_client_holds_nobody_up():
 
 def what_was_done_is_counted():
     server = Watched("--store pads --web 127.0.0.1:0")
-    want([server.counts().of(name) for name in ("clients", "pads", "requests_total", "operations_total")], [0] * 4, "the counts at first")
+    first = ("clients", "pads", "requests_total", "operations_total")
+    want(server.counts().some(*first), [0] * 4, "the counts at first")
     ann = server.author("ann")
     ann.does(do="create", pad="p")
     for number in range(5):
         ann.does(do="insert", pad="p", rev=number, at=0, text="x")
-    want(ann.ask(do="insert", pad="p", rev=9, at=0, text="x").get("code"), 320, "the answer to a revision that is not there")
+    answer = ann.ask(do="insert", pad="p", rev=9, at=0, text="x")
+    want(answer.get("code"), 320, "the answer to a revision that is not there")
     want(ann.ask(do="join", pad="q").get("code"), 300, "the answer to a pad that is not there")
     ann.send("nonsense\n\n")
     want(json.loads(ann.replies.readline())["code"], 101, "the answer to nonsense")
@@ -208,11 +215,12 @@ def what_was_done_is_counted():
     want(counts.of("pads"), 1, "the pads")
     want(counts.of("operations_total"), 5, "the operations")
     want(counts.of("requests_total"), 11, "the lines that were answered")
-    refused = {dict(labels)["code"]: count for (name, labels), count in counts.items() if name == "vindrughe_refusals_total"}
+    refused = {key[1][0][1]: count for key, count in counts.items() if key[0] == "vindrughe_refusals_total"}
     want(refused, {"101": 1, "201": 1, "300": 1, "320": 1}, "the refusals")
     want((counts.of("notes_total"), counts.of("notes_synced_total")), (6, 6), "the notes: a creation and five edits")
-    if not 2 <= counts.of("sync_seconds_count") <= 12 or counts.of("sync_seconds_sum") <= 0:
-        raise Failed(f"{counts.of('sync_seconds_count')} syncs in {counts.of('sync_seconds_sum')} s of six notes, one after the other")
+    syncs, seconds = counts.some("sync_seconds_count", "sync_seconds_sum")
+    if syncs < 6 or seconds <= 0:
+        raise Failed(f"{syncs} syncs in {seconds} s of six notes, one after the other")
     want((counts.of("machines"), counts.of("confirms")), (1, None), "the machines, and whether a standby confirms")
     memory = counts.of("resident_memory_bytes")
     with open(f"/proc/{server.process.pid}/statm", encoding="ascii") as file:
@@ -222,15 +230,15 @@ def what_was_done_is_counted():
     builds = [labels for (name, labels) in counts if name == "vindrughe_build_info"]
     want([sorted(dict(labels)) for labels in builds], [["proved", "version"]], "the labels of the build")
     want(get(server.status, "/kept")[2], '{"machines":1}\n', "where pads are kept with a store")
+    for path in ("/", "/nothing"):
+        exchange(server.web, f"GET {path} HTTP/1.1\r\nHost: x\r\n\r\n".encode())
+    want(server.counts().of("page_connections_total"), 2, "the requests of browsers")
+    wait_for("no request of a browser is left", lambda: server.counts().of("page_requests") == 0)
     eve.close()
     wait_for("one client is left", lambda: server.counts().of("clients") == 1)
-    want(len(eve_free(server)), 0, "the numbers that shrink")
-
-
-def eve_free(server):
-    """Counters that are less at a second look than at the first."""
-    first, second = server.counts(), server.counts()
-    return [key for key, count in first.items() if key[0].endswith("_total") and second[key] < count]
+    later = server.counts()
+    shrunk = [key for key, count in counts.items() if key[0].endswith("_total") and later[key] < count]
+    want(shrunk, [], "the counters that shrink")
 
 
 def each_sync_is_counted():
@@ -243,7 +251,8 @@ def each_sync_is_counted():
         ann.does(do="insert", pad="p", rev=number, at=0, text="x")
     after = server.counts()
     want(after.of("sync_seconds_count") - before.of("sync_seconds_count"), 20, "the syncs of twenty edits")
-    want(after.of("notes_synced_total") - before.of("notes_synced_total"), 20, "the notes of twenty edits that are synced")
+    notes = after.of("notes_synced_total") - before.of("notes_synced_total")
+    want(notes, 20, "the notes of twenty edits that are synced")
 
 
 def the_pads_of_a_store_are_counted():
@@ -259,7 +268,7 @@ def the_pads_of_a_store_are_counted():
 
 def main_with_status(machines, confirm):
     main = machines.main(confirm, "--status 127.0.0.1:0")
-    return main, status_port(main)
+    return main, ports_of(main)[1]
 
 
 def the_standby_is_watched():
@@ -272,21 +281,25 @@ def the_standby_is_watched():
     ann.does(do="insert", pad="p", rev=0, at=0, text="both")
     want(kept_at(port), {"caught_up": True, "confirm": "1", "lag": 0, "machines": 2}, "what is told with a standby")
     counts = counts_at(port)
-    want([counts.of(name) for name in ("confirms", "machines", "notes_confirmed_total", "standby_lag_notes", "standby_lag_bytes")], [1, 2, 2, 0, 0], "the numbers with a standby")
+    told = ("confirms", "machines", "notes_confirmed_total", "standby_lag_notes")
+    want(counts.some(*told, "standby_lag_bytes"), [1, 2, 2, 0, 0], "the numbers with a standby")
     standby.send_signal(signal.SIGSTOP)
     ann.does(do="insert", pad="p", rev=1, at=0, text="alone ")
-    want(kept_at(port), {"caught_up": False, "confirm": "1", "lag": 1, "machines": 1}, "what is told while the standby is stopped")
+    behind = {"caught_up": False, "confirm": "1", "lag": 1, "machines": 1}
+    want(kept_at(port), behind, "what is told while the standby is stopped")
     wait_for("the standby lags for some seconds", lambda: counts_at(port).of("standby_lag_seconds") >= 2)
     counts = counts_at(port)
-    want([counts.of(name) for name in ("confirms", "machines", "notes_confirmed_total", "standby_lag_notes")], [0, 1, 2, 1], "the numbers while the standby is stopped")
-    if counts.of("standby_lag_bytes") < 50 or counts.of("standby_silence_seconds") < 2:
-        raise Failed(f"the standby lags {counts.of('standby_lag_bytes')} bytes and is silent for {counts.of('standby_silence_seconds')} s")
+    want(counts.some(*told), [0, 1, 2, 1], "the numbers while the standby is stopped")
+    lag, silence = counts.some("standby_lag_bytes", "standby_silence_seconds")
+    if lag < 50 or silence < 2:
+        raise Failed(f"the standby lags {lag} bytes, and is silent for {silence} s")
     want(get(port, "/healthz")[0], 200, "the health of a server that goes on alone")
     standby.send_signal(signal.SIGCONT)
     whole = {"caught_up": True, "confirm": "1", "lag": 0, "machines": 2}
     wait_for("the standby has caught up", lambda: kept_at(port) == whole)
     counts = counts_at(port)
-    want([counts.of(name) for name in ("confirms", "standby_lag_notes", "standby_lag_bytes", "standby_lag_seconds")], [1, 0, 0, 0], "the numbers afterwards")
+    lags = ("standby_lag_notes", "standby_lag_bytes", "standby_lag_seconds")
+    want(counts.some("confirms", *lags), [1, 0, 0, 0], "the numbers afterwards")
 
 
 def a_standby_that_confirms_nothing():
@@ -295,7 +308,8 @@ def a_standby_that_confirms_nothing():
     _main, port = main_with_status(machines, "")
     machines.author("ann").does(do="create", pad="p")
     wait_for("the copy is told of", lambda: kept_at(port).get("caught_up"))
-    want(kept_at(port), {"caught_up": True, "confirm": "never", "lag": 0, "machines": 1}, "what is told without --confirm")
+    told = {"caught_up": True, "confirm": "never", "lag": 0, "machines": 1}
+    want(kept_at(port), told, "what is told without --confirm")
     want(counts_at(port).of("confirms"), 0, "whether the standby confirms")
 
 
@@ -318,9 +332,8 @@ def an_address_in_use():
     put_files(ACCOUNTS)
     with socket.create_server(("127.0.0.1", 0)) as taken:
         address = f"127.0.0.1:{taken.getsockname()[1]}"
-        process = start(
-            "pad_server", f"{LISTEN} --status {address}", stdin=subprocess.DEVNULL, stdout=subprocess.PIPE, stderr=subprocess.PIPE
-        )
+        streams = {"stdin": subprocess.DEVNULL, "stdout": subprocess.PIPE, "stderr": subprocess.PIPE}
+        process = start("pad_server", f"{LISTEN} --status {address}", **streams)
         wrote, said = process.communicate()
     want((wrote, process.returncode), (b"", 1), "standard output and the status with an address in use")
     if f"pad_server: cannot listen at {address}: Address already in use" not in said.decode():

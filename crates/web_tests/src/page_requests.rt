@@ -114,6 +114,22 @@ const REQUESTS: &[(&str, u16, &str)] = &[
     ),
     ("GET /style.css HTTP/1.0\r\n\r\n", 200, "color: black"),
     (
+        "HEAD /kept HTTP/1.1\r\nHost: a\r\n\r\n",
+        200,
+        "cache-control: no-store\r\n",
+    ),
+    (
+        "POST /kept HTTP/1.1\r\nHost: a\r\n\r\n",
+        405,
+        "allow: GET, HEAD\r\n",
+    ),
+    ("GET /kept HTTP/1.1\r\n\r\n", 400, "Bad Request"),
+    (
+        "GET /kept/ HTTP/1.1\r\nHost: a\r\n\r\n",
+        404,
+        "Not Found",
+    ),
+    (
         "HEAD / HTTP/1.1\r\nHost: a\r\n\r\n",
         200,
         "content-length: 35\r\n",

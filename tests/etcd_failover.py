@@ -1,4 +1,4 @@
-"""Three nodes of etcd, and the script `failover` beside a main server and its standby: who is lost is replaced by itself."""
+"""Three nodes of etcd, and the script `failover` beside a main server and its standby: a loss is mended by itself."""
 import os
 import random
 import shutil
@@ -215,7 +215,8 @@ def a_key_that_is_not_free():
     words = ["hold", "--etcd", machines.etcd.urls(), "--serves", "127.0.0.1:1", "--", "/bin/false"]
     run = subprocess.run([sys.executable, f"{ROOT}/failover", *words], capture_output=True, text=True, timeout=30)
     said = "failover: the key /vindrughe/main is not free, machine 1 has it: the server is not started\n"
-    want((run.stdout + run.stderr, run.returncode), (said, 1), "what the script of a second main server says, and its status")
+    told = run.stdout + run.stderr
+    want((told, run.returncode), (said, 1), "what the script of a second main server says, and its status")
     # TERM ends the main server, and the standby takes over at once.
     want(machines.end(1), 0, "the status after TERM")
     if machines.serves_again() > TTL:

@@ -38,7 +38,7 @@ ROWS = [
     ("seconds that a main server waits for its standby", "standby/src/connect.rt", "PATIENCE"),
     ("seconds that a standby waits for its main server", "tcp_server/src/standby_server.rt", "SILENCE"),
     ("reads in which a greeting comes", "standby/src/taking.rt", "FIRST_READS"),
-    ("reads in which the first request behind it comes", "standby/src/taking.rt", "FIRST_READS"),
+    ("seconds that a read of that first request takes", "tcp_server/src/standby_server.rt", "FIRST_REQUEST"),
     ("seconds before a connection that broke", "standby/src/sending.rt", "PAUSE"),
     ("seconds before one that was refused", "standby/src/sending.rt", "LONG_PAUSE"),
     ("bytes of a request for the status", "tcp_server/src/status.rt", "LONGEST_HEAD"),

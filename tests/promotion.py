@@ -296,7 +296,8 @@ def the_script_says_what_is_wrong():
          "failover: the accounts file accounts has no line `peer 7`\n", 1),
         (["promote", "--at", "here", "--accounts", "accounts", "--main", "1"],
          "failover: here is no address: HOST:PORT is needed, such as 127.0.0.1:7878\n", 2),
-        (["hold", "--etcd", nowhere, "--serves", address, "--ttl", "4"], "failover: --ttl needs at least 5 seconds\n", 2),
+        (["hold", "--etcd", nowhere, "--serves", address, "--ttl", "4"],
+         "failover: --ttl needs at least 5 seconds\n", 2),
         (["hold", "--etcd", nowhere, "--serves", address],
          f"failover: no node of etcd answers at {nowhere}: <urlopen error [Errno 111] Connection refused>\n", 1),
     ]:

@@ -315,6 +315,15 @@ class FaultyStandby(Machines):
         return self.faults.variables if number == 2 else None
 
 
+def serves(machines):
+    """Whether the promoted server answers an author."""
+    try:
+        machines.author("ann", "p", 2).close()
+        return True
+    except (OSError, ValueError):
+        return False
+
+
 def memory_that_is_refused():
     """An allocation of the promotion is refused: the standby is promoted or not, it may end, and has everything."""
     for allocation in itertools.chain(range(1, 12), range(12, 400, 37)):
@@ -335,9 +344,9 @@ def memory_that_is_refused():
                    '{"code":900,"error":"Memory","ok":false}\n')
         want(told in answers, True, f"that whole lines were told, and not {told!r}")
         if told.endswith('{"ok":true}\n'):
-            line = standby.stdout.readline().decode()
+            standby.stdout.readline()  # nothing, where it ends before it listens
             machines.faults.set("allocations", 0)
-            if not line:
+            if not serves(machines):
                 want(standby.wait(), 1, "the status of a server that found no memory to start")
                 machines.promoted()
         else:

@@ -312,19 +312,30 @@ def a_killed_standby_goes_on():
     wait_until_copied()
 
 
+def logged_in(store):
+    """The whole stretches of a standby's log: a pad, the place where the stretch begins, and the number of its bytes."""
+    with open(f"{store}/rounds", "rb") as file:
+        log = file.read()
+    stretches, at = [], 0
+    while (end := log.find(b"\n", at)) >= 0:
+        told = json.loads(log[at:end])
+        at = end + 1 + told["bytes"]
+        if at > len(log):
+            break
+        stretches.append((told["pad"], told["from"], told["bytes"]))
+    return stretches
+
+
 def power_cut(store, seed):
     """Takes what a standby had not synced: of the files, anything behind the first stretch of each in the log."""
     dice = random.Random(seed)
-    with open(f"{store}/rounds", "rb") as file:
-        log = file.read()
-    firsts, at = {}, 0
-    while at < len(log):
-        end = log.index(b"\n", at)
-        told = json.loads(log[at:end])
-        firsts.setdefault(told["pad"], told["from"])
-        at = end + 1 + told["bytes"]
+    firsts = {}
+    for pad, begins, _ in logged_in(store):
+        firsts.setdefault(pad, begins)
     for pad, synced in firsts.items():
         path = f"{store}/{pad}.pad"
+        if not os.path.exists(path):
+            continue
         size = os.path.getsize(path)
         with open(path, "r+b") as file:
             fate = dice.randrange(3)

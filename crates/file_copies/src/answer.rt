@@ -1,5 +1,6 @@
 //! What a standby answers.
-ghost use Rattle.std.specs.Prelude.{◌≡◌, IfOk, option_and_then, string_bytes};
+ghost use Rattle.std.specs.Prelude.{◌≡◌, ◌≢◌, ℕ, IfNone, IfOk, IfSome, option_and_then, string_bytes};
+ghost use Rattle.file_copies.specs.declared.answer.StandbyAnswer.TheVariants as answer;
 ghost use Rattle.serde_json.specs.View.{view};
 ghost use Rattle.wire_json.specs.Reading.{IsForm, IsLine, IsRead};
 ghost use Rattle.file_copies.specs.Requests.{answer_in, answer_said, copy_data, copy_in, done_in, kept_data, line_of, ok_in, outcome_in, refused_data, told_data};
@@ -22,6 +23,35 @@ pub enum StandbyAnswer {
     Kept { mark: u64 },
     /// The request is refused, with this number.
     Refused { code: u64 },
+}
+
+/// A standby has said that everything up to a mark is on its disk. Only `StandbyAnswer::heard` gives this.
+#[derive(Debug, Drop)]
+pub struct Heard {
+    mark: u64,
+}
+
+impl Heard {
+    /// The mark.
+    pub fn mark(&self) -> u64
+        ensures { result ≡ self.now.mark }
+    {
+        self.mark
+    }
+}
+
+impl StandbyAnswer {
+    /// What the answer confirms, if it confirms anything.
+    pub fn heard(&self) -> Option<Heard>
+        ensures some { IfSome result (λ heard. self.now ≡ answer.Kept heard.mark) }
+        ensures none { IfNone result ((mark : ℕ) → self.now ≢ answer.Kept mark) }
+    {
+        match self {
+            StandbyAnswer::Kept { mark } => Some(Heard { mark: *mark }),
+            StandbyAnswer::Copy { .. } | StandbyAnswer::Told | StandbyAnswer::Refused { .. } =>
+                None,
+        }
+    }
 }
 
 /// The line that tells how far the copy of a pad's file is.

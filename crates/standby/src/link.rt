@@ -87,10 +87,11 @@ impl<R: Source, W: Sink> Copies for StandbyLink<R, W> {
     }
 
     fn hear(&mut self, alloc: Global) -> Result<CopiesAnswer, Fault> {
-        match self.answer(alloc)? {
-            StandbyAnswer::Kept { mark } => Ok(CopiesAnswer::Kept { mark }),
-            StandbyAnswer::Refused { code } => Ok(CopiesAnswer::Refused { code }),
-            StandbyAnswer::Copy { .. } | StandbyAnswer::Told => Err(Fault::PeerReply),
+        let answer = self.answer(alloc)?;
+        match (answer.heard(), answer) {
+            (Some(heard), _) => Ok(CopiesAnswer::Kept(heard)),
+            (None, StandbyAnswer::Refused { code }) => Ok(CopiesAnswer::Refused { code }),
+            (None, _) => Err(Fault::PeerReply),
         }
     }
 }

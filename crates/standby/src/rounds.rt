@@ -172,10 +172,12 @@ impl<'k> Rounds<'k> {
         let is_all = self.put_all(rt, alloc, copies)?;
         let mark = if is_all { kept } else { self.confirmed };
         copies.flush(alloc, mark)?;
-        match copies.hear(alloc)? {
-            CopiesAnswer::Kept { mark: told } if told == mark => {}
-            CopiesAnswer::Kept { .. } => return Err(Broken::Off(Fault::PeerReply)),
+        let heard = match copies.hear(alloc)? {
+            CopiesAnswer::Kept(heard) => heard,
             CopiesAnswer::Refused { code } => return Err(Broken::Refused { code }),
+        };
+        if heard.mark() != mark {
+            return Err(Broken::Off(Fault::PeerReply));
         }
         self.files.note_round(self.copied_bytes());
         self.is_first &= !is_all;
@@ -183,7 +185,7 @@ impl<'k> Rounds<'k> {
             return Ok(false);
         }
         self.confirmed = mark;
-        Ok(self.files.hear(rt, mark, true))
+        Ok(self.files.hear(rt, &heard, true))
     }
 
     /// Whether the copies once had everything that was stored here.

@@ -2,6 +2,7 @@
 use crate::keeper::Keeper;
 use crate::sums::sum_before;
 use cell_set::CellSet;
+use file_copies::Heard;
 use pad_model::Name;
 use std::alloc::{AllocError, Global};
 use std::io;
@@ -120,14 +121,14 @@ impl<'k> KeptFiles<'k> {
         progress.heard_at.set(self.keeper.seconds());
     }
 
-    /// The standby has synced what is behind the first `mark` notes. `is_all` tells that it had everything. Returns whether the
-    /// server was alone until then.
-    pub fn hear<R: Wait>(&self, rt: &R, mark: u64, is_all: bool) -> bool {
+    /// The standby has said that it has synced what is behind the first notes, as many as the mark. `is_all` tells that it had
+    /// everything. Returns whether the server was alone until then.
+    pub fn hear<R: Wait>(&self, rt: &R, heard: &Heard, is_all: bool) -> bool {
         if is_all {
             let now = self.keeper.seconds();
             self.keeper.copying.progress.whole_at.set(now);
         }
-        self.keeper.copying.hear(rt, mark, is_all)
+        self.keeper.copying.hear(rt, heard.mark(), is_all)
     }
 
     /// Another server has taken this one's place: with `Confirm::Strict` no reply is written any more.

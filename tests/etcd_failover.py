@@ -184,14 +184,14 @@ def without_a_majority():
     machines = Guarded()
     machines.begin()
     server = machines.server_of(1)
-    began = time.monotonic()
     for name in NODES[:2]:
         machines.etcd.kill(name)
-    want(machines.scripts[1].wait(), 1, "the status of the script beside the main server")
+    began = time.monotonic()
+    wait_for("the server is killed", lambda: not os.path.exists(f"/proc/{server}"))
     seconds = time.monotonic() - began
     if seconds > TTL:
         raise Failed(f"the server was killed {seconds} s after the last answer of etcd, and the lease has {TTL} s")
-    want(os.path.exists(f"/proc/{server}"), False, "that the server is there")
+    want(machines.scripts[1].wait(), 1, "the status of the script beside the main server")
     want("could not be kept" in machines.said(1), True, f"that the script says why, and not {machines.said(1)!r}")
     time.sleep(2)
     client = Client(machines.ports[2])

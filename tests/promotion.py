@@ -278,7 +278,8 @@ def started_again_as_a_standby():
     ann.does(do="create", pad="only-there")
     machines.wait_until_said(1, "the standby 2 has another past of the pad ")
     want(files_of("copy"), was, "the files of the promoted server")
-    # Promoted once more, it goes on where it was.
+    # Promoted once more, it goes on where it was. The old server is off: as a peer it would merge its edits.
+    machines.kill(1)
     promote(machines)
     there = machines.author("ann", "p", 2)
     want(shown(there), before, "what it shows")
@@ -326,7 +327,7 @@ def serves(machines):
 
 def memory_that_is_refused():
     """An allocation of the promotion is refused: the standby is promoted or not, it may end, and has everything."""
-    for allocation in itertools.chain(range(1, 12), range(12, 400, 37)):
+    for allocation in itertools.chain(range(1, 9), (12, 50, 200)):
         machines = FaultyStandby()
         standby = machines.standby()
         machines.main("5")

@@ -2,7 +2,8 @@
 //
 //     node tests/web/dev.mjs PORT SERVER_PORT [FOLDER]
 //
-// For work on the page, and for its tests. A file that is also in FOLDER is served from there.
+// For work on the page, and for its tests. A file that is also in FOLDER is served from there. At /kept it says 0, or what the
+// file `kept` in FOLDER has.
 import { createHash } from "node:crypto";
 import fs from "node:fs";
 import http from "node:http";
@@ -37,6 +38,10 @@ function fileOf(name) {
 const server = http.createServer((request, response) => {
   const { pathname } = new URL(request.url, "http://localhost"), name = pathname === "/" ? "index.html" : pathname;
   if (name === "/files.txt") { response.writeHead(200, { ...HEADERS, "content-type": "text/plain; charset=utf-8" }).end(list()); return; }
+  if (name === "/kept" && !fs.existsSync(fileOf(name))) {
+    response.writeHead(200, { ...HEADERS, "content-type": "application/json" }).end('{"machines":0}');
+    return;
+  }
   fs.readFile(fileOf(name), (error, data) => {
     if (error) response.writeHead(404).end();
     else response.writeHead(200, { ...HEADERS, etag: tagOf(data), "content-type": `${KINDS[path.extname(name)]}; charset=utf-8` }).end(data);

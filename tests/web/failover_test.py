@@ -80,6 +80,11 @@ def open_windows(machines, proxy):
     return windows
 
 
+def kept_on(window):
+    """What a window says of the number of machines."""
+    return window.run("return document.getElementById('machines').textContent")
+
+
 def lose_the_main_server(machines, web, typists):
     """While both type, the main machine is lost and the standby promoted; then both type on."""
     wait_for("both have typed", lambda: all(len(it.typed) >= FEWEST for it in typists))
@@ -99,6 +104,8 @@ def play(check):
         machines.main("strict", f"--web 127.0.0.1:{webs[0]}")
         proxy = Proxy(webs)
         windows = open_windows(machines, proxy)
+        for window, name in zip(windows, ["ann", "bob"]):
+            check(f"{name}'s window says that words are on two machines", until(lambda: kept_on(window) == "Kept on two machines"), kept_on(window))
         typists = [Typist(window, letters) for window, letters in zip(windows, ["0123456789", "abcdefghijklmnopqrstuvwxyz"])]
         try:
             lose_the_main_server(machines, webs[1], typists)
@@ -108,6 +115,7 @@ def play(check):
         due = "\n".join(typist.typed for typist in typists)
         for window, name in zip(windows, ["ann", "bob"]):
             check(f"{name}'s window is saved", until(window.is_saved, 60), window.state)
+            check(f"{name}'s window says that words are on one machine", until(lambda: kept_on(window) == "Kept on one machine only"), kept_on(window))
             check(f"each character is there once in {name}'s window", until(lambda: window.text == due), (window.text, due))
         reader = machines.author("ann", "p", 2)
         text = reader.does(do="text", pad="p")["text"]

@@ -180,10 +180,11 @@ class Window:
         self.driver.execute_cdp_cmd("Emulation.setEmulatedMedia", {"features": [{"name": "prefers-color-scheme", "value": scheme}]})
 
     def faults(self):
-        """What the browser logged as a fault, other than a connection that broke: the socket's, or that of the question whether
-        the server is proved, which follows each new one."""
+        """What the browser logged as a fault, other than a connection that broke: the socket's, or that of the questions whether
+        the server is proved and on how many machines it keeps words, which follow each new one."""
         told = [line["message"] for line in self.driver.get_log("browser") if line["level"] == "SEVERE"]
-        return [text for text in told if "WebSocket" not in text and not ("/unproved.txt" in text and "net::ERR_" in text)]
+        asked = ("/unproved.txt", "/kept")
+        return [text for text in told if "WebSocket" not in text and not (any(it in text for it in asked) and "net::ERR_" in text)]
 
     def quit(self):
         self.driver.quit()

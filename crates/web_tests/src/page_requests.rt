@@ -124,11 +124,7 @@ const REQUESTS: &[(&str, u16, &str)] = &[
         "allow: GET, HEAD\r\n",
     ),
     ("GET /kept HTTP/1.1\r\n\r\n", 400, "Bad Request"),
-    (
-        "GET /kept/ HTTP/1.1\r\nHost: a\r\n\r\n",
-        404,
-        "Not Found",
-    ),
+    ("GET /kept/ HTTP/1.1\r\nHost: a\r\n\r\n", 404, "Not Found"),
     (
         "HEAD / HTTP/1.1\r\nHost: a\r\n\r\n",
         200,

@@ -11,7 +11,8 @@ import urllib.request
 from harness import Failed, ROOT, Test, path_of, want
 from peers import free_ports, wait_for
 from sockets import Client
-from standbys import NAMES, Machines, Writer, begin_pads, check_answered
+from two_machines import NAMES, Machines
+from writers import Writer, begin_pads, check_answered
 
 NODES = ("one", "two", "three")
 TTL = 5  # seconds that a key outlives its machine

@@ -6,7 +6,7 @@ import time
 from harness import Failed, Test, want
 from peers import wait_for
 from sockets import Client
-from standbys import NAMES, Machines, files_of, wait_until_copied
+from two_machines import NAMES, Machines, files_of, wait_until_copied
 from web_server import read_web
 
 

@@ -4,8 +4,8 @@ import http.client
 from harness import Test, want
 from peers import free_ports, wait_for
 from sockets import WAIT
-from standbys import Machines
 from stores import STORE
+from two_machines import Machines
 from web_server import WebServer
 
 FIELDS = {

@@ -10,9 +10,10 @@ import time
 
 from faults import Faults
 from harness import Failed, ROOT, Test, put_files, want
-from peers import free_ports, wait_for
+from peers import free_ports
 from sockets import Client
-from standbys import NAMES, Machines, Writer, begin_pads, check_answered, entries_of, files_of, shown, wait_until_copied
+from two_machines import NAMES, Machines, entries_of, files_of, shown
+from writers import Writer, begin_pads, check_answered
 
 GREETING = {"do": "peer", "number": 1, "token": "secret", "version": 2}
 GREETED = {"ok": True, "replica": 2, "version": 2}

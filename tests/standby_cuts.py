@@ -8,7 +8,8 @@ import threading
 import time
 
 from harness import Failed, Test, put_files, want
-from standbys import NAMES, Machines, Writer, begin_pads, check_answered, files_of, logged_in, power_cut, wait_until_copied
+from two_machines import NAMES, Machines, files_of, logged_in, power_cut, wait_until_copied
+from writers import Writer, begin_pads, check_answered
 
 CUTS = 12  # how often the connection is cut under load
 BOTH_CUT = 4  # how often both machines lose their power

@@ -7,7 +7,7 @@ import time
 
 from faults import Faults
 from harness import Failed, Test, want
-from standbys import Machines, files_of, wait_until_copied
+from two_machines import Machines, files_of, wait_until_copied
 
 EDITS = 6
 STEP = 7  # each so manieth allocation is refused

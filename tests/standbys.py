@@ -1,108 +1,13 @@
 """A standby: it has every line of the main server's files, and what was confirmed survives the loss of the main server."""
-import glob
-import json
 import os
-import random
 import shutil
 import signal
-import subprocess
-import threading
 import time
 
-from harness import Case, Failed, Has, Test, put_files, start, want
-from peers import free_ports, wait_for
+from harness import Case, Failed, Has, Test, want
 from scripts_test import PYTHON, script
 from sockets import Client
-
-NAMES = ["ann", "bob", "cid", "dan", "eve", "fay", "gus", "hal", "ida", "jon", "kim", "leo", "mia", "ned", "oda"]
-LOSSES = 4  # how often the main machine is lost under load
-MANY_LOSSES = 100
-KILLS = 6  # how often the standby is killed under load
-PADS = 20
-
-
-class Machines:
-    """Two machines: 1 is the main server with the store `main`, 2 its standby with the store `copy`."""
-
-    def __init__(self):
-        self.ports = dict(zip((1, 2), free_ports(2)))
-        lines = [f"author {name} t{name}\n" for name in NAMES]
-        lines += [f"peer {number} secret 127.0.0.1:{port}\n" for number, port in self.ports.items()]
-        put_files((("accounts", "".join(lines)),))
-        self.processes = {}
-
-    def run(self, number, store, more=""):
-        """Starts a program at the address of a machine."""
-        args = f"--listen 127.0.0.1:{self.ports[number]} --replica {number} --accounts accounts --store {store} {more}"
-        with open(f"said{number}", "ab") as said:
-            process = start(
-                "pad_server", args, self.variables(number), stdin=subprocess.DEVNULL, stdout=subprocess.PIPE, stderr=said
-            )
-        line = process.stdout.readline().decode()
-        if line != f"listening on 127.0.0.1:{self.ports[number]}\n":
-            raise Failed(f"the first line of machine {number}: {line!r}, and it said {self.said(number)}")
-        self.processes[number] = process
-        return process
-
-    def variables(self, number):
-        """What the environment of a machine's program has."""
-        return None
-
-    def main(self, confirm="", more=""):
-        return self.run(1, "main", f"--standby 2 {'--confirm ' + confirm if confirm else ''} {more}")
-
-    def standby(self):
-        return self.run(2, "copy", "--standby-of 1")
-
-    def promoted(self, more=""):
-        return self.run(2, "copy", f"--new-replica {more}")
-
-    def kill(self, number):
-        self.processes[number].kill()
-        self.processes[number].wait()
-        self.processes[number].stdout.close()
-
-    def said(self, number):
-        with open(f"said{number}", encoding="utf-8") as file:
-            return file.read()
-
-    def wait_until_said(self, number, text):
-        wait_for(f"machine {number} says {text!r}", lambda: text in self.said(number))
-
-    def author(self, name, pad=None, number=1):
-        client = Client(self.ports[number])
-        client.wants({"do": "hello", "name": name, "token": f"t{name}"}, {"author": f"{name}@{number}", "ok": True})
-        if pad is not None:
-            client.join(pad)
-        return client
-
-
-def files_of(store):
-    """The files of pads in a store."""
-    found = {}
-    for path in glob.glob(f"{store}/*.pad"):
-        with open(path, "rb") as file:
-            found[os.path.basename(path)] = file.read()
-    return found
-
-
-def wait_until_copied():
-    wait_for("the copy has what the main server has", lambda: files_of("copy") == files_of("main"))
-
-
-def shown(client, pad="p"):
-    """What a reader sees of a pad, but for the number of the server in names."""
-    acts = ("text", "runs", "comments", "rights", "revs")
-    return [client.does(do=act, pad=pad) for act in acts]
-
-
-def entries_of(client, pad):
-    found = []
-    while True:
-        some = client.does(do="entries", pad=pad, **{"from": len(found) + 1, "count": 100})["entries"]
-        if not some:
-            return found
-        found += [(tuple(entry["name"]), entry["author"], entry["kind"]) for entry in some]
+from two_machines import Machines, entries_of, files_of, power_cut, shown, wait_until_copied
 
 
 def the_copy_is_the_file():
@@ -159,196 +64,6 @@ def what_was_there_before_is_copied():
     machines.main()
     machines.wait_until_said(1, "the standby 2 has everything that is stored here")
     want(files_of("copy") == files_of("main"), True, "that the copy has everything after a restart of both")
-
-
-class Writer(threading.Thread):
-    """An author who writes, comments, creates and grants, and notes each answer, until the server is gone."""
-
-    def __init__(self, machines, name, seed):
-        super().__init__()
-        self.name, self.dice = name, random.Random(seed)
-        self.client = machines.author(name)
-        self.pads = {}
-        self.made, self.granted, self.created = [], {}, []
-        self.start()
-
-    def run(self):
-        try:
-            while True:
-                self.act()
-        except (OSError, ValueError, KeyError):
-            pass  # the machine is lost
-
-    def ask(self, **request):
-        answer = self.client.ask(**request)
-        if not answer["ok"]:
-            raise Failed(f"{request} is answered {answer}")
-        return answer
-
-    def act(self):
-        pad = f"p{self.dice.randrange(PADS)}"
-        if pad not in self.pads:
-            self.ask(do="join", pad=pad)
-            self.pads[pad] = True
-        deed = self.dice.random()
-        now = self.ask(do="revs", pad=pad)["now"]
-        if deed < 0.8:
-            text = f"{self.name}{len(self.made)} "
-            answer = self.ask(do="insert", pad=pad, rev=now, at=0, text=text)
-            self.made.append((pad, answer["now"], tuple(answer["name"]), "insert", text))
-        elif deed < 0.9 and now > 0:
-            text = f"{self.name} asks {len(self.made)}"
-            length = self.ask(do="text", pad=pad)
-            if not length["text"]:
-                return
-            answer = self.ask(do="comment", pad=pad, rev=length["rev"], at=0, len=1, text=text)
-            self.made.append((pad, answer["now"], tuple(answer["name"]), "comment", text))
-        else:
-            mine = f"{self.name}-{len(self.created)}"
-            self.ask(do="create", pad=mine)
-            self.created.append(mine)
-            other, right = self.dice.choice([it for it in NAMES if it != self.name]), self.dice.choice(["read", "write", "none"])
-            self.ask(do="grant", pad=mine, author=other, right=right)
-            self.granted[mine] = (other, right)
-
-
-def begin_pads(machines):
-    owner = machines.author("ann")
-    for number in range(PADS):
-        owner.does(do="create", pad=f"p{number}")
-        for name in NAMES[1:]:
-            owner.does(do="grant", pad=f"p{number}", author=name, right="write")
-        owner.does(do="leave", pad=f"p{number}")
-    owner.close()
-
-
-def check_answered(machines, writers):
-    """Everything that was answered is there at the promoted server, under its author, and no name was used twice."""
-    reader = machines.author("ann", number=2)
-    entries, texts, comments = {}, {}, {}
-    for number in range(PADS):
-        pad = f"p{number}"
-        reader.join(pad)
-        entries[pad] = entries_of(reader, pad)
-        want(len({name for name, _, _ in entries[pad]}), len(entries[pad]), f"the names of the operations of {pad}, each once")
-        texts[pad] = reader.does(do="text", pad=pad)["text"]
-        comments[pad] = [it["text"] for it in reader.does(do="comments", pad=pad)["comments"]]
-    answered = 0
-    for writer in writers:
-        for pad, now, name, kind, text in writer.made:
-            found = entries[pad][now - 1] if now <= len(entries[pad]) else None
-            want(found, (name, f"{writer.name}@1", kind), f"revision {now} of {pad}")
-            want(text in (texts[pad] if kind == "insert" else comments[pad]), True, f"that {text!r} is in {pad}")
-            answered += 1
-        for pad in writer.created:
-            client = machines.author(writer.name, pad, 2)
-            rights = client.does(do="rights", pad=pad)
-            told = dict(rights["rights"])
-            want(told.pop(writer.name), "own", f"the right of {writer.name} on {pad}")
-            if pad in writer.granted:
-                other, right = writer.granted[pad]
-                want(told.get(other, "none"), right, f"the right of {other} on {pad}")
-            answered += 1
-            client.close()
-    return answered
-
-
-def lose_the_machine(seed, confirm, seconds):
-    machines = Machines()
-    machines.standby()
-    machines.main(confirm, "--cells 4096 --present 200")
-    begin_pads(machines)
-    writers = [Writer(machines, name, f"{seed} {name}") for name in NAMES]
-    time.sleep(seconds)
-    machines.kill(1)
-    shutil.rmtree("main")
-    for writer in writers:
-        writer.join()
-    machines.kill(2)
-    machines.promoted("--cells 4096 --present 200")
-    answered = check_answered(machines, writers)
-    machines.kill(2)
-    shutil.rmtree("copy")
-    return answered
-
-
-def the_machine_is_lost(rounds):
-    dice = random.Random(2026)
-    answered = 0
-    for round_number in range(rounds):
-        answered += lose_the_machine(round_number, "strict", dice.uniform(0.3, 2.5))
-    if answered < 50 * rounds:
-        raise Failed(f"only {answered} answers came before the losses")
-
-
-def the_machine_is_lost_under_load():
-    the_machine_is_lost(LOSSES)
-
-
-def the_machine_is_lost_many_times():
-    the_machine_is_lost(MANY_LOSSES)
-
-
-def a_killed_standby_goes_on():
-    """The standby is killed at any moment, and started again: its files stay beginnings of the main server's."""
-    machines = Machines()
-    machines.standby()
-    machines.main("", "--cells 4096 --present 200")
-    begin_pads(machines)
-    writers = [Writer(machines, name, f"kill {name}") for name in NAMES[:6]]
-    dice = random.Random(7)
-    for _ in range(KILLS):
-        time.sleep(dice.uniform(0.1, 0.6))
-        machines.kill(2)
-        machines.standby()
-        for name, bytes_of_copy in files_of("copy").items():
-            with open(f"main/{name}", "rb") as file:
-                want(file.read(len(bytes_of_copy)) == bytes_of_copy, True, f"that the copy of {name} is the beginning of the file")
-    time.sleep(0.5)
-    machines.kill(1)
-    for writer in writers:
-        writer.join()
-    machines.main("", "--cells 4096")
-    wait_until_copied()
-
-
-def logged_in(store):
-    """The whole stretches of a standby's log: a pad, the place where the stretch begins, and the number of its bytes."""
-    with open(f"{store}/rounds", "rb") as file:
-        log = file.read()
-    stretches, at = [], 0
-    while (end := log.find(b"\n", at)) >= 0:
-        told = json.loads(log[at:end])
-        at = end + 1 + told["bytes"]
-        if at > len(log):
-            break
-        stretches.append((told["pad"], told["from"], told["bytes"]))
-    return stretches
-
-
-def power_cut(store, seed):
-    """Takes what a standby had not synced: of the files, anything behind the first stretch of each in the log."""
-    dice = random.Random(seed)
-    firsts = {}
-    for pad, begins, _ in logged_in(store):
-        firsts.setdefault(pad, begins)
-    for pad, synced in firsts.items():
-        path = f"{store}/{pad}.pad"
-        if not os.path.exists(path):
-            continue
-        size = os.path.getsize(path)
-        with open(path, "r+b") as file:
-            fate = dice.randrange(3)
-            if fate == 0:
-                file.truncate(synced + dice.randint(0, size - synced))
-            elif fate == 1:
-                file.seek(synced)
-                file.write(bytes(dice.randint(0, size - synced)))
-            else:
-                middle = synced + (size - synced) // 2
-                file.seek(synced)
-                file.write(bytes(middle - synced))
-    return len(firsts)
 
 
 def a_power_cut_of_the_standby():
@@ -563,7 +278,6 @@ WRONG_WORDS = [
         '--confirm: "always" is neither a number of seconds, 1 to 86400, nor `strict`',
     ),
 ]
-
 NO_PEER = [
     Case(
         f"standby: {name}", f"{LISTENING} --store kept {word} 7", "", "", 1,
@@ -575,8 +289,6 @@ NO_PEER = [
 TESTS = [
     Test("standby: the copy is the file", the_copy_is_the_file),
     Test("standby: what was there before is copied", what_was_there_before_is_copied, 60),
-    Test("standby: the machine is lost under load", the_machine_is_lost_under_load, 120),
-    Test("standby: it is killed, and goes on", a_killed_standby_goes_on, 90),
     Test("standby: a power cut", a_power_cut_of_the_standby, 60),
     Test("standby: a file that is gone", a_file_that_is_gone_takes_nothing_of_the_others, 60),
     Test("standby: it does not answer", a_standby_that_does_not_answer, 60),
@@ -588,5 +300,3 @@ TESTS = [
     *WRONG_WORDS,
     *NO_PEER,
 ]
-
-LONG_TESTS = [Test("standby: the machine is lost under load, 100 times", the_machine_is_lost_many_times, 3000)]

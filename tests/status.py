@@ -7,9 +7,9 @@ import subprocess
 import time
 
 from harness import Case, Failed, Has, Test, put_files, start, want
-from peers import free_ports, wait_for
+from peers import wait_for
 from sockets import ACCOUNTS, LISTEN, Server
-from standbys import Machines
+from two_machines import Machines
 
 SLOW = 5  # seconds: what is to take a moment takes no longer
 TYPES = {"counter", "gauge", "histogram"}

@@ -19,7 +19,7 @@ sys.path[:0] = [os.path.dirname(HERE), HERE]
 from handover_test import Typist, judge
 from harness import ROOT, Failed
 from peers import free_ports, wait_for
-from standbys import Machines
+from two_machines import Machines
 from windows import BROKEN, Window, until
 
 HAPROXY = "/usr/sbin/haproxy"

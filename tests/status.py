@@ -1,4 +1,5 @@
 """The address where operators ask for the status: what it answers, and what is counted against what was done."""
+import itertools
 import json
 import re
 import signal
@@ -6,6 +7,7 @@ import socket
 import subprocess
 import time
 
+import memory
 from harness import Case, Failed, Has, Test, put_files, start, want
 from peers import wait_for
 from sockets import ACCOUNTS, LISTEN, Server
@@ -328,6 +330,26 @@ def a_strict_server_waits_and_stops():
     want(main.wait(), 1, "the status of the server that lost its standby")
 
 
+def memory_is_refused():
+    """Each allocation of a request is refused once: it gets no answer, or a whole one, and the next request has its own."""
+    server = memory.Server("--store pads --status 127.0.0.1:0")
+    port = ports_of(server.process)[1]
+    ann = server.author("ann")
+    ann.does(do="create", pad="p")
+    want(ann.ask(do="join", pad="q").get("code"), 300, "the answer to a pad that is not there")
+    for path in ("/healthz", "/kept", "/metrics"):
+        sent = f"GET {path} HTTP/1.1\r\nHost: x\r\n\r\n".encode()
+        for allocation in itertools.count(1):
+            answered, refused = server.refuses_one(allocation, lambda: exchange(port, sent))
+            if answered and not answered.startswith(b"HTTP/1.1 200 OK\r\n"):
+                raise Failed(f"{path} with its allocation {allocation} refused is answered {answered[:80]!r}")
+            want(get(port, path)[0], 200, f"the answer to {path} after its allocation {allocation} was refused")
+            if not refused:
+                break
+    want(counts_at(port).of("refusals_total", code="300"), 1, "the refusals")
+    ann.does(do="insert", pad="p", rev=0, at=0, text="x")
+
+
 def an_address_in_use():
     put_files(ACCOUNTS)
     with socket.create_server(("127.0.0.1", 0)) as taken:
@@ -354,8 +376,13 @@ TESTS = [
     Test("status: a standby is watched", the_standby_is_watched, 60),
     Test("status: a standby that confirms nothing", a_standby_that_confirms_nothing),
     Test("status: a strict server waits, and ends", a_strict_server_waits_and_stops, 60),
+    Test("status: memory is refused", memory_is_refused, 60),
     Test("status: an address in use", an_address_in_use),
-    misused("with standard input", "--stdin --replica 1 --status 127.0.0.1:0", "--status <ADDR> needs --listen <ADDR>").test(),
+    misused(
+        "with standard input",
+        "--stdin --replica 1 --status 127.0.0.1:0",
+        "--status <ADDR> needs --listen <ADDR>",
+    ).test(),
     Case(
         "status: without a port", f"{LISTEN} --status nowhere", status=1,
         stderr=Has("cannot listen at nowhere: HOST:PORT is needed"), files=ACCOUNTS,

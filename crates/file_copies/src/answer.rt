@@ -27,11 +27,11 @@ pub enum StandbyAnswer {
 
 /// A standby has said that everything up to a mark is on its disk. Only `StandbyAnswer::heard` gives this.
 #[derive(Debug, Drop)]
-pub struct Heard {
+pub struct HeardMark {
     mark: u64,
 }
 
-impl Heard {
+impl HeardMark {
     /// The mark.
     pub fn mark(&self) -> u64
         ensures { result ≡ self.now.mark }
@@ -42,12 +42,12 @@ impl Heard {
 
 impl StandbyAnswer {
     /// What the answer confirms, if it confirms anything.
-    pub fn heard(&self) -> Option<Heard>
+    pub fn heard(&self) -> Option<HeardMark>
         ensures some { IfSome result (λ heard. self.now ≡ answer.Kept heard.mark) }
         ensures none { IfNone result ((mark : ℕ) → self.now ≢ answer.Kept mark) }
     {
         match self {
-            StandbyAnswer::Kept { mark } => Some(Heard { mark: *mark }),
+            StandbyAnswer::Kept { mark } => Some(HeardMark { mark: *mark }),
             StandbyAnswer::Copy { .. } | StandbyAnswer::Told | StandbyAnswer::Refused { .. } =>
                 None,
         }

@@ -13,7 +13,7 @@ mod request;
 mod round;
 mod stretch;
 
-pub use answer::{Heard, StandbyAnswer, copy_line, kept_line, refused_line, told_line};
+pub use answer::{HeardMark, StandbyAnswer, copy_line, kept_line, refused_line, told_line};
 pub use pad_copy::{NoStretch, PadCopy};
 pub use request::StandbyRequest;
 pub use round::{FileStretch, put_stretch, round_text};

@@ -4,7 +4,7 @@ ghost use Rattle.std.specs.Io.KnownBytes.{Appends};
 ghost use Rattle.file_copies.specs.Requests.{line_of, sync_data};
 ghost use Rattle.file_copies.specs.Rounds.{stretch_bytes};
 
-use file_copies::Heard;
+use file_copies::HeardMark;
 use pad_model::Name;
 use sessions::Word;
 use std::alloc::Global;
@@ -24,7 +24,7 @@ pub struct CopyPlace {
 #[derive(Debug, Drop)]
 pub enum CopiesAnswer {
     /// Everything up to a mark is kept, as whoever keeps the copies has said.
-    Kept(Heard),
+    Kept(HeardMark),
     /// Nothing is kept any more, for the reason with this number: the copy has another past, there is no room or no memory
     /// for more, or it is no copy any more, since a server runs on it.
     Refused { code: u64 },

@@ -2,7 +2,7 @@
 use crate::keeper::Keeper;
 use crate::sums::sum_before;
 use cell_set::CellSet;
-use file_copies::Heard;
+use file_copies::HeardMark;
 use pad_model::Name;
 use std::alloc::{AllocError, Global};
 use std::io;
@@ -123,7 +123,7 @@ impl<'k> KeptFiles<'k> {
 
     /// The standby has said that it has synced what is behind the first notes, as many as the mark. `is_all` tells that it had
     /// everything. Returns whether the server was alone until then.
-    pub fn hear<R: Wait>(&self, rt: &R, heard: &Heard, is_all: bool) -> bool {
+    pub fn hear<R: Wait>(&self, rt: &R, heard: &HeardMark, is_all: bool) -> bool {
         if is_all {
             let now = self.keeper.seconds();
             self.keeper.copying.progress.whole_at.set(now);

@@ -1,11 +1,10 @@
 -- How much of what was noted a settlement stands for.
 use Rattle.std.specs.Prelude.{◌≡◌, ℕ, min, Option, Some, None}
-use Rattle.store_files.specs.declared.keeper.Keeper.{Keeper}
 use Rattle.store_files.specs.declared.settlement.Promised.{Promised}
 
 -- with a store, a settlement stands for the first so many notes: those that are on the disk, and that the standby has where
 -- this was promised
-abbrev pub IsSaidOf : Option Keeper → Option Promised → ℕ → Type 0
+abbrev pub IsSaidOf : {A : Type 0} → Option A → Option Promised → ℕ → Type 0
 IsSaidOf None kept number = kept ≡ None
-IsSaidOf (Some keeper) None number = ⊥
-IsSaidOf (Some keeper) (Some promised) number = number ≡ min promised.kept.number promised.confirmed.number
+IsSaidOf (Some store) None number = ⊥
+IsSaidOf (Some store) (Some promised) number = number ≡ min promised.kept.number promised.confirmed.number

@@ -46,11 +46,11 @@ pub fn log_round<D: Device>(alloc: Global, log: &mut D, round: &[FileStretch]) -
 
 // The file of a log.
 #[derive(Drop)]
-struct LogDevice<'f> {
-    file: &'f mut File,
+struct LogFile {
+    file: File,
 }
 
-impl Write for LogDevice<'_> {
+impl Write for LogFile {
     ghost contents = { λ _. None };
 
     fn write(&mut self, bytes: &[u8]) -> io::Result<usize> {
@@ -62,7 +62,7 @@ impl Write for LogDevice<'_> {
     }
 }
 
-impl Device for LogDevice<'_> {
+impl Device for LogFile {
     ghost synced = { λ _. None };
 
     fn sync(&mut self) -> io::Result<()> {
@@ -73,7 +73,7 @@ impl Device for LogDevice<'_> {
 /// The log, open for appending.
 #[derive(Drop)]
 pub struct RoundLog {
-    file: File,
+    log: LogFile,
     length: u64,
 }
 
@@ -86,21 +86,21 @@ impl RoundLog {
         let file = options.open(files, path.as_str())?;
         file.set_len(0)?;
         file.sync_all()?;
-        Ok(RoundLog { file, length: 0 })
+        Ok(RoundLog {
+            log: LogFile { file },
+            length: 0,
+        })
     }
 
     /// Appends a round, and syncs it. If that fails, the log is as it was, as far as the system lets it be.
     pub fn append(&mut self, alloc: Global, round: &[FileStretch]) -> io::Result<Logged> {
-        let mut log = LogDevice {
-            file: &mut self.file,
-        };
-        match log_round(alloc, &mut log, round) {
+        match log_round(alloc, &mut self.log, round) {
             Ok(logged) => {
                 self.length = self.length.saturating_add(logged.bytes);
                 Ok(logged)
             }
             Err(cause) => {
-                self.file.set_len(self.length)?;
+                self.log.file.set_len(self.length)?;
                 Err(cause)
             }
         }
@@ -113,9 +113,9 @@ impl RoundLog {
 
     /// Empties the log. Everything that it holds has to be in the files, and these synced.
     pub fn clear(&mut self) -> io::Result<()> {
-        self.file.set_len(0)?;
+        self.log.file.set_len(0)?;
         self.length = 0;
-        self.file.sync_all()
+        self.log.file.sync_all()
     }
 }
 

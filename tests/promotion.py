@@ -328,6 +328,7 @@ def serves(machines):
 
 def memory_that_is_refused():
     """An allocation of the promotion is refused: the standby is promoted or not, it may end, and has everything."""
+    refused = 0
     for allocation in itertools.chain(range(1, 9), (12, 50, 200)):
         machines = FaultyStandby()
         standby = machines.standby()
@@ -357,9 +358,12 @@ def memory_that_is_refused():
             promote(machines)
         text = machines.author("ann", "p", 2).does(do="text", pad="p")["text"]
         want(text, "before", f"the text of the promoted server, with allocation {allocation} refused")
+        refused += machines.faults.failed()
         machines.kill(2)
         for store in ("main", "copy"):
             shutil.rmtree(store)
+    if refused < 5:
+        raise Failed(f"only {refused} allocations were refused")
 
 
 TESTS = [

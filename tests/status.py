@@ -8,7 +8,7 @@ import subprocess
 import time
 
 import memory
-from harness import Case, Failed, Has, Test, put_files, start, want
+from harness import Case, Failed, Has, Test, play, put_files, start, want
 from peers import wait_for
 from sockets import ACCOUNTS, LISTEN, Server
 from two_machines import Machines
@@ -331,7 +331,7 @@ def a_strict_server_waits_and_stops():
 
 
 def memory_is_refused():
-    """Each allocation of a request is refused once: it gets no answer, or a whole one, and the next request has its own."""
+    """Each allocation of a request is refused once: it gets no answer or a whole one, and the next request its own."""
     server = memory.Server("--store pads --status 127.0.0.1:0")
     port = ports_of(server.process)[1]
     ann = server.author("ann")
@@ -362,8 +362,10 @@ def an_address_in_use():
         raise Failed(f"with an address in use, the server says {said.decode()!r}")
 
 
-def misused(name, args, message):
-    return Case(f"status: {name}", args, status=2, stderr=Has(f"pad_server: {message}"), files=ACCOUNTS)
+def refused(name, args, status, message):
+    """A command line that is refused with this status and this message."""
+    case = Case(name, args, status=status, stderr=Has(f"pad_server: {message}"), files=ACCOUNTS)
+    return Test(f"status: {name}", lambda: play(case))
 
 
 TESTS = [
@@ -378,13 +380,8 @@ TESTS = [
     Test("status: a strict server waits, and ends", a_strict_server_waits_and_stops, 60),
     Test("status: memory is refused", memory_is_refused, 60),
     Test("status: an address in use", an_address_in_use),
-    misused(
-        "with standard input",
-        "--stdin --replica 1 --status 127.0.0.1:0",
-        "--status <ADDR> needs --listen <ADDR>",
-    ).test(),
-    Case(
-        "status: without a port", f"{LISTEN} --status nowhere", status=1,
-        stderr=Has("cannot listen at nowhere: HOST:PORT is needed"), files=ACCOUNTS,
-    ).test(),
+    refused(
+        "with standard input", "--stdin --replica 1 --status 127.0.0.1:0", 2, "--status <ADDR> needs --listen <ADDR>"
+    ),
+    refused("without a port", f"{LISTEN} --status nowhere", 1, "cannot listen at nowhere: HOST:PORT is needed"),
 ]

@@ -9,8 +9,8 @@ from two_machines import Machines
 from web_server import WebServer
 
 FIELDS = {
-    "content-type": "application/json", "cache-control": "no-store", "content-length": "14", "x-content-type-options": "nosniff",
-    "cross-origin-resource-policy": "same-origin", "connection": "close",
+    "content-type": "application/json", "cache-control": "no-store", "content-length": "14", "connection": "close",
+    "x-content-type-options": "nosniff", "cross-origin-resource-policy": "same-origin",
 }
 
 
@@ -82,7 +82,8 @@ def a_promoted_standby():
 
 
 FUNCTIONS = [
-    a_server_without_a_store, a_server_with_a_store, a_standby_that_confirms, a_standby_for_which_no_reply_waits, a_promoted_standby,
+    a_server_without_a_store, a_server_with_a_store,
+    a_standby_that_confirms, a_standby_for_which_no_reply_waits, a_promoted_standby,
 ]
 
 TESTS = [Test(f"pad_server: kept: {function.__name__.replace('_', ' ')}", function, 60) for function in FUNCTIONS]

@@ -3,9 +3,10 @@ import glob
 import hashlib
 import json
 import os
+import re
 import subprocess
 
-from harness import Case, Has, Starts, Test, put_files, start, want
+from harness import Case, Starts, Test, put_files, start, want
 from pad_store import AT, DAMAGED, FIRST, LINES, LOG, VALUES, WHOLE, lines_of, time_of
 from stores import STORE, kill
 from sockets import Server
@@ -23,7 +24,8 @@ def counted(pads=1, beyond=0, missing=0, apart=0, damaged=0, lines=0):
 
 def files(name, old, new, stdout, status=1, **more):
     """Two files of one pad."""
-    return Case(name, "beyond old new", stdout=stdout, status=status, files=(("old", old), ("new", new)), program="pad_store", **more)
+    more = {"files": (("old", old), ("new", new)), "program": "pad_store", **more}
+    return Case(name, "beyond old new", stdout=stdout, status=status, **more)
 
 
 def misused(name, args, *parts, status=2):
@@ -41,7 +43,9 @@ OTHERS = [
     {"format": 1, "pad": "p", "replica": 7},
 ]
 OTHER_LINES = [
-    f"- {time_of(AT + 70)} - right cyd read\n", f"- {time_of(AT + 71)} - visit\n", f"- {time_of(AT + 72)} - right bob none\n",
+    f"- {time_of(AT + 70)} - right cyd read\n",
+    f"- {time_of(AT + 71)} - visit\n",
+    f"- {time_of(AT + 72)} - right bob none\n",
     "- - - server 7\n",
 ]
 AGAIN = [{"at": AT + 5, "kind": "named", "name": "p", "owner": "bob"}, {"at": AT + 6, "kind": "visited"}]
@@ -54,7 +58,8 @@ CASES = [
         "beyond: three operations", WHOLE, NEW, "p lines=3 torn=0\n" + "".join(LOG[2:]) + counted(beyond=1, lines=3),
     ),
     files(
-        "beyond: the older file goes on", WHOLE, b"".join(LINES[:-1]), "p lines=1 torn=0\n" + LOG[-1] + counted(beyond=1, lines=1),
+        "beyond: the older file goes on", WHOLE, b"".join(LINES[:-1]),
+        "p lines=1 torn=0\n" + LOG[-1] + counted(beyond=1, lines=1),
     ),
     files(
         "beyond: rights, a visit and another number", file_of([*SHARED, *OTHERS]), NEW,
@@ -62,7 +67,8 @@ CASES = [
     ),
     files(
         "beyond: only the first line in common", WHOLE, file_of([VALUES[0], *AGAIN]),
-        f"p lines={len(LINES) - 1} torn=0\n- {time_of(AT)} ann create\n- {time_of(AT)} - right bob write\n- {time_of(AT)} - visit\n"
+        f"p lines={len(LINES) - 1} torn=0\n"
+        + "".join(f"- {time_of(AT)} {what}\n" for what in ("ann create", "- right bob write", "- visit"))
         + "".join(LOG) + counted(beyond=1, lines=len(LINES) - 1),
     ),
     files("beyond: nothing in common", WHOLE, file_of([PROMOTED, *VALUES[1:]]), "p apart\n" + counted(apart=1)),
@@ -80,10 +86,10 @@ CASES = [
     misused("beyond: one word", "beyond p.pad", "beyond needs two stores, or two files\n"),
     misused("beyond: a file and a folder", "beyond p.pad .", "beyond needs two folders or two files\n"),
     misused("beyond: a folder and a file", "beyond . p.pad", "beyond needs two folders or two files\n"),
-    misused("beyond: three words", "beyond p.pad p.pad 3", "only diff takes two more words, and only beyond takes one\n"),
+    misused("beyond: three words", "beyond p.pad p.pad 3", "only diff takes two more words"),
     misused("beyond: --rev", "beyond p.pad p.pad --rev 1", "--rev <N> is for show and export\n"),
     misused("beyond: no such file", "beyond q.pad p.pad", "q.pad: No such file or directory", status=1),
-    Case("diff of no revision", "diff p.pad x 3", files=(("p.pad", WHOLE),), program="pad_store", status=2, stderr=Has("diff needs two revisions\n")),
+    misused("diff of no revision", "diff p.pad x 3", "diff needs two revisions\n"),
 ]
 
 
@@ -99,7 +105,7 @@ def named(pad, values):
 
 
 def two_folders():
-    """Pads that are the same, that have more, that are missing, that are others and that are damaged; and files beside them."""
+    """Pads that are the same, that have more, that are missing, that are others and that are damaged."""
     for folder in ("old", "new"):
         os.mkdir(folder)
     put_files([
@@ -160,16 +166,17 @@ def a_copy_goes_on_as_another_server():
     status, wrote, said = told("old", "kept")
     want((status, said), (1, ""), "the status, and what is said")
     lines = wrote.splitlines()
-    want((lines[0], lines[-1] + "\n"), (f"p lines={len(lost)} torn=0", counted(beyond=1, lines=len(lost))), "the first and the last line")
-    due = [
-        {"visited": "visit", "granted": "right bob comment"}.get(value["kind"]) or value["op"]["kind"] for value in lost
-    ]
-    want([line.split(" ", 3)[3].split(' +"')[0].split(' -"')[0].split(' "')[0] for line in lines[1:-1]], due, "what was done")
+    want(lines[0], f"p lines={len(lost)} torn=0", "the first line")
+    want(lines[-1] + "\n", counted(beyond=1, lines=len(lost)), "the last line")
+    others = {"visited": "visit", "granted": "right bob comment"}
+    due = [others.get(value["kind"]) or value["op"]["kind"] for value in lost]
+    want([re.split(' [+-]?"', line.split(" ", 3)[3])[0] for line in lines[1:-1]], due, "what was done")
     want([line.split(" ")[1] for line in lines[1:-1]], [time_of(value["at"]) for value in lost], "when")
     numbered = [line for line in lines[1:-1] if not line.startswith("-")]
-    want([line.split(" ")[::2][0] for line in numbered], ["2", "3", "4"], "the revisions")
+    want([line.split(" ")[0] for line in numbered], ["2", "3", "4"], "the revisions")
     want(all(" ann@1 " in line for line in numbered), True, "that each is by ann@1")
-    want([word for word in ('+"only here\\n"', '"why?"', '-"only "') if word not in wrote], [], "the words that are missing")
+    words = ('+"only here\\n"', '"why?"', '-"only "')
+    want([word for word in words if word not in wrote], [], "the words that are missing")
 
 
 TESTS = [case.test() for case in CASES] + [

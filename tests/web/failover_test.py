@@ -105,7 +105,8 @@ def play(check):
         proxy = Proxy(webs)
         windows = open_windows(machines, proxy)
         for window, name in zip(windows, ["ann", "bob"]):
-            check(f"{name}'s window says that words are on two machines", until(lambda: kept_on(window) == "Kept on two machines"), kept_on(window))
+            is_said = until(lambda: kept_on(window) == "Kept on two machines")
+            check(f"{name}'s window says that words are on two machines", is_said, kept_on(window))
         typists = [Typist(window, letters) for window, letters in zip(windows, ["0123456789", "abcdefghijklmnopqrstuvwxyz"])]
         try:
             lose_the_main_server(machines, webs[1], typists)
@@ -115,7 +116,8 @@ def play(check):
         due = "\n".join(typist.typed for typist in typists)
         for window, name in zip(windows, ["ann", "bob"]):
             check(f"{name}'s window is saved", until(window.is_saved, 60), window.state)
-            check(f"{name}'s window says that words are on one machine", until(lambda: kept_on(window) == "Kept on one machine only"), kept_on(window))
+            is_said = until(lambda: kept_on(window) == "Kept on one machine only")
+            check(f"{name}'s window says that words are on one machine", is_said, kept_on(window))
             check(f"each character is there once in {name}'s window", until(lambda: window.text == due), (window.text, due))
         reader = machines.author("ann", "p", 2)
         text = reader.does(do="text", pad="p")["text"]

@@ -1,11 +1,11 @@
 #!/usr/bin/env python3
-"""A window of headless Chromium on the page of a server that says on how many machines it keeps what is saved: what the foot says
-of each number, what it says when the number changes with a new connection, and that it says nothing where the server does not.
+"""A window of headless Chromium on the page of a server that says on how many machines it keeps what is saved: what the
+foot says of each number, also when it changes with a new connection, and that it says nothing where the server does not.
 
     /usr/bin/python3 tests/web/machines_test.py [SHOTS]
 
-It needs crates/pad_server/out/pad_server and node, which serves web/ as it is on the disk. With SHOTS, pictures are put there. The
-last line is `N passed, M failed`.
+It needs crates/pad_server/out/pad_server and node, which serves web/ as it is on the disk. With SHOTS, pictures are put
+there. The last line is `N passed, M failed`.
 """
 import os
 import subprocess

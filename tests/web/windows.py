@@ -180,11 +180,11 @@ class Window:
         self.driver.execute_cdp_cmd("Emulation.setEmulatedMedia", {"features": [{"name": "prefers-color-scheme", "value": scheme}]})
 
     def faults(self):
-        """What the browser logged as a fault, other than a connection that broke: the socket's, or that of the questions whether
-        the server is proved and on how many machines it keeps words, which follow each new one."""
+        """What the browser logged as a fault, other than a connection that broke: the socket's, or that of the questions
+        whether the server is proved and on how many machines it keeps words, which follow each new one."""
         told = [line["message"] for line in self.driver.get_log("browser") if line["level"] == "SEVERE"]
-        asked = ("/unproved.txt", "/kept")
-        return [text for text in told if "WebSocket" not in text and not (any(it in text for it in asked) and "net::ERR_" in text)]
+        is_passing = lambda text: "net::ERR_" in text and any(path in text for path in ("/unproved.txt", "/kept"))
+        return [text for text in told if "WebSocket" not in text and not is_passing(text)]
 
     def quit(self):
         self.driver.quit()

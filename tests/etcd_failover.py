@@ -72,13 +72,17 @@ class Guarded(Machines):
         """Starts the script with a server, in a process group of their own."""
         address = f"127.0.0.1:{self.ports[number]}"
         server = [path_of("pad_server"), "--listen", address, "--replica", str(number), "--accounts", "accounts"]
-        server += ["--store", store, *more.split()]
+        self.script(number, command, ["--", *server, "--store", store, *more.split()])
+
+    def script(self, number, command, server):
+        """Starts the script, with words that say how the server is started or killed."""
+        address = f"127.0.0.1:{self.ports[number]}"
         words = [command, "--etcd", self.etcd.urls(), "--name", f"machine {number}", "--ttl", str(TTL)]
         standby = ["--at", address, "--accounts", "accounts", "--main", "1"]
         words += ["--serves", address] if command == "hold" else standby
         with open(f"said{number}", "ab") as said:
             self.scripts[number] = subprocess.Popen(
-                [sys.executable, f"{ROOT}/failover", *words, "--", *server],
+                [sys.executable, f"{ROOT}/failover", *words, *server],
                 stdin=subprocess.DEVNULL, stdout=said, stderr=said, start_new_session=True,
             )
 
@@ -224,10 +228,32 @@ def a_key_that_is_not_free():
         raise Failed("the standby waited for the lease of a main server that had ended")
 
 
+def servers_that_are_watched():
+    """The scripts watch servers that others have started. One that hangs is killed by the command that they have."""
+    machines = Guarded()
+    standby = machines.standby()
+    main = machines.main("strict")
+    ann = machines.author("ann")
+    ann.does(do="create", pad="p")
+    ann.does(do="insert", pad="p", rev=0, at=0, text="kept")
+    for number, command, server in ((2, "wait", standby), (1, "hold", main)):
+        machines.script(number, command, ["--kill", f"kill -9 {server.pid}"])
+    machines.wait_until_said(1, f"failover: the server at 127.0.0.1:{machines.ports[1]} serves")
+    machines.wait_until_said(2, "failover: machine 1 has the key /vindrughe/main")
+    main.send_signal(signal.SIGSTOP)
+    machines.serves_again()
+    want(main.wait(), -signal.SIGKILL, "the status of the main server")
+    want(machines.scripts[1].wait(), 1, "the status of the script beside it")
+    want(machines.author("ann", "p", 2).does(do="text", pad="p")["text"], "kept", "the text of the promoted server")
+    want(machines.end(2), 0, "the status of the script beside the standby after TERM")
+    want(standby.wait(), -signal.SIGKILL, "the status of the promoted server")
+
+
 TESTS = [
     Test("etcd failover: a machine is lost", lambda: losses(LOSSES[:3]), 200),
     Test("etcd failover: without a majority", without_a_majority, 60),
     Test("etcd failover: a key that is not free", a_key_that_is_not_free, 60),
+    Test("etcd failover: servers that are watched", servers_that_are_watched, 60),
 ]
 
 LONG_TESTS = [Test("etcd failover: thirty losses", lambda: losses(many_losses()), 1_200)]

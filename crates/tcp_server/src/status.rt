@@ -92,12 +92,15 @@ pub fn answer_status<R: AllocGlobal + Clock + Wait + Eprint>(
     hub: &Hub,
     board: &StatusBoard<'_>,
 ) {
+    // Whether it was logged that the system refuses connections, since it last gave one.
+    let mut is_refused = false;
     for _ in rt.forever() {
         if end.is_over() {
             return;
         }
         match door.listener.accept() {
             Ok((stream, _from)) => {
+                is_refused = false;
                 // Whoever is too slow or breaks off gets no answer, and nobody is told.
                 let _served = door.serve(rt, end, hub, board, stream);
             }
@@ -105,7 +108,10 @@ pub fn answer_status<R: AllocGlobal + Clock + Wait + Eprint>(
                 ErrorKind::WouldBlock => door.wait(None),
                 ErrorKind::Interrupted | ErrorKind::ConnectionAborted => {}
                 _ => {
-                    warn!(ServerLog(rt); "cannot accept connections at the address of the status: {cause}");
+                    if !is_refused {
+                        warn!(ServerLog(rt); "cannot accept connections at the address of the status: {cause}");
+                    }
+                    is_refused = true;
                     door.wait(Some(PAUSE));
                 }
             },

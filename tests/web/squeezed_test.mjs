@@ -24,7 +24,7 @@ function tell(name, seen, wanted) {
 // The texts of the module, by the paths at which they are served.
 function served() {
   const module = fs.readFileSync(path.join(TOP, "crates/web_pages/src/pages.rt"), "utf8"), out = new Map();
-  const form = /path: "([^"]+)",\n +kind: "[^"]*",\n +tag: "[^\n]*",\n +text: (?:r####"([^]*?)"####|"((?:[^"\\]|\\.)*)"),\n/g;
+  const form = /path: "([^"]+)",\n +kind: "[^"]*",\n +cache: "[^"]*",\n +tag: "[^\n]*",\n +text: (?:r####"([^]*?)"####|"((?:[^"\\]|\\.)*)"),\n/g;
   for (const [, name, raw, escaped] of module.matchAll(form)) out.set(name, raw ?? escaped.replace(/\\(.)/g, (_, one) => (one === "t" ? "\t" : one)));
   return out;
 }

@@ -121,7 +121,7 @@ where
 }
 
 /// Serves connections with the pads of a row.
-fn serve_row<'s, R>(
+fn serve_row<'s, 'e, R>(
     rt: &'s R,
     opened: &'s Opened,
     hub: &'s Hub,
@@ -130,7 +130,7 @@ fn serve_row<'s, R>(
     acceptor: Acceptor,
     workers: Vec<Worker>,
     watch: Watch<'s>,
-    status: StatusThread<'s>,
+    status: StatusThread<'s, 'e>,
 ) -> Result<(), ServingError<'static>>
 where
     R: Runtime<A = Global, File = File>
@@ -202,7 +202,7 @@ fn origins_of(alloc: Global, asked: Settings<'_>) -> Result<Vec<String>, AllocEr
 /// What the threads that serve no connection have: those that exchange with peers, and the one that watches the
 /// accounts file.
 #[derive(Drop)]
-struct Others<'a, R> {
+struct Others<'a, 'e, R> {
     exchange: &'a Exchange,
     groups: Vec<Group<'a, R>>,
     guard: Guard<'a>,
@@ -211,7 +211,7 @@ struct Others<'a, R> {
     end: &'a Bell,
     /// What is sent to the standby, if there is one.
     sender: Option<Sender<'a>>,
-    status: StatusThread<'a>,
+    status: StatusThread<'a, 'e>,
 }
 
 /// What is sent to the standby, and to whom.
@@ -304,7 +304,7 @@ fn serve<R>(
     service: &Service<'_, BlockSeq, R, PadGate<'_, R>, Settling<'_, R>>,
     acceptor: Acceptor,
     mut workers: Vec<Worker>,
-    others: Others<'_, R>,
+    others: Others<'_, '_, R>,
 ) -> Result<(), ServingError<'static>>
 where
     R: AllocGlobal

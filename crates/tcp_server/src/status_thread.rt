@@ -6,10 +6,10 @@ use std::net::{Net, TcpListener};
 
 /// What is told of the server, and the thread that tells it, if the settings have an address for it.
 #[derive(Drop)]
-pub struct StatusThread<'a> {
+pub struct StatusThread<'a, 'e> {
     pub board: &'a StatusBoard<'a>,
     pub door: Option<StatusDoor>,
-    pub end: Option<&'a StatusEnd>,
+    pub end: Option<&'e StatusEnd>,
 }
 
 /// Sets up the thread, if it has a listener.

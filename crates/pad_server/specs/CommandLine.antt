@@ -99,10 +99,13 @@ abbrev pub line_with_page : App
 line_with_page = with_rule (with_rule (with_rule (with_rule line_with_clients_and_store web_rule) web_origins_rule)
     clients_per_address_rule) unproved_rule
 
+-- the same, with the options of a standby
+abbrev pub line_with_standby : App
+line_with_standby = with_rule (with_rule (with_rule line_with_page standby_rule) standby_of_rule) confirm_rule
+
 -- the whole command line, in the terms of clap, which define the words that it accepts and what they give under a name
 abbrev pub line : App
-line = with_rule (with_rule (with_rule (with_rule (with_rule line_with_page standby_rule) standby_of_rule) confirm_rule)
-    status_rule) log_access_rule
+line = with_rule (with_rule line_with_standby status_rule) log_access_rule
 
 -- what the words give: the numbers, the flags and the texts under the names of the options
 pub record AsksFor (words : List (List ℕ)) (asked : ServerArguments) : Type 0 where

@@ -3,7 +3,7 @@ ghost use Rattle.std.specs.Prelude.{◌≡◌, ◌≤◌, IfOk, map, string_byte
 ghost use Rattle.clap.specs.Faults.{fault_of};
 ghost use Rattle.clap.specs.Words.{FailsBy, app_of};
 ghost use Rattle.server_core.specs.declared.limits.TheConstants.{MAX_CELLS};
-ghost use Rattle.pad_server.specs.CommandLine.{AsksFor, line_with_service, line, line_with_page, line_with_sizes, line_with_clients_and_store};
+ghost use Rattle.pad_server.specs.CommandLine.{AsksFor, line_with_service, line, line_with_page, line_with_sizes, line_with_clients_and_store, line_with_standby};
 
 use crate::options::{
     clients_of, clients_option, clients_per_address_of, clients_per_address_option, confirm_option,
@@ -123,13 +123,21 @@ fn with_page_options<'a>(alloc: Global) -> Result<Command<'a>, AllocError>
         .arg(unproved_flag(alloc))
 }
 
-fn command<'a>(alloc: Global) -> Result<Command<'a>, AllocError>
-    ensures { IfOk result (λ command. app_of command ≡ line) }
+// Adds the options `--standby`, `--standby-of` and `--confirm`.
+fn with_standby_options<'a>(alloc: Global) -> Result<Command<'a>, AllocError>
+    ensures { IfOk result (λ command. app_of command ≡ line_with_standby) }
 {
     with_page_options(alloc)?
         .arg(standby_option(alloc))?
         .arg(standby_of_option(alloc))?
-        .arg(confirm_option(alloc))?
+        .arg(confirm_option(alloc))
+}
+
+// Adds the options `--status` and `--log-access`.
+fn command<'a>(alloc: Global) -> Result<Command<'a>, AllocError>
+    ensures { IfOk result (λ command. app_of command ≡ line) }
+{
+    with_standby_options(alloc)?
         .arg(status_option(alloc))?
         .arg(log_access_flag(alloc))
 }

@@ -326,6 +326,17 @@ def serves(machines):
         return False
 
 
+def told_to(client):
+    """All that a client gets until its connection ends. It may be reset, if the server ends it before it has read everything."""
+    told = b""
+    try:
+        while some := client.socket.recv(4_096):
+            told += some
+    except ConnectionResetError:
+        pass
+    return told.decode()
+
+
 def memory_that_is_refused():
     """An allocation of the promotion is refused: the standby is promoted or not, it may end, and has everything."""
     refused = 0
@@ -342,7 +353,7 @@ def memory_that_is_refused():
         machines.faults.set("allocations", allocation)
         client = Client(machines.ports[2])
         client.send('{"do":"peer","number":1,"token":"secret","version":2}\n{"do":"promote"}\n')
-        told = client.replies.read().decode()
+        told = told_to(client)
         answers = ('{"ok":true,"replica":2,"version":2}\n', '{"ok":true,"replica":2,"version":2}\n{"ok":true}\n', "",
                    '{"code":900,"error":"Memory","ok":false}\n')
         want(told in answers, True, f"that whole lines were told, and not {told!r}")

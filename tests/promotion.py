@@ -327,7 +327,7 @@ def serves(machines):
 
 
 def told_to(client):
-    """All that a client gets until its connection ends. It may be reset, if the server ends it before it has read everything."""
+    """All that a client gets until its connection ends, or is reset: so a server ends one that it has not read whole."""
     told = b""
     try:
         while some := client.socket.recv(4_096):

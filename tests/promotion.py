@@ -327,7 +327,7 @@ def serves(machines):
 
 
 def told_to(client):
-    """All that a client gets until its connection ends, or is reset: so a server ends one that it has not read whole."""
+    """All that a client gets until its connection ends, or is reset since the server has not read all."""
     told = b""
     try:
         while some := client.socket.recv(4_096):
